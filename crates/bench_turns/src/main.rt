@@ -1,10 +1,8 @@
-//! Steps a sum by several seats, each in a thread of its own, so that the time of a turn can be
-//! measured: the proved half of `bench/turns`.
+//! The proved half of `bench/turns`, which measures the time of a step of the turn lock. Several seats add to one sum, each
+//! in its own thread.
 //!
-//! `bench_turns SEATS STEPS` has each seat step the events 1 to STEPS, and prints the sum and how
-//! many entries the journal has. It is proved safe; no clause says what it prints.
-//!
-//! It uses `turn_lock`, and the kit's `anyhow`.
+//! `bench_turns SEATS STEPS TURN` has each seat step the events 1 to STEPS, in turns of TURN steps. It prints the sum and
+//! the length of the journal. The program is proved safe. No contract specifies its output.
 #![tactic(auto)]
 
 mod crew;
@@ -24,7 +22,8 @@ fn main(rt: HostRuntime) -> Result<()> {
     let mut words = env::args(&rt)?.skip(1);
     let seats = number(words.next());
     let steps = number(words.next());
-    if let Some((total, entries)) = crew::run(&rt, rt.alloc(), seats, steps) {
+    let turn = number(words.next());
+    if let Some((total, entries)) = crew::run(&rt, rt.alloc(), seats, steps, turn) {
         println!(rt; "{total} {entries}")?;
     }
     Ok(())

@@ -1,6 +1,6 @@
 -- What the code reads of a message's octets is what the definitions read of them.
-use Rattle.std.proofs.Common.{◌≡◌, ℕ, List, length, Option, Some, sym, ◌∙◌, ap, subst, arith}
-use Rattle.std.specs.Prelude.{Result, Ok, IfSome, drop}
+use Rattle.std.proofs.Common.{◌≡◌, ℕ, false, List, length, Option, Some, None, refl, sym, ◌∙◌, ap, subst, arith}
+use Rattle.std.specs.Prelude.{Result, Ok, Err, IfSome, MatchOption, drop, is_ok}
 use Rattle.number_plan.specs.declared.plan.Number.{Number}
 use Rattle.q931_elements.specs.Reading.{elements_of}
 use Rattle.q931_elements.proofs.Readings.{reading_is}
@@ -11,13 +11,34 @@ use Rattle.q931_codec.specs.Reading.{reading}
 use Rattle.call_profile.specs.Calls.{Request, request_of, request_read}
 use Rattle.call_profile.specs.Legs.{Legs}
 use Rattle.call_control.specs.declared.reading_ahead.DialledNumber.{DialledNumber}
+use Rattle.call_control.specs.declared.reading_ahead.Incoming.{Incoming}
 use Rattle.call_control.specs.declared.reading_ahead.ReadAhead.{ReadAhead}
-use Rattle.call_control.specs.Ahead.{IsDialled, IsReadAhead, message_ahead}
+use Rattle.call_control.specs.Ahead.{IsDialled, IsIncoming, IsReadAhead, is_message, message_ahead}
 
 pub taken : (legs now : Legs) (line : ℕ) (octets : List ℕ) (r : Result Message Discard) (P : Request → Type 0) → legs ≡ now → r ≡ reading octets
     → P (request_read legs line r) → P (request_of now line octets)
 taken legs now line octets r P same read p =
     subst (λ (ls : Legs). P (request_of ls line octets)) same (subst (λ (q : Result Message Discard). P (request_read legs line q)) read p)
+
+-- ---- a message that is read
+
+-- what was read, if octets are a message
+pub read_there : (plan : List Number) (octets : List ℕ) (o : Option Incoming) (incoming : Incoming) → o ≡ Some incoming
+    → MatchOption o (is_message octets ≡ false) (IsIncoming plan octets) → IsIncoming plan octets incoming
+read_there plan octets o incoming is known = subst (λ (p : Option Incoming). MatchOption p (is_message octets ≡ false) (IsIncoming plan octets)) is known
+
+refused : (r : Result Message Discard) → is_ok r ≡ false → (why : Discard) × (r ≡ Err why)
+refused (Ok m) e = absurd cc
+refused (Err why) e = (why, refl)
+
+pub not_read : (plan : List Number) (octets : List ℕ) (o : Option Incoming) → o ≡ None
+    → MatchOption o (is_message octets ≡ false) (IsIncoming plan octets) → (why : Discard) × (reading octets ≡ Err why)
+not_read plan octets o is known =
+    refused (reading octets) (subst (λ (p : Option Incoming). MatchOption p (is_message octets ≡ false) (IsIncoming plan octets)) is known)
+
+pub dialled_there : (plan : List Number) (m : Message) (o : Option DialledNumber) (number : DialledNumber) → o ≡ Some number
+    → IfSome o (IsDialled plan m) → IsDialled plan m number
+dialled_there plan m o number is dials = subst (λ (p : Option DialledNumber). IfSome p (IsDialled plan m)) is dials
 
 -- ---- a message that is read ahead
 

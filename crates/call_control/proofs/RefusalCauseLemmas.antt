@@ -1,10 +1,11 @@
 -- The cause with which a SETUP is refused, check by check.
 use Rattle.std.proofs.Common.{◌≡◌, ℕ, Bool, true, false, List, [], ◌∷◌, ◌++◌, Option, Some, None, refl, sym, ◌∙◌, ap, arith}
-use Rattle.std.specs.Prelude.{IsTrue, unwrap_or}
+use Rattle.std.specs.Prelude.{IsTrue, not, Result, Ok, Err, IfErr, IfOk, OnOk, is_none, if◌then◌else◌}
 use Rattle.std.proofs.lemmas.Bool.Decides.{nat_tests}
 use Rattle.circuit_model.specs.declared.channel.Slot.{Slot}
 use Rattle.q931_codec.specs.declared.contents.ChannelIdentification.{ChannelIdentification}
 use Rattle.q931_codec.specs.declared.message.Message.{Message}
+use Rattle.q931_codec.specs.Causes.{no_channel_available, switching_equipment_congestion}
 use Rattle.q931_codec.specs.Contents.{channel_in, complete_in}
 use Rattle.number_plan.specs.declared.plan.Number.{Number}
 use Rattle.number_plan.specs.declared.target.Found.{Found}
@@ -12,11 +13,14 @@ use Rattle.number_plan.specs.declared.target.Found.TheVariants.{Line, Room, More
 use Rattle.number_plan.specs.declared.target.Target.TheVariants as target
 use Rattle.number_plan.specs.Plan.{found_for, all_targets}
 use Rattle.number_plan.proofs.Meanings.{found_passes}
-use Rattle.call_control.specs.Choices.{IsReached}
+use Rattle.call_control.specs.declared.setup_checks.CalledSide.{CalledSide}
+use Rattle.call_control.specs.declared.setup_checks.CalledSide.TheVariants as side
+use Rattle.call_control.specs.Choices.{IsReached, at_slot, called_side, dialled_checks}
+use Rattle.call_profile.specs.IdleSlots.{lowest_idle_beside}
 use Rattle.exchange_events.specs.Sizes.{Setting, Dimensions}
-use Rattle.call_profile.specs.Setup.{Check, first_cause, called_checks, digits_in, target_of, caller_slot, is_taken, element_checks, number_checks, slot_checks, refusal}
+use Rattle.call_profile.specs.Setup.{Check, first_cause, called_checks, target_of, caller_slot, is_taken, is_unknown, element_checks, number_checks, slot_checks, refusal}
 use Rattle.exchange_events.specs.Sound.{is_reached}
-use Rattle.call_profile.specs.World.{World}
+use Rattle.call_profile.specs.World.{World, is_full}
 
 -- ---- one list of checks behind another decides only where no check of the other fails
 
@@ -36,6 +40,72 @@ pub some_fails : (a b : List Check) (why : ℕ) → first_cause a ≡ Some why �
 some_fails [] b why e = absurd cc
 some_fails ((fails, cause) ∷ a) b why e = some_step fails cause a b why (some_fails a b why) e
 
+-- ---- the called side that is chosen
+
+-- the line has a slot for it exactly where the check of slots passes
+line_refused : (o : Option Slot) (cause : ℕ) → at_slot o ≡ Err cause → first_cause ((is_none o, no_channel_available) ∷ (false, switching_equipment_congestion) ∷ []) ≡ Some cause
+line_refused None cause e = let f : Err no_channel_available ≡ Err cause = e in let same : no_channel_available ≡ cause = cc in ap (λ n. Some n) same
+line_refused (Some y) cause e = absurd cc
+
+line_passes : (o : Option Slot) (called : CalledSide) → at_slot o ≡ Ok called → first_cause ((is_none o, no_channel_available) ∷ (false, switching_equipment_congestion) ∷ []) ≡ None
+line_passes None called e = absurd cc
+line_passes (Some y) called e = refl
+
+room_refused : (full : Bool) (room cause : ℕ) → (if full then Err switching_equipment_congestion else Ok (side.Room room)) ≡ Err cause
+    → first_cause ((false, no_channel_available) ∷ (full, switching_equipment_congestion) ∷ []) ≡ Some cause
+room_refused true room cause e =
+    let r : Result CalledSide ℕ = Err switching_equipment_congestion in
+    let f : r ≡ Err cause = e in
+    let same : switching_equipment_congestion ≡ cause = cc in ap (λ n. Some n) same
+room_refused false room cause e = absurd cc
+
+room_passes : (full : Bool) (room : ℕ) (called : CalledSide) → (if full then Err switching_equipment_congestion else Ok (side.Room room)) ≡ Ok called
+    → first_cause ((false, no_channel_available) ∷ (full, switching_equipment_congestion) ∷ []) ≡ None
+room_passes true room called e = absurd cc
+room_passes false room called e = refl
+
+pub side_refused : (d : Dimensions) (w : World) (x : Slot) (t : Found) (cause : ℕ) → is_unknown t ≡ false → called_side d w x t ≡ Err cause → first_cause (called_checks d w (Some x) t) ≡ Some cause
+side_refused d w x (Line line) cause known e = line_refused (lowest_idle_beside w x line) cause e
+side_refused d w x (Room room) cause known e = room_refused (is_full d w) room cause e
+side_refused d w x More cause known e = absurd cc
+side_refused d w x Nothing cause known e = absurd cc
+
+pub side_passes : (d : Dimensions) (w : World) (x : Slot) (t : Found) (called : CalledSide) → called_side d w x t ≡ Ok called → first_cause (called_checks d w (Some x) t) ≡ None
+side_passes d w x (Line line) called e = line_passes (lowest_idle_beside w x line) called e
+side_passes d w x (Room room) called e = room_passes (is_full d w) room called e
+side_passes d w x More called e = refl
+side_passes d w x Nothing called e = absurd cc
+
+-- where the checks of the number pass, the plan knows it
+pub is_known : (t : Found) (complete : Bool) → first_cause (number_checks t complete) ≡ None → is_unknown t ≡ false
+is_known (Line line) complete e = refl
+is_known (Room room) complete e = refl
+is_known More complete e = refl
+is_known Nothing complete e = absurd cc
+
+-- a result that is the called side's, and the checks of it
+pub side_err : (d : Dimensions) (w : World) (x : Slot) (t : Found) (r : Result CalledSide ℕ) → is_unknown t ≡ false → r ≡ called_side d w x t
+    → IfErr r (λ cause. first_cause (called_checks d w (Some x) t) ≡ Some cause)
+side_err d w x t (Ok called) known is = tt
+side_err d w x t (Err cause) known is = side_refused d w x t cause known (sym is)
+
+pub side_ok : (d : Dimensions) (w : World) (x : Slot) (t : Found) (r : Result CalledSide ℕ) → r ≡ called_side d w x t → OnOk r (first_cause (called_checks d w (Some x) t) ≡ None)
+side_ok d w x t (Ok called) is = side_passes d w x t called (sym is)
+side_ok d w x t (Err cause) is = tt
+
+pub side_is : (r s : Result CalledSide ℕ) → r ≡ s → IfOk r (λ called. s ≡ Ok called)
+side_is (Ok called) s is = sym is
+side_is (Err cause) s is = tt
+
+-- ---- the checks of a number that is dialled on
+
+module _ (d : Dimensions) (w : World) (x : Slot) (m : Message) (t : Found) (readable : Bool) (reads : not readable ≡ false) where
+  pub dialled_refused : (cause : ℕ) → first_cause (number_checks t (complete_in m.elements)) ≡ Some cause → first_cause (dialled_checks d w x m readable t) ≡ Some cause
+  dialled_refused cause e = rw reads (some_fails (number_checks t (complete_in m.elements)) (called_checks d w (Some x) t) cause e)
+
+  pub dialled_same : first_cause (number_checks t (complete_in m.elements)) ≡ None → first_cause (dialled_checks d w x m readable t) ≡ first_cause (called_checks d w (Some x) t)
+  dialled_same e = rw reads (none_fails (number_checks t (complete_in m.elements)) (called_checks d w (Some x) t) e)
+
 -- ---- the checks of slots
 
 pub slot_causes : (d : Dimensions) (w : World) (line : ℕ) (channel : Option ChannelIdentification) (target : Found) (x : Slot) → is_taken w line channel ≡ false → caller_slot w line channel ≡ Some x
@@ -51,9 +121,6 @@ reaches external plan digits More planned is = tt
 reaches external plan digits Nothing planned is = tt
 
 -- ---- the whole
-
-pub same_target : (s : Setting) (m : Message) (numbers : List Number) (target : Found) → s.plan ≡ numbers → target ≡ found_for numbers (unwrap_or (digits_in m) []) → target_of s m ≡ target
-same_target s m numbers target plan is = ap (λ ns. found_for ns (unwrap_or (digits_in m) [])) plan ∙ sym is
 
 module _ (s : Setting) (w : World) (line : ℕ) (m : Message) (target : Found) (leads : target_of s m ≡ target) where
   pub element_refused : (cause : ℕ) → first_cause (element_checks m) ≡ Some cause → refusal s w line m ≡ Some cause

@@ -5,8 +5,10 @@ use Rattle.number_plan.specs.Plan.{found_for}
 use Rattle.q931_elements.specs.Reading.{elements_of}
 use Rattle.q931_codec.specs.declared.message.Message.{Message}
 use Rattle.q931_codec.specs.Reading.{reading}
+use Rattle.call_profile.specs.Calls.{asks_for_call}
 use Rattle.call_profile.specs.Setup.{digits_in}
 use Rattle.call_control.specs.declared.reading_ahead.DialledNumber.{DialledNumber}
+use Rattle.call_control.specs.declared.reading_ahead.Incoming.{Incoming}
 use Rattle.call_control.specs.declared.reading_ahead.ReadAhead.{ReadAhead}
 
 -- what a message dials: whether it can be read, and what the plan knows of its digits
@@ -28,3 +30,10 @@ pub record IsReadAhead (plan : List Number) (octets : List ℕ) (known : ReadAhe
   pub bounded : known.reference < 2 ^ 15
   pub read : reading octets ≡ Ok (message_ahead known octets)
   pub dials : IfSome known.number (IsDialled plan (message_ahead known octets))
+
+-- the octets are that message, and it has a number, which is the one that it dials, if and only if it asks for a call
+pub record IsIncoming (plan : List Number) (octets : List ℕ) (incoming : Incoming) : Type 0 where
+  pub bounded : incoming.message.reference < 2 ^ 15
+  pub read : reading octets ≡ Ok incoming.message
+  pub dials : IfSome incoming.number (IsDialled plan incoming.message)
+  pub asks : is_some incoming.number ≡ asks_for_call incoming.message

@@ -26,12 +26,9 @@ EachAtWork plan tones map legs Says = (s : Setting) (w : World) → s.plan ≡ p
 abbrev pub SomeAtWork : List Number → Tones → Connections → Legs → (Setting → World → Type 0) → Type 0
 SomeAtWork plan tones map legs Says = (s : Setting) × (w : World) × (s.plan ≡ plan) × (s.tones ≡ tones) × IsAtWork s map legs w × Says s w
 
--- what is said of each setting with these tones, or with this plan of numbers, whatever else it has
+-- what is said of each setting with these tones, whatever else it has
 abbrev pub EachWithTones : Tones → Connections → Legs → (Setting → World → Type 0) → Type 0
 EachWithTones tones map legs Says = (s : Setting) (w : World) → s.tones ≡ tones → IsAtWork s map legs w → Says s w
-
-abbrev pub EachWithPlan : List Number → Connections → Legs → (Setting → World → Type 0) → Type 0
-EachWithPlan plan map legs Says = (s : Setting) (w : World) → s.plan ≡ plan → IsAtWork s map legs w → Says s w
 
 -- map and legs represent this world, in which circuits and legs are consistent
 pub record IsInOrder (s : Setting) (map : Connections) (legs : Legs) (w : World) : Type 0 where

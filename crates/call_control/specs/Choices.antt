@@ -1,25 +1,28 @@
 -- What is chosen for a new call, and what it does then. Source: this exchange's own.
-use Rattle.std.specs.Prelude.{◌≡◌, ℕ, ◌<◌, ◌&&◌, not, Bool, List, ◌∷◌, ◌++◌, Some, None}
+use Rattle.std.specs.Prelude.{◌≡◌, ℕ, ◌<◌, ◌&&◌, not, Bool, List, ◌∷◌, ◌++◌, Option, Some, None, Result, Ok, Err, if◌then◌else◌}
 use Rattle.circuit_model.specs.declared.channel.Slot.{Slot}
 use Rattle.circuit_model.specs.Circuits.{same_slot}
+use Rattle.circuit_model.specs.Extent.{IsExternal}
 use Rattle.number_plan.specs.declared.target.Found.{Found}
 use Rattle.number_plan.specs.declared.target.Found.TheVariants.{Line, Room, More, Nothing}
 use Rattle.q931_codec.specs.declared.message.Message.{Message}
-use Rattle.q931_codec.specs.Contents.{channel_in, complete_in}
-use Rattle.q931_codec.specs.Causes.{invalid_number_format}
+use Rattle.q931_codec.specs.Contents.{complete_in}
+use Rattle.q931_codec.specs.Causes.{invalid_number_format, no_channel_available, switching_equipment_congestion, unallocated_number}
 use Rattle.q931_codec.specs.Outgoing.{encoding}
 use Rattle.call_states.specs.declared.leg.Leg.{Leg}
+use Rattle.call_states.specs.declared.pending.Pending.{Pending}
 use Rattle.exchange_events.specs.declared.signal.Signal.{Signal}
 use Rattle.circuit_map.specs.Connections.{Connections}
-use Rattle.call_control.specs.AtWork.{IsAtWork}
-use Rattle.call_profile.specs.IdleSlots.{idle}
-use Rattle.call_profile.specs.Legs.{Legs}
+use Rattle.call_control.specs.declared.setup_checks.CalledSide.{CalledSide}
+use Rattle.call_control.specs.declared.setup_checks.CalledSide.TheVariants as side
+use Rattle.call_profile.specs.IdleSlots.{idle, lowest_idle_beside}
+use Rattle.call_profile.specs.Legs.{Legs, new_reference}
 use Rattle.call_profile.specs.Operations.{Operation}
-use Rattle.exchange_events.specs.Sizes.{Setting, Dimensions}
-use Rattle.call_profile.specs.Setup.{Check, call_proceeding, number_checks, called_checks, caller_slot, accept_at, target_of, refusal}
+use Rattle.exchange_events.specs.Sizes.{Dimensions}
+use Rattle.call_profile.specs.Setup.{Check, await_digits, call_line, call_proceeding, call_room, number_checks, called_checks}
 use Rattle.call_profile.specs.Permitted.{CanSeat}
 use Rattle.call_control.specs.Standing.{Holds}
-use Rattle.call_profile.specs.World.{World}
+use Rattle.call_profile.specs.World.{World, is_full}
 
 -- a line that is called is one of n
 abbrev pub IsReached : ℕ → Found → Type 0
@@ -32,9 +35,33 @@ IsReached external Nothing = Unit {0}
 abbrev pub idle_beside : World → Slot → Slot → Bool
 idle_beside w x y = idle w y && not (same_slot x y)
 
--- where the number is a room's, the caller can be seated
-abbrev pub SeatsInRoom : Connections → Legs → Slot → Found → Type 0
-SeatsInRoom map legs x target = (room : ℕ) → target ≡ Room room → (d : Dimensions) × (w : World) × Holds d map legs w × CanSeat d w x
+-- the slot that was found for the called side
+abbrev pub at_slot : Option Slot → Result CalledSide ℕ
+at_slot (Some y) = Ok (side.Line y)
+at_slot None = Err no_channel_available
+
+-- the called side that is chosen for a caller at a slot, by what its number leads to, or the cause for which there is none
+abbrev pub called_side : Dimensions → World → Slot → Found → Result CalledSide ℕ
+called_side d w x (Line line) = at_slot (lowest_idle_beside w x line)
+called_side d w x (Room room) = if is_full d w then Err switching_equipment_congestion else Ok (side.Room room)
+called_side d w x More = Ok side.More
+called_side d w x Nothing = Err unallocated_number
+
+-- the slot of a called side is one of n lines
+abbrev pub IsWithin : ℕ → CalledSide → Type 0
+IsWithin external (side.Line y) = IsExternal external y
+IsWithin external (side.Room room) = Unit {0}
+IsWithin external side.More = Unit {0}
+
+-- what a call does whose called side was chosen
+abbrev pub accept_side : Bool → World → ℕ → Pending → Slot → CalledSide → List Operation
+accept_side first w own asked x (side.Line y) = call_line first own asked x y (new_reference w.legs y.line)
+accept_side first w own asked x (side.Room room) = call_room first own x room
+accept_side first w own asked x side.More = await_digits first own asked x
+
+-- where the called side is a room, the caller can be seated
+abbrev pub SeatsInRoom : Connections → Legs → Slot → CalledSide → Type 0
+SeatsInRoom map legs x called = (room : ℕ) → called ≡ side.Room room → (d : Dimensions) × (w : World) × Holds d map legs w × CanSeat d w x
 
 -- CALL PROCEEDING as it is sent to a caller
 abbrev pub proceeding_sent : Bool → Slot → Leg → Signal
@@ -45,13 +72,3 @@ abbrev pub dialled_checks : Dimensions → World → Slot → Message → Bool �
 dialled_checks d w x m readable target =
     (not readable, invalid_number_format)
     ∷ (number_checks target (complete_in m.elements) ++ called_checks d w (Some x) target)
-
--- what a SETUP does that passes each check
-abbrev pub accept_setup : Setting → World → ℕ → Message → List Operation
-accept_setup s w line m = accept_at s w m (caller_slot w line (channel_in m.elements))
-
--- the exchange is at work, the SETUP passes each check, and its number leads there
-pub record MayAccept (s : Setting) (map : Connections) (legs : Legs) (w : World) (line : ℕ) (m : Message) (target : Found) : Type 0 where
-  pub work : IsAtWork s map legs w
-  pub leads : target_of s m ≡ target
-  pub passes : refusal s w line m ≡ None

@@ -1,5 +1,5 @@
 //! More digits of a number that is dialled in parts.
-ghost use Rattle.std.specs.Prelude.{◌≡◌, ◌≤◌, ◌+◌, ◌++◌, [], None, Some, IfSome, is_none, length};
+ghost use Rattle.std.specs.Prelude.{◌≡◌, ◌≤◌, ◌+◌, ◌++◌, [], None, Some, Ok, IfSome, IfOk, IfErr, OnOk, is_none, length};
 ghost use Rattle.circuit_map.specs.Connections.{SameSizes};
 ghost use Rattle.circuit_model.specs.Extent.{IsExternal};
 ghost use Rattle.q931_codec.specs.CallStates.{overlap_sending};
@@ -12,14 +12,14 @@ ghost use Rattle.call_profile.specs.Operations.{making_at, making_after_all};
 ghost use Rattle.call_profile.specs.Setup.{first_cause};
 ghost use Rattle.call_profile.specs.World.{World};
 ghost use Rattle.call_control.specs.AtWork.{IsAtWork, EachAtWork};
-ghost use Rattle.call_control.specs.Choices.{IsReached, dialled_checks};
+ghost use Rattle.call_control.specs.Choices.{IsReached, IsWithin, called_side, dialled_checks};
 ghost use Rattle.call_control.specs.Standing.{Holds, HasMade};
 
 use crate::asked::asked_in;
 use crate::new_call::Caller;
 use crate::operations::CallControl;
 use crate::reading_ahead::{DialledNumber, look_up};
-use crate::setup_checks::number_cause;
+use crate::setup_checks::{CalledSide, number_cause};
 use call_states::{Contents, Held, Pending};
 use circuit_model::Slot;
 use control_memory::PathMap;
@@ -61,32 +61,42 @@ impl<P: PathMap> CallControl<P> {
             return;
         };
         let dialled = look_up(plan, number.called.as_slice());
-        match self.digits_cause(held.slot, message, dialled) {
-            Some(cause) => self.clear_leg(out, tones, held, cause),
-            None => {
+        match self.called_by_digits(held.slot, message, dialled) {
+            Err(cause) => self.clear_leg(out, tones, held, cause),
+            Ok(called) => {
                 let caller = Caller {
                     slot: held.slot,
                     reference: held.leg.reference,
                     first: false,
                 };
-                self.accept(out, caller, &asked_in(&number), dialled.target);
+                self.accept(out, caller, &asked_in(&number), called);
             }
         }
     }
 
-    // The cause of the first check that fails of a number which is dialled on.
-    fn digits_cause(&self, x: Slot, message: &Message, dialled: DialledNumber) -> Option<u8>
+    // The called side of a number which is dialled on; the cause of the first check that it fails.
+    fn called_by_digits(
+        &self,
+        x: Slot,
+        message: &Message,
+        dialled: DialledNumber,
+    ) -> Result<CalledSide, u8>
         requires reached { IsReached self.now.map.external dialled.target }
-        ensures { (d : Dimensions) (w : World) → Holds d self.now.map self.now.legs w
-            → result ≡ first_cause (dialled_checks d w x message.now dialled.is_readable dialled.target) }
+        ensures refused { (d : Dimensions) (w : World) → Holds d self.now.map self.now.legs w
+            → IfErr result (λ cause. first_cause (dialled_checks d w x message.now dialled.is_readable dialled.target) ≡ Some cause) }
+        ensures passed { (d : Dimensions) (w : World) → Holds d self.now.map self.now.legs w
+            → OnOk result (first_cause (dialled_checks d w x message.now dialled.is_readable dialled.target) ≡ None) }
+        ensures called { (d : Dimensions) (w : World) → Holds d self.now.map self.now.legs w
+            → IfOk result (λ called. called_side d w x dialled.target ≡ Ok called) }
+        ensures within { IfOk result (IsWithin self.now.map.external) }
     {
         if !dialled.is_readable {
-            return Some(INVALID_NUMBER_FORMAT);
+            return Err(INVALID_NUMBER_FORMAT);
         }
-        match number_cause(dialled.target, message) {
-            Some(cause) => Some(cause),
-            None => self.called_side_cause(x, dialled.target),
+        if let Some(cause) = number_cause(dialled.target, message) {
+            return Err(cause);
         }
+        self.called_side(x, dialled.target)
     }
 }
 

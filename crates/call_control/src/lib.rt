@@ -27,4 +27,4 @@ mod setup;
 mod setup_checks;
 
 pub use operations::CallControl;
-pub use reading_ahead::{DialledNumber, ReadAhead, read_ahead};
+pub use reading_ahead::{DialledNumber, ReadAhead, Received, read_ahead};

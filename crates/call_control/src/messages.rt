@@ -1,5 +1,5 @@
 //! The way of a message from the octets that the user of a line has sent to what is done for it.
-ghost use Rattle.std.specs.Prelude.{◌≡◌, ◌<◌, ◌≤◌, ◌^◌, [], None, Ok, IfSome};
+ghost use Rattle.std.specs.Prelude.{◌≡◌, ◌<◌, ◌≤◌, ◌^◌, [], None, Ok, IfSome, is_some};
 ghost use Rattle.circuit_map.specs.Connections.{SameSizes};
 ghost use Rattle.clearing_rules.specs.Restarting.{restart_asked};
 ghost use Rattle.call_control.specs.Ahead.{IsDialled, IsReadAhead};
@@ -11,13 +11,13 @@ ghost use Rattle.call_profile.specs.World.{World};
 ghost use Rattle.call_control.specs.Standing.{HasMade};
 
 use crate::operations::CallControl;
-use crate::reading_ahead::{DialledNumber, ReadAhead, message_of};
+use crate::reading_ahead::{Incoming, Received, read_received};
 use crate::sending::answer_on_no_call;
 use clearing_rules::{GLOBAL_CALL_REFERENCE, restart};
 use control_memory::PathMap;
 use exchange_events::Outbox;
 use number_plan::Plan;
-use q931_codec::{Message, MessageKind, read};
+use q931_codec::Message;
 use tone_rules::Tones;
 
 impl<P: PathMap> CallControl<P> {
@@ -29,49 +29,22 @@ impl<P: PathMap> CallControl<P> {
         plan: &Plan,
         tones: &Tones,
         line: u8,
-        octets: &[u8],
-        ahead: Option<ReadAhead>,
+        received: &Received,
     )
         requires work { (s : Setting) × (w : World) × (s.plan ≡ plan.now) × (s.tones ≡ tones.now) × IsAtWork s self.old.map self.old.legs w }
         requires line { line < self.old.map.external }
-        requires ahead { IfSome ahead (IsReadAhead plan.now octets.now) }
+        requires ahead { IfSome received.now.ahead (IsReadAhead plan.now received.now.octets.now) }
         requires fresh { (out.old.sends ≡ []) × (out.old.moved ≡ None) }
         ensures makes { EachAtWork plan.now tones.now self.old.map self.old.legs (λ s w.
-            HasMade s self.new.map self.new.legs out.new (outcome_of_octets s w line octets.now).making) }
-        ensures records { EachAtWork plan.now tones.now self.old.map self.old.legs (λ s w. out.new.records ≡ (outcome_of_octets s w line octets.now).recorded) }
+            HasMade s self.new.map self.new.legs out.new (outcome_of_octets s w line received.now.octets.now).making) }
+        ensures records { EachAtWork plan.now tones.now self.old.map self.old.legs (λ s w.
+            out.new.records ≡ (outcome_of_octets s w line received.now.octets.now).recorded) }
         ensures few { IfSome out.new.moved (λ moves. (moves.0 ≤ self.old.map.bound) × (moves.1 ≤ self.old.map.bound)) }
         ensures sizes { SameSizes self.old.map self.new.map }
     {
-        match ahead {
-            Some(known) => {
-                let message = message_of(known, octets);
-                self.receive(out, plan, tones, line, &message, known.number)
-            }
-            None => self.read_and_receive(out, plan, tones, line, octets),
-        }
-    }
-
-    // The same for octets of which nothing was read ahead.
-    fn read_and_receive(
-        &mut self,
-        out: &mut Outbox,
-        plan: &Plan,
-        tones: &Tones,
-        line: u8,
-        octets: &[u8],
-    )
-        requires work { (s : Setting) × (w : World) × (s.plan ≡ plan.now) × (s.tones ≡ tones.now) × IsAtWork s self.old.map self.old.legs w }
-        requires line { line < self.old.map.external }
-        requires fresh { (out.old.sends ≡ []) × (out.old.moved ≡ None) }
-        ensures makes { EachAtWork plan.now tones.now self.old.map self.old.legs (λ s w.
-            HasMade s self.new.map self.new.legs out.new (outcome_of_octets s w line octets.now).making) }
-        ensures records { EachAtWork plan.now tones.now self.old.map self.old.legs (λ s w. out.new.records ≡ (outcome_of_octets s w line octets.now).recorded) }
-        ensures few { IfSome out.new.moved (λ moves. (moves.0 ≤ self.old.map.bound) × (moves.1 ≤ self.old.map.bound)) }
-        ensures sizes { SameSizes self.old.map self.new.map }
-    {
-        match read(octets) {
-            Ok(message) => self.receive(out, plan, tones, line, &message, None),
-            Err(_) => out.records.clear(),
+        match read_received(plan, received) {
+            Some(incoming) => self.receive(out, plan, tones, line, &incoming),
+            None => out.records.clear(),
         }
     }
 
@@ -83,57 +56,52 @@ impl<P: PathMap> CallControl<P> {
         plan: &Plan,
         tones: &Tones,
         line: u8,
-        message: &Message,
-        ahead: Option<DialledNumber>,
+        incoming: &Incoming,
     )
         requires work { (s : Setting) × (w : World) × (s.plan ≡ plan.now) × (s.tones ≡ tones.now) × IsAtWork s self.old.map self.old.legs w }
         requires line { line < self.old.map.external }
-        requires reference { message.now.reference < 2 ^ 15 }
-        requires ahead { IfSome ahead (IsDialled plan.now message.now) }
+        requires reference { incoming.now.message.reference < 2 ^ 15 }
+        requires dials { IfSome incoming.now.number (IsDialled plan.now incoming.now.message) }
+        requires asks { is_some incoming.now.number ≡ asks_for_call incoming.now.message }
         requires fresh { (out.old.sends ≡ []) × (out.old.moved ≡ None) }
         ensures makes { EachAtWork plan.now tones.now self.old.map self.old.legs (λ s w.
-            HasMade s self.new.map self.new.legs out.new (outcome_for s w line (request_read self.old.legs line (Ok message.now))).making) }
+            HasMade s self.new.map self.new.legs out.new (outcome_for s w line (request_read self.old.legs line (Ok incoming.now.message))).making) }
         ensures records { EachAtWork plan.now tones.now self.old.map self.old.legs (λ s w.
-            out.new.records ≡ (outcome_for s w line (request_read self.old.legs line (Ok message.now))).recorded) }
+            out.new.records ≡ (outcome_for s w line (request_read self.old.legs line (Ok incoming.now.message))).recorded) }
         ensures few { IfSome out.new.moved (λ moves. (moves.0 ≤ self.old.map.bound) × (moves.1 ≤ self.old.map.bound)) }
         ensures sizes { SameSizes self.old.map self.new.map }
     {
+        let message = &incoming.message;
         match self.legs.named(line, message.flag, message.reference) {
             Some(held) => self.act(out, plan, tones, held, message),
-            None => self.answer_without_leg(out, plan, tones, line, message, ahead),
+            None => self.answer_without_leg(out, tones, line, incoming),
         }
     }
 
     // Acts on a message that names no leg, and records the calls that it ends:
     // a RESTART on the global call reference, a SETUP from the side that chose the call reference, or one
     // that is answered there.
-    fn answer_without_leg(
-        &mut self,
-        out: &mut Outbox,
-        plan: &Plan,
-        tones: &Tones,
-        line: u8,
-        message: &Message,
-        ahead: Option<DialledNumber>,
-    )
-        requires work { (s : Setting) × (w : World) × (s.plan ≡ plan.now) × (s.tones ≡ tones.now) × IsAtWork s self.old.map self.old.legs w }
+    fn answer_without_leg(&mut self, out: &mut Outbox, tones: &Tones, line: u8, incoming: &Incoming)
+        requires work { (s : Setting) × (w : World) × (s.tones ≡ tones.now) × IfSome incoming.now.number (IsDialled s.plan incoming.now.message)
+            × IsAtWork s self.old.map self.old.legs w }
         requires line { line < self.old.map.external }
-        requires reference { message.now.reference < 2 ^ 15 }
-        requires ahead { IfSome ahead (IsDialled plan.now message.now) }
-        requires nameless { leg_named self.old.legs line message.now.flag message.now.reference ≡ None }
+        requires reference { incoming.now.message.reference < 2 ^ 15 }
+        requires asks { is_some incoming.now.number ≡ asks_for_call incoming.now.message }
+        requires nameless { leg_named self.old.legs line incoming.now.message.flag incoming.now.message.reference ≡ None }
         requires fresh { (out.old.sends ≡ []) × (out.old.moved ≡ None) }
-        ensures makes { EachAtWork plan.now tones.now self.old.map self.old.legs (λ s w.
-            HasMade s self.new.map self.new.legs out.new (outcome_for s w line (with_leg_named message.now None)).making) }
-        ensures records { EachAtWork plan.now tones.now self.old.map self.old.legs (λ s w.
-            out.new.records ≡ (outcome_for s w line (with_leg_named message.now None)).recorded) }
+        ensures makes { EachWithTones tones.now self.old.map self.old.legs (λ s w. IfSome incoming.now.number (IsDialled s.plan incoming.now.message)
+            → HasMade s self.new.map self.new.legs out.new (outcome_for s w line (with_leg_named incoming.now.message None)).making) }
+        ensures records { EachWithTones tones.now self.old.map self.old.legs (λ s w.
+            out.new.records ≡ (outcome_for s w line (with_leg_named incoming.now.message None)).recorded) }
         ensures few { IfSome out.new.moved (λ moves. (moves.0 ≤ self.old.map.bound) × (moves.1 ≤ self.old.map.bound)) }
         ensures sizes { SameSizes self.old.map self.new.map }
     {
+        let message = &incoming.message;
         if message.reference == GLOBAL_CALL_REFERENCE {
             return self.restart_if_asked(out, tones, line, message);
         }
-        if asks_for_call(message) {
-            self.setup(out, plan, line, message, ahead);
+        if let Some(number) = incoming.number {
+            self.setup(out, line, message, number);
             out.records.clear();
             return;
         }
@@ -158,11 +126,4 @@ impl<P: PathMap> CallControl<P> {
             None => out.records.clear(),
         }
     }
-}
-
-/// Whether the message is a SETUP from the side that chose the call reference.
-pub(crate) fn asks_for_call(message: &Message) -> bool
-    ensures { result ≡ asks_for_call message.now }
-{
-    message.kind == MessageKind::Setup && !message.flag
 }

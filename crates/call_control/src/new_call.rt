@@ -3,7 +3,6 @@
 ghost use Rattle.std.specs.Prelude.{◌≡◌, ◌+◌, ◌*◌, ◌<◌, ◌≤◌, ◌^◌, ◌++◌, [], ◌∷◌, None, IfSome, length};
 ghost use Rattle.circuit_map.specs.Connections.{SameSizes};
 ghost use Rattle.circuit_model.specs.Extent.{IsExternal};
-ghost use Rattle.number_plan.specs.declared.target.Found.TheVariants.{Room};
 ghost use Rattle.q931_codec.specs.Outgoing.{outgoing_of};
 ghost use Rattle.call_states.specs.Pending.{FitsElements};
 ghost use Rattle.call_states.specs.Status.{FitsMessages};
@@ -11,20 +10,20 @@ ghost use Rattle.exchange_events.specs.Limits.{most_sends};
 ghost use Rattle.exchange_events.specs.Sizes.{Dimensions};
 ghost use Rattle.call_profile.specs.Operations.{making_at, making_after_all};
 ghost use Rattle.call_profile.specs.Permitted.{CanSeat};
-ghost use Rattle.call_profile.specs.Setup.{accept, caller_leg, called_leg, with_channel, setup_acknowledge, offer, call_line, call_room, await_digits};
+ghost use Rattle.call_profile.specs.Setup.{caller_leg, called_leg, with_channel, setup_acknowledge, offer, call_line, call_room, await_digits};
 ghost use Rattle.call_profile.specs.World.{World};
 ghost use Rattle.call_control.specs.Asked.{asked_of};
-ghost use Rattle.call_control.specs.Choices.{IsReached, SeatsInRoom, proceeding_sent};
+ghost use Rattle.call_control.specs.Choices.{IsWithin, SeatsInRoom, accept_side, proceeding_sent};
 ghost use Rattle.call_control.specs.Standing.{Holds, Makes, Performs};
 
 use crate::asked::{Asked, pending_of};
 use crate::operations::CallControl;
 use crate::sending::{message_to, send};
+use crate::setup_checks::CalledSide;
 use call_states::{Leg, Peer, Side};
 use circuit_model::{Slot, channel_of};
 use control_memory::PathMap;
 use exchange_events::Outbox;
-use number_plan::Found;
 use q931_codec::states::{ACTIVE, CALL_PRESENT, OUTGOING_CALL_PROCEEDING, OVERLAP_SENDING};
 use q931_codec::{MessageKind, Outgoing};
 
@@ -40,31 +39,33 @@ pub(crate) struct Caller {
 }
 
 impl<P: PathMap> CallControl<P> {
-    /// Makes the legs of a call which is made from this, and whose number leads there.
-    pub(crate) fn accept(&mut self, out: &mut Outbox, caller: Caller, asked: &Asked, target: Found)
+    /// Makes the legs of a call which is made from this, with the called side that was chosen for it.
+    pub(crate) fn accept(
+        &mut self,
+        out: &mut Outbox,
+        caller: Caller,
+        asked: &Asked,
+        called: CalledSide,
+    )
         requires external { IsExternal self.old.map.external caller.slot }
         requires count { length self.old.legs.held ≡ 30 * self.old.map.external }
-        requires reached { IsReached self.old.map.external target }
-        requires seats { SeatsInRoom self.old.map self.old.legs caller.slot target }
+        requires within { IsWithin self.old.map.external called }
+        requires seats { SeatsInRoom self.old.map self.old.legs caller.slot called }
         requires reference { caller.reference < 2 ^ 15 }
         requires fits { FitsElements (asked_of asked.now) }
         requires fresh { (out.old.sends ≡ []) × (out.old.moved ≡ None) }
         ensures makes { (d : Dimensions) (w : World) → Holds d self.old.map self.old.legs w → Makes d self.new.map self.new.legs out.new.sends out.new.moved
-            (making_after_all d (making_at w) (accept caller.first w caller.reference (asked_of asked.now) caller.slot target)) }
+            (making_after_all d (making_at w) (accept_side caller.first w caller.reference (asked_of asked.now) caller.slot called)) }
         ensures few { IfSome out.new.moved (λ moves. (moves.0 ≤ self.old.map.bound) × (moves.1 ≤ self.old.map.bound)) }
         ensures sizes { SameSizes self.old.map self.new.map }
     {
-        match target {
-            Found::Line(line) => {
-                let Some(called) = self.lowest_idle_beside(caller.slot, line) else {
-                    return;
-                };
-                let reference = self.legs.new_reference(line);
-                self.call_line(out, caller, asked, called, reference);
+        match called {
+            CalledSide::Line(slot) => {
+                let reference = self.legs.new_reference(slot.line);
+                self.call_line(out, caller, asked, slot, reference);
             }
-            Found::Room(room) => self.call_room(out, caller, room),
-            Found::More => self.await_digits(out, caller, asked),
-            Found::Nothing => {}
+            CalledSide::Room(room) => self.call_room(out, caller, room),
+            CalledSide::More => self.await_digits(out, caller, asked),
         }
     }
 

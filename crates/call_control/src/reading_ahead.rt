@@ -1,11 +1,10 @@
-//! What is read of a message before its turn: all that its octets and the plan of numbers decide.
-ghost use Rattle.std.specs.Prelude.{◌≡◌, ◌≤◌, [], IfSome, is_some, length, unwrap_or};
-ghost use Rattle.number_plan.specs.Plan.{found_for};
+//! The reading of a message: all that its octets and the plan of numbers decide, before its turn or in it.
+ghost use Rattle.std.specs.Prelude.{◌≡◌, ◌≤◌, false, IfSome, MatchOption, is_some, length};
 ghost use Rattle.q931_codec.specs.Contents.{dialled_digits};
-ghost use Rattle.call_profile.specs.Setup.{digits_in, target_dialled};
-ghost use Rattle.call_control.specs.Ahead.{IsDialled, IsReadAhead, is_message, message_ahead};
+ghost use Rattle.call_profile.specs.Calls.{asks_for_call};
+ghost use Rattle.call_profile.specs.Setup.{target_dialled};
+ghost use Rattle.call_control.specs.Ahead.{IsDialled, IsIncoming, IsReadAhead, is_message, message_ahead};
 
-use crate::messages::asks_for_call;
 use number_plan::{Found, Plan};
 use q931_codec::{Message, MessageKind, dialled_digits, read};
 use q931_elements::Elements;
@@ -32,6 +31,24 @@ pub struct ReadAhead {
     pub number: Option<DialledNumber>,
 }
 
+/// A message as the user of a line has sent it: its octets, and the result of reading them before its turn.
+#[derive(Clone, Copy)]
+pub struct Received<'a> {
+    /// The octets.
+    pub octets: &'a [u8],
+    /// The result of reading them ahead; `None` if they were not read.
+    pub ahead: Option<ReadAhead>,
+}
+
+/// A message that has been read.
+#[derive(Drop)]
+pub(crate) struct Incoming<'a> {
+    /// The message.
+    pub message: Message<'a>,
+    /// The number that it dials if it asks for a call.
+    pub number: Option<DialledNumber>,
+}
+
 /// Reads a message ahead, and looks up what it dials where it may ask for a call. `None` where the
 /// octets are no message.
 pub fn read_ahead(plan: &Plan, octets: &[u8]) -> Option<ReadAhead>
@@ -41,7 +58,7 @@ pub fn read_ahead(plan: &Plan, octets: &[u8]) -> Option<ReadAhead>
     let Ok(message) = read(octets) else {
         return None;
     };
-    let number = number_ahead(plan, &message);
+    let number = number_of(plan, &message, None);
     Some(ReadAhead {
         flag: message.flag,
         reference: message.reference,
@@ -50,18 +67,28 @@ pub fn read_ahead(plan: &Plan, octets: &[u8]) -> Option<ReadAhead>
     })
 }
 
-// What a message dials that may ask for a call.
-fn number_ahead(plan: &Plan, message: &Message) -> Option<DialledNumber>
-    ensures { IfSome result (IsDialled plan.now message.now) }
+/// The message that was received; `None` if its octets are not a message. What was read ahead is not read
+/// again.
+#[inline(always)]
+pub(crate) fn read_received<'a>(plan: &Plan, received: &Received<'a>) -> Option<Incoming<'a>>
+    requires ahead { IfSome received.now.ahead (IsReadAhead plan.now received.now.octets.now) }
+    ensures { MatchOption result (is_message received.now.octets.now ≡ false) (IsIncoming plan.now received.now.octets.now) }
 {
-    if !asks_for_call(message) {
-        return None;
+    let octets = received.octets;
+    if let Some(known) = received.ahead {
+        let message = message_of(known, octets);
+        let number = number_of(plan, &message, known.number);
+        return Some(Incoming { message, number });
     }
-    Some(look_up(plan, message.called_number()))
+    let Ok(message) = read(octets) else {
+        return None;
+    };
+    let number = number_of(plan, &message, None);
+    Some(Incoming { message, number })
 }
 
-/// The message of which this was read ahead.
-pub(crate) fn message_of(known: ReadAhead, octets: &[u8]) -> Message<'_>
+// The message of which this was read ahead.
+fn message_of(known: ReadAhead, octets: &[u8]) -> Message<'_>
     requires { 5 ≤ length octets.now }
     ensures { result ≡ message_ahead known octets.now }
 {
@@ -73,16 +100,27 @@ pub(crate) fn message_of(known: ReadAhead, octets: &[u8]) -> Message<'_>
     }
 }
 
-/// What a SETUP dials, by the plan: as it was looked up ahead, else as it is looked up now.
-pub(crate) fn dialled(plan: &Plan, message: &Message, ahead: Option<DialledNumber>) -> DialledNumber
+// The number that a message dials if it asks for a call: as it was looked up ahead, otherwise as it is looked
+// up here.
+fn number_of(plan: &Plan, message: &Message, ahead: Option<DialledNumber>) -> Option<DialledNumber>
     requires ahead { IfSome ahead (IsDialled plan.now message.now) }
-    ensures readable { result.is_readable ≡ is_some (digits_in message.now) }
-    ensures target { result.target ≡ found_for plan.now (unwrap_or (digits_in message.now) []) }
+    ensures dials { IfSome result (IsDialled plan.now message.now) }
+    ensures asks { is_some result ≡ asks_for_call message.now }
 {
-    match ahead {
-        Some(number) => number,
-        None => look_up(plan, message.called_number()),
+    if !asks_for_call(message) {
+        return None;
     }
+    match ahead {
+        Some(number) => Some(number),
+        None => Some(look_up(plan, message.called_number())),
+    }
+}
+
+// Whether the message is a SETUP from the side that chose the call reference.
+fn asks_for_call(message: &Message) -> bool
+    ensures { result ≡ asks_for_call message.now }
+{
+    message.kind == MessageKind::Setup && !message.flag
 }
 
 /// What the plan knows of the digits of a called party number with these contents.

@@ -1,9 +1,9 @@
 //! The checks of a SETUP: what it asks for, which slots its call gets, and the cause with which it is refused.
-ghost use Rattle.std.specs.Prelude.{◌≡◌, ◌<◌, Some, is_some, IfSome};
-ghost use Rattle.call_profile.specs.Setup.{digits_in, lacks_number, slot_of, slot_asked, element_checks, number_checks, first_cause, caller_slot, is_taken, slot_checks, called_checks, refusal, target_of};
-ghost use Rattle.q931_codec.specs.Contents.{called_received, complete_in};
+ghost use Rattle.std.specs.Prelude.{◌≡◌, ◌<◌, false, Some, None, Ok, is_some, IfSome, IfOk, IfErr, OnOk};
+ghost use Rattle.call_profile.specs.Setup.{digits_in, lacks_number, slot_of, slot_asked, element_checks, number_checks, first_cause, caller_slot, is_taken, is_unknown, slot_checks, refusal, target_of};
+ghost use Rattle.q931_codec.specs.Contents.{called_received, channel_in, complete_in};
 ghost use Rattle.circuit_model.specs.Extent.{IsExternal};
-ghost use Rattle.call_control.specs.Choices.{IsReached, idle_beside};
+ghost use Rattle.call_control.specs.Choices.{IsReached, IsWithin, called_side, idle_beside};
 ghost use Rattle.call_profile.specs.IdleSlots.{lowest_idle, lowest_idle_beside};
 ghost use Rattle.exchange_events.specs.Sizes.{Setting, Dimensions};
 ghost use Rattle.call_control.specs.Standing.{Holds};
@@ -20,6 +20,26 @@ use q931_codec::causes::{
     SWITCHING_EQUIPMENT_CONGESTION, UNALLOCATED_NUMBER,
 };
 use q931_codec::{BearerCapability, ChannelIdentification, Message, is_called_number};
+
+/// The called side of a call that passes its checks.
+#[derive(Clone, Copy)]
+pub(crate) enum CalledSide {
+    /// An idle slot of the called line.
+    Line(Slot),
+    /// A conference room, while a port is free.
+    Room(u8),
+    /// More digits of the number are to come.
+    More,
+}
+
+/// A SETUP that passes its checks: the slots of its call.
+#[derive(Clone, Copy)]
+pub(crate) struct Admitted {
+    /// The caller's slot.
+    pub slot: Slot,
+    /// The called side.
+    pub called: CalledSide,
+}
 
 impl<P: PathMap> CallControl<P> {
     /// The lowest idle slot of a line.
@@ -90,57 +110,85 @@ impl<P: PathMap> CallControl<P> {
         }
     }
 
-    // The cause of the first check of the slots and ports that a SETUP fails.
-    fn slot_cause(
+    // The slots of a call, by the channel that its SETUP asks for and by where its number leads; the cause of the
+    // first check of slots and ports that it fails.
+    fn slots_for(
         &self,
         line: u8,
         channel: Option<ChannelIdentification>,
         target: Found,
-    ) -> Option<u8>
+    ) -> Result<Admitted, u8>
         requires external { line < self.now.map.external }
         requires reached { IsReached self.now.map.external target }
-        ensures { (d : Dimensions) (w : World) → Holds d self.now.map self.now.legs w → result ≡ first_cause (slot_checks d w line channel target) }
+        requires known { is_unknown target ≡ false }
+        ensures refused { (d : Dimensions) (w : World) → Holds d self.now.map self.now.legs w
+            → IfErr result (λ cause. first_cause (slot_checks d w line channel target) ≡ Some cause) }
+        ensures passed { (d : Dimensions) (w : World) → Holds d self.now.map self.now.legs w
+            → OnOk result (first_cause (slot_checks d w line channel target) ≡ None) }
+        ensures caller { (d : Dimensions) (w : World) → Holds d self.now.map self.now.legs w
+            → IfOk result (λ a. caller_slot w line channel ≡ Some a.slot) }
+        ensures called { (d : Dimensions) (w : World) → Holds d self.now.map self.now.legs w
+            → IfOk result (λ a. called_side d w a.slot target ≡ Ok a.called) }
+        ensures within { IfOk result (λ a. IsExternal self.now.map.external a.slot × IsWithin self.now.map.external a.called) }
     {
         if self.is_taken(line, channel) {
-            return Some(REQUESTED_CHANNEL_NOT_AVAILABLE);
+            return Err(REQUESTED_CHANNEL_NOT_AVAILABLE);
         }
-        let Some(caller) = self.caller_slot(line, channel) else {
-            return Some(NO_CHANNEL_AVAILABLE);
+        let Some(slot) = self.caller_slot(line, channel) else {
+            return Err(NO_CHANNEL_AVAILABLE);
         };
-        self.called_side_cause(caller, target)
+        match self.called_side(slot, target) {
+            Ok(called) => Ok(Admitted { slot, called }),
+            Err(cause) => Err(cause),
+        }
     }
 
-    /// The cause where the called line has no idle slot beside the caller's, or where every conference
-    /// port is taken.
-    pub(crate) fn called_side_cause(&self, caller: Slot, target: Found) -> Option<u8>
+    /// The called side for a caller at a slot, by where its number leads; the cause where the called line has no
+    /// idle slot beside the caller's, or where every conference port is taken.
+    pub(crate) fn called_side(&self, caller: Slot, target: Found) -> Result<CalledSide, u8>
         requires reached { IsReached self.now.map.external target }
-        ensures { (d : Dimensions) (w : World) → Holds d self.now.map self.now.legs w → result ≡ first_cause (called_checks d w (Some caller) target) }
+        ensures side { (d : Dimensions) (w : World) → Holds d self.now.map self.now.legs w → result ≡ called_side d w caller target }
+        ensures within { IfOk result (IsWithin self.now.map.external) }
     {
         match target {
             Found::Line(line) => match self.lowest_idle_beside(caller, line) {
-                Some(_) => None,
-                None => Some(NO_CHANNEL_AVAILABLE),
+                Some(slot) => Ok(CalledSide::Line(slot)),
+                None => Err(NO_CHANNEL_AVAILABLE),
             },
-            Found::Room(_) if self.map.is_full() => Some(SWITCHING_EQUIPMENT_CONGESTION),
-            _ => None,
+            Found::Room(_) if self.map.is_full() => Err(SWITCHING_EQUIPMENT_CONGESTION),
+            Found::Room(room) => Ok(CalledSide::Room(room)),
+            Found::More => Ok(CalledSide::More),
+            Found::Nothing => Err(UNALLOCATED_NUMBER),
         }
     }
 
-    /// The cause of the first check that a SETUP fails, which dials this.
-    pub(crate) fn refusal(&self, line: u8, message: &Message, number: DialledNumber) -> Option<u8>
+    /// The slots of the call that a SETUP asks for, which dials this; the cause of the first check that it fails.
+    pub(crate) fn admit(
+        &self,
+        line: u8,
+        message: &Message,
+        number: DialledNumber,
+    ) -> Result<Admitted, u8>
         requires external { line < self.now.map.external }
         requires readable { number.is_readable ≡ is_some (digits_in message.now) }
         requires reached { IsReached self.now.map.external number.target }
-        ensures { (s : Setting) (w : World) → target_of s message.now ≡ number.target → Holds s.dimensions self.now.map self.now.legs w
-            → result ≡ refusal s w line message.now }
+        ensures refused { (s : Setting) (w : World) → target_of s message.now ≡ number.target → Holds s.dimensions self.now.map self.now.legs w
+            → IfErr result (λ cause. refusal s w line message.now ≡ Some cause) }
+        ensures passed { (s : Setting) (w : World) → target_of s message.now ≡ number.target → Holds s.dimensions self.now.map self.now.legs w
+            → OnOk result (refusal s w line message.now ≡ None) }
+        ensures caller { (d : Dimensions) (w : World) → Holds d self.now.map self.now.legs w
+            → IfOk result (λ a. caller_slot w line (channel_in message.now.elements) ≡ Some a.slot) }
+        ensures called { (d : Dimensions) (w : World) → Holds d self.now.map self.now.legs w
+            → IfOk result (λ a. called_side d w a.slot number.target ≡ Ok a.called) }
+        ensures within { IfOk result (λ a. IsExternal self.now.map.external a.slot × IsWithin self.now.map.external a.called) }
     {
         if let Some(cause) = element_cause(message, number.is_readable) {
-            return Some(cause);
+            return Err(cause);
         }
-        match number_cause(number.target, message) {
-            Some(cause) => Some(cause),
-            None => self.slot_cause(line, message.channel(), number.target),
+        if let Some(cause) = number_cause(number.target, message) {
+            return Err(cause);
         }
+        self.slots_for(line, message.channel(), number.target)
     }
 }
 

@@ -14,6 +14,7 @@ use Rattle.exchange_core.specs.Boards.{Board, setting_at, world_at}
 use Rattle.exchange_core.specs.Working.{Entry, IsNumbered, IsToolFor}
 use Rattle.exchange_events.specs.Sizes.{Dimensions}
 use Rattle.call_profile.specs.World.{World, pass}
+use Rattle.call_processor.specs.declared.machine.Machine.{Machine}
 use Rattle.call_processor.specs.declared.worked.Placed.{Placed}
 
 -- which frames an engine of some type carries: their inputs, circuits and conference ports
@@ -39,6 +40,10 @@ pub record IsReady {E : Type 0} (carries : Carrying E) (next : E → ℕ) (sizes
 -- so for what a seat has seen
 abbrev pub IsReadyFor : {E : Type 0} → Carrying E → (E → ℕ) → (E → Dimensions) → Board → Known → E → Tool → Type 0
 IsReadyFor carries next sizes board v engine tool = IsReady carries next sizes board v.seen engine tool
+
+-- so the engine and the control memory of a machine
+abbrev pub IsReadyAt : {E : Type 0} → Carrying E → (E → ℕ) → (E → Dimensions) → Board → Known → Machine E → Type 0
+IsReadyAt carries next sizes board v m = IsReadyFor carries next sizes board v m.engine m.desk.tool
 
 -- in the frame that begins in this world with this input, the octets are those that the engine plays, for each external line
 pub record IsPlayed (plays : Plays) (tones : Kind → List ℕ) (external : ℕ) (w : World) (input : Input) (octets : List (List ℕ)) : Type 0 where

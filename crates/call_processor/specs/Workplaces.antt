@@ -1,20 +1,21 @@
 -- What came of a part of a segment that was done at a workplace. Source: this exchange's own.
-use Rattle.std.specs.Prelude.{ℕ, List}
+use Rattle.std.specs.Prelude.{ℕ, IsTrue, List}
 use Rattle.seat_history.specs.declared.known.Known.{Known}
 use Rattle.exchange_core.specs.Boards.{Board}
 use Rattle.exchange_events.specs.Sizes.{Dimensions}
 use Rattle.call_processor.specs.declared.worked.Finished.{Finished}
 use Rattle.call_processor.specs.declared.worked.FinishedFrames.{FinishedFrames}
 use Rattle.call_processor.specs.declared.worked.Framed.{Framed}
+use Rattle.call_processor.specs.declared.machine.Machine.{Machine}
 use Rattle.call_processor.specs.declared.worked.Placed.{Placed}
-use Rattle.call_processor.specs.Frames.{Carrying, IsReady, HasFrame, Plays}
+use Rattle.call_processor.specs.Frames.{Carrying, IsReady, IsReadyAt, HasFrame, Plays}
 use Rattle.call_processor.specs.Keeping.{KeepsWork, has_no_octets}
 use Rattle.tone_rules.specs.Tables.{table_of}
 use Rattle.exchange_events.specs.declared.trace.Trace.{Trace}
 use Rattle.exchange_events.specs.Orders.{Frame_worker, Processor}
 use Rattle.call_processor.specs.declared.worked.Worked.{Worked}
 use Rattle.call_processor.specs.Parts.{part_of}
-use Rattle.call_processor.specs.Work.{Works}
+use Rattle.call_processor.specs.Work.{MayWork, Works}
 
 -- the worker did this part from what its seat knew at first, and its answers are what the workplace's keeper keeps
 abbrev pub HasWorked : {T K : Type 0} → (K → List Placed → Type 0) → (T → Known) → Board → (Known → Placed → Type 0) → List ℕ → Known → Finished T K → Type 0
@@ -37,6 +38,17 @@ HasAnswered known board part v d = Works board part v d.answers.items d.whole (k
 abbrev pub EndsReady : {T E : Type 0} → Carrying E → (E → ℕ) → (E → Dimensions) → (T → Known) → Board → Framed T E → Type 0
 EndsReady carries next sizes known board f = IsReady carries next sizes board (known f.worked.seat).seen f.engine f.tool
 
--- and so from a workplace
+-- and so the machine of a frame worker at a workplace
 abbrev pub FinishesReady : {T E K : Type 0} → Carrying E → (E → ℕ) → (E → Dimensions) → (T → Known) → Board → FinishedFrames T E K → Type 0
-FinishesReady carries next sizes known board f = IsReady carries next sizes board (known f.finished.seat).seen f.engine f.tool
+FinishesReady carries next sizes known board f = IsReadyAt carries next sizes board (known f.finished.seat) f.machine.value
+
+-- the frame worker, whose seat knows v, may do the frames of this segment with this machine
+pub record MayDoFrames {E : Type 0} (carries : Carrying E) (next : E → ℕ) (sizes : E → Dimensions) (board : Board) (trace : Trace) (segment : ℕ) (v : Known) (m : Machine E) : Type 0 where
+  pub work : MayWork board trace segment Frame_worker v
+  pub baton : IsTrue v.baton
+  pub ready : IsReadyAt carries next sizes board v m
+
+-- the frame worker did the frames of a segment, and its machine is ready for the next one
+pub record HasRunFrames {T E K : Type 0} (holds : K → List Placed → Type 0) (plays : Plays) (carries : Carrying E) (next : E → ℕ) (sizes : E → Dimensions) (known : T → Known) (board : Board) (trace : Trace) (segment : ℕ) (v : Known) (f : FinishedFrames T E K) : Type 0 where
+  pub works : HasDoneFrames holds plays known board trace segment v f.finished
+  pub ready : FinishesReady carries next sizes known board f

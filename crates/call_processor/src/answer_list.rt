@@ -1,4 +1,4 @@
-//! The keeper of whole answers.
+//! The keeper of complete answers.
 ghost use Rattle.std.specs.Prelude.{◌≡◌, ◌++◌, ◌∷◌, List, [], OnOk, OnErr, take, drop};
 ghost use Rattle.call_processor.specs.declared.worked.Placed.{Placed};
 ghost use Rattle.call_processor.specs.Keeping.{BeginsFrom, HandsBelow};
@@ -9,15 +9,15 @@ use exchange_events::{Answer, Outbox, Response};
 use std::alloc::{AllocError, Global};
 use std::collections::VecDeque;
 
-/// A keeper of whole answers.
+/// A keeper of complete answers.
 #[derive(Drop)]
 pub struct AnswerList {
-    /// The answers, in the order in which it got them.
+    /// The answers, in the order in which they were appended.
     pub items: VecDeque<Placed>,
 }
 
 impl AnswerList {
-    /// No answers yet.
+    /// An empty list.
     pub fn new(alloc: Global) -> AnswerList
         ensures { result.items.items ≡ [] }
     {
@@ -73,7 +73,7 @@ impl Keeper for AnswerList {
     }
 }
 
-// Moves the first answers over, as far as they come before a place.
+// Moves the first answers, as long as they come before a place.
 fn hand_on_below(
     from: &mut VecDeque<Placed>,
     to: &mut VecDeque<Placed>,
@@ -92,7 +92,7 @@ fn hand_on_below(
     Ok(())
 }
 
-// Moves the first answer over, if there is one.
+// Moves the first answer, if there is one.
 fn move_first(from: &mut VecDeque<Placed>, to: &mut VecDeque<Placed>) -> Result<(), AllocError>
     ensures handed { OnOk result (from.new.items ≡ drop 1 from.old.items × (to.new.items ≡ to.old.items ++ take 1 from.old.items)) }
     ensures refused { OnErr result (to.new.items ≡ to.old.items) }

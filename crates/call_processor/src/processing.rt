@@ -1,4 +1,4 @@
-ghost use Rattle.std.specs.Prelude.{◌≡◌, ◌<◌, ◌≤◌, [], true, All, List, OnOk, OnErr, is_ok, length};
+ghost use Rattle.std.specs.Prelude.{◌≡◌, ◌<◌, ◌≤◌, [], true, false, All, List, OnOk, OnErr, is_ok, length};
 ghost use Rattle.exchange_core.specs.Ahead.{IsReadAt};
 ghost use Rattle.exchange_core.specs.Boards.{turns_of};
 ghost use Rattle.exchange_core.specs.declared.tool.Tool.TheVariants.{Nothing};
@@ -11,6 +11,7 @@ ghost use Rattle.call_processor.specs.Work.{DidEvent, MayWork};
 ghost use Rattle.call_processor.specs.Workplaces.{HasAnswered, HasDoneEvents};
 
 use crate::answer_list::AnswerList;
+use crate::context::RunContext;
 use crate::keeper::Keeper;
 use crate::segment::{is_of_processor, numbers_of};
 use crate::shortage::Shortage;
@@ -21,77 +22,81 @@ use gate::Gate;
 use std::alloc::{AllocError, Global};
 use std::sync::Wait;
 
-// Does one event of a call processor in the seat's turn. What was read of it ahead, if anything, is on the desk.
+/// The greatest number of events in one turn of a call processor. A pass wakes a waiting thread through the scheduler,
+/// which takes as long as many events. A waiting worker waits for at most one turn of each other worker.
+pub const MAX_TURN_EVENTS: u32 = 512;
+
+// Processes one event of a call processor in a turn of the seat, and keeps the turn if `keep` is true. The desk holds
+// the message of the event, if it was read ahead.
 pub(crate) fn do_event<B: Switchboard, G: Gate, K: Keeper, R: Wait>(
-    rt: &R,
-    alloc: Global,
-    board: &B,
+    cx: &RunContext<B, G, R>,
     seat: &mut B::Seat,
     processor: u32,
     event: u32,
+    keep: bool,
     desk: &mut Desk,
     keeper: &mut K,
-    gate: &G,
 ) -> Result<(), AllocError>
-    requires seated { B.seated board.now seat.old }
-    requires known { IsEvent (B.board board.now).trace event }
-    requires its { is_its (B.board board.now).trace (Processor processor) event ≡ true }
+    requires seated { B.seated cx.now.board.now seat.old }
+    requires known { IsEvent (B.board cx.now.board.now).trace event }
+    requires its { is_its (B.board cx.now.board.now).trace (Processor processor) event ≡ true }
     requires turn { 0 < (B.known seat.old).left }
     requires tool { desk.old.tool ≡ Nothing }
-    requires ahead { IsReadAt (B.board board.now).trace event desk.old.ahead }
-    ensures seated { B.seated board.now seat.new }
+    requires ahead { IsReadAt (B.board cx.now.board.now).trace event desk.old.ahead }
+    ensures seated { B.seated cx.now.board.now seat.new }
     ensures handled { DidEvent (B.known seat.old) event (B.known seat.new) }
-    ensures next { IsOnly (B.known seat.old) → DidNext (turns_of (B.board board.now)) (B.known seat.old) event (B.known seat.new) }
+    ensures next { IsOnly (B.known seat.old) → DidNext (turns_of (B.board cx.now.board.now)) (B.known seat.old) event (B.known seat.new) }
     ensures tool { desk.new.tool ≡ Nothing }
-    ensures kept { OnOk result (HasKept K.holds (B.board board.now) (B.known seat.new) event has_no_octets keeper.old keeper.new) }
+    ensures kept { OnOk result (HasKept K.holds (B.board cx.now.board.now) (B.known seat.new) event has_no_octets keeper.old keeper.new) }
     ensures refused { OnErr result ((answers : List Placed) → K.holds keeper.old answers → K.holds keeper.new answers) }
 {
-    gate.before_turn(processor, event);
-    let (place, response) = board.work(rt, seat, event, desk);
-    gate.after_turn(processor, event);
-    keeper.keep(alloc, place, event, response, &desk.out, &[])
+    cx.gate.before_turn(processor, event);
+    let (place, response) = cx.board.work(cx.rt, seat, event, desk, keep);
+    cx.gate.after_turn(processor, event);
+    keeper.keep(cx.alloc, place, event, response, &desk.out, &[])
 }
 
-// Does the events of one call processor in one segment in order, until memory runs out.
+// Processes the events of one call processor in one segment in order, until an allocation fails. It looks at every
+// event of the segment: there are at most nine workers, and no list is stored. Unless the gate may hold a thread, it keeps each turn for `MAX_TURN_EVENTS` events. The caller must release the last turn.
 fn do_events<B: Switchboard, G: Gate, K: Keeper, R: Wait>(
-    rt: &R,
-    alloc: Global,
-    board: &B,
+    cx: &RunContext<B, G, R>,
     seat: &mut B::Seat,
-    trace: &Trace,
     segment: u32,
     processor: u32,
     desk: &mut Desk,
     keeper: &mut K,
     shortage: &Shortage,
-    gate: &G,
 ) -> Result<(), AllocError>
-    requires seated { B.seated board.now seat.old }
-    requires may { MayWork (B.board board.now) trace.now segment (Processor processor) (B.known seat.old) }
-    requires processor { processor < trace.now.processors }
+    requires seated { B.seated cx.now.board.now seat.old }
+    requires may { MayWork (B.board cx.now.board.now) cx.now.trace.now segment (Processor processor) (B.known seat.old) }
+    requires processor { processor < cx.now.trace.now.processors }
     requires tool { desk.old.tool ≡ Nothing }
-    ensures seated { B.seated board.now seat.new }
-    ensures works { KeepsEvents K.holds (B.board board.now) trace.now segment processor (B.known seat.old) keeper.new (is_ok result) (B.known seat.new) }
+    ensures seated { B.seated cx.now.board.now seat.new }
+    ensures works { KeepsEvents K.holds (B.board cx.now.board.now) cx.now.trace.now segment processor (B.known seat.old) keeper.new (is_ok result) (B.known seat.new) }
 {
     keeper.clear();
-    let (first, end) = numbers_of(trace, segment);
+    let (first, end) = numbers_of(cx.trace, segment);
+    let mut left = 0;
     for event in first..end {
-        if !is_of_processor(trace, processor, event) {
+        if !is_of_processor(cx.trace, processor, event) {
             continue;
         }
         if shortage.is_told() {
             return Err(AllocError);
         }
-        desk.look_ahead(trace, event);
-        do_event(rt, alloc, board, seat, processor, event, desk, keeper, gate)?;
+        desk.look_ahead(cx.trace, event);
+        left = if left == 0 { MAX_TURN_EVENTS } else { left } - 1;
+        let keep = left > 0 && !cx.gate.may_hold();
+        do_event(cx, seat, processor, event, keep, desk, keeper)?;
     }
     Ok(())
 }
 
-/// Does the events of one call processor in one segment of a board's trace, in the order of the file;
-/// segments and processors are counted from 0. Waits for its turn at each of them.
+/// Processes the events of one call processor in one segment of a board's trace, in file order. Segments and
+/// processors are counted from 0. The seat waits for its turn and keeps it for several consecutive events, unless the
+/// gate [may hold](Gate::may_hold) a thread. It does not have the turn at the end.
 ///
-/// Where memory runs out, the work ends there, and only the last event done may lack its answer.
+/// If an allocation fails, the work ends there, and only the last event processed may lack its answer.
 pub fn process<B: Switchboard, G: Gate, R: Wait>(
     rt: &R,
     alloc: Global,
@@ -108,25 +113,30 @@ pub fn process<B: Switchboard, G: Gate, R: Wait>(
     requires processor { processor < trace.now.processors }
     requires turns { length (part_of trace.now segment (Processor processor)) ≤ (B.known seat).left }
     ensures seated { B.seated board.now result.seat }
+    ensures passed { B.keeps result.seat ≡ false }
     ensures works { HasAnswered B.known (B.board board.now) (part_of trace.now segment (Processor processor)) (B.known seat) result }
     // An event that is no frame has no octets.
     ensures octets { All (λ p. p.answer.octets ≡ []) result.answers.items }
 {
-    let mut desk = Desk::new(Tool::Nothing);
-    let mut keeper = AnswerList::new(alloc);
-    let done = do_events(
+    let cx = RunContext {
         rt,
         alloc,
         board,
-        &mut seat,
         trace,
+        gate,
+    };
+    let mut desk = Desk::new(Tool::Nothing);
+    let mut keeper = AnswerList::new(alloc);
+    let done = do_events(
+        &cx,
+        &mut seat,
         segment,
         processor,
         &mut desk,
         &mut keeper,
         &Shortage::new(),
-        gate,
     );
+    board.release(&mut seat);
     Worked {
         seat,
         answers: Vec::from(keeper.items),
@@ -134,42 +144,36 @@ pub fn process<B: Switchboard, G: Gate, R: Wait>(
     }
 }
 
-/// Does the events of one call processor in one segment as [`process`] does, at a workplace that it
-/// gets and hands back. It begins with an empty keeper. Where another worker ran out of memory, the work
-/// ends before the next event.
+/// Processes the events of one call processor in one segment as [`process`] does, at a workplace that it receives and
+/// returns. It begins with an empty keeper. If an allocation of another worker has failed, the work ends before the
+/// next event. The seat does not have the turn at the end in any case.
 pub fn process_at<B: Switchboard, G: Gate, K: Keeper, R: Wait>(
-    rt: &R,
-    alloc: Global,
-    board: &B,
+    cx: &RunContext<B, G, R>,
     mut seat: B::Seat,
-    trace: &Trace,
     segment: u32,
     processor: u32,
     mut workplace: Workplace<K>,
     shortage: &Shortage,
-    gate: &G,
 ) -> Finished<B::Seat, K>
-    requires seated { B.seated board.now seat }
-    requires may { MayWork (B.board board.now) trace.now segment (Processor processor) (B.known seat) }
-    requires processor { processor < trace.now.processors }
-    ensures seated { B.seated board.now result.seat }
-    ensures works { HasDoneEvents K.holds B.known (B.board board.now) trace.now segment processor (B.known seat) result }
+    requires seated { B.seated cx.now.board.now seat }
+    requires may { MayWork (B.board cx.now.board.now) cx.now.trace.now segment (Processor processor) (B.known seat) }
+    requires processor { processor < cx.now.trace.now.processors }
+    ensures seated { B.seated cx.now.board.now result.seat }
+    ensures passed { B.keeps result.seat ≡ false }
+    ensures works { HasDoneEvents K.holds B.known (B.board cx.now.board.now) cx.now.trace.now segment processor (B.known seat) result }
 {
     workplace.desk.tool = Tool::Nothing;
     let whole = do_events(
-        rt,
-        alloc,
-        board,
+        cx,
         &mut seat,
-        trace,
         segment,
         processor,
         &mut workplace.desk,
         &mut workplace.keeper,
         shortage,
-        gate,
     )
     .is_ok();
+    cx.board.release(&mut seat);
     if !whole {
         shortage.tell();
     }

@@ -1,27 +1,27 @@
-//! What the workers of a segment tell each other.
+//! The signal between the workers of a segment.
 use std::sync::atomic::{AtomicU64, Ordering};
 
-/// Whether a worker of a segment ran out of memory, so that nobody need go on. It promises nothing.
+/// A flag that is set when an allocation of a worker fails, so that the other workers can stop. Nothing is proved of it.
 #[derive(Drop)]
 pub struct Shortage {
-    // 0, or 1 once a worker ran out of memory.
+    // 0, or 1 once an allocation has failed.
     told: AtomicU64,
 }
 
 impl Shortage {
-    /// No worker ran out of memory yet.
+    /// A flag that is not set.
     pub fn new() -> Shortage {
         Shortage {
             told: AtomicU64::new(0),
         }
     }
 
-    /// A worker ran out of memory.
+    /// Sets the flag.
     pub fn tell(&self) {
         self.told.store(1, Ordering::SeqCst);
     }
 
-    /// Whether one did.
+    /// Whether the flag is set.
     pub fn is_told(&self) -> bool {
         self.told.load(Ordering::SeqCst) != 0
     }

@@ -84,6 +84,7 @@ module _ (d : Dimensions) (tones : Tones) (m : Making) (x : Slot) (leg : Leg) (k
           reference = refl;
           state = refl;
           writable = short_writable _ leg.reference kind.Release (Some leg.cause) None None None there.told.reference tt stands.cause tt tt;
+          quiet = refl;
         } in
         let told : FitsMessages (in_release_request leg) = record { state = omega arith; reference = there.told.reference } in
         ((within, told, expects), tt)

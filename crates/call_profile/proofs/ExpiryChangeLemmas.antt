@@ -121,7 +121,7 @@ due_since state resent since frame timers e is = due_in_since timers since frame
 
 module _ (s : Setting) (frame next : ℕ) (before : Legs) (later : frame < next) (z : Slot) (in_z : IsExternal s.dimensions.external z) where
   -- the leg of the other slot is as before the frame, or it was changed by a timer
-  abbrev Changed : Legs → Type 0
+  abbrev pub Changed : Legs → Type 0
   Changed legs = (leg_at legs z ≡ leg_at before z) ⊎ EitherRunsOut s.timers frame before z
 
   module _ (m : Making) (kept : Kept s.dimensions s.tones m.world) (x : Slot) (in_x : IsExternal s.dimensions.external x) (looked : x.place ≡ frame % 30)
@@ -179,7 +179,7 @@ module _ (s : Setting) (frame next : ℕ) (before : Legs) (later : frame < next)
 
 -- ---- the lines of a frame
 
-changed_by : (s : Setting) (frame : ℕ) (w : World) (kept : Kept s.dimensions s.tones w) (later : frame < w.holding.next) (z : Slot) (in_z : IsExternal s.dimensions.external z) (lines : ℕ) → lines ≤ s.dimensions.external
+pub changed_by : (s : Setting) (frame : ℕ) (w : World) (kept : Kept s.dimensions s.tones w) (later : frame < w.holding.next) (z : Slot) (in_z : IsExternal s.dimensions.external z) (lines : ℕ) → lines ≤ s.dimensions.external
     → Changed s frame w.holding.next w.legs later z in_z (outcome_of_lines s frame w lines).making.world.legs
 changed_by s frame w kept later z in_z zero few = inl (ap (λ (a : MessageOutcome). leg_at a.making.world.legs z) (lines_none s frame w))
 changed_by s frame w kept later z in_z (suc line) few =
@@ -229,7 +229,7 @@ module _ (s : Setting) (w : World) (stands : CallsStand s w) (x : Slot) (in_x : 
       let same : has.1.0 ≡ other = cc in
       runs_never s.timers frame w.legs y other runs (subst (λ (l : Leg). is_among without_timers l.state ≡ true) same (other_untimed leg.side x y leg has.1.0 has.1.2 among))
 
-  neither_runs_out : (leg : Leg) → leg_at w.legs x ≡ Some leg → is_among without_timers leg.state ≡ true → EitherRunsOut s.timers frame w.legs x → ⊥
+  pub neither_runs_out : (leg : Leg) → leg_at w.legs x ≡ Some leg → is_among without_timers leg.state ≡ true → EitherRunsOut s.timers frame w.legs x → ⊥
   neither_runs_out leg at among out =
       let e : Some out.0 ≡ Some leg = sym out.1 ∙ at in
       let same : out.0 ≡ leg = cc in

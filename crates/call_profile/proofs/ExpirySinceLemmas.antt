@@ -60,13 +60,19 @@ module _ (d : Dimensions) (tones : Tones) (plan : List Number) (before : Legs) (
   performed_all m [] may fine = fine
   performed_all m (o ∷ os) may fine = performed_all (making_after d m o) os may.1 (performed m o may.0 fine)
 
-pub began_by : (s : Setting) (frame : ℕ) (w : World) → Kept s.dimensions s.tones w → (z : Slot) → IsExternal s.dimensions.external z → (lines : ℕ) → lines ≤ s.dimensions.external
-    → StaysOrBegins w.holding.next w.legs (outcome_of_lines s frame w lines).making.world.legs z
-began_by s frame w kept z in_z lines few =
-    let next : ℕ = w.holding.next in
-    (each_line s frame w (λ a. Fine s.dimensions s.tones s.plan w.legs next z in_z a.making.world × Kept s.dimensions s.tones a.making.world) ((refl, kept.1.count, inl refl), kept) (λ a line small k.
-    let x : Slot = slot_looked_at frame line in
-    let within = place_within s.dimensions.external frame line small in (
-      performed_all s.dimensions s.tones s.plan w.legs next z in_z a.making (expire_slot s frame a.making.world.legs x) (slot_may s frame a.making x k.1 within s.plan) k.0,
-      slot_fine s frame a.making x k.1 within,
-    )) lines few).0.2
+module _ (s : Setting) (frame : ℕ) (w : World) (kept : Kept s.dimensions s.tones w) (z : Slot) (in_z : IsExternal s.dimensions.external z) where
+  lines_fine : (lines : ℕ) → lines ≤ s.dimensions.external → Fine s.dimensions s.tones s.plan w.legs w.holding.next z in_z (outcome_of_lines s frame w lines).making.world
+  lines_fine lines few =
+      let next : ℕ = w.holding.next in
+      (each_line s frame w (λ a. Fine s.dimensions s.tones s.plan w.legs next z in_z a.making.world × Kept s.dimensions s.tones a.making.world) ((refl, kept.1.count, inl refl), kept) (λ a line small k.
+      let x : Slot = slot_looked_at frame line in
+      let within = place_within s.dimensions.external frame line small in (
+        performed_all s.dimensions s.tones s.plan w.legs next z in_z a.making (expire_slot s frame a.making.world.legs x) (slot_may s frame a.making x k.1 within s.plan) k.0,
+        slot_fine s frame a.making x k.1 within,
+      )) lines few).0
+
+  pub began_by : (lines : ℕ) → lines ≤ s.dimensions.external → StaysOrBegins w.holding.next w.legs (outcome_of_lines s frame w lines).making.world.legs z
+  began_by lines few = (lines_fine lines few).2
+
+  pub next_by : (lines : ℕ) → lines ≤ s.dimensions.external → (outcome_of_lines s frame w lines).making.world.holding.next ≡ w.holding.next
+  next_by lines few = (lines_fine lines few).0

@@ -44,14 +44,14 @@ pub kept_from : (next : ℕ) (leg : Leg) (message : OutgoingMessage) → IsAwait
 kept_from next leg message is = record {
   message = message;
   encoded = refl;
-  awaited = record { flag = is.flag; reference = is.reference; state = is.state; writable = is.writable };
+  awaited = record { flag = is.flag; reference = is.reference; state = is.state; writable = is.writable; quiet = is.quiet };
 }
 
 pub kept_anew : (next : ℕ) (leg : Leg) (octets : List ℕ) → IsKept leg octets → IsKept (resent_from next leg) octets
 kept_anew next leg octets is = record {
   message = is.message;
   encoded = is.encoded;
-  awaited = record { flag = is.awaited.flag; reference = is.awaited.reference; state = is.awaited.state; writable = is.awaited.writable };
+  awaited = record { flag = is.awaited.flag; reference = is.awaited.reference; state = is.awaited.state; writable = is.awaited.writable; quiet = is.awaited.quiet };
 }
 
 pub kept_there : (external next : ℕ) (legs : Legs) (x : Slot) (leg : Leg) (octets : List ℕ) → LegsWait external next legs → IsExternal external x → leg_at legs x ≡ Some leg → kept_at legs x ≡ Some octets → IsKept leg octets

@@ -13,6 +13,7 @@ pub mod ExpiredRecordLemmas
 pub mod GivenToneLemmas
 pub mod RestartedSlotLemmas
 pub mod RefusalLemmas
+pub mod FabricLemmas
 pub mod NamedLegLemmas
 pub mod ToneLemmas
 pub mod AnsweringLemmas
@@ -51,6 +52,7 @@ pub mod SetupRecordLemmas
 pub mod NoCallEndedLemmas
 pub mod NoCallAnswerLemmas
 pub mod PermittedLemmas
+pub mod KeptWorldLemmas
 pub mod HistoryLemmas
 pub mod GrantedNailLemmas
 pub mod ReferenceLemmas
@@ -59,6 +61,7 @@ pub mod RestartedLegLemmas
 pub mod RestartedLineLemmas
 pub mod RecordedCallLemmas
 pub mod RecordedMessageLemmas
+pub mod FrameRecordLemmas
 pub mod FullPortLemmas
 pub mod QuietEventLemmas
 pub mod RunLemmas

@@ -202,7 +202,7 @@ module _ (s : Setting) (w : World) (h : Held) (stand : CallsStand s w) (within :
   asked_permitted m act.Digits asks digits = digits asks
   asked_permitted m (act.Disconnect cause) asks digits =
       let expects : IsAwaited (in_release_request h.leg) (message_to h.leg kind.Release) =
-      record { flag = refl; reference = refl; state = refl; writable = message_writable h.leg kind.Release there.told tt } in
+      record { flag = refl; reference = refl; state = refl; writable = message_writable h.leg kind.Release there.told tt; quiet = refl } in
       let told : FitsMessages (in_release_request h.leg) = record { state = omega arith; reference = there.told.reference } in
       (within, ((within, told, expects), (peer_permitted d tones s.plan _ h cause (peer_of w.legs h.leg.peer) peer_too asks.0)))
   asked_permitted m (act.Release cause) asks digits =

@@ -128,7 +128,7 @@ module _ (s : Setting) (w : World) (first : Bool) (own : ℕ) (asked : Pending) 
         (in_x, caller, λ e. absurd cc, refl),
         (
           (in_x.0, proceeding_writable first x _ in_x.1 caller),
-          ((in_y, called, record { flag = refl; reference = refl; state = refl; writable = offer_writable asked y _ in_y.1 called fits }), tt),
+          ((in_y, called, record { flag = refl; reference = refl; state = refl; writable = offer_writable asked y _ in_y.1 called fits; quiet = refl }), tt),
         ),
       )
 

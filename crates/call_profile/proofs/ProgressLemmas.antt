@@ -1,13 +1,20 @@
 -- A progress indicator goes with each tone.
-use Rattle.std.proofs.Common.{ℕ, ◌==◌, Bool, true, false, List, [], ◌∷◌, Option, Some, None, refl, if◌then◌else◌}
+use Rattle.std.proofs.Common.{◌≡◌, ℕ, ◌==◌, Bool, true, false, List, [], ◌∷◌, Option, Some, None, refl, ◌∙◌, ap, if◌then◌else◌}
 use Rattle.circuit_model.specs.declared.channel.Slot.{Slot}
+use Rattle.circuit_model.specs.Extent.{IsExternal}
 use Rattle.circuit_model.specs.declared.circuit.Kind.{Kind}
 use Rattle.q931_codec.specs.declared.kind.MessageKind.{MessageKind}
 use Rattle.q931_codec.specs.declared.kind.MessageKind.TheVariants as kind
 use Rattle.q931_codec.specs.declared.message.Message.{Message}
-use Rattle.q931_codec.specs.Outgoing.{OutgoingMessage}
+use Rattle.q931_codec.specs.Outgoing.{OutgoingMessage, encoding}
 use Rattle.q931_codec.specs.Contents.{channel_in}
-use Rattle.q931_codec.specs.Causes.{temporary_failure}
+use Rattle.q931_codec.specs.Causes.{invalid_number_format, no_user_responding, recovery_on_timer_expiry, temporary_failure}
+use Rattle.q931_codec.specs.Reading.{reading}
+use Rattle.q931_codec.proofs.EncodingFacts.{encoding_read}
+use Rattle.q931_codec.proofs.Messages.{message_read}
+use Rattle.q931_codec.proofs.RowFacts.{fields_back}
+use Rattle.call_timers.specs.declared.expiry.Expiry.{Expiry}
+use Rattle.call_timers.specs.declared.expiry.Expiry.TheVariants as expiry
 use Rattle.q931_codec.specs.CallStates.{call_delivered}
 use Rattle.call_states.specs.declared.act.Act.{Act}
 use Rattle.call_states.specs.declared.act.Act.TheVariants as act
@@ -22,9 +29,13 @@ use Rattle.exchange_events.specs.Sizes.{Setting}
 use Rattle.call_profile.specs.ActCourse.{course_of}
 use Rattle.call_profile.specs.Acts.{in_state, in_disconnect_indication, tone_of, message_to, disconnect, with_progress, peer_of, with_peer, clear_with, on_alerting, on_connect, remove_leg}
 use Rattle.call_profile.specs.Calls.{answer_back}
-use Rattle.call_profile.specs.Legs.{Legs, held_at, pending_at}
+use Rattle.call_profile.specs.Expiring.{send_again, clear_peer, on_expiry}
+use Rattle.call_profile.specs.KeptMessages.{IsKept}
+use Rattle.call_profile.specs.LegStanding.{CallsStand}
+use Rattle.call_profile.specs.Legs.{Legs, leg_at, held_at, kept_at, pending_at}
 use Rattle.call_profile.specs.Operations.{Operation, Sound, Send}
-use Rattle.call_profile.specs.Progress.{TellsOfTones}
+use Rattle.call_profile.specs.Progress.{TellsOfTones, has_progress}
+use Rattle.call_profile.proofs.KeptMessageLemmas.{kept_there}
 use Rattle.call_profile.specs.Restarts.{restarts_slot, restart_peer, restart_leg, restart_slot}
 use Rattle.call_states.specs.declared.pending.Pending.{Pending}
 use Rattle.call_profile.specs.Digits.{asked_with, digits_refusal, dial_on, with_pending}
@@ -150,3 +161,34 @@ either_answer_tells line false o other = other
 
 pub answer_tells : (line : ℕ) (m : Message) → TellsOfTones (answer_back line (answer_without_call m))
 answer_tells line m = either_answer_tells line (m.reference == global_call_reference) (answer_to_type m m.kind) (type_tells line m m.kind)
+
+-- ---- the expiry of a timer
+
+-- what is kept of a leg has no progress indicator, as it is read
+kept_quiet : (h : Held) (octets : List ℕ) → IsKept h.leg octets → has_progress (reading octets) ≡ false
+kept_quiet h octets is =
+    let m : OutgoingMessage = is.message in
+    let reads = message_read (encoding m) _ (encoding_read m is.awaited.writable) in
+    ap has_progress (ap reading is.encoded ∙ reads) ∙ (fields_back m is.awaited.writable).progress ∙ is.awaited.quiet
+
+module _ (s : Setting) (w : World) (h : Held) (stands : CallsStand s w) (in_x : IsExternal s.dimensions.external h.slot) (at : leg_at w.legs h.slot ≡ Some h.leg) where
+  again_tells : (o : Option (List ℕ)) → kept_at w.legs h.slot ≡ o → TellsOfTones (send_again h o)
+  again_tells None keeps = refl
+  again_tells (Some octets) keeps = rw (kept_quiet h octets (kept_there s.dimensions.external w.holding.next w.legs h.slot h.leg octets stands.waits in_x at keeps)) refl
+
+  peer_of_tells : TellsOfTones (clear_peer s.tones w.legs h)
+  peer_of_tells = peer_tells s.tones no_user_responding (peer_of w.legs h.leg.peer)
+
+  -- two legs are cleared, one after the other
+  both_tell : (tone : Option Kind) (m : OutgoingMessage) (ps : List Operation) → TellsOfTones ps → TellsOfTones (Sound h.slot tone ∷ Send h.slot.line (with_progress tone m) ∷ ps)
+  both_tell None m ps tells = tells
+  both_tell (Some kind) m ps tells = ap (λ (lines : List ℕ). h.slot.line ∷ lines) tells
+
+  pub expiry_tells : (e : Expiry) → TellsOfTones (on_expiry s.tones w.legs h e)
+  expiry_tells expiry.Digits = cleared_tells s.tones invalid_number_format h
+  expiry_tells expiry.SetupAgain = again_tells (kept_at w.legs h.slot) refl
+  expiry_tells expiry.SetupOver = peer_of_tells
+  expiry_tells expiry.Proceeding = both_tell (tone_of s.tones (in_disconnect_indication recovery_on_timer_expiry h.leg)) (disconnect h.leg recovery_on_timer_expiry) (clear_peer s.tones w.legs h) peer_of_tells
+  expiry_tells expiry.Disconnect = refl
+  expiry_tells expiry.ReleaseAgain = again_tells (kept_at w.legs h.slot) refl
+  expiry_tells expiry.ReleaseOver = refl

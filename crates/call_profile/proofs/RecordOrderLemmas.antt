@@ -43,7 +43,7 @@ use Rattle.call_profile.proofs.RestartedSlotLemmas.{below_none, below_more}
 
 -- ---- one more at the end
 
-pairs_snoc : {X : Type 0} (R : X → X → Type 0) (xs : List X) (y : X) → AllPairs R xs → All (λ x. R x y) xs → AllPairs R (xs ++ y ∷ [])
+pub pairs_snoc : {X : Type 0} (R : X → X → Type 0) (xs : List X) (y : X) → AllPairs R xs → All (λ x. R x y) xs → AllPairs R (xs ++ y ∷ [])
 pairs_snoc R [] y pairs all = λ i j d lt within. absurd (omega (arith, lt, within))
 pairs_snoc R (x ∷ xs) y pairs all =
     AllPairs-cons R x (xs ++ y ∷ [])
@@ -62,7 +62,7 @@ record_parties w cause h c e =
     let m = mapped _ (party_of h.leg.peer) c e in
     (ap (λ (k : CallRecord). k.caller) (sym m.2), m.1 ∙ ap (λ (k : CallRecord). Some k.called) m.2)
 
-calling_is : (w : World) (cause : ℕ) (h : Held) (c : CallRecord) → record_calling w cause h ≡ Some c → record_of w cause h ≡ Some c
+pub calling_is : (w : World) (cause : ℕ) (h : Held) (c : CallRecord) → record_calling w cause h ≡ Some c → record_of w cause h ≡ Some c
 calling_is w cause h c e = elim (true_or_false (is_calling (Some h.leg))) [
   | inl calls ↦ rw calls at e
   | inr silent ↦ let wrong : None ≡ Some c = rw silent at e in absurd cc

@@ -45,7 +45,7 @@ pub record AreOfEnded (external : ℕ) (before afterwards : World) (cause : ℕ)
   pub ends : (c : CallRecord) → Contains told c → EndsWith external before afterwards cause c
   pub recorded : (h : Held) (c : CallRecord) → HasEnded external before afterwards h → record_of before cause h ≡ Some c → Contains told c
 
-of_records : (external : ℕ) (u v : World) (cause : ℕ) → length u.legs.held ≡ 30 * external → AreOfEnded external u v cause (records u v cause)
+pub of_records : (external : ℕ) (u v : World) (cause : ℕ) → length u.legs.held ≡ 30 * external → AreOfEnded external u v cause (records u v cause)
 of_records external u v cause size = record { ends = record_ends external u v cause size; recorded = end_recorded external u v cause size }
 
 -- ---- one slot is restarted
@@ -102,7 +102,9 @@ module _ (external : ℕ) (r : Restart) (line : ℕ) (u v : World) (x : Slot) (d
 
 -- ---- one slot after another
 
-module _ (external : ℕ) (w u v : World) (cause : ℕ) (u_next : u.holding.next ≡ w.holding.next) (calls_before : CallsOn external w u)
+module _ (external : ℕ) (w u v : World) (cause : ℕ)
+    (called_before : (x : Slot) (leg : Leg) → IsExternal external x → leg_at u.legs x ≡ Some leg → is_calling (Some leg) ≡ true → leg_at w.legs x ≡ Some leg)
+    (same_record : (h : Held) → HasEnded external u v h → record_of u cause h ≡ record_of w cause h)
     (silent : (z : Slot) → IsExternal external z → is_calling (leg_at u.legs z) ≡ false → is_calling (leg_at v.legs z) ≡ false)
     (before later : List CallRecord) (old : AreOfEnded external w u cause before) (new : AreOfEnded external u v cause later) where
   old_ends : (c : CallRecord) → EndsWith external w u cause c → EndsWith external w v cause c
@@ -110,22 +112,20 @@ module _ (external : ℕ) (w u v : World) (cause : ℕ) (u_next : u.holding.next
 
   new_ends : (c : CallRecord) → EndsWith external u v cause c → EndsWith external w v cause c
   new_ends c e =
-      let h = e.0 in
-      let was = calls_before h.slot h.leg e.1.within e.1.at e.1.calls in (
+      let h = e.0 in (
         h,
-        record { within = e.1.within; at = was.0; calls = e.1.calls; stops = e.1.stops },
-        sym (record_same u w cause h u_next was.1) ∙ e.2,
+        record { within = e.1.within; at = called_before h.slot h.leg e.1.within e.1.at e.1.calls; calls = e.1.calls; stops = e.1.stops },
+        sym (same_record h e.1) ∙ e.2,
       )
 
   recorded_by : (h : Held) (c : CallRecord) → HasEnded external w v h → record_of w cause h ≡ Some c → (o : Option Leg) → leg_at u.legs h.slot ≡ o → is_calling o ≡ true → Contains (before ++ later) c
   recorded_by h c ended e None at calls = absurd cc
   recorded_by h c ended e (Some k) at calls =
-      let was = calls_before h.slot k ended.within at calls in
-      let both : Some k ≡ Some h.leg = sym was.0 ∙ ended.at in
+      let both : Some k ≡ Some h.leg = sym (called_before h.slot k ended.within at calls) ∙ ended.at in
       let same : k ≡ h.leg = cc in
       let here : leg_at u.legs h.slot ≡ Some h.leg = at ∙ ap (λ (l : Leg). Some l) same in
-      Contains-append_right before later c
-      (new.recorded h c (record { within = ended.within; at = here; calls = ended.calls; stops = ended.stops }) (record_same u w cause h u_next was.1 ∙ e))
+      let over : HasEnded external u v h = record { within = ended.within; at = here; calls = ended.calls; stops = ended.stops } in
+      Contains-append_right before later c (new.recorded h c over (same_record h over ∙ e))
 
   pub both_of_ended : AreOfEnded external w v cause (before ++ later)
   both_of_ended = record {
@@ -179,7 +179,8 @@ module _ (s : Setting) (r : Restart) (line : ℕ) (w : World) (below : line < s.
           let now = calls_on_here x leg in_x at calls in
           let before = so_far.calls x leg in_x now.0 calls in
           (before.0, now.1 ∙ before.1);
-      recorded = both_of_ended external w u v temporary_failure so_far.legs.next so_far.calls silent a.recorded (records u v temporary_failure)
+      recorded = both_of_ended external w u v temporary_failure (λ x leg in_x at calls. (so_far.calls x leg in_x at calls).0)
+          (λ h e. record_same u w temporary_failure h so_far.legs.next (so_far.calls h.slot h.leg e.within e.at e.calls).1) silent a.recorded (records u v temporary_failure)
           so_far.recorded (of_records external u v temporary_failure so_far.legs.kept.1.count);
     }
 

@@ -23,12 +23,13 @@ state_after kind.Setup = Some call_present
 state_after kind.Release = Some release_request
 state_after _ = None
 
--- a message to the user of this leg, which the leg waits to be answered
+-- a message to the user of this leg, without a progress indicator, whose answer the leg waits for
 pub record IsAwaited (leg : Leg) (message : OutgoingMessage) : Type 0 where
   pub flag : message.flag ≡ flag_to leg.side
   pub reference : message.reference ≡ leg.reference
   pub state : state_after message.kind ≡ Some leg.state
   pub writable : IsWritable message
+  pub quiet : message.progress ≡ false
 
 -- what is kept of a leg: the octets of such a message
 pub record IsKept (leg : Leg) (octets : List ℕ) : Type 0 where

@@ -22,6 +22,7 @@ pub mod EndedCalls
 pub mod Peers
 pub mod IsMade
 pub mod Answered
+pub mod Fabrics
 pub mod Refused
 pub mod Progress
 pub mod References
@@ -32,4 +33,5 @@ pub mod WorkedOverlap
 pub mod WorkedDigits
 pub mod WorkedExpiries
 pub mod ExpiryBounds
+pub mod ExpiryRecords
 pub mod CallsTold

@@ -1,5 +1,6 @@
 -- Worked expiries of timers, on which the definitions are evaluated. Source: this exchange's own; the octets are from ITU-T Q.931 (05/98), section 4.
-use Rattle.std.specs.Prelude.{ℕ, false, List, [], ◌∷◌}
+use Rattle.std.specs.Prelude.{ℕ, false, List, [], ◌∷◌, ◌++◌}
+use Rattle.number_plan.specs.declared.target.Target.TheVariants as target
 use Rattle.exchange_events.specs.declared.record.CallRecord.{CallRecord}
 use Rattle.exchange_events.specs.declared.record.Party.TheVariants as party
 use Rattle.exchange_events.specs.declared.reply.Reply.{Reply}
@@ -12,9 +13,12 @@ use Rattle.call_profile.specs.Step.{reply, next, world_after_all}
 use Rattle.call_profile.specs.WorkedCalls.{at, to, two_lines, quiet_frame}
 use Rattle.call_profile.specs.World.{World, start}
 
--- two lines, each of whose timers runs out after one frame
+-- two lines, number 101 is line 1's and number 102 line 0's, each of whose timers runs out after one frame
 abbrev pub hasty_lines : Setting
-hasty_lines = record two_lines { timers = record { t302 = 1; t303 = 1; t305 = 1; t308 = 1; t310 = 1 } }
+hasty_lines = record two_lines {
+  plan = record { digits = 0x31 ∷ 0x30 ∷ 0x31 ∷ []; target = target.Line 1 } ∷ record { digits = 0x31 ∷ 0x30 ∷ 0x32 ∷ []; target = target.Line 0 } ∷ [];
+  timers = record { t302 = 1; t303 = 1; t305 = 1; t308 = 1; t310 = 1 };
+}
 
 -- the world after these events, at the boundary of frame n, whatever frames were before it
 abbrev pub in_frame : ℕ → World → World
@@ -69,6 +73,27 @@ proceeds =
 
 abbrev pub proceeding_over : Reply
 proceeding_over = ended_in 30 (to 1 (0x08 ∷ 0x02 ∷ 0x00 ∷ 0x01 ∷ 0x45 ∷ 0x08 ∷ 0x02 ∷ 0x82 ∷ 0xE6 ∷ []) ∷ to 0 (0x08 ∷ 0x02 ∷ 0x80 ∷ 0x01 ∷ 0x45 ∷ 0x08 ∷ 0x02 ∷ 0x82 ∷ 0x92 ∷ []) ∷ []) (unanswered 31)
+
+-- the user of each line calls the other line on channel 2, so that both called legs are at place 0, and both called users proceed
+abbrev pub both_proceed : List Event
+both_proceed =
+    Message 0 (0x08 ∷ 0x02 ∷ 0x00 ∷ 0x01 ∷ 0x05 ∷ 0x04 ∷ 0x03 ∷ 0x80 ∷ 0x90 ∷ 0xA3 ∷ 0x18 ∷ 0x03 ∷ 0xA9 ∷ 0x83 ∷ 0x82 ∷ 0x70 ∷ 0x04 ∷ 0x80 ∷ 0x31 ∷ 0x30 ∷ 0x31 ∷ [])
+    ∷ Message 1 (0x08 ∷ 0x02 ∷ 0x00 ∷ 0x01 ∷ 0x05 ∷ 0x04 ∷ 0x03 ∷ 0x80 ∷ 0x90 ∷ 0xA3 ∷ 0x18 ∷ 0x03 ∷ 0xA9 ∷ 0x83 ∷ 0x82 ∷ 0x70 ∷ 0x04 ∷ 0x80 ∷ 0x31 ∷ 0x30 ∷ 0x32 ∷ [])
+    ∷ Message 1 (0x08 ∷ 0x02 ∷ 0x80 ∷ 0x01 ∷ 0x02 ∷ [])
+    ∷ Message 0 (0x08 ∷ 0x02 ∷ 0x80 ∷ 0x01 ∷ 0x02 ∷ [])
+    ∷ []
+
+-- DISCONNECT to a called user and to the caller on the other line, and the record of their call
+abbrev pub cleared_from : ℕ → ℕ → List Signal
+cleared_from called caller =
+    to called (0x08 ∷ 0x02 ∷ 0x00 ∷ 0x01 ∷ 0x45 ∷ 0x08 ∷ 0x02 ∷ 0x82 ∷ 0xE6 ∷ []) ∷ to caller (0x08 ∷ 0x02 ∷ 0x80 ∷ 0x01 ∷ 0x45 ∷ 0x08 ∷ 0x02 ∷ 0x82 ∷ 0x92 ∷ []) ∷ []
+
+abbrev pub unanswered_on : ℕ → ℕ → CallRecord
+unanswered_on called caller = record { caller = at caller 1; called = party.Line (at called 0); answered = false; from = 31; to = 31; cause = 18 }
+
+-- both calls are cleared in one frame, first the call to line 0, and each is recorded
+abbrev pub both_over : Reply
+both_over = Frame_reply 30 (cleared_from 0 1 ++ cleared_from 1 0) (unanswered_on 0 1 ∷ unanswered_on 1 0 ∷ [])
 
 -- ---- T302
 

@@ -17,6 +17,8 @@ ghost use Rattle.exchange_events.specs.declared.trace.Event.{Event};
 ghost use Rattle.exchange_events.specs.declared.trace.Event.TheVariants as event;
 ghost use Rattle.circuit_model.specs.FrameInput.{Input};
 ghost use Rattle.call_profile.specs.ExpiryBounds.{SendsFew, RecordsFew, NoneElseChanges, UntimedStay, ConversationsStay, LayoutStays, PortsStay, EachStaysOrBegins};
+ghost use Rattle.call_profile.specs.Expiring.{outcome_of_frame};
+ghost use Rattle.call_profile.specs.Fabrics.{without_paths};
 ghost use Rattle.call_profile.specs.IsMade.{IsMade};
 ghost use Rattle.call_profile.specs.KeptMessages.{EachBegan, EachIsKept, NoneElseIsKept};
 ghost use Rattle.call_profile.specs.LegStanding.{CallsStand};
@@ -63,9 +65,9 @@ pub fn law_of_refused_calls()
         → after_message s w line octets ≡ w }
 {}
 
-/// What the fabric looks like decides nothing: with its paths laid in another way a message is answered
-/// by the same messages and records, and leaves the same circuits, ports and legs. Moved paths are shown in
-/// both cases or in neither, and how many they are alone may differ.
+/// The layout of the paths decides only how many paths move. In another layout, a message and a frame send
+/// and record the same and leave the same circuits, ports and legs. A message has a number of moved paths in
+/// both layouts or in neither.
 pub fn law_of_paths()
     ensures sends { (s : Setting) (w : World) (layout : Layout) (line : ℕ) (octets : List ℕ)
         → (answer_to s (with_layout w layout) line octets).sends ≡ (answer_to s w line octets).sends }
@@ -79,6 +81,12 @@ pub fn law_of_paths()
         → (after_message s (with_layout w layout) line octets).ports ≡ (after_message s w line octets).ports }
     ensures moved { (s : Setting) (w : World) (layout : Layout) (line : ℕ) (octets : List ℕ)
         → is_some (answer_to s (with_layout w layout) line octets).moved ≡ is_some (answer_to s w line octets).moved }
+    ensures frame_sends { (s : Setting) (w : World) (layout : Layout) (input : Input)
+        → (outcome_of_frame s (with_layout w layout) input).making.sends ≡ (outcome_of_frame s w input).making.sends }
+    ensures frame_records { (s : Setting) (w : World) (layout : Layout) (input : Input)
+        → (outcome_of_frame s (with_layout w layout) input).recorded ≡ (outcome_of_frame s w input).recorded }
+    ensures frame_world { (s : Setting) (w : World) (layout : Layout) (input : Input)
+        → without_paths (outcome_of_frame s (with_layout w layout) input).making.world ≡ without_paths (outcome_of_frame s w input).making.world }
 {}
 
 /// A call that is answered always gets both paths: whatever else exists, its two slots are silent once

@@ -1,9 +1,12 @@
 //! Laws of legs: their call references, what their users get, and what becomes of them.
-ghost use Rattle.std.specs.Prelude.{◌<◌, ◌≤◌, ℕ, List, length, Contains};
+ghost use Rattle.std.specs.Prelude.{◌≡◌, ◌<◌, ◌≤◌, ℕ, List, length, Contains, Some};
 ghost use Rattle.circuit_model.specs.declared.channel.Slot.{Slot};
+ghost use Rattle.circuit_model.specs.Extent.{IsExternal};
+ghost use Rattle.circuit_model.specs.FrameInput.{Input};
 ghost use Rattle.q931_codec.specs.declared.message.Message.{Message};
 ghost use Rattle.call_states.specs.declared.act.Act.{Act};
 ghost use Rattle.call_states.specs.declared.leg.Held.{Held};
+ghost use Rattle.call_timers.specs.declared.expiry.Expiry.{Expiry};
 ghost use Rattle.clearing_rules.specs.declared.scope.Restart.{Restart};
 ghost use Rattle.clearing_rules.specs.UnknownReference.{answer_without_call};
 ghost use Rattle.tone_rules.specs.declared.tones.Tones.{Tones};
@@ -11,7 +14,10 @@ ghost use Rattle.exchange_events.specs.declared.record.CallRecord.{CallRecord};
 ghost use Rattle.exchange_events.specs.Sizes.{Setting};
 ghost use Rattle.call_profile.specs.ActCourse.{course_of};
 ghost use Rattle.call_profile.specs.Calls.{after_message, answer_back, answer_to};
-ghost use Rattle.call_profile.specs.Legs.{Legs, new_reference};
+ghost use Rattle.call_profile.specs.Expiring.{on_expiry, outcome_of_frame};
+ghost use Rattle.call_profile.specs.ExpiryRecords.{IsFrameRecord, IsInFrame, ComeByLine};
+ghost use Rattle.call_profile.specs.LegStanding.{CallsStand};
+ghost use Rattle.call_profile.specs.Legs.{Legs, leg_at, new_reference};
 ghost use Rattle.call_profile.specs.Progress.{TellsOfTones};
 ghost use Rattle.call_profile.specs.Recorded.{Arrive, ComeByPlace, HasEnded, IsRecordOf, IsRecorded, RestartsNothing};
 ghost use Rattle.call_profile.specs.References.{HasReference, HasSlotLeft};
@@ -27,13 +33,16 @@ pub fn law_of_references()
     ensures first { (legs : Legs) (line : ℕ) → 1 ≤ new_reference legs line }
 {}
 
-/// A user is sent a progress indicator exactly where its slot gets a tone in the same step: by an act, by a
-/// SETUP, by the restart of a slot, and by the answer to a message on no call, which gives none.
+/// A user is sent a progress indicator if and only if its slot gets a tone in the same step: by an act, by a
+/// SETUP, by the restart of a slot, by the expiry of a timer, and by the answer to a message on no call,
+/// which gives none. So no message that is retransmitted has one.
 pub fn law_of_progress()
     ensures acts { (s : Setting) (w : World) (h : Held) (m : Message) (a : Act) → TellsOfTones (course_of s w h m a).operations }
     ensures setups { (s : Setting) (w : World) (line : ℕ) (m : Message) → TellsOfTones (course_of_setup s w line m).operations }
     ensures restarts { (tones : Tones) (r : Restart) (legs : Legs) (x : Slot) → TellsOfTones (restart_slot tones r legs x) }
     ensures answers { (line : ℕ) (m : Message) → TellsOfTones (answer_back line (answer_without_call m)) }
+    ensures expiries { (s : Setting) (w : World) (h : Held) (e : Expiry) → CallsStand s w → IsExternal s.dimensions.external h.slot
+        → leg_at w.legs h.slot ≡ Some h.leg → TellsOfTones (on_expiry s.tones w.legs h e) }
 {}
 
 /// A RESTART that is taken: no leg holds a restarted slot afterwards. At every other slot the other leg of a
@@ -61,4 +70,14 @@ pub fn law_of_records()
         → ComeByPlace r line (answer_to s w line octets).records }
     ensures one { (s : Setting) (w : World) (line : ℕ) (octets : List ℕ) → Arrive s w line octets
         → RestartsNothing w line octets → length (answer_to s w line octets).records ≤ 1 }
+{}
+
+/// A frame has the record of a call if and only if a caller's leg leaves states 3, 4 and 10 in it. The timer of its
+/// called leg ran out, and the cause is 18. The records come by the line of the called slot, lowest first.
+pub fn law_of_frame_records()
+    ensures told { (s : Setting) (w : World) (input : Input) → CallsStand s w → (told : CallRecord)
+        → Contains (outcome_of_frame s w input).recorded told → (h : Held) × IsFrameRecord s w input h told }
+    ensures ended { (s : Setting) (w : World) (input : Input) → CallsStand s w → (h : Held)
+        → HasEnded s.dimensions.external w (outcome_of_frame s w input).making.world h → IsInFrame s w input h }
+    ensures order { (s : Setting) (w : World) (input : Input) → CallsStand s w → ComeByLine (outcome_of_frame s w input).recorded }
 {}

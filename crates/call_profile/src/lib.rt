@@ -12,10 +12,12 @@
 //!   whose call has no timer that runs out, and no connection ([`law_of_expiries`]).
 //! - A number that is dialled on is refused for lack of a slot or a port alone, and nothing is recorded of it
 //!   ([`law_of_digits`]).
-//! - What is sent does not depend on the layout ([`law_of_paths`]); an answered call and a granted nail get
-//!   both paths ([`law_of_answered_calls`], [`law_of_granted_nails`]).
-//! - Which calls are recorded, which reference a new leg gets, what a RESTART leaves, when a user learns of
-//!   a tone ([`law_of_records`], [`law_of_references`], [`law_of_restarts`], [`law_of_progress`]).
+//! - The layout of the paths and the number of internal slots decide only how many paths move
+//!   ([`law_of_paths`], [`law_of_fabrics`]). An answered call and a granted nail get both paths
+//!   ([`law_of_answered_calls`], [`law_of_granted_nails`]).
+//! - Which calls a message and a frame record ([`law_of_records`], [`law_of_frame_records`]), which reference
+//!   a new leg gets, what a RESTART leaves, when a user learns of a tone ([`law_of_references`],
+//!   [`law_of_restarts`], [`law_of_progress`]).
 //! - Allowed commands made the circuits of each frame ([`worlds_are_made`]), and later events change nothing
 //!   of it ([`later_frames_change_nothing`]).
 //!
@@ -36,8 +38,10 @@ pub use call_laws::{
     law_of_refused_calls, worked_calls,
 };
 pub use command_laws::{law_of_granted_nails, law_of_refusals};
-pub use laws::{later_frames_change_nothing, worlds_are_made};
-pub use leg_laws::{law_of_progress, law_of_records, law_of_references, law_of_restarts};
+pub use laws::{later_frames_change_nothing, law_of_fabrics, worlds_are_made};
+pub use leg_laws::{
+    law_of_frame_records, law_of_progress, law_of_records, law_of_references, law_of_restarts,
+};
 pub use legs::{from_frame, is_for, resent_from};
 pub use records::{is_calling, party_of, since_of};
 pub use worked::{worked_digits, worked_expiries, worked_messages, worked_overlap};

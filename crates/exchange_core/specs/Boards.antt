@@ -1,16 +1,18 @@
 -- What a switchboard does, and what it answers at a history. A seat is the right to do a number of events of a trace; all seats of a board share one
 -- history. Source: this exchange's own.
-use Rattle.std.specs.Prelude.{◌≡◌, ℕ, List, length}
+use Rattle.std.specs.Prelude.{◌≡◌, ℕ, ◌+◌, ◌<◌, IsTrue, List, length}
 use Rattle.circuit_model.specs.FrameInput.{Input}
-use Rattle.seat_history.specs.Histories.{Entry, HasNone}
+use Rattle.seat_history.specs.declared.known.Known.{Known}
+use Rattle.seat_history.specs.Histories.{Entry, HasNone, StartsWith, before, entries_of, unseen}
+use Rattle.seat_history.specs.Seats.{HasJoinedAll, Settled, after_step}
 use Rattle.exchange_events.specs.declared.reply.Reply.{Reply}
 use Rattle.exchange_core.specs.declared.tool.Tool.{Tool}
 use Rattle.exchange_events.specs.declared.trace.Event.{Event}
 use Rattle.exchange_events.specs.declared.trace.Event.TheVariants.{Frame}
 use Rattle.exchange_events.specs.declared.trace.Trace.{Trace}
 use Rattle.exchange_events.specs.Sizes.{Setting}
-use Rattle.exchange_events.specs.Sound.{setting_of}
-use Rattle.call_profile.specs.Step.{reply}
+use Rattle.exchange_events.specs.Sound.{IsSound, setting_of}
+use Rattle.call_profile.specs.Step.{MovesAtMost, reply}
 use Rattle.exchange_core.specs.Working.{IsNumbered, IsToolFor, ShowsWorld, order_of, world_after}
 use Rattle.call_profile.specs.World.{World}
 
@@ -50,3 +52,24 @@ AnswersAt board history n answer = (e : Event) → IsNumbered board.trace n e �
 -- where the event with this number is a frame, the tool shows the world after this history
 abbrev pub ShowsAt : Board → List Entry → ℕ → Tool → Type 0
 ShowsAt board history n tool = (e : Event) → IsNumbered board.trace n e → ShowsWorld (world_at board history) e tool
+
+-- ---- a turn
+
+-- A seat has done an event of the board's trace in its turn, at place n of the history. What it knew before and knows then: it has one turn less, and
+-- its entry is behind the history before it and among its own. Where it held the baton it had seen each frame of that history. What seat 0 knows adds
+-- up, and where all other seats are joined nobody did an event between. The answer is the exchange's after that history, with bounded numbers of
+-- moves; where the event is a frame, the tool shows the world after that history.
+pub record HasTakenTurn (board : Board) (old new : Known) (n event : ℕ) (answer : Reply) (memory : Tool) : Type 0 where
+  pub sound : IsSound board.trace
+  pub seat : new ≡ after_step (before n new.seen) event old
+  pub place : length new.seen ≡ n + 1
+  pub below : n < turns_of board
+  pub begins : StartsWith (before n new.seen) old.seen
+  pub own : new.own ≡ entries_of new.number new.seen
+  pub frames : IsTrue old.baton → NoFrames board.trace (unseen old.seen (before n new.seen))
+  pub settled : old.number ≡ 0 → Settled (turns_of board) new
+  pub alone : old.number ≡ 0 → HasJoinedAll old → before n new.seen ≡ old.seen
+  pub reply : AnswersAt board (before n new.seen) event answer
+  pub few : MovesAtMost board.bound answer
+  pub shows : ShowsAt board (before n new.seen) event memory
+  pub tool : IsToolAt board event memory

@@ -3,3 +3,4 @@ pub mod Boards
 pub mod Tools
 pub mod Ahead
 pub mod Beginnings
+pub mod LaidOut

@@ -11,6 +11,9 @@ use Rattle.exchange_events.specs.declared.trace.Trace.{Trace}
 use Rattle.exchange_core.specs.declared.tool.Tool.{Tool}
 use Rattle.exchange_core.specs.declared.tool.Tool.TheVariants as tool
 use Rattle.call_profile.specs.Legs.{Legs}
+use Rattle.call_timers.specs.declared.timers.Timers.{Timers}
+use Rattle.number_plan.specs.declared.plan.Number.{Number}
+use Rattle.tone_rules.specs.declared.tones.Tones.{Tones}
 use Rattle.exchange_events.specs.Orders.{IsEvent, event_at}
 use Rattle.exchange_events.specs.Sizes.{Setting, Dimensions}
 use Rattle.exchange_events.specs.Sound.{IsSound, setting_of}
@@ -63,15 +66,22 @@ pub record IsWorking (x : Working) (map : Connections) (legs : Legs) (room : ℕ
 
 -- ---- a step
 
--- what is said of each setting with the plan, the tones and the timers of a trace, and each world for which the map and the legs are at work
-abbrev pub EachOfTrace : Trace → Connections → Legs → (Setting → World → Type 0) → Type 0
-EachOfTrace trace map legs Says =
-    (s : Setting) (w : World) → s.plan ≡ trace.plan → s.tones ≡ trace.tones → s.timers ≡ trace.timers → IsAtWork s map legs w → Says s w
+-- what is said of each setting with this plan, these tones and these timers, and each world for which the map and the legs are at work
+abbrev pub EachGiven : List Number → Tones → Timers → Connections → Legs → (Setting → World → Type 0) → Type 0
+EachGiven plan tones timers map legs Says =
+    (s : Setting) (w : World) → s.plan ≡ plan → s.tones ≡ tones → s.timers ≡ timers → IsAtWork s map legs w → Says s w
 
 -- what is said of some such setting and world
-abbrev pub SomeOfTrace : Trace → Connections → Legs → (Setting → World → Type 0) → Type 0
-SomeOfTrace trace map legs Says =
-    (s : Setting) × (w : World) × (s.plan ≡ trace.plan) × (s.tones ≡ trace.tones) × (s.timers ≡ trace.timers) × IsAtWork s map legs w × Says s w
+abbrev pub SomeGiven : List Number → Tones → Timers → Connections → Legs → (Setting → World → Type 0) → Type 0
+SomeGiven plan tones timers map legs Says =
+    (s : Setting) × (w : World) × (s.plan ≡ plan) × (s.tones ≡ tones) × (s.timers ≡ timers) × IsAtWork s map legs w × Says s w
+
+-- the same, whatever the plan is
+abbrev pub EachFrames : Tones → Timers → Connections → Legs → (Setting → World → Type 0) → Type 0
+EachFrames tones timers map legs Says = (s : Setting) (w : World) → s.tones ≡ tones → s.timers ≡ timers → IsAtWork s map legs w → Says s w
+
+abbrev pub SomeFrames : Tones → Timers → Connections → Legs → (Setting → World → Type 0) → Type 0
+SomeFrames tones timers map legs Says = (s : Setting) × (w : World) × (s.tones ≡ tones) × (s.timers ≡ timers) × IsAtWork s map legs w × Says s w
 
 -- ---- the tool of a step
 

@@ -7,15 +7,20 @@
 //! - [`Switchboard`] is the interface of an exchange that many callers share, each of whom may hand in a
 //!   [`Desk`]; `shared_exchange` implements it. At a desk a message is read before its turn (`look_ahead`).
 //!
+//! After every list of events of a sound trace, the layout of the paths is legal and joins exactly the circuits
+//! that exist ([`law_of_layouts`]).
+//!
 //! What the events are is said by `exchange_events`, the rules of calls by `call_profile`; their code is in
 //! `call_control`.
 //!
 //! It uses `circuit_model`, `seat_history`, `control_memory`, `circuit_map`, `tone_rules`,
-//! `number_plan`, `exchange_events`, `call_profile`, `leg_table` and `call_control`.
+//! `number_plan`, `exchange_events`, `call_profile`, `leg_table` and `call_control`; and `paull_matrix`,
+//! `path_memory`, `rearrange_chain` and `fabric_map` for the proof of its law.
 #![tactic(auto)]
 
 mod commands;
 mod desk;
+mod laws;
 mod step;
 mod switchboard;
 mod tool;
@@ -29,6 +34,7 @@ pub use exchange_events::{
     Answer, CallRecord, Encoded, Event, Events, Input, Kept, Octets, Outbox, Party, RecordList,
     Records, Reply, Response, Rows, Segments, Signal, SignalList, Signals, Trace,
 };
-pub use step::Core;
+pub use laws::law_of_layouts;
+pub use step::{Core, happen};
 pub use switchboard::Switchboard;
 pub use tool::Tool;

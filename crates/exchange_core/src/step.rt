@@ -6,24 +6,29 @@ ghost use Rattle.exchange_events.specs.Responses.{reply_of};
 ghost use Rattle.exchange_events.specs.Sound.{IsSound, setting_of, Fits};
 ghost use Rattle.call_profile.specs.Step.{reply, next, MovesAtMost};
 ghost use Rattle.exchange_core.specs.Ahead.{IsReadAt, IsReadOf};
-ghost use Rattle.exchange_core.specs.Working.{IsNumbered, IsLaid, JoinsItsCircuits, IsToolFor, ShowsWorld, EachOfTrace, SomeOfTrace, setting, world_of};
+ghost use Rattle.exchange_core.specs.Working.{IsNumbered, IsLaid, JoinsItsCircuits, IsToolFor, ShowsWorld, EachFrames, EachGiven, SomeFrames, SomeGiven, setting, world_of};
 ghost use Rattle.exchange_events.specs.declared.reply.Reply.TheVariants as An_answer;
 ghost use Rattle.call_profile.specs.World.{start, World};
 ghost use Rattle.circuit_model.specs.FrameInput.{Input};
-ghost use Rattle.circuit_map.specs.Connections.{SameSizes};
+ghost use Rattle.circuit_map.specs.Connections.{SameSizes, IsLaid as Is_map_laid};
 ghost use Rattle.exchange_events.specs.Sizes.{Dimensions};
 ghost use Rattle.call_control.specs.Standing.{Holds};
 ghost use Rattle.exchange_events.specs.declared.trace.Event.TheVariants as event;
 
 use crate::commands::{boundary, free, nail, seat};
+use crate::desk::Desk;
 use crate::tool::Tool;
-use call_control::{CallControl, ReadAhead};
+use call_control::{CallControl, Received};
+use call_timers::Timers;
 use circuit_map::CircuitMap;
 use control_memory::PathMap;
 use exchange_events::{Event, Outbox, Reply, Response, Trace};
 use leg_table::LegTable;
+use number_plan::Plan;
 use std::alloc::{AllocError, Global};
 use std::marker::Model;
+use std::mem;
+use tone_rules::Tones;
 
 /// The exchange without its octets, at work on a trace: the live circuits with their paths and
 /// conference ports, the legs of the calls, and the journal of the events that were done.
@@ -103,42 +108,52 @@ impl<'t, P: PathMap> Core<'t, P> {
         ensures shows { (e : An_event) → IsNumbered self.old.trace event e → ShowsWorld (world_of self.old) e tool.new }
         ensures tool { (e : An_event) → IsNumbered self.old.trace event e → IsToolFor (setting self.old).dimensions e tool.new }
     {
-        let mut out = Outbox::new();
-        let response = self.work(by, event, tool, &mut out, None);
+        let mut desk = Desk::new(mem::replace(tool, Tool::Nothing));
+        let response = self.work(by, event, &mut desk);
+        let Desk {
+            tool: used,
+            out,
+            ..
+        } = desk;
+        *tool = used;
         response.with(out)
     }
 
-    /// The same as [`step`](Core::step), with what is sent and recorded put into a given outbox, in
-    /// place of what it held. What was read of the event ahead is not read again.
+    /// The same as [`step`](Core::step), at a desk: what is sent and recorded is put into its outbox, in
+    /// place of what it held. What was read of the event ahead is taken from the desk, and is not read again.
     // Every event goes through it, and with more than one caller LLVM would leave it a call.
     #[inline(always)]
-    pub fn work(
-        &mut self,
-        by: u32,
-        event: u32,
-        tool: &mut Tool,
-        out: &mut Outbox,
-        ahead: Option<ReadAhead>,
-    ) -> Response
+    pub fn work(&mut self, by: u32, event: u32, desk: &mut Desk) -> Response
         requires known { IsEvent self.old.trace event }
         requires room { length self.old.journal < length self.old.trace.events }
-        requires tool { (e : An_event) → IsNumbered self.old.trace event e → IsToolFor (setting self.old).dimensions e tool.old }
-        requires ahead { IsReadAt self.old.trace event ahead }
-        ensures reply { (e : An_event) → IsNumbered self.old.trace event e → reply_of result out.new ≡ reply (setting self.old) (world_of self.old) e }
+        requires tool { (e : An_event) → IsNumbered self.old.trace event e → IsToolFor (setting self.old).dimensions e desk.old.tool }
+        requires ahead { IsReadAt self.old.trace event desk.old.ahead }
+        ensures reply { (e : An_event) → IsNumbered self.old.trace event e
+            → reply_of result desk.new.out ≡ reply (setting self.old) (world_of self.old) e }
         ensures journal { self.new ≡ record self.old { journal = self.old.journal ++ (by, event) ∷ [] } }
         ensures world { (e : An_event) → IsNumbered self.old.trace event e → world_of self.new ≡ next (setting self.old) (world_of self.old) e }
         ensures laid { IsLaid self.new }
         ensures joins { JoinsItsCircuits self.new }
-        ensures few { MovesAtMost self.old.bound (reply_of result out.new) }
-        ensures shows { (e : An_event) → IsNumbered self.old.trace event e → ShowsWorld (world_of self.old) e tool.new }
-        ensures tool { (e : An_event) → IsNumbered self.old.trace event e → IsToolFor (setting self.old).dimensions e tool.new }
+        ensures few { MovesAtMost self.old.bound (reply_of result desk.new.out) }
+        ensures shows { (e : An_event) → IsNumbered self.old.trace event e → ShowsWorld (world_of self.old) e desk.new.tool }
+        ensures tool { (e : An_event) → IsNumbered self.old.trace event e → IsToolFor (setting self.old).dimensions e desk.new.tool }
+        // Nothing is left that was read of this event, so the desk serves for any other.
+        ensures ahead { desk.new.ahead ≡ None }
     {
-        out.clear();
+        desk.out.clear();
         let trace = self.trace;
         let event_done = trace.event(event);
-        let response = happen(&mut self.control, trace, event_done, tool, out, ahead);
-        // Any look at the map tells that its paths are laid legally.
-        let _next = self.control.map.next_frame();
+        let response = happen(
+            &mut self.control,
+            &trace.plan,
+            &trace.tones,
+            &trace.timers,
+            trace.external,
+            event_done,
+            desk,
+        );
+        desk.ahead = None;
+        show_laid(&self.control.map);
         self.journal.push_reserved((by, event));
         response
     }
@@ -159,28 +174,30 @@ impl<'t, P: PathMap> Core<'t, P> {
     }
 }
 
-// Does an event, whichever it is. A frame's boundary is written into the tool.
+/// Does an event, whichever it is. A frame's boundary is written into the tool of the desk.
 #[inline(always)]
-fn happen<P: PathMap>(
+pub fn happen<P: PathMap>(
     control: &mut CallControl<P>,
-    trace: &Trace,
+    plan: &Plan,
+    tones: &Tones,
+    timers: &Timers,
+    external: u8,
     event: &Event,
-    tool: &mut Tool,
-    out: &mut Outbox,
-    ahead: Option<ReadAhead>,
+    desk: &mut Desk,
 ) -> Response
-    requires work { SomeOfTrace trace.now control.old.map control.old.legs (λ s w. IsToolFor s.dimensions event.now tool.old) }
-    requires lines { (trace.now.external ≡ control.old.map.external) × (trace.now.external ≤ 32) }
+    requires work { SomeGiven plan.now tones.now timers.now control.old.map control.old.legs (λ s w. IsToolFor s.dimensions event.now desk.old.tool) }
+    requires lines { (external ≡ control.old.map.external) × (external ≤ 32) }
     requires fits { Fits control.old.map.external event.now }
-    requires ahead { IfSome ahead (IsReadOf trace.now.plan event.now) }
-    requires room { control.old.map.next < 65535 }
-    requires fresh { (out.old.sends ≡ []) × (out.old.moved ≡ None) × (out.old.records ≡ []) }
-    ensures reply { EachOfTrace trace.now control.old.map control.old.legs (λ s w. reply_of result out.new ≡ reply s w event.now) }
-    ensures world { EachOfTrace trace.now control.old.map control.old.legs (λ s w.
+    requires ahead { IfSome desk.old.ahead (IsReadOf plan.now event.now) }
+    requires room { control.old.map.next < 4294967295 }
+    requires fresh { (desk.old.out.sends ≡ []) × (desk.old.out.moved ≡ None) × (desk.old.out.records ≡ []) }
+    ensures reply { EachGiven plan.now tones.now timers.now control.old.map control.old.legs (λ s w.
+        reply_of result desk.new.out ≡ reply s w event.now) }
+    ensures world { EachGiven plan.now tones.now timers.now control.old.map control.old.legs (λ s w.
         Holds s.dimensions control.new.map control.new.legs (next s w event.now)) }
-    ensures few { MovesAtMost control.old.map.bound (reply_of result out.new) }
-    ensures shows { (d : Dimensions) (w : World) → Holds d control.old.map control.old.legs w → ShowsWorld w event.now tool.new }
-    ensures tool { (d : Dimensions) → IsToolFor d event.now tool.old → IsToolFor d event.now tool.new }
+    ensures few { MovesAtMost control.old.map.bound (reply_of result desk.new.out) }
+    ensures shows { (d : Dimensions) (w : World) → Holds d control.old.map control.old.legs w → ShowsWorld w event.now desk.new.tool }
+    ensures tool { (d : Dimensions) → IsToolFor d event.now desk.old.tool → IsToolFor d event.now desk.new.tool }
     ensures sizes { SameSizes control.old.map control.new.map }
 {
     match event {
@@ -189,28 +206,55 @@ fn happen<P: PathMap>(
         Event::Free(x) => free(control, *x),
         Event::Message(line, octets) => {
             let octets = octets.as_slice();
-            control.message(out, &trace.plan, &trace.tones, *line, octets, ahead);
+            let ahead = desk.ahead;
+            control.message(
+                &mut desk.out,
+                plan,
+                tones,
+                *line,
+                &Received { octets, ahead },
+            );
             Response::Sent
         }
-        Event::Frame(_) => Response::Frame(frame(control, trace, tool, out)),
+        Event::Frame(_) => {
+            let number = frame(
+                control,
+                tones,
+                timers,
+                external,
+                &mut desk.tool,
+                &mut desk.out,
+            );
+            Response::Frame(number)
+        }
     }
+}
+
+// Shows the prover that the paths of a map are laid legally, which each call on the map states. Nothing else is
+// done: the compiler drops the call.
+fn show_laid<P: PathMap>(map: &CircuitMap<P>)
+    ensures { Is_map_laid map.now }
+{
+    let _ = map.next_frame();
 }
 
 // The turn of a frame: its boundary, and then what is done for the legs whose timers have run out. Its number.
 #[inline(always)]
 fn frame<P: PathMap>(
     control: &mut CallControl<P>,
-    trace: &Trace,
+    tones: &Tones,
+    timers: &Timers,
+    external: u8,
     tool: &mut Tool,
     out: &mut Outbox,
 ) -> u32
-    requires work { SomeOfTrace trace.now control.old.map control.old.legs (λ s w. IsToolFor s.dimensions (event.Frame []) tool.old) }
-    requires lines { (trace.now.external ≡ control.old.map.external) × (trace.now.external ≤ 32) }
-    requires room { control.old.map.next < 65535 }
+    requires work { SomeFrames tones.now timers.now control.old.map control.old.legs (λ s w. IsToolFor s.dimensions (event.Frame []) tool.old) }
+    requires lines { (external ≡ control.old.map.external) × (external ≤ 32) }
+    requires room { control.old.map.next < 4294967295 }
     requires fresh { (out.old.sends ≡ []) × (out.old.moved ≡ None) × (out.old.records ≡ []) }
-    ensures reply { EachOfTrace trace.now control.old.map control.old.legs (λ s w.
+    ensures reply { EachFrames tones.now timers.now control.old.map control.old.legs (λ s w.
         (input : Input) → An_answer.Frame result out.new.sends out.new.records ≡ reply s w (event.Frame input)) }
-    ensures world { EachOfTrace trace.now control.old.map control.old.legs (λ s w.
+    ensures world { EachFrames tones.now timers.now control.old.map control.old.legs (λ s w.
         (input : Input) → Holds s.dimensions control.new.map control.new.legs (next s w (event.Frame input))) }
     ensures shows { (d : Dimensions) (w : World) → Holds d control.old.map control.old.legs w → ShowsWorld w (event.Frame []) tool.new }
     ensures tool { (d : Dimensions) → IsToolFor d (event.Frame []) tool.old → IsToolFor d (event.Frame []) tool.new }
@@ -220,6 +264,6 @@ fn frame<P: PathMap>(
         Tool::Image(image) => boundary(control, image),
         Tool::Nothing => unreachable!(),
     };
-    control.expire(out, &trace.tones, &trace.timers, trace.external, number);
+    control.expire(out, tones, timers, external, number);
     number
 }

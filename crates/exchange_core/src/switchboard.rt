@@ -1,13 +1,12 @@
-ghost use Rattle.std.specs.Prelude.{◌≡◌, ◌+◌, ◌<◌, ◌≤◌, ◌^◌, length, IsTrue, None};
+ghost use Rattle.std.specs.Prelude.{◌≡◌, ◌+◌, ◌<◌, ◌≤◌, ◌^◌, Bool, false, IsTrue, None};
 ghost use Rattle.seat_history.specs.declared.known.Known.{Known};
-ghost use Rattle.seat_history.specs.Histories.{StartsWith, before, entries_of, unseen};
-ghost use Rattle.seat_history.specs.Seats.{HasJoinedAll, Settled, after_join, after_split, after_step, new_seat};
+ghost use Rattle.seat_history.specs.Histories.{StartsWith, before};
+ghost use Rattle.seat_history.specs.Seats.{Settled, after_join, after_split, new_seat};
 ghost use Rattle.exchange_events.specs.Orders.{IsEvent};
 ghost use Rattle.exchange_events.specs.Responses.{reply_of};
 ghost use Rattle.exchange_core.specs.Ahead.{IsReadAt};
-ghost use Rattle.exchange_core.specs.Boards.{Board, NoFrames, IsFrame, IsToolAt, AnswersAt, ShowsAt, turns_of};
+ghost use Rattle.exchange_core.specs.Boards.{Board, HasTakenTurn, IsFrame, IsToolAt, turns_of};
 ghost use Rattle.exchange_events.specs.Sound.{IsSound};
-ghost use Rattle.call_profile.specs.Step.{MovesAtMost};
 
 use crate::desk::Desk;
 use crate::tool::Tool;
@@ -31,6 +30,9 @@ pub trait Switchboard: Sync {
     /// What a seat knows.
     ghost known: { Self.Seat → Known };
 
+    /// Whether a seat has kept the turn.
+    ghost keeps: { Self.Seat → Bool };
+
     /// The seat is of this board.
     ghost seated: { Self → Self.Seat → Type 0 };
 
@@ -44,7 +46,8 @@ pub trait Switchboard: Sync {
         ensures sound { IsSound (board self.now).trace }
         ensures seated { seated self.now seat.new × seated self.now result }
         ensures old { known seat.new ≡ after_split budget baton (known seat.old) }
-        ensures new { known result ≡ new_seat budget baton (known seat.old) };
+        ensures new { known result ≡ new_seat budget baton (known seat.old) }
+        ensures free { (keeps seat.new ≡ false) × (keeps result ≡ false) };
 
     /// Does one event of the trace, by its number, counted from 1, once the seat's turn has come; waits
     /// for it. Answers the place in the history, counted from 0, and the exchange's reply.
@@ -63,34 +66,24 @@ pub trait Switchboard: Sync {
         requires turn { 0 < (known seat.old).left }
         requires baton { IsFrame (board self.now).trace event → IsTrue (known seat.old).baton }
         requires tool { IsToolAt (board self.now) event tool.old }
-        ensures sound { IsSound (board self.now).trace }
         ensures seated { seated self.now seat.new }
-        // One turn less, and its entry behind the history before it and among its own.
-        ensures seat { known seat.new ≡ after_step (before result.0 (known seat.new).seen) event (known seat.old) }
-        ensures place { length (known seat.new).seen ≡ result.0 + 1 }
-        ensures below { result.0 < turns_of (board self.now) }
-        ensures begins { StartsWith (before result.0 (known seat.new).seen) (known seat.old).seen }
-        ensures own { (known seat.new).own ≡ entries_of (known seat.new).number (known seat.new).seen }
-        // The holder of the baton had seen every frame of the history before.
-        ensures frames { IsTrue (known seat.old).baton
-            → NoFrames (board self.now).trace (unseen (known seat.old).seen (before result.0 (known seat.new).seen)) }
-        // What seat 0 knows adds up, and where all other seats are joined nobody did an event between.
-        ensures settled { (known seat.old).number ≡ 0 → Settled (turns_of (board self.now)) (known seat.new) }
-        ensures alone { (known seat.old).number ≡ 0 → HasJoinedAll (known seat.old) → before result.0 (known seat.new).seen ≡ (known seat.old).seen }
-        ensures reply { AnswersAt (board self.now) (before result.0 (known seat.new).seen) event result.1 }
-        ensures few { MovesAtMost (board self.now).bound result.1 }
-        ensures shows { ShowsAt (board self.now) (before result.0 (known seat.new).seen) event tool.new }
-        ensures tool { IsToolAt (board self.now) event tool.new };
+        ensures done { HasTakenTurn (board self.now) (known seat.old) (known seat.new) result.0 event result.1 tool.new }
+        ensures free { keeps seat.new ≡ false };
 
     /// The same as [`handle`](Switchboard::handle), with a desk in place of the tool: what is sent and
     /// recorded is put into its outbox, in place of what it held, so that no event pays for that room. What
     /// was read of the event ahead is taken from the desk, and is not read again in the turn.
+    ///
+    /// Where `keep` is true the seat keeps the turn, and its next event doesn't wait. Nobody else does an
+    /// event until it passes the turn on, by one that doesn't keep it or by
+    /// [`release`](Switchboard::release).
     fn work<R: Wait>(
         &self,
         rt: &R,
         seat: &mut Self::Seat,
         event: u32,
         desk: &mut Desk,
+        keep: bool,
     ) -> (u32, Response)
         requires seated { seated self.now seat.old }
         requires known { IsEvent (board self.now).trace event }
@@ -98,23 +91,20 @@ pub trait Switchboard: Sync {
         requires baton { IsFrame (board self.now).trace event → IsTrue (known seat.old).baton }
         requires tool { IsToolAt (board self.now) event desk.old.tool }
         requires ahead { IsReadAt (board self.now).trace event desk.old.ahead }
-        ensures sound { IsSound (board self.now).trace }
         ensures seated { seated self.now seat.new }
-        ensures seat { known seat.new ≡ after_step (before result.0 (known seat.new).seen) event (known seat.old) }
-        ensures place { length (known seat.new).seen ≡ result.0 + 1 }
-        ensures below { result.0 < turns_of (board self.now) }
-        ensures begins { StartsWith (before result.0 (known seat.new).seen) (known seat.old).seen }
-        ensures own { (known seat.new).own ≡ entries_of (known seat.new).number (known seat.new).seen }
-        ensures frames { IsTrue (known seat.old).baton
-            → NoFrames (board self.now).trace (unseen (known seat.old).seen (before result.0 (known seat.new).seen)) }
-        ensures settled { (known seat.old).number ≡ 0 → Settled (turns_of (board self.now)) (known seat.new) }
-        ensures alone { (known seat.old).number ≡ 0 → HasJoinedAll (known seat.old) → before result.0 (known seat.new).seen ≡ (known seat.old).seen }
-        ensures reply { AnswersAt (board self.now) (before result.0 (known seat.new).seen) event (reply_of result.1 desk.new.out) }
-        ensures few { MovesAtMost (board self.now).bound (reply_of result.1 desk.new.out) }
-        ensures shows { ShowsAt (board self.now) (before result.0 (known seat.new).seen) event desk.new.tool }
-        ensures tool { IsToolAt (board self.now) event desk.new.tool }
+        ensures done { HasTakenTurn (board self.now) (known seat.old) (known seat.new) result.0 event (reply_of result.1 desk.new.out) desk.new.tool }
         // Nothing is left that was read of this event, so the desk serves for any other.
-        ensures ahead { desk.new.ahead ≡ None };
+        ensures ahead { desk.new.ahead ≡ None }
+        // Nobody did an event since the seat's last one, if it kept the turn there.
+        ensures kept { IsTrue (keeps seat.old) → before result.0 (known seat.new).seen ≡ (known seat.old).seen }
+        ensures keeps { keeps seat.new ≡ keep };
+
+    /// Passes the turn on, if the seat kept it.
+    fn release(&self, seat: &mut Self::Seat)
+        requires seated { seated self.now seat.old }
+        ensures seated { seated self.now seat.new }
+        ensures known { known seat.new ≡ known seat.old }
+        ensures free { keeps seat.new ≡ false };
 
     /// Seat 0 takes another seat in, with its turns, its baton and its entries.
     fn join(&self, seat: &mut Self::Seat, other: Self::Seat)
@@ -125,7 +115,8 @@ pub trait Switchboard: Sync {
         ensures seat { known seat.new ≡ after_join (known seat.old) (known other) }
         ensures first { StartsWith (known seat.new).seen (known seat.old).seen }
         ensures second { StartsWith (known seat.new).seen (known other).seen }
-        ensures settled { Settled (turns_of (board self.now)) (known seat.new) };
+        ensures settled { Settled (turns_of (board self.now)) (known seat.new) }
+        ensures free { keeps seat.new ≡ false };
 
     /// A board that has a seat is a sound trace's.
     ghost sound_trace: { (x : Self) (s : Self.Seat) → seated x s → IsSound (board x).trace };

@@ -1,26 +1,34 @@
--- How a call ends, and what each status says.
-use Rattle.std.proofs.Common.{rules, ◌↔◌, IsSome, ◌≡◌, ◌≢◌, ◌⊎◌, ℕ, Bool, true, false, ◌+◌, ◌<◌, ◌≤◌, List, [], ◌++◌, length, Option, Some, None, arith, sym, ◌∙◌, ap, subst, inl, inr, length-append}
+-- How a call ends, and what decides it.
+use Rattle.std.proofs.Common.{rules, ◌≡◌, ◌⊎◌, ℕ, Bool, false, ◌+◌, ◌<◌, ◌≤◌, List, [], ◌++◌, length, Option, Some, None, arith, refl, sym, ◌∙◌, ap, subst, inl, inr, length-append}
 use Rattle.std.proofs.lemmas.Bool.{cases_lt}
 use Rattle.std.proofs.lemmas.List.{append-nil}
-use Rattle.std.specs.Io.KnownBytes.{Appends, Keeps}
-use Rattle.ex_io.specs.Ends.{Rose}
+use Rattle.std.specs.Io.KnownBytes.{Appends, Consumes, IsAtEnd}
+use Rattle.std.proofs.KnownBytes.{Appends-trans}
 use Rattle.trace_text.specs.declared.fault.Reason.{Reason}
 use Rattle.exchange_events.specs.declared.trace.Trace.{Trace}
 use Rattle.trace_text.specs.TraceGrammar.{IsTrace, IsRefused, most_bytes}
+use Rattle.call_processor.specs.Frames.{Carrying, Plays}
+use Rattle.exchange_events.specs.Sizes.{Dimensions}
 use Rattle.command_words.specs.Words.{command_of}
 use Rattle.command_words.specs.declared.command.Command.{Command}
 use Rattle.command_words.specs.declared.command.Command.TheVariants.{Run, Generate, Check}
 use Rattle.line_list.specs.declared.listing.Listing.{Listing}
 use Rattle.line_list.specs.declared.listing.Listing.TheVariants as listing
-use Rattle.exchange_top.specs.Outcomes.{Fabric}
-use Rattle.exchange_top.specs.Checking.{Checks, Said, Not_read, Not_room, IsChecked, IsDue, IsFoundInvalid, IsFoundUnchecked, IsFoundValid, IsUnchecked, Too_much, No_trace, Due_valid, Due_invalid, Due_refusal, most_checked, slots_of}
-use Rattle.exchange_top.specs.Inputs.{IsInput, IsInputWithin, IsWholeInput, SourceAndSink}
-use Rattle.exchange_top.specs.Streams.{ConsumesAtMost}
-use Rattle.exchange_top.specs.Refusals.{Says, Told_so, Untold, refusal, words_refusal}
-use Rattle.exchange_top.specs.Commands.{Parties, HasRun, most_read, most_read_by, IsUnfinished, IsCheck, IsCheckOn, IsReading, IsRun, IsRunOn, IsGeneration, IsNoCommand, RefusesRead, IsDone, IsSummed, In_refusal, In_report, By_write, By_memory, IsUndone, In_words, Unheard, In_answer, In_check, In_generation, Runs, Whole, Unwritten_from, No_memory_from, Answers, Done, Turned_down, Unwritten, No_memory, Summed, Sum_unwritten, Sum_no_memory, Ends, Wrong_words, Words_unwritten, Unread, No_room, Answered, Checked, Generated, fabric_of}
+use Rattle.exchange_top.specs.declared.ending.Ending.{Ending}
+use Rattle.exchange_top.specs.declared.ending.Ending.TheVariants as ended
+use Rattle.exchange_top.specs.Outcomes.{Fabric, HandsOut, IsIdle, IsRunWhole, IsRunWritten, Parties, Runs, SumsUp}
+use Rattle.exchange_top.specs.Checking.{Checks, Said, Not_read, No_memory, Finds, IsChecked, IsUnchecked, Too_much, No_trace, most_checked}
+use Rattle.exchange_top.specs.Inputs.{IsInputWithin}
+use Rattle.exchange_top.specs.Streams.{AppendsFront, ConsumesAtMost, IsUntouched, IsWritten, Stream}
+use Rattle.exchange_top.specs.Story.{story}
+use Rattle.exchange_top.specs.Summary.{summary_text}
+use Rattle.exchange_top.specs.Telling.{MeterStory}
+use Rattle.exchange_top.specs.Refusals.{Says, Told_so, Untold, line_of}
+use Rattle.exchange_top.specs.Commands.{most_read, most_read_by, IsCheck, IsCheckOn, IsReading, IsRun, IsGeneration, IsNoCommand, fabric_of}
+use Rattle.exchange_top.specs.Endings.{status_of, IsTraceRead, IsTraceGenerated, IsFound, For_run, For_check, Reported, Summed, Found_valid, In_line, In_report, In_generation, In_summary, At_once, In_run, In_generated, Before_summary, HasEnded, IsDue, Arguments_decide, Trace_decides, Line_decides, Seed_decides, Report_decides, EndsAs}
 use Rattle.trace_text.proofs.TraceReadings.{never_both}
-use Rattle.run_verifier.specs.Verdicts.{IsInvalidAt, IsValid}
-use Rattle.exchange_top.proofs.Dues.{due_checked, due_invalid, due_refusal, due_status, due_valid}
+use Rattle.exchange_top.proofs.Dues.{finds_one}
+use Rattle.exchange_top.proofs.Underway.{party}
 
 -- ---- words ask for one thing
 
@@ -53,12 +61,6 @@ never_read_generation words seed calls (inr check) gen = never_summed_check word
 same_check : (words : List (List ℕ)) (a b : Bool) → IsCheckOn words a → IsCheckOn words b → a ≡ b
 same_check words a b one other = let same : Some (Check a) ≡ Some (Check b) = sym one ∙ other in cc
 
-same_run : (words : List (List ℕ)) (a b : Bool) → IsRunOn words a → IsRunOn words b → a ≡ b
-same_run words a b one other = let same : Some (Run a) ≡ Some (Run b) = sym one ∙ other in cc
-
-same_generation : (words : List (List ℕ)) (a n b m : ℕ) → IsGeneration words a n → IsGeneration words b m → (a ≡ b) × (n ≡ m)
-same_generation words a n b m one other = let same : Some (Generate a n) ≡ Some (Generate b m) = sym one ∙ other in (cc, cc)
-
 -- ---- bytes are a trace, or they are refused
 
 read_known : (limit : ℕ) (known bytes : List ℕ) (new : Option (List ℕ)) → IsInputWithin limit (Some known) new bytes
@@ -71,43 +73,21 @@ read_known limit known bytes (Some rest) input =
       | inr few ↦ inl (few, sym (input.front ∙ ap (λ xs. bytes ++ xs) (input.whole few) ∙ append-nil bytes))
     ]
 
-not_down : (t : Trace) (known bytes : List ℕ) (new : Option (List ℕ)) {number : ℕ} {why : Reason} → IsRefused bytes number why → IsInput (Some known) new bytes → IsTrace known t → ⊥
+not_down : (t : Trace) (known bytes : List ℕ) (new : Option (List ℕ)) {number : ℕ} {why : Reason} → IsRefused bytes number why → IsInputWithin most_bytes (Some known) new bytes → IsTrace known t → ⊥
 not_down t known bytes new {number} {why} refused input is =
     elim (read_known most_bytes known bytes new input) [
       | inl whole ↦ never_both known t number why is (rw whole.1 at refused)
       | inr long ↦ let few = is.few in absurd (omega (arith, few, long.1))
     ]
 
-not_done : (known bytes : List ℕ) (number : ℕ) (why : Reason) (new : Option (List ℕ)) (t : Trace) → IsInput (Some known) new bytes → IsTrace bytes t → IsRefused known number why → ⊥
-not_done known bytes number why new t input is refused =
-    elim (read_known most_bytes known bytes new input) [
-      | inl whole ↦ never_both known t number why (rw whole.1 at is) refused
-      | inr long ↦ let few = is.few in absurd (omega (arith, few, long.0))
-    ]
+-- all that was left was read, so it is the trace
+whole_trace : (known bytes : List ℕ) (old new : Option (List ℕ)) (t : Trace) → old ≡ Some known → Consumes old new bytes → IsAtEnd new → IsTrace bytes t → IsTrace known t
+whole_trace known bytes old None t left front ended is = let never = rw left at front in absurd never
+whole_trace known bytes old (Some rest) t left front ended is =
+    let all : known ≡ bytes ++ rest = rw left at front in
+    subst (λ (b : List ℕ). IsTrace b t) (sym (all ∙ ap (λ xs. bytes ++ xs) ended ∙ append-nil bytes)) is
 
--- ---- what is due of a check
-
-module _ (strict : Bool) (bytes line : List ℕ) (wanted status : ℕ) where
-  due_low : IsDue strict bytes wanted line → status ≡ wanted → status ≤ 6
-  due_low due s = elim (due_status strict bytes line wanted due) [
-    | inl zero ↦ omega (arith, s, zero)
-    | inr other ↦ elim other [ inl one ↦ omega (arith, s, one) | inr six ↦ omega (arith, s, six) ]
-  ]
-
-  -- a status other than these three isn't due
-  not_due : (n : ℕ) → IsDue strict bytes wanted line → status ≡ wanted → status ≡ n → n ≢ 0 → n ≢ 1 → n ≢ 6 → ⊥
-  not_due n due s is a b c = elim (due_status strict bytes line wanted due) [
-    | inl zero ↦ a (sym is ∙ s ∙ zero)
-    | inr other ↦ elim other [ inl one ↦ b (sym is ∙ s ∙ one) | inr six ↦ c (sym is ∙ s ∙ six) ]
-  ]
-
-  not_cut : IsDue strict bytes wanted line → status ≡ wanted → 4 ≤ status → status ≤ 5 → ⊥
-  not_cut due s low high = elim (due_status strict bytes line wanted due) [
-    | inl zero ↦ omega (arith, s, zero, low)
-    | inr other ↦ elim other [ inl one ↦ omega (arith, s, one, low) | inr six ↦ omega (arith, s, six, high) ]
-  ]
-
--- where the input is known, what is due for it
+-- where the input is known, what is found of it
 module _ (known bytes : List ℕ) (left new : Option (List ℕ)) (is_left : left ≡ Some known) (input : IsInputWithin most_checked left new bytes) where
   known_now : ((length bytes ≤ most_checked) × (bytes ≡ known)) ⊎ ((most_checked < length bytes) × (most_checked < length known))
   known_now = read_known most_checked known bytes new (rw is_left at input)
@@ -130,33 +110,17 @@ module _ (known bytes : List ℕ) (left new : Option (List ℕ)) (is_left : left
     | inr long ↦ absurd (omega (arith, few, long.1))
   ]
 
-is_due : (strict : Bool) (bytes line : List ℕ) (wanted status : ℕ) → IsDue strict bytes wanted line → status ≡ wanted → (status ≡ 0) ⊎ (status ≡ 1) ⊎ (status ≡ 6) ⊎ IsUnfinished status
-is_due strict bytes line wanted status due s = elim (due_status strict bytes line wanted due) [
-  | inl zero ↦ inl (s ∙ zero)
-  | inr other ↦ elim other [ inl one ↦ inr (inl (s ∙ one)) | inr six ↦ inr (inr (inl (s ∙ six))) ]
-]
+  -- what would be found of it is found of what is read of it
+  finds_now : (strict : Bool) (e : Ending) → Finds strict known e → Finds strict bytes e
+  finds_now strict ended.Completed is = (is.0, is.1, checked_now is.1 is.0 is.2, is.3)
+  finds_now strict (ended.Refused line reason) is = unchecked_now line reason is
+  finds_now strict ended.WrongArguments is = absurd is
+  finds_now strict ended.ReadFailed is = absurd is
+  finds_now strict ended.WriteFailed is = absurd is
+  finds_now strict ended.OutOfMemory is = absurd is
+  finds_now strict (ended.Invalid line) is = (is.0, is.1, checked_now is.1 is.0 is.2, is.3)
 
-checked_due : (strict : Bool) (bytes line : List ℕ) (wanted status : ℕ) (known report : List ℕ) (t : Trace) (left new : Option (List ℕ)) → left ≡ Some known
-    → IsInputWithin most_checked left new bytes → IsChecked known t report → IsDue strict bytes wanted line → status ≡ wanted → (status ≡ 0) ⊎ (status ≡ 6) ⊎ IsUnfinished status
-checked_due strict bytes line wanted status known report t left new is input has due s =
-    elim (due_checked strict bytes line wanted report t (checked_now known bytes left new is input report t has) due) [ inl zero ↦ inl (s ∙ zero) | inr six ↦ inr (inl (s ∙ six)) ]
-
-valid_due : (flag strict : Bool) (bytes line : List ℕ) (wanted : ℕ) (known report : List ℕ) (t : Trace) (left new : Option (List ℕ)) → flag ≡ strict → left ≡ Some known
-    → IsInputWithin most_checked left new bytes → IsChecked known t report → IsValid (slots_of strict) t report → IsDue flag bytes wanted line → wanted ≡ 0
-valid_due flag strict bytes line wanted known report t left new same is input has right due =
-    due_valid flag bytes line wanted report t (checked_now known bytes left new is input report t has) (subst (λ (b : Bool). IsValid (slots_of b) t report) (sym same) right) due
-
-invalid_due : (flag strict : Bool) (bytes line : List ℕ) (wanted : ℕ) (known report : List ℕ) (t : Trace) (left new : Option (List ℕ)) (n : ℕ) → flag ≡ strict → left ≡ Some known
-    → IsInputWithin most_checked left new bytes → IsChecked known t report → IsInvalidAt (slots_of strict) t report n → IsDue flag bytes wanted line → wanted ≡ 6
-invalid_due flag strict bytes line wanted known report t left new n same is input has right due =
-    due_invalid flag bytes line wanted report t (checked_now known bytes left new is input report t has) n (subst (λ (b : Bool). IsInvalidAt (slots_of b) t report n) (sym same) right) due
-
-refusal_due : (strict : Bool) (bytes line : List ℕ) (wanted : ℕ) (known : List ℕ) (number : ℕ) (why : Reason) (left new : Option (List ℕ)) → left ≡ Some known
-    → IsInputWithin most_checked left new bytes → IsUnchecked known number why → IsDue strict bytes wanted line → wanted ≡ 1
-refusal_due strict bytes line wanted known number why left new is input none due =
-    due_refusal strict bytes line wanted number why (unchecked_now known bytes left new is input number why none) due
-
--- ---- what is read, and the engine
+-- ---- what is read
 
 pub stops_by : (words : List (List ℕ)) (asked : Option Command) (old new : Option (List ℕ)) → command_of words ≡ asked → ConsumesAtMost (most_read_by asked) old new
     → ConsumesAtMost (most_read words) old new
@@ -166,393 +130,171 @@ pub nothing_read : (most : ℕ) (known : Option (List ℕ)) → ConsumesAtMost m
 nothing_read most None = ([], omega arith, search rules)
 nothing_read most (Some bytes) = ([], omega arith, search rules)
 
--- a run of a trace hands out an engine as its status says
-pub engine_run : {E : Type 0} (words : List (List ℕ)) (status : ℕ) (engine : Option E) → (IsCheck words → ⊥) → IsSome engine ↔ (status ≡ 0) → IsSome engine ↔ HasRun status words
-engine_run words status engine other has = (λ some. (has.0 some, other), λ run. has.1 run.0)
+-- ---- a run ends
 
-never_some : (E : Type 0) → IsSome {T = E} None → ⊥
-never_some E some = let no : false ≡ true = some in cc
+-- a run of a trace on the fabric that a flag chooses is one on the fabric that an equal flag chooses
+pub runs_on : (x : Parties) (strict flag : Bool) (f : Fabric) (l : Listing) (t : Trace) (ending : Ending) → strict ≡ flag → f ≡ fabric_of flag t → Runs x f l t ending → Runs x (fabric_of strict t) l t ending
+runs_on x strict flag f l t ending same is run =
+    subst (λ (b : Bool). Runs x (fabric_of b t) l t ending) (sym same) (subst (λ (g : Fabric). Runs x g l t ending) is run)
 
--- a verdict doesn't
-pub engine_none : {E : Type 0} (words : List (List ℕ)) (status : ℕ) (engine : Option E) → IsCheck words → engine ≡ None → IsSome engine ↔ HasRun status words
-engine_none {E} words status engine check none = (λ some. absurd (never_some E (subst IsSome none some)), λ run. absurd (run.1 check))
+pub runs_so : (x : Parties) (f : Fabric) (l : Listing) (t : Trace) (ending result : Ending) → result ≡ ending → Runs x f l t ending → Runs x f l t result
+runs_so x f l t ending result same run = subst (λ (e : Ending). Runs x f l t e) (sym same) run
 
--- nor does what never ran
-pub engine_never : {E : Type 0} (words : List (List ℕ)) (status : ℕ) (engine : Option E) → status ≢ 0 → engine ≡ None → IsSome engine ↔ HasRun status words
-engine_never {E} words status engine not none = (λ some. absurd (never_some E (subst IsSome none some)), λ run. absurd (not run.0))
+module _ (arguments : List (List ℕ)) (input : Stream) (x : Parties) where
+  pub ends_so : (ending result : Ending) → result ≡ ending → HasEnded arguments input x ending → HasEnded arguments input x result
+  ends_so ending result same ends = subst (λ (e : Ending). HasEnded arguments input x e) (sym same) ends
 
-pub not_zero : (wanted : ℕ) (line : List ℕ) (status : ℕ) (old new : Option (List ℕ)) (before after : ℕ) → wanted ≢ 0 → Says wanted line status old new before after → status ≢ 0
-not_zero wanted line status old new before after not (Told_so s text) = λ zero. not (sym s ∙ zero)
-not_zero wanted line status old new before after not (Untold s rose text) = λ zero. omega (arith, s, zero)
+  -- memory ran out before anything was done
+  pub ends_at_once : (result : Ending) → result ≡ ended.OutOfMemory → IsUntouched x.output → IsIdle x → HasEnded arguments input x result
+  ends_at_once result same untouched idle = ends_so ended.OutOfMemory result same (At_once untouched idle)
 
-pub run_no_check : (words : List (List ℕ)) (strict : Bool) → IsRunOn words strict → IsCheck words → ⊥
-run_no_check words strict run check = never_both_run words (strict, run) check
+  -- the run of a trace that was read ended
+  pub ends_run : (strict : Bool) (trace : Trace) (ending : Ending) → IsTraceRead arguments input strict trace → Runs x (fabric_of strict trace) listing.Report trace ending → HasEnded arguments input x ending
+  ends_run strict trace ended.Completed read run = Reported strict trace read run
+  ends_run strict trace (ended.Refused line reason) read run = absurd run
+  ends_run strict trace ended.WrongArguments read run = absurd run
+  ends_run strict trace ended.ReadFailed read run = absurd run
+  ends_run strict trace ended.WriteFailed read run = record { failed = run.0; writing = In_report strict trace read run.1 }
+  ends_run strict trace ended.OutOfMemory read run = In_run strict trace read run
+  ends_run strict trace (ended.Invalid line) read run = absurd run
 
-pub generation_no_check : (words : List (List ℕ)) (seed calls : ℕ) → IsGeneration words seed calls → IsCheck words → ⊥
-generation_no_check words seed calls gen check = never_summed_check words seed calls check gen
+  -- the run of a generated trace was cut short
+  pub ends_generated : (trace : Trace) (ending : Ending) → IsTraceGenerated arguments trace → (ending ≡ ended.Completed → ⊥) → Runs x (fabric_of false trace) listing.Nothing trace ending → HasEnded arguments input x ending
+  ends_generated trace ended.Completed made not run = absurd (not refl)
+  ends_generated trace (ended.Refused line reason) made not run = absurd run
+  ends_generated trace ended.WrongArguments made not run = absurd run
+  ends_generated trace ended.ReadFailed made not run = absurd run
+  ends_generated trace ended.WriteFailed made not run = record { failed = run.0; writing = In_generation trace made run.1 }
+  ends_generated trace ended.OutOfMemory made not run = In_generated trace made run
+  ends_generated trace (ended.Invalid line) made not run = absurd run
 
-module _ (x : Parties) where
-  -- a run of the trace that the bytes are answers them
-  pub answers_run : (strict : Bool) (bytes : List ℕ) (t : Trace) (status : ℕ) (order : List ℕ) (old new : Option (List ℕ)) (before after : ℕ) → IsTrace bytes t
-      → Runs x (fabric_of strict t) listing.Report t status order old new before after → Answers x strict bytes status order old new before after
-  answers_run strict bytes t status order old new before after is (Whole s run text engine) = Done s (record { trace = t; is_trace = is; run = run; text = text; engine = engine })
-  answers_run strict bytes t status order old new before after is (Unwritten_from s rose b) = Unwritten s rose (In_report t is (By_write s b))
-  answers_run strict bytes t status order old new before after is (No_memory_from s b) = No_memory s (In_report t is (By_memory s b))
+  -- ---- a line ends a call
 
-  -- a run on the fabric that a flag chooses is a run on the fabric that an equal flag chooses
-  pub runs_on : (strict flag : Bool) (f : Fabric) (l : Listing) (t : Trace) (status : ℕ) (order : List ℕ) (old new : Option (List ℕ)) (before after : ℕ)
-      → strict ≡ flag → f ≡ fabric_of flag t → Runs x f l t status order old new before after → Runs x (fabric_of strict t) l t status order old new before after
-  runs_on strict flag f l t status order old new before after same is run =
-      subst (λ (b : Bool). Runs x (fabric_of b t) l t status order old new before after) (sym same)
-      (subst (λ (g : Fabric). Runs x g l t status order old new before after) is run)
+  written_line : (found : Ending) → IsFound arguments input found → IsWritten x.output (line_of found) → IsIdle x → HasEnded arguments input x found
+  written_line ended.Completed is text idle = Found_valid is text idle
+  written_line (ended.Refused line reason) is text idle = record { found = is; text = text; idle = idle }
+  written_line ended.WrongArguments is text idle = record { found = is; text = text; idle = idle }
+  written_line ended.ReadFailed is text idle = absurd is
+  written_line ended.WriteFailed is text idle = absurd is
+  written_line ended.OutOfMemory is text idle = absurd is
+  written_line (ended.Invalid line) is text idle = record { found = is; text = text; idle = idle }
 
-  pub answers_refused : (strict : Bool) (bytes : List ℕ) (number : ℕ) (why : Reason) (status : ℕ) (order line : List ℕ) (old new : Option (List ℕ)) (before after : ℕ) → IsRefused bytes number why → order ≡ []
-      → line ≡ refusal number why → x.meters.left [] → Says 1 line status old new before after → Answers x strict bytes status order old new before after
-  answers_refused strict bytes number why status order line old new before after refused none same told (Told_so s written) =
-      Turned_down s (record { number = number; why = why; refused = refused; none = none; text = rw same at written }) told
-  answers_refused strict bytes number why status order line old new before after refused none same told (Untold s rose cut) = Unwritten s rose (In_refusal s number why refused none (rw same at cut) told)
+  pub ends_line : (found ending : Ending) (line : List ℕ) → IsFound arguments input found → line ≡ line_of found → Says found line ending x.output → IsIdle x → HasEnded arguments input x ending
+  ends_line found ending line is same (Told_so so text) idle = ends_so found ending so (written_line found is (subst (IsWritten x.output) same text) idle)
+  ends_line found ending line is same (Untold so failed part) idle =
+      ends_so ended.WriteFailed ending so (record { failed = failed; writing = In_line found is (subst (AppendsFront x.output.old x.output.new) same part) idle })
 
-  pub ends_words : (words : List (List ℕ)) (status : ℕ) (order : List ℕ) (old new : SourceAndSink) → IsNoCommand words → order ≡ [] → x.meters.left []
-      → Says 2 words_refusal status old.written new.written old.writes new.writes → Ends x words status order old new
-  ends_words words status order old new unasked none told (Told_so s written) = Wrong_words unasked s none written told
-  ends_words words status order old new unasked none told (Untold s rose cut) = Words_unwritten unasked s none rose cut told
+  found_is : (strict : Bool) (bytes : List ℕ) (found : Ending) → IsCheckOn arguments strict → IsInputWithin most_checked input.old input.new bytes → Finds strict bytes found → IsFound arguments input found
+  found_is strict bytes ended.Completed asked read is =
+      record { strict = strict; asked = asked; bytes = bytes; read = record { front = read.front; ended = read.whole is.2.few }; trace = is.0; report = is.1; checked = is.2; valid = is.3 }
+  found_is strict bytes (ended.Refused line reason) asked read is = For_check (strict, asked) bytes read is
+  found_is strict bytes ended.WrongArguments asked read is = absurd is
+  found_is strict bytes ended.ReadFailed asked read is = absurd is
+  found_is strict bytes ended.WriteFailed asked read is = absurd is
+  found_is strict bytes ended.OutOfMemory asked read is = absurd is
+  found_is strict bytes (ended.Invalid line) asked read is =
+      record { strict = strict; asked = asked; bytes = bytes; read = record { front = read.front; ended = read.whole is.2.few }; trace = is.0; report = is.1; checked = is.2; invalid = is.3 }
 
-  -- what was said of an input that was checked
-  module _ (strict : Bool) (bytes line : List ℕ) (wanted status : ℕ) (left_old left_new : Option (List ℕ)) (order : List ℕ) (old new : Option (List ℕ))
-      (input : IsInputWithin most_checked left_old left_new bytes) where
-    unchecked_is : IsDue strict bytes wanted line → status ≡ wanted → status ≡ 1 → Appends old new line → order ≡ [] → x.meters.left []
-        → IsFoundUnchecked x.meters.left left_old left_new order old new
-    unchecked_is (Due_valid t report checked valid is same) s one text none told = absurd (omega (arith, is, s, one))
-    unchecked_is (Due_invalid t report n checked invalid is same) s one text none told = absurd (omega (arith, is, s, one))
-    unchecked_is (Due_refusal number why unchecked is same) s one text none told = record {
-      bytes = bytes;
-      input = input;
-      number = number;
-      why = why;
-      refused = unchecked;
-      text = subst (Appends old new) same text;
-      none = none;
-      meters = told;
-    }
+  -- a check of an input ended
+  pub ends_check : (strict : Bool) (output : Stream) (ending result : Ending) → result ≡ ending → Checks strict input output ending → IsCheckOn arguments strict → x.output ≡ output → IsIdle x
+      → HasEnded arguments input x result
+  ends_check strict output ending result same (Said bytes read found is said) asked at idle =
+      ends_so ending result same (ends_line found ending (line_of found) (found_is strict bytes found asked read is) refl (subst (λ (s : Stream). Says found (line_of found) ending s) (sym at) said) idle)
+  ends_check strict output ending result same (Not_read so failed untouched) asked at idle =
+      ends_so ended.ReadFailed result (same ∙ so) (record { reading = inr (strict, asked); failed = failed; text = subst IsUntouched (sym at) untouched; idle = idle })
+  ends_check strict output ending result same (No_memory so untouched) asked at idle = ends_at_once result (same ∙ so) (subst IsUntouched (sym at) untouched) idle
 
-    valid_is : IsDue strict bytes wanted line → status ≡ wanted → status ≡ 0 → Appends old new line → order ≡ [] → x.meters.left []
-        → IsFoundValid x.meters.left strict left_old left_new order old new
-    valid_is (Due_valid t report checked valid is same) s zero text none told = record {
-      bytes = bytes;
-      input = record { front = input.front; ended = input.whole checked.few };
-      trace = t;
-      report = report;
-      checked = checked;
-      found = valid;
-      text = subst (Appends old new) same text;
-      none = none;
-      meters = told;
-    }
-    valid_is (Due_invalid t report n checked invalid is same) s zero text none told = absurd (omega (arith, is, s, zero))
-    valid_is (Due_refusal number why unchecked is same) s zero text none told = absurd (omega (arith, is, s, zero))
+-- ---- a summary ends a call
 
-    invalid_is : IsDue strict bytes wanted line → status ≡ wanted → status ≡ 6 → Appends old new line → order ≡ [] → x.meters.left []
-        → IsFoundInvalid x.meters.left strict left_old left_new order old new
-    invalid_is (Due_valid t report checked valid is same) s six text none told = absurd (omega (arith, is, s, six))
-    invalid_is (Due_invalid t report n checked invalid is same) s six text none told = (
-      n,
-      record {
-        bytes = bytes;
-        input = record { front = input.front; ended = input.whole checked.few };
-        trace = t;
-        report = report;
-        checked = checked;
-        found = invalid;
-        text = subst (Appends old new) same text;
-        none = none;
-        meters = told;
-      },
-    )
-    invalid_is (Due_refusal number why unchecked is same) s six text none told = absurd (omega (arith, is, s, six))
+-- what was written of nothing, and then a prefix of a text
+front_then : (old mid new : Option (List ℕ)) (text : List ℕ) → Appends old mid [] → AppendsFront mid new text → AppendsFront old new text
+front_then old mid new text none front = (front.0, front.1, Appends-trans old mid new [] _ none front.2)
 
-  -- a check of an input ends a call whose words ask for it
-  pub ends_check : (words : List (List ℕ)) (strict : Bool) (status result : ℕ) (order : List ℕ) (old new : SourceAndSink) → result ≡ status → IsCheckOn words strict → order ≡ []
-      → x.meters.left [] → Checks strict status old new → Ends x words result order old new
-  ends_check words strict status result order old new same is none told (Said bytes input wanted line due said) =
-      subst (λ (s : ℕ). Ends x words s order old new) (sym same) (Checked strict is bytes input wanted line due said none told)
-  ends_check words strict status result order old new same is none told (Not_read s rose kept) =
-      subst (λ (s : ℕ). Ends x words s order old new) (sym same) (Unread (inr (strict, is)) s none rose kept told)
-  ends_check words strict status result order old new same is none told (Not_room s kept) =
-      subst (λ (s : ℕ). Ends x words s order old new) (sym same) (No_room s none kept told)
+module _ {E : Type 0} (plays : Plays) (sizes : E → Dimensions) (carries : Carrying E) (m : MeterStory) (order order' : List ℕ) (old mid new : Option (List ℕ)) (before middle after : ℕ) (engine engine' : Option E) (trace : Trace) where
+  abbrev run_party : Parties
+  run_party = party plays (HandsOut sizes carries engine) (engine ≡ None) m order old mid before middle
 
-  -- ---- what each status says
+  abbrev sum_party : Parties
+  sum_party = party plays (HandsOut sizes carries engine') (engine' ≡ None) m order' old new before after
 
-  pub done_says : (words : List (List ℕ)) (status : ℕ) (order : List ℕ) (old new : SourceAndSink) (strict : Bool) → Ends x words status order old new → status ≡ 0 → IsRunOn words strict → (bytes : List ℕ) × IsWholeInput old.left new.left bytes × IsDone x strict bytes order old.written new.written
-  done_says words status order old new strict (Wrong_words unasked s none text told) h run = absurd (omega (arith, s, h))
-  done_says words status order old new strict (Words_unwritten unasked s none rose text told) h run = absurd (omega (arith, s, h))
-  done_says words status order old new strict (Unread is s none rose kept told) h run = absurd (omega (arith, s, h))
-  done_says words status order old new strict (No_room s none kept told) h run = absurd (omega (arith, s, h))
-  done_says words status order old new strict (Answered flag is bytes input (Done s done)) h run =
-      let done_so = subst (λ (b : Bool). IsDone x b bytes order old.written new.written) (same_run words flag strict is run) done in
-      (bytes, record { front = input.front; ended = input.whole done.is_trace.few }, done_so)
-  done_says words status order old new strict (Answered flag is bytes input (Turned_down s down told)) h run = absurd (omega (arith, s, h))
-  done_says words status order old new strict (Answered flag is bytes input (Unwritten s rose cut)) h run = absurd (omega (arith, s, h))
-  done_says words status order old new strict (Answered flag is bytes input (No_memory s cut)) h run = absurd (omega (arith, s, h))
-  done_says words status order old new strict (Checked flag asked bytes input wanted line due said none told) h run = absurd (never_both_run words (strict, run) (flag, asked))
-  done_says words status order old new strict (Generated seed calls is (Summed s done)) h run = absurd (never_one words seed calls (strict, run) is)
-  done_says words status order old new strict (Generated seed calls is (Sum_unwritten s rose cut)) h run = absurd (omega (arith, s, h))
-  done_says words status order old new strict (Generated seed calls is (Sum_no_memory s cut)) h run = absurd (omega (arith, s, h))
+  pub ends_summed : IsRunWritten run_party listing.Nothing (fabric_of false trace) trace → m.written (story plays listing.Nothing (fabric_of false trace).slots trace order) ≡ [] → order' ≡ order → middle ≡ before
+      → (text : List ℕ) → text ≡ summary_text trace m.summary → (ending : Ending) → SumsUp (record { old = mid; new = new; before = middle; after = after }) text engine engine' ending
+      → (arguments : List (List ℕ)) (input : Stream) → IsTraceGenerated arguments trace → HasEnded arguments input sum_party ending
+  ends_summed run silent same steady text is ending sums arguments input made =
+      let none : Appends old mid [] = rw silent at run.text in
+      let whole : IsRunWhole sum_party listing.Nothing (fabric_of false trace) trace =
+      record { lawful = rw same run.whole.lawful; few = rw same run.whole.few; meters = rw same run.whole.meters } in
+      let go : (ending : Ending) → SumsUp (record { old = mid; new = new; before = middle; after = after }) text engine engine' ending → HasEnded arguments input sum_party ending =
+      λ e. elim e as (λ f. SumsUp (record { old = mid; new = new; before = middle; after = after }) text engine engine' f → HasEnded arguments input sum_party f) [
+        | ended.Completed ↦ λ s. Summed trace made whole (subst (Appends old new) is (Appends-trans old mid new [] text none s.0))
+            (rw (s.1, same) run.engine)
+        | ended.Refused line reason ↦ λ s. absurd s
+        | ended.WrongArguments ↦ λ s. absurd s
+        | ended.ReadFailed ↦ λ s. absurd s
+        | ended.WriteFailed ↦ λ s. record { failed = rw (sym steady) s.0; writing = In_summary trace made whole (subst (AppendsFront old new) is (front_then old mid new text none s.1)) s.2 }
+        | ended.OutOfMemory ↦ λ s. Before_summary trace made whole (Appends-trans old mid new [] [] none s.0) s.1
+        | ended.Invalid line ↦ λ s. absurd s
+      ] in
+      go ending sums
 
-  pub summed_says : (words : List (List ℕ)) (status : ℕ) (order : List ℕ) (old new : SourceAndSink) (a n : ℕ) → Ends x words status order old new → status ≡ 0 → IsGeneration words a n → IsSummed x a n order old.written new.written
-  summed_says words status order old new a n (Wrong_words unasked s none text told) h gen = absurd (omega (arith, s, h))
-  summed_says words status order old new a n (Words_unwritten unasked s none rose text told) h gen = absurd (omega (arith, s, h))
-  summed_says words status order old new a n (Unread is s none rose kept told) h gen = absurd (omega (arith, s, h))
-  summed_says words status order old new a n (No_room s none kept told) h gen = absurd (omega (arith, s, h))
-  summed_says words status order old new a n (Answered strict is bytes input (Done s done)) h gen = absurd (never_one words a n (strict, is) gen)
-  summed_says words status order old new a n (Answered strict is bytes input (Turned_down s down told)) h gen = absurd (omega (arith, s, h))
-  summed_says words status order old new a n (Answered strict is bytes input (Unwritten s rose cut)) h gen = absurd (omega (arith, s, h))
-  summed_says words status order old new a n (Answered strict is bytes input (No_memory s cut)) h gen = absurd (omega (arith, s, h))
-  summed_says words status order old new a n (Checked flag asked bytes input wanted line due said none told) h gen = absurd (never_summed_check words a n (flag, asked) gen)
-  summed_says words status order old new a n (Generated seed calls is (Summed s done)) h gen = let same = same_generation words seed calls a n is gen in rw (sym same.0, sym same.1) done
-  summed_says words status order old new a n (Generated seed calls is (Sum_unwritten s rose cut)) h gen = absurd (omega (arith, s, h))
-  summed_says words status order old new a n (Generated seed calls is (Sum_no_memory s cut)) h gen = absurd (omega (arith, s, h))
+-- ---- what the arguments and the input decide
 
-  pub turned_down_says : (words : List (List ℕ)) (status : ℕ) (order : List ℕ) (old new : SourceAndSink) → Ends x words status order old new → status ≡ 1
-      → RefusesRead x.meters.left words old.left new.left order old.written new.written
-  turned_down_says words status order old new (Wrong_words unasked s none text told) h = absurd (omega (arith, s, h))
-  turned_down_says words status order old new (Words_unwritten unasked s none rose text told) h = absurd (omega (arith, s, h))
-  turned_down_says words status order old new (Unread is s none rose kept told) h = absurd (omega (arith, s, h))
-  turned_down_says words status order old new (No_room s none kept told) h = absurd (omega (arith, s, h))
-  turned_down_says words status order old new (Answered strict is bytes input (Done s done)) h = absurd (omega (arith, s, h))
-  turned_down_says words status order old new (Answered strict is bytes input (Turned_down s down told)) h = inl ((strict, is), (bytes, input, down, told))
-  turned_down_says words status order old new (Answered strict is bytes input (Unwritten s rose cut)) h = absurd (omega (arith, s, h))
-  turned_down_says words status order old new (Answered strict is bytes input (No_memory s cut)) h = absurd (omega (arith, s, h))
-  turned_down_says words status order old new (Checked flag asked bytes input wanted line due (Told_so s text) none told) h = inr ((flag, asked), unchecked_is flag bytes line wanted status old.left new.left order old.written new.written input due s h text none told)
-  turned_down_says words status order old new (Checked flag asked bytes input wanted line due (Untold s rose text) none told) h = absurd (omega (arith, s, h))
-  turned_down_says words status order old new (Generated seed calls is (Summed s done)) h = absurd (omega (arith, s, h))
-  turned_down_says words status order old new (Generated seed calls is (Sum_unwritten s rose cut)) h = absurd (omega (arith, s, h))
-  turned_down_says words status order old new (Generated seed calls is (Sum_no_memory s cut)) h = absurd (omega (arith, s, h))
+module _ (arguments : List (List ℕ)) (input : Stream) (x : Parties) where
+  -- what is found of a report
+  found_due : (strict flag : Bool) (bytes known : List ℕ) (found due : Ending) → IsCheckOn arguments flag → IsCheckOn arguments strict → IsInputWithin most_checked input.old input.new bytes → input.old ≡ Some known
+      → Finds flag bytes found → Finds strict known due → EndsAs due (status_of found)
+  found_due strict flag bytes known found due asked is read left one other =
+      let here = subst (λ (b : Bool). Finds b bytes found) (same_check arguments flag strict asked is) one in
+      inl (finds_one strict bytes found due here (finds_now known bytes input.old input.new left read strict due other))
 
-  pub wrong_words_says : (words : List (List ℕ)) (status : ℕ) (order : List ℕ) (old new : SourceAndSink) → Ends x words status order old new → status ≡ 2 → IsNoCommand words × (order ≡ []) × Appends old.written new.written words_refusal × x.meters.left []
-  wrong_words_says words status order old new (Wrong_words unasked s none text told) h = (unasked, none, text, told)
-  wrong_words_says words status order old new (Words_unwritten unasked s none rose text told) h = absurd (omega (arith, s, h))
-  wrong_words_says words status order old new (Unread is s none rose kept told) h = absurd (omega (arith, s, h))
-  wrong_words_says words status order old new (No_room s none kept told) h = absurd (omega (arith, s, h))
-  wrong_words_says words status order old new (Answered strict is bytes input (Done s done)) h = absurd (omega (arith, s, h))
-  wrong_words_says words status order old new (Answered strict is bytes input (Turned_down s down told)) h = absurd (omega (arith, s, h))
-  wrong_words_says words status order old new (Answered strict is bytes input (Unwritten s rose cut)) h = absurd (omega (arith, s, h))
-  wrong_words_says words status order old new (Answered strict is bytes input (No_memory s cut)) h = absurd (omega (arith, s, h))
-  wrong_words_says words status order old new (Checked flag asked bytes input wanted line due (Told_so s text) none told) h = absurd (not_due flag bytes line wanted status 2 due s h (omega arith) (omega arith) (omega arith))
-  wrong_words_says words status order old new (Checked flag asked bytes input wanted line due (Untold s rose text) none told) h = absurd (omega (arith, s, h))
-  wrong_words_says words status order old new (Generated seed calls is (Summed s done)) h = absurd (omega (arith, s, h))
-  wrong_words_says words status order old new (Generated seed calls is (Sum_unwritten s rose cut)) h = absurd (omega (arith, s, h))
-  wrong_words_says words status order old new (Generated seed calls is (Sum_no_memory s cut)) h = absurd (omega (arith, s, h))
-
-  pub read_failed_says : (words : List (List ℕ)) (status : ℕ) (order : List ℕ) (old new : SourceAndSink) → Ends x words status order old new → status ≡ 3 → Rose old.reads new.reads × (order ≡ []) × Keeps old.written new.written × x.meters.left []
-  read_failed_says words status order old new (Wrong_words unasked s none text told) h = absurd (omega (arith, s, h))
-  read_failed_says words status order old new (Words_unwritten unasked s none rose text told) h = absurd (omega (arith, s, h))
-  read_failed_says words status order old new (Unread is s none rose kept told) h = (rose, none, kept, told)
-  read_failed_says words status order old new (No_room s none kept told) h = absurd (omega (arith, s, h))
-  read_failed_says words status order old new (Answered strict is bytes input (Done s done)) h = absurd (omega (arith, s, h))
-  read_failed_says words status order old new (Answered strict is bytes input (Turned_down s down told)) h = absurd (omega (arith, s, h))
-  read_failed_says words status order old new (Answered strict is bytes input (Unwritten s rose cut)) h = absurd (omega (arith, s, h))
-  read_failed_says words status order old new (Answered strict is bytes input (No_memory s cut)) h = absurd (omega (arith, s, h))
-  read_failed_says words status order old new (Checked flag asked bytes input wanted line due (Told_so s text) none told) h = absurd (not_due flag bytes line wanted status 3 due s h (omega arith) (omega arith) (omega arith))
-  read_failed_says words status order old new (Checked flag asked bytes input wanted line due (Untold s rose text) none told) h = absurd (omega (arith, s, h))
-  read_failed_says words status order old new (Generated seed calls is (Summed s done)) h = absurd (omega (arith, s, h))
-  read_failed_says words status order old new (Generated seed calls is (Sum_unwritten s rose cut)) h = absurd (omega (arith, s, h))
-  read_failed_says words status order old new (Generated seed calls is (Sum_no_memory s cut)) h = absurd (omega (arith, s, h))
-
-  pub write_failed_says : (words : List (List ℕ)) (status : ℕ) (order : List ℕ) (old new : SourceAndSink) → Ends x words status order old new → status ≡ 4 → Rose old.writes new.writes
-  write_failed_says words status order old new (Wrong_words unasked s none text told) h = absurd (omega (arith, s, h))
-  write_failed_says words status order old new (Words_unwritten unasked s none rose text told) h = rose
-  write_failed_says words status order old new (Unread is s none rose kept told) h = absurd (omega (arith, s, h))
-  write_failed_says words status order old new (No_room s none kept told) h = absurd (omega (arith, s, h))
-  write_failed_says words status order old new (Answered strict is bytes input (Done s done)) h = absurd (omega (arith, s, h))
-  write_failed_says words status order old new (Answered strict is bytes input (Turned_down s down told)) h = absurd (omega (arith, s, h))
-  write_failed_says words status order old new (Answered strict is bytes input (Unwritten s rose cut)) h = rose
-  write_failed_says words status order old new (Answered strict is bytes input (No_memory s cut)) h = absurd (omega (arith, s, h))
-  write_failed_says words status order old new (Checked flag asked bytes input wanted line due (Told_so s text) none told) h = absurd (not_due flag bytes line wanted status 4 due s h (omega arith) (omega arith) (omega arith))
-  write_failed_says words status order old new (Checked flag asked bytes input wanted line due (Untold s rose text) none told) h = rose
-  write_failed_says words status order old new (Generated seed calls is (Summed s done)) h = absurd (omega (arith, s, h))
-  write_failed_says words status order old new (Generated seed calls is (Sum_unwritten s rose cut)) h = rose
-  write_failed_says words status order old new (Generated seed calls is (Sum_no_memory s cut)) h = absurd (omega (arith, s, h))
-
-  pub cut_short_says : (words : List (List ℕ)) (status : ℕ) (order : List ℕ) (old new : SourceAndSink) → Ends x words status order old new → 4 ≤ status → status ≤ 5 → IsUndone x status words old.left new.left order old.written new.written
-  cut_short_says words status order old new (Wrong_words unasked s none text told) h most = absurd (omega (arith, s, h))
-  cut_short_says words status order old new (Words_unwritten unasked s none rose text told) h most = In_words s unasked none text told
-  cut_short_says words status order old new (Unread is s none rose kept told) h most = absurd (omega (arith, s, h))
-  cut_short_says words status order old new (No_room s none kept told) h most = Unheard s none kept told
-  cut_short_says words status order old new (Answered strict is bytes input (Done s done)) h most = absurd (omega (arith, s, h))
-  cut_short_says words status order old new (Answered strict is bytes input (Turned_down s down told)) h most = absurd (omega (arith, s, h))
-  cut_short_says words status order old new (Answered strict is bytes input (Unwritten s rose cut)) h most = In_answer strict is bytes input cut
-  cut_short_says words status order old new (Answered strict is bytes input (No_memory s cut)) h most = In_answer strict is bytes input cut
-  cut_short_says words status order old new (Checked flag asked bytes input wanted line due (Told_so s text) none told) h most = absurd (not_cut flag bytes line wanted status due s h most)
-  cut_short_says words status order old new (Checked flag asked bytes input wanted line due (Untold s rose text) none told) h most = In_check s flag asked bytes input wanted line due none text told
-  cut_short_says words status order old new (Generated seed calls is (Summed s done)) h most = absurd (omega (arith, s, h))
-  cut_short_says words status order old new (Generated seed calls is (Sum_unwritten s rose cut)) h most = In_generation seed calls is cut
-  cut_short_says words status order old new (Generated seed calls is (Sum_no_memory s cut)) h most = In_generation seed calls is cut
-
-  pub statuses_say : (words : List (List ℕ)) (status : ℕ) (order : List ℕ) (old new : SourceAndSink) → Ends x words status order old new → status ≤ 6
-  statuses_say words status order old new (Wrong_words unasked s none text told) = omega (arith, s)
-  statuses_say words status order old new (Words_unwritten unasked s none rose text told) = omega (arith, s)
-  statuses_say words status order old new (Unread is s none rose kept told) = omega (arith, s)
-  statuses_say words status order old new (No_room s none kept told) = omega (arith, s)
-  statuses_say words status order old new (Answered strict is bytes input (Done s done)) = omega (arith, s)
-  statuses_say words status order old new (Answered strict is bytes input (Turned_down s down told)) = omega (arith, s)
-  statuses_say words status order old new (Answered strict is bytes input (Unwritten s rose cut)) = omega (arith, s)
-  statuses_say words status order old new (Answered strict is bytes input (No_memory s cut)) = omega (arith, s)
-  statuses_say words status order old new (Checked flag asked bytes input wanted line due (Told_so s text) none told) = due_low flag bytes line wanted status due s
-  statuses_say words status order old new (Checked flag asked bytes input wanted line due (Untold s rose text) none told) = omega (arith, s)
-  statuses_say words status order old new (Generated seed calls is (Summed s done)) = omega (arith, s)
-  statuses_say words status order old new (Generated seed calls is (Sum_unwritten s rose cut)) = omega (arith, s)
-  statuses_say words status order old new (Generated seed calls is (Sum_no_memory s cut)) = omega (arith, s)
-
-  pub other_words_say : (words : List (List ℕ)) (status : ℕ) (order : List ℕ) (old new : SourceAndSink) → Ends x words status order old new → IsNoCommand words → (status ≡ 2) ⊎ (status ≡ 4) ⊎ (status ≡ 5)
-  other_words_say words status order old new (Wrong_words unasked s none text told) other = inl s
-  other_words_say words status order old new (Words_unwritten unasked s none rose text told) other = inr (inl s)
-  other_words_say words status order old new (Unread is s none rose kept told) other = absurd (never_reading words other is)
-  other_words_say words status order old new (No_room s none kept told) other = inr (inr s)
-  other_words_say words status order old new (Answered strict is bytes input (Done s done)) other = absurd (never_run words other (strict, is))
-  other_words_say words status order old new (Answered strict is bytes input (Turned_down s down told)) other = absurd (never_run words other (strict, is))
-  other_words_say words status order old new (Answered strict is bytes input (Unwritten s rose cut)) other = absurd (never_run words other (strict, is))
-  other_words_say words status order old new (Answered strict is bytes input (No_memory s cut)) other = absurd (never_run words other (strict, is))
-  other_words_say words status order old new (Checked flag asked bytes input wanted line due said none told) other = absurd (never_check words other (flag, asked))
-  other_words_say words status order old new (Generated seed calls is (Summed s done)) other = absurd (never_generation words seed calls other is)
-  other_words_say words status order old new (Generated seed calls is (Sum_unwritten s rose cut)) other = absurd (never_generation words seed calls other is)
-  other_words_say words status order old new (Generated seed calls is (Sum_no_memory s cut)) other = absurd (never_generation words seed calls other is)
-
-  pub command_says : (words : List (List ℕ)) (status : ℕ) (order : List ℕ) (old new : SourceAndSink) → Ends x words status order old new → IsRun words → (status ≡ 0) ⊎ (status ≡ 1) ⊎ IsUnfinished status
-  command_says words status order old new (Wrong_words unasked s none text told) run = absurd (never_run words unasked run)
-  command_says words status order old new (Words_unwritten unasked s none rose text told) run = absurd (never_run words unasked run)
-  command_says words status order old new (Unread is s none rose kept told) run = inr (inr (inl s))
-  command_says words status order old new (No_room s none kept told) run = inr (inr (inr (inr s)))
-  command_says words status order old new (Answered strict is bytes input (Done s done)) run = inl s
-  command_says words status order old new (Answered strict is bytes input (Turned_down s down told)) run = inr (inl s)
-  command_says words status order old new (Answered strict is bytes input (Unwritten s rose cut)) run = inr (inr (inr (inl s)))
-  command_says words status order old new (Answered strict is bytes input (No_memory s cut)) run = inr (inr (inr (inr s)))
-  command_says words status order old new (Checked flag asked bytes input wanted line due said none told) run = absurd (never_both_run words run (flag, asked))
-  command_says words status order old new (Generated seed calls is (Summed s done)) run = absurd (never_one words seed calls run is)
-  command_says words status order old new (Generated seed calls is (Sum_unwritten s rose cut)) run = absurd (never_one words seed calls run is)
-  command_says words status order old new (Generated seed calls is (Sum_no_memory s cut)) run = absurd (never_one words seed calls run is)
-
-  pub generation_says : (words : List (List ℕ)) (status : ℕ) (order : List ℕ) (old new : SourceAndSink) (a n : ℕ) → Ends x words status order old new → IsGeneration words a n → (status ≡ 0) ⊎ (status ≡ 4) ⊎ (status ≡ 5)
-  generation_says words status order old new a n (Wrong_words unasked s none text told) gen = absurd (never_generation words a n unasked gen)
-  generation_says words status order old new a n (Words_unwritten unasked s none rose text told) gen = absurd (never_generation words a n unasked gen)
-  generation_says words status order old new a n (Unread is s none rose kept told) gen = absurd (never_read_generation words a n is gen)
-  generation_says words status order old new a n (No_room s none kept told) gen = inr (inr s)
-  generation_says words status order old new a n (Answered strict is bytes input (Done s done)) gen = absurd (never_one words a n (strict, is) gen)
-  generation_says words status order old new a n (Answered strict is bytes input (Turned_down s down told)) gen = absurd (never_one words a n (strict, is) gen)
-  generation_says words status order old new a n (Answered strict is bytes input (Unwritten s rose cut)) gen = absurd (never_one words a n (strict, is) gen)
-  generation_says words status order old new a n (Answered strict is bytes input (No_memory s cut)) gen = absurd (never_one words a n (strict, is) gen)
-  generation_says words status order old new a n (Checked flag asked bytes input wanted line due said none told) gen = absurd (never_summed_check words a n (flag, asked) gen)
-  generation_says words status order old new a n (Generated seed calls is (Summed s done)) gen = inl s
-  generation_says words status order old new a n (Generated seed calls is (Sum_unwritten s rose cut)) gen = inr (inl s)
-  generation_says words status order old new a n (Generated seed calls is (Sum_no_memory s cut)) gen = inr (inr s)
-
-  pub trace_says : (words : List (List ℕ)) (status : ℕ) (order : List ℕ) (old new : SourceAndSink) (known : List ℕ) (t : Trace) → Ends x words status order old new → old.left ≡ Some known → IsTrace known t → IsRun words → (status ≡ 0) ⊎ IsUnfinished status
-  trace_says words status order old new known t (Wrong_words unasked s none text told) left is_trace run = absurd (never_run words unasked run)
-  trace_says words status order old new known t (Words_unwritten unasked s none rose text told) left is_trace run = absurd (never_run words unasked run)
-  trace_says words status order old new known t (Unread is s none rose kept told) left is_trace run = inr (inl s)
-  trace_says words status order old new known t (No_room s none kept told) left is_trace run = inr (inr (inr s))
-  trace_says words status order old new known t (Answered strict is bytes input (Done s done)) left is_trace run = inl s
-  trace_says words status order old new known t (Answered strict is bytes input (Turned_down s down told)) left is_trace run = absurd (not_down t known bytes new.left down.refused (rw left at input) is_trace)
-  trace_says words status order old new known t (Answered strict is bytes input (Unwritten s rose cut)) left is_trace run = inr (inr (inl s))
-  trace_says words status order old new known t (Answered strict is bytes input (No_memory s cut)) left is_trace run = inr (inr (inr s))
-  trace_says words status order old new known t (Checked flag asked bytes input wanted line due said none told) left is_trace run = absurd (never_both_run words run (flag, asked))
-  trace_says words status order old new known t (Generated seed calls is (Summed s done)) left is_trace run = absurd (never_one words seed calls run is)
-  trace_says words status order old new known t (Generated seed calls is (Sum_unwritten s rose cut)) left is_trace run = absurd (never_one words seed calls run is)
-  trace_says words status order old new known t (Generated seed calls is (Sum_no_memory s cut)) left is_trace run = absurd (never_one words seed calls run is)
-
-  pub no_trace_says : (words : List (List ℕ)) (status : ℕ) (order : List ℕ) (old new : SourceAndSink) (known : List ℕ) (number : ℕ) (why : Reason) → Ends x words status order old new → old.left ≡ Some known → IsRefused known number why → IsRun words → (status ≡ 1) ⊎ IsUnfinished status
-  no_trace_says words status order old new known number why (Wrong_words unasked s none text told) left refused run = absurd (never_run words unasked run)
-  no_trace_says words status order old new known number why (Words_unwritten unasked s none rose text told) left refused run = absurd (never_run words unasked run)
-  no_trace_says words status order old new known number why (Unread is s none rose kept told) left refused run = inr (inl s)
-  no_trace_says words status order old new known number why (No_room s none kept told) left refused run = inr (inr (inr s))
-  no_trace_says words status order old new known number why (Answered strict is bytes input (Done s done)) left refused run = absurd (not_done known bytes number why new.left done.trace (rw left at input) done.is_trace refused)
-  no_trace_says words status order old new known number why (Answered strict is bytes input (Turned_down s down told)) left refused run = inl s
-  no_trace_says words status order old new known number why (Answered strict is bytes input (Unwritten s rose cut)) left refused run = inr (inr (inl s))
-  no_trace_says words status order old new known number why (Answered strict is bytes input (No_memory s cut)) left refused run = inr (inr (inr s))
-  no_trace_says words status order old new known number why (Checked flag asked bytes input wanted line due said none told) left refused run = absurd (never_both_run words run (flag, asked))
-  no_trace_says words status order old new known number why (Generated seed calls is (Summed s done)) left refused run = absurd (never_one words seed calls run is)
-  no_trace_says words status order old new known number why (Generated seed calls is (Sum_unwritten s rose cut)) left refused run = absurd (never_one words seed calls run is)
-  no_trace_says words status order old new known number why (Generated seed calls is (Sum_no_memory s cut)) left refused run = absurd (never_one words seed calls run is)
-
-  -- ---- what is said of a report
-
-  pub found_valid_says : (words : List (List ℕ)) (status : ℕ) (order : List ℕ) (old new : SourceAndSink) (strict : Bool) → Ends x words status order old new → status ≡ 0 → IsCheckOn words strict
-      → IsFoundValid x.meters.left strict old.left new.left order old.written new.written
-  found_valid_says words status order old new strict (Wrong_words unasked s none text told) h is = absurd (omega (arith, s, h))
-  found_valid_says words status order old new strict (Words_unwritten unasked s none rose text told) h is = absurd (omega (arith, s, h))
-  found_valid_says words status order old new strict (Unread reading s none rose kept told) h is = absurd (omega (arith, s, h))
-  found_valid_says words status order old new strict (No_room s none kept told) h is = absurd (omega (arith, s, h))
-  found_valid_says words status order old new strict (Answered flag run bytes input answers) h is = absurd (never_both_run words (flag, run) (strict, is))
-  found_valid_says words status order old new strict (Checked flag asked bytes input wanted line due (Told_so s text) none told) h is =
-      subst (λ (b : Bool). IsFoundValid x.meters.left b old.left new.left order old.written new.written) (same_check words flag strict asked is)
-      (valid_is flag bytes line wanted status old.left new.left order old.written new.written input due s h text none told)
-  found_valid_says words status order old new strict (Checked flag asked bytes input wanted line due (Untold s rose text) none told) h is = absurd (omega (arith, s, h))
-  found_valid_says words status order old new strict (Generated seed calls gen sums) h is = absurd (never_summed_check words seed calls (strict, is) gen)
-
-  pub found_invalid_says : (words : List (List ℕ)) (status : ℕ) (order : List ℕ) (old new : SourceAndSink) → Ends x words status order old new → status ≡ 6
-      → (strict : Bool) × IsCheckOn words strict × IsFoundInvalid x.meters.left strict old.left new.left order old.written new.written
-  found_invalid_says words status order old new (Wrong_words unasked s none text told) h = absurd (omega (arith, s, h))
-  found_invalid_says words status order old new (Words_unwritten unasked s none rose text told) h = absurd (omega (arith, s, h))
-  found_invalid_says words status order old new (Unread is s none rose kept told) h = absurd (omega (arith, s, h))
-  found_invalid_says words status order old new (No_room s none kept told) h = absurd (omega (arith, s, h))
-  found_invalid_says words status order old new (Answered flag is bytes input (Done s done)) h = absurd (omega (arith, s, h))
-  found_invalid_says words status order old new (Answered flag is bytes input (Turned_down s down told)) h = absurd (omega (arith, s, h))
-  found_invalid_says words status order old new (Answered flag is bytes input (Unwritten s rose cut)) h = absurd (omega (arith, s, h))
-  found_invalid_says words status order old new (Answered flag is bytes input (No_memory s cut)) h = absurd (omega (arith, s, h))
-  found_invalid_says words status order old new (Checked flag asked bytes input wanted line due (Told_so s text) none told) h = (flag, asked, invalid_is flag bytes line wanted status old.left new.left order old.written new.written input due s h text none told)
-  found_invalid_says words status order old new (Checked flag asked bytes input wanted line due (Untold s rose text) none told) h = absurd (omega (arith, s, h))
-  found_invalid_says words status order old new (Generated seed calls is (Summed s done)) h = absurd (omega (arith, s, h))
-  found_invalid_says words status order old new (Generated seed calls is (Sum_unwritten s rose cut)) h = absurd (omega (arith, s, h))
-  found_invalid_says words status order old new (Generated seed calls is (Sum_no_memory s cut)) h = absurd (omega (arith, s, h))
-
-  pub verdict_says : (words : List (List ℕ)) (status : ℕ) (order : List ℕ) (old new : SourceAndSink) → Ends x words status order old new → IsCheck words → (status ≡ 0) ⊎ (status ≡ 1) ⊎ (status ≡ 6) ⊎ IsUnfinished status
-  verdict_says words status order old new (Wrong_words unasked s none text told) check = absurd (never_check words unasked check)
-  verdict_says words status order old new (Words_unwritten unasked s none rose text told) check = absurd (never_check words unasked check)
-  verdict_says words status order old new (Unread is s none rose kept told) check = inr (inr (inr (inl s)))
-  verdict_says words status order old new (No_room s none kept told) check = inr (inr (inr (inr (inr s))))
-  verdict_says words status order old new (Answered flag run bytes input answers) check = absurd (never_both_run words (flag, run) check)
-  verdict_says words status order old new (Checked flag asked bytes input wanted line due (Told_so s text) none told) check = is_due flag bytes line wanted status due s
-  verdict_says words status order old new (Checked flag asked bytes input wanted line due (Untold s rose text) none told) check = inr (inr (inr (inr (inl s))))
-  verdict_says words status order old new (Generated seed calls gen sums) check = absurd (never_summed_check words seed calls check gen)
-
-  pub checked_says : (words : List (List ℕ)) (status : ℕ) (order : List ℕ) (old new : SourceAndSink) (known report : List ℕ) (t : Trace) → Ends x words status order old new → old.left ≡ Some known → IsChecked known t report → IsCheck words → (status ≡ 0) ⊎ (status ≡ 6) ⊎ IsUnfinished status
-  checked_says words status order old new known report t (Wrong_words unasked s none text told) left has check = absurd (never_check words unasked check)
-  checked_says words status order old new known report t (Words_unwritten unasked s none rose text told) left has check = absurd (never_check words unasked check)
-  checked_says words status order old new known report t (Unread is s none rose kept told) left has check = inr (inr (inl s))
-  checked_says words status order old new known report t (No_room s none kept told) left has check = inr (inr (inr (inr s)))
-  checked_says words status order old new known report t (Answered flag run bytes input answers) left has check = absurd (never_both_run words (flag, run) check)
-  checked_says words status order old new known report t (Checked flag asked bytes input wanted line due (Told_so s text) none told) left has check = checked_due flag bytes line wanted status known report t old.left new.left left input has due s
-  checked_says words status order old new known report t (Checked flag asked bytes input wanted line due (Untold s rose text) none told) left has check = inr (inr (inr (inl s)))
-  checked_says words status order old new known report t (Generated seed calls gen sums) left has check = absurd (never_summed_check words seed calls check gen)
-
-  pub valid_says : (words : List (List ℕ)) (status : ℕ) (order : List ℕ) (old new : SourceAndSink) (known report : List ℕ) (t : Trace) (strict : Bool) → Ends x words status order old new → old.left ≡ Some known → IsChecked known t report → IsCheckOn words strict
-      → IsValid (slots_of strict) t report → (status ≡ 0) ⊎ IsUnfinished status
-  valid_says words status order old new known report t strict (Wrong_words unasked s none text told) left has is right = absurd (never_check words unasked (strict, is))
-  valid_says words status order old new known report t strict (Words_unwritten unasked s none rose text told) left has is right = absurd (never_check words unasked (strict, is))
-  valid_says words status order old new known report t strict (Unread reading s none rose kept told) left has is right = inr (inl s)
-  valid_says words status order old new known report t strict (No_room s none kept told) left has is right = inr (inr (inr s))
-  valid_says words status order old new known report t strict (Answered flag run bytes input answers) left has is right = absurd (never_both_run words (flag, run) (strict, is))
-  valid_says words status order old new known report t strict (Checked flag asked bytes input wanted line due (Told_so s text) none told) left has is right = inl (s ∙ valid_due flag strict bytes line wanted known report t old.left new.left (same_check words flag strict asked is) left input has right due)
-  valid_says words status order old new known report t strict (Checked flag asked bytes input wanted line due (Untold s rose text) none told) left has is right = inr (inr (inl s))
-  valid_says words status order old new known report t strict (Generated seed calls gen sums) left has is right = absurd (never_summed_check words seed calls (strict, is) gen)
-
-  pub invalid_says : (words : List (List ℕ)) (status : ℕ) (order : List ℕ) (old new : SourceAndSink) (known report : List ℕ) (t : Trace) (strict : Bool) (n : ℕ) → Ends x words status order old new → old.left ≡ Some known → IsChecked known t report → IsCheckOn words strict
-      → IsInvalidAt (slots_of strict) t report n → (status ≡ 6) ⊎ IsUnfinished status
-  invalid_says words status order old new known report t strict n (Wrong_words unasked s none text told) left has is right = absurd (never_check words unasked (strict, is))
-  invalid_says words status order old new known report t strict n (Words_unwritten unasked s none rose text told) left has is right = absurd (never_check words unasked (strict, is))
-  invalid_says words status order old new known report t strict n (Unread reading s none rose kept told) left has is right = inr (inl s)
-  invalid_says words status order old new known report t strict n (No_room s none kept told) left has is right = inr (inr (inr s))
-  invalid_says words status order old new known report t strict n (Answered flag run bytes input answers) left has is right = absurd (never_both_run words (flag, run) (strict, is))
-  invalid_says words status order old new known report t strict n (Checked flag asked bytes input wanted line due (Told_so s text) none told) left has is right = inl (s ∙ invalid_due flag strict bytes line wanted known report t old.left new.left n (same_check words flag strict asked is) left input has right due)
-  invalid_says words status order old new known report t strict n (Checked flag asked bytes input wanted line due (Untold s rose text) none told) left has is right = inr (inr (inl s))
-  invalid_says words status order old new known report t strict n (Generated seed calls gen sums) left has is right = absurd (never_summed_check words seed calls (strict, is) gen)
-
-  pub unchecked_says : (words : List (List ℕ)) (status : ℕ) (order : List ℕ) (old new : SourceAndSink) (known : List ℕ) (number : ℕ) (why : Reason) → Ends x words status order old new → old.left ≡ Some known → IsUnchecked known number why → IsCheck words
-      → (status ≡ 1) ⊎ IsUnfinished status
-  unchecked_says words status order old new known number why (Wrong_words unasked s empty text told) left none check = absurd (never_check words unasked check)
-  unchecked_says words status order old new known number why (Words_unwritten unasked s empty rose text told) left none check = absurd (never_check words unasked check)
-  unchecked_says words status order old new known number why (Unread is s empty rose kept told) left none check = inr (inl s)
-  unchecked_says words status order old new known number why (No_room s empty kept told) left none check = inr (inr (inr s))
-  unchecked_says words status order old new known number why (Answered flag run bytes input answers) left none check = absurd (never_both_run words (flag, run) check)
-  unchecked_says words status order old new known number why (Checked flag asked bytes input wanted line due (Told_so s text) empty told) left none check = inl (s ∙ refusal_due flag bytes line wanted known number why old.left new.left left input none due)
-  unchecked_says words status order old new known number why (Checked flag asked bytes input wanted line due (Untold s rose text) empty told) left none check = inr (inr (inl s))
-  unchecked_says words status order old new known number why (Generated seed calls gen sums) left none check = absurd (never_summed_check words seed calls check gen)
+  pub ends_due : (ending due : Ending) → HasEnded arguments input x ending → IsDue arguments input.old due → EndsAs due (status_of ending)
+  ends_due ended.ReadFailed due ends is = inr (inl refl)
+  ends_due ended.WriteFailed due ends is = inr (inr (inl refl))
+  ends_due ended.OutOfMemory due ends is = inr (inr (inr refl))
+  ends_due ended.WrongArguments due ends (Arguments_decide none is) = inl (sym (ap status_of is))
+  ends_due ended.WrongArguments due ends (Trace_decides run known t left trace is) = absurd (never_run arguments ends.found run)
+  ends_due ended.WrongArguments due ends (Line_decides run known line why left refused is) = absurd (never_run arguments ends.found run)
+  ends_due ended.WrongArguments due ends (Seed_decides seed calls made is) = absurd (never_generation arguments seed calls ends.found made)
+  ends_due ended.WrongArguments due ends (Report_decides strict check known left found) = absurd (never_check arguments ends.found (strict, check))
+  ends_due ended.Completed due (Reported strict trace read run) (Arguments_decide none is) = absurd (never_run arguments none (strict, read.asked))
+  ends_due ended.Completed due (Reported strict trace read run) (Trace_decides asked known t left whole is) = inl (sym (ap status_of is))
+  ends_due ended.Completed due (Reported strict trace read run) (Line_decides asked known line why left refused is) =
+      absurd (never_both known trace line why (whole_trace known read.bytes input.old input.new trace left read.read.front read.read.ended read.is_trace) refused)
+  ends_due ended.Completed due (Reported strict trace read run) (Seed_decides seed calls made is) = absurd (never_one arguments seed calls (strict, read.asked) made)
+  ends_due ended.Completed due (Reported strict trace read run) (Report_decides flag check known left found) = absurd (never_both_run arguments (strict, read.asked) (flag, check))
+  ends_due ended.Completed due (Summed trace made whole text engine) (Arguments_decide none is) = absurd (never_generation arguments made.seed made.calls none made.asked)
+  ends_due ended.Completed due (Summed trace made whole text engine) (Trace_decides run known t left is_trace is) = absurd (never_one arguments made.seed made.calls run made.asked)
+  ends_due ended.Completed due (Summed trace made whole text engine) (Line_decides run known line why left refused is) = absurd (never_one arguments made.seed made.calls run made.asked)
+  ends_due ended.Completed due (Summed trace made whole text engine) (Seed_decides seed calls other is) = inl (sym (ap status_of is))
+  ends_due ended.Completed due (Summed trace made whole text engine) (Report_decides strict check known left found) = absurd (never_summed_check arguments made.seed made.calls (strict, check) made.asked)
+  ends_due ended.Completed due (Found_valid valid text idle) (Arguments_decide none is) = absurd (never_check arguments none (valid.strict, valid.asked))
+  ends_due ended.Completed due (Found_valid valid text idle) (Trace_decides run known t left is_trace is) = absurd (never_both_run arguments run (valid.strict, valid.asked))
+  ends_due ended.Completed due (Found_valid valid text idle) (Line_decides run known line why left refused is) = absurd (never_both_run arguments run (valid.strict, valid.asked))
+  ends_due ended.Completed due (Found_valid valid text idle) (Seed_decides seed calls made is) = absurd (never_summed_check arguments seed calls (valid.strict, valid.asked) made)
+  ends_due ended.Completed due (Found_valid valid text idle) (Report_decides strict check known left found) =
+      let few = valid.checked.few in
+      found_due strict valid.strict valid.bytes known ended.Completed due valid.asked check (record { front = valid.read.front; whole = λ short. valid.read.ended; few = omega (arith, few) }) left
+      (valid.trace, valid.report, valid.checked, valid.valid) found
+  ends_due (ended.Refused line why) due ends is = refused_due line why due ends.found is
+    where
+      refused_due : (line : ℕ) (why : Reason) (due : Ending) → IsFound arguments input (ended.Refused line why) → IsDue arguments input.old due → EndsAs due 1
+      refused_due line why due (For_run run bytes read refused) (Arguments_decide none is) = absurd (never_run arguments none run)
+      refused_due line why due (For_run run bytes read refused) (Trace_decides asked known t left trace is) = absurd (not_down t known bytes input.new refused (rw left at read) trace)
+      refused_due line why due (For_run run bytes read refused) (Line_decides asked known l w left other is) = inl (sym (ap status_of is))
+      refused_due line why due (For_run run bytes read refused) (Seed_decides seed calls made is) = absurd (never_one arguments seed calls run made)
+      refused_due line why due (For_run run bytes read refused) (Report_decides strict check known left found) = absurd (never_both_run arguments run (strict, check))
+      refused_due line why due (For_check check bytes read none) (Arguments_decide wrong is) = absurd (never_check arguments wrong check)
+      refused_due line why due (For_check check bytes read none) (Trace_decides run known t left trace is) = absurd (never_both_run arguments run check)
+      refused_due line why due (For_check check bytes read none) (Line_decides run known l w left other is) = absurd (never_both_run arguments run check)
+      refused_due line why due (For_check check bytes read none) (Seed_decides seed calls made is) = absurd (never_summed_check arguments seed calls check made)
+      refused_due line why due (For_check check bytes read none) (Report_decides strict asked known left found) =
+          found_due strict check.0 bytes known (ended.Refused line why) due check.1 asked read left none found
+  ends_due (ended.Invalid line) due ends (Arguments_decide none is) = absurd (never_check arguments none (ends.found.strict, ends.found.asked))
+  ends_due (ended.Invalid line) due ends (Trace_decides run known t left trace is) = absurd (never_both_run arguments run (ends.found.strict, ends.found.asked))
+  ends_due (ended.Invalid line) due ends (Line_decides run known l why left refused is) = absurd (never_both_run arguments run (ends.found.strict, ends.found.asked))
+  ends_due (ended.Invalid line) due ends (Seed_decides seed calls made is) = absurd (never_summed_check arguments seed calls (ends.found.strict, ends.found.asked) made)
+  ends_due (ended.Invalid line) due ends (Report_decides strict check known left found) =
+      let is = ends.found in
+      let few = is.checked.few in
+      found_due strict is.strict is.bytes known (ended.Invalid line) due is.asked check (record { front = is.read.front; whole = λ short. is.read.ended; few = omega (arith, few) }) left
+      (is.trace, is.report, is.checked, is.invalid) found

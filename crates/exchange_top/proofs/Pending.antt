@@ -1,18 +1,10 @@
 -- What was written of a report when a run ends.
-use Rattle.std.proofs.Common.{◌≡◌, ℕ, ◌+◌, List, [], ◌++◌, length, take, Option, Some, IsSomeAnd, Result, Ok, Err, OnErr, OnOk, refl, arith, sym, subst, ◌∙◌, ap, length-append, inl, inr}
-use Rattle.std.proofs.KnownBytes.{Appends-nil, Appends-trans}
-use Rattle.std.proofs.lemmas.List.{append_assoc, append-nil, take-append-le}
+use Rattle.std.proofs.Common.{◌≡◌, ℕ, ◌+◌, List, ◌++◌, length, take, Option, Some, IsSomeAnd, Result, Ok, Err, OnErr, OnOk, arith, sym, subst, ◌∙◌, ap, length-append}
+use Rattle.std.proofs.KnownBytes.{Appends-trans}
+use Rattle.std.proofs.lemmas.List.{take-append-le}
 use Rattle.std.proofs.Math.Seq.{take-append-add}
 use Rattle.std.specs.Io.KnownBytes.{Appends}
-use Rattle.exchange_top.specs.Outcomes.{IsFlushed}
 use Rattle.exchange_top.specs.Streams.{AppendsFront}
-
--- the text was written up to what is pending, and what was written ends with a segment
-pub record IsPending (ends : List ℕ → Type 0) (old new : Option (List ℕ)) (pending text : List ℕ) : Type 0 where
-  pub done : List ℕ
-  pub written : Appends old new done
-  pub rest : text ≡ done ++ pending
-  pub whole : ends done
 
 pub on_err : {T E P : Type 0} (r : Result T E) → P → OnErr r P
 on_err (Ok x) p = tt
@@ -38,46 +30,19 @@ pub ok_both : {T E P Q R : Type 0} (r : Result T E) → OnOk r P → OnOk r Q �
 ok_both (Ok x) p q both = both p q
 ok_both (Err e) p q both = tt
 
-module _ (ends : List ℕ → Type 0) where
-  -- a prefix of what was pending is written
-  pub front_pending : (old mid new : Option (List ℕ)) (pending text : List ℕ) → IsPending ends old mid pending text → AppendsFront mid new pending → AppendsFront old new text
-  front_pending old mid new pending text p front =
-      let n = front.0 in
-      let len : length text ≡ length p.done + length pending = ap (λ (xs : List ℕ). length xs) p.rest ∙ length-append p.done pending in
-      let both : take (length p.done + n) text ≡ p.done ++ take n pending = rw p.rest (take-append-add p.done pending n) in
-      (length p.done + n, omega (arith, len, front.1), rw both (Appends-trans old mid new p.done (take n pending) p.written front.2))
+-- ---- a text whose first part was written
 
-  -- all that was pending is written
-  pub whole_pending : (old mid new : Option (List ℕ)) (pending text : List ℕ) → IsPending ends old mid pending text → Appends mid new pending → Appends old new text
-  whole_pending old mid new pending text p more = rw p.rest (Appends-trans old mid new p.done pending p.written more)
+-- a prefix of the rest is written
+pub front_pending : (old mid new : Option (List ℕ)) (done pending text : List ℕ) → text ≡ done ++ pending → Appends old mid done → AppendsFront mid new pending → AppendsFront old new text
+front_pending old mid new done pending text is written front =
+    let n = front.0 in
+    let len : length text ≡ length done + length pending = ap (λ (xs : List ℕ). length xs) is ∙ length-append done pending in
+    let both : take (length done + n) text ≡ done ++ take n pending = rw is (take-append-add done pending n) in
+    (length done + n, omega (arith, len, front.1), rw both (Appends-trans old mid new done (take n pending) written front.2))
 
-  -- more is pending
-  pub pending_more : (old now : Option (List ℕ)) (pending text more : List ℕ) → IsPending ends old now pending text → IsPending ends old now (pending ++ more) (text ++ more)
-  pending_more old now pending text more p = record { done = p.done; written = p.written; whole = p.whole; rest = ap (λ xs. xs ++ more) p.rest ∙ append_assoc p.done pending more }
-
-  pub pending_none : (known : Option (List ℕ)) → ends [] → IsPending ends known known [] []
-  pending_none known none = record { done = []; written = Appends-nil known; rest = refl; whole = none }
-
-  -- once all that was pending is written, nothing is
-  pub pending_written : (known mid new : Option (List ℕ)) (pending left text : List ℕ) → ends text → IsPending ends known mid pending text → Appends mid new pending → left ≡ [] → IsPending ends known new left text
-  pending_written known mid new pending left text all p more none = record {
-    whole = subst ends p.rest all;
-    done = p.done ++ pending;
-    written = Appends-trans known mid new p.done pending p.written more;
-    rest = p.rest ∙ rw none (sym (append-nil (p.done ++ pending)));
-  }
-
-  -- what was pending was left so, or written
-  pub pending_flushed : (known mid new : Option (List ℕ)) (pending left text : List ℕ) → ends text → IsFlushed mid new pending left → IsPending ends known mid pending text → IsPending ends known new left text
-  pending_flushed known mid new pending left text all flushed p =
-      elim flushed [
-        | inl same ↦ rw (same.0, same.1) p
-        | inr done ↦ pending_written known mid new pending left text all p done.0 done.1
-      ]
-
--- what is pending of one thing is pending of another, where what ends the one ends the other
-pub pending_also : (ends also : List ℕ → Type 0) → ((text : List ℕ) → ends text → also text) → (old now : Option (List ℕ)) (pending text : List ℕ) → IsPending ends old now pending text → IsPending also old now pending text
-pending_also ends also then old now pending text p = record { done = p.done; written = p.written; rest = p.rest; whole = then p.done p.whole }
+-- all of the rest is
+pub whole_pending : (old mid new : Option (List ℕ)) (done pending text : List ℕ) → text ≡ done ++ pending → Appends old mid done → Appends mid new pending → Appends old new text
+whole_pending old mid new done pending text is written more = rw is (Appends-trans old mid new done pending written more)
 
 -- ---- one text behind another
 

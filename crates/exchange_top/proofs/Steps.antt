@@ -4,12 +4,14 @@ use Rattle.std.specs.Prelude.{All, replicate}
 use Rattle.exchange_events.specs.declared.record.CallRecord.{CallRecord}
 use Rattle.exchange_events.specs.declared.trace.Trace.{Trace}
 use Rattle.exchange_events.specs.Orders.{IsEvent}
+use Rattle.exchange_events.specs.Sizes.{Dimensions}
 use Rattle.exchange_events.specs.Sound.{IsSound}
 use Rattle.seat_history.specs.declared.known.Known.{Known}
 use Rattle.seat_history.specs.Seats.{first_seat}
 use Rattle.exchange_core.specs.Boards.{Board, turns_of}
 use Rattle.exchange_core.specs.Working.{order_of}
 use Rattle.call_profile.specs.CallsTold.{calls_told}
+use Rattle.call_profile.specs.World.{World}
 use Rattle.call_processor.specs.Frames.{Plays}
 use Rattle.line_list.specs.declared.listing.Listing.{Listing}
 use Rattle.line_list.specs.Lines.{Line, listed, text_of}
@@ -17,18 +19,18 @@ use Rattle.segment_run.specs.Segment.{IsChief, Ran, RanWhole, new_events}
 use Rattle.segment_run.specs.Segments.{IsDoneBelow}
 use Rattle.segment_run.proofs.OrderLemmas.{count_done, grown_known, one_more, order_grown}
 use Rattle.meters.specs.Changing.{Step, Meters_changed, Metering, IsAt, IsPast, AreMetered, after_steps, changes_at, handed_in, records_of, steps_text, with_changes}
-use Rattle.meters.proofs.Changes.{after-append, law_of_lines, metered-events, metered-first, records-append, records-changes, text-append}
+use Rattle.meters.proofs.Changes.{after-append, law_of_lines, metered-events, metered-first, records-append, text-append}
 use Rattle.meters.proofs.Cursor.{at_next, next_above, none_between}
-use Rattle.meters.proofs.Placed.{NoneBetween, records-with, with-segment}
-use Rattle.exchange_top.specs.Changes.{AreChangesBegun, AreChangesDone}
-use Rattle.exchange_top.specs.Outcomes.{IsInterrupted, IsUnwritten}
+use Rattle.meters.proofs.Placed.{NoneBetween, records-at, records-with, with-segment}
+use Rattle.exchange_top.specs.Changes.{AreChangesDone}
+use Rattle.exchange_top.specs.Outcomes.{IsRunInterrupted, IsRunUnwritten}
 use Rattle.exchange_top.specs.Running.{GrewFew, GrowthIsTold, IsAdded, grown_calls, grown_lines}
 use Rattle.exchange_top.specs.Story.{story}
 use Rattle.exchange_top.specs.Streams.{AppendsFront}
 use Rattle.exchange_top.specs.Telling.{AreLeft, AreMeteredBeyond, AreTold, AreToldFront, meter_story}
-use Rattle.exchange_top.proofs.Stories.{grown_are_events, grown_length, grown_records, grown_steps, grown_text, story_grown, story_records}
-use Rattle.exchange_top.proofs.Tellings.{beyond_none, both_beyond}
-use Rattle.exchange_top.proofs.Underway.{IsUnderway, begun_changes, begun_flush, begun_segment, underway_first, underway_more}
+use Rattle.exchange_top.proofs.Stories.{grown_are_events, grown_length, grown_records, grown_steps, grown_text, lines-append, lines-at, story_grown, story_records}
+use Rattle.exchange_top.proofs.Tellings.{beyond_none, both_beyond, none_beyond}
+use Rattle.exchange_top.proofs.Underway.{IsUnderway, begun_flush, begun_none, begun_segment, party, underway_first, underway_more}
 
 -- the place of a segment's beginning: how many events come before it
 abbrev pub place_of : List ℕ → ℕ → ℕ
@@ -42,12 +44,6 @@ module _ {M : Type 0} {stands : M → List CallRecord → Type 0} {text : M → 
       subst (λ (cs : List ℕ). AreChangesDone stands text cs there meters spare [] now now_spare all cursor) same
       (subst (λ (n : ℕ). AreChangesDone stands text changes n meters spare [] now now_spare all cursor) is
       (subst (λ (t : List ℕ). AreChangesDone stands text changes place meters spare t now now_spare all cursor) silent d))
-
-  pub begun_moved : AreChangesBegun stands text changes place meters spare said now now_spare all → AreChangesBegun stands text wanted there meters spare [] now now_spare all
-  begun_moved b =
-      subst (λ (cs : List ℕ). AreChangesBegun stands text cs there meters spare [] now now_spare all) same
-      (subst (λ (n : ℕ). AreChangesBegun stands text changes n meters spare [] now now_spare all) is
-      (subst (λ (t : List ℕ). AreChangesBegun stands text changes place meters spare t now now_spare all) silent b))
 
 module _ {M : Type 0} (stands : M → List CallRecord → Type 0) (text : M → List CallRecord → List ℕ) (old spare : List M) (plays : Plays) (l : Listing) (board : Board) where
   abbrev story_of : Known → List Step
@@ -104,14 +100,18 @@ module _ {M : Type 0} (stands : M → List CallRecord → Type 0) (text : M → 
         subst (λ (rs : List CallRecord). AreMeteredBeyond rs stands text here mid spares) (sym (records-with changes (length (order_of v.seen)) grown ∙ grown_records plays l board v w known))
         (both_beyond stands text here meters mid spares (grown_calls board v w) on.left front)
 
-    pub calls_before : records_of (story_of v) ≡ calls_told board.slots board.trace (order_of v.seen) ++ []
-    calls_before = story_records plays l board.slots board.trace (order_of v.seen) done.lawful.known ∙ sym (append-nil (calls_told board.slots board.trace (order_of v.seen)))
+    same_story : story_of v ≡ story_of v ++ []
+    same_story = sym (append-nil (story_of v))
 
-    pub interrupted_segment : (mid : List M) → GrowthIsTold (AreToldFront stands text meters mid) board v w → (before now : Option (List ℕ)) (pending : List ℕ)
-        → IsUnderway plays l board (λ steps. steps_text text steps first) k v before now pending
-        → IsInterrupted plays l board.slots (meter_story stands text old spare mid spares) board.trace (order_of w.seen) before now
-    interrupted_segment mid front before now pending so_far =
-        begun_segment plays l board (meter_story stands text old spare mid spares) k v before now pending so_far w (story_of v) (with_changes changes (length (order_of v.seen)) grown) [] ran is_grown calls_before (beyond_segment mid front)
+    pub interrupted_segment : (handed : Dimensions → World → Type 0) (no_engine : Type 0) (mid : List M) → GrowthIsTold (AreToldFront stands text meters mid) board v w
+        → (before now : Option (List ℕ)) (errors after : ℕ) (pending said : List ℕ) → IsUnderway plays l board (λ steps. steps_text text steps first) k v before now pending said → said ≡ [] → no_engine
+        → IsRunInterrupted (party plays handed no_engine (meter_story stands text old spare mid spares) (order_of w.seen) before now errors after) l board.slots board.trace
+    interrupted_segment handed no_engine mid front before now errors after pending said so_far silent engine =
+        begun_segment plays l board handed no_engine (meter_story stands text old spare mid spares) k v before now errors after pending said so_far w [] (with_changes changes (length (order_of v.seen)) grown) [] silent ran
+        (is_grown ∙ ap (λ (steps : List Step). steps ++ with_changes changes (length (order_of v.seen)) grown) same_story)
+        (ap (λ (steps : List Step). steps_text text steps first) (sym same_story) ∙ sym (append-nil (steps_text text (story_of v) first)))
+        (ap records_of (sym same_story) ∙ (story_records plays l board.slots board.trace (order_of v.seen) done.lawful.known ∙ sym (append-nil (calls_told board.slots board.trace (order_of v.seen)))))
+        (subst (λ (steps : List Step). AreMeteredBeyond (records_of (with_changes changes (length (order_of v.seen)) grown)) stands text (after_steps steps first) mid spares) same_story (beyond_segment mid front)) engine
 
     -- all of it was done, and its records were noted
     module _ (whole : RanWhole board.trace k v w) (mid : List M) (told : GrowthIsTold (AreTold stands text meters mid) board v w) where
@@ -149,37 +149,16 @@ module _ {M : Type 0} (stands : M → List CallRecord → Type 0) (text : M → 
           metered-events stands text grown (grown_are_events plays l board v w) here meters mid spares on.left
           (subst (λ (rs : List CallRecord). AreTold stands text meters mid rs) (sym (grown_records plays l board v w known)) told)
 
-      -- the changes behind it were begun
-      module _ (now now_spare : List M) (all : List ℕ) (b : AreChangesBegun stands text changes there mid spares [] now now_spare all) where
-        abbrev pub steps_begun : List Step
-        steps_begun = story_of v ++ (grown ++ replicate b.count Meters_changed)
-
-        abbrev pub others_begun : List Step
-        others_begun = replicate b.left Meters_changed
-
-        pub begun_are : story_of w ≡ steps_begun ++ others_begun
-        begun_are =
-            whole_story
-            ∙ (ap (λ (steps : List Step). story_of v ++ (grown ++ steps)) b.are
-            ∙ (ap (λ (steps : List Step). story_of v ++ steps) (sym (append_assoc grown (replicate b.count Meters_changed) (replicate b.left Meters_changed)))
-            ∙ sym (append_assoc (story_of v) (grown ++ replicate b.count Meters_changed) (replicate b.left Meters_changed))))
-
-        pub begun_calls : records_of steps_begun ≡ calls_told board.slots board.trace (order_of v.seen) ++ grown_calls board v w
-        begun_calls =
-            records-append (story_of v) (grown ++ replicate b.count Meters_changed)
-            ∙ (λ i. story_records plays l board.slots board.trace (order_of v.seen) done.lawful.known i
-            ++ (records-append grown (replicate b.count Meters_changed) ∙ ((λ j. grown_records plays l board v w known j ++ records-changes b.count j) ∙ append-nil (grown_calls board v w))) i)
-
-        pub begun_left : AreMeteredBeyond (records_of others_begun) stands text (after_steps steps_begun first) now now_spare
-        begun_left =
-            let at : after_steps steps_begun first ≡ after_steps (replicate b.count Meters_changed) then =
-            after-append (story_of v) (grown ++ replicate b.count Meters_changed) first ∙ after-append grown (replicate b.count Meters_changed) here in
-            rw (at, records-changes b.left) (beyond_none stands text (after_steps (replicate b.count Meters_changed) then) now now_spare (b.made.left then on_then))
-
-        pub interrupted_changes : (before then_written : Option (List ℕ)) (pending : List ℕ) → IsUnderway plays l board (λ steps. steps_text text steps first) k v before then_written pending
-            → IsInterrupted plays l board.slots (meter_story stands text old spare now now_spare) board.trace (order_of w.seen) before then_written
-        interrupted_changes before then_written pending so_far =
-            begun_segment plays l board (meter_story stands text old spare now now_spare) k v before then_written pending so_far w steps_begun others_begun (grown_calls board v w) ran begun_are begun_calls begun_left
+      -- memory ran out before the changes behind it
+      pub interrupted_changes : (handed : Dimensions → World → Type 0) (no_engine : Type 0) → (before now : Option (List ℕ)) (errors after : ℕ) (pending said : List ℕ)
+          → IsUnderway plays l board (λ steps. steps_text text steps first) k v before now pending said → said ≡ [] → no_engine
+          → IsRunInterrupted (party plays handed no_engine (meter_story stands text old spare mid spares) (order_of w.seen) before now errors after) l board.slots board.trace
+      interrupted_changes handed no_engine before now errors after pending said so_far silent engine =
+          begun_segment plays l board handed no_engine (meter_story stands text old spare mid spares) k v before now errors after pending said so_far w grown (changes_at changes there) (grown_calls board v w) silent ran
+          (whole_story ∙ sym (append_assoc (story_of v) grown (changes_at changes there)))
+          (text-append text (story_of v) grown first ∙ ap (λ (t : List ℕ). steps_text text (story_of v) first ++ t) (law_of_lines text grown here (grown_are_events plays l board v w)))
+          (records-append (story_of v) grown ∙ (λ i. story_records plays l board.slots board.trace (order_of v.seen) done.lawful.known i ++ grown_records plays l board v w known i))
+          (rw (after-append (story_of v) grown first, records-at changes there) (beyond_none stands text then mid spares on_then)) engine
 
       -- they were made
       module _ (now now_spare : List M) (all : List ℕ) (cursor_now : ℕ) (d : AreChangesDone stands text changes there mid spares [] now now_spare all cursor_now) where
@@ -202,11 +181,13 @@ module _ {M : Type 0} (stands : M → List CallRecord → Type 0) (text : M → 
             ∙ (λ i. (law_of_lines text grown here (grown_are_events plays l board v w) ∙ grown_text plays l board v w) i
             ++ (ap (λ (steps : List Step). steps_text text steps then) d.are ∙ sym (d.made.said_is then on_then)) i)))
 
-        pub underway_changed : (before then_written : Option (List ℕ)) (pending after : List ℕ) → IsUnderway plays l board (λ steps. steps_text text steps first) k v before then_written pending
+        pub underway_changed : (before then_written : Option (List ℕ)) (pending said after : List ℕ) → IsUnderway plays l board (λ steps. steps_text text steps first) k v before then_written pending said → said ≡ []
             → IsChief (turns_of board) w → GrewFew board v w → after ≡ pending ++ (listed l (grown_lines plays board v w) ++ all)
-            → IsUnderway plays l board (λ steps. steps_text text steps first) (k + 1) w before then_written after
-        underway_changed before then_written pending after so_far chief few is =
-            underway_more plays l board (λ steps. steps_text text steps first) k v before then_written pending so_far w after (listed l (grown_lines plays board v w) ++ all) chief ran whole text_more is few
+            → IsUnderway plays l board (λ steps. steps_text text steps first) (k + 1) w before then_written after all
+        underway_changed before then_written pending said after so_far silent chief few is =
+            underway_more plays l board (λ steps. steps_text text steps first) k v before then_written pending said so_far w (grown ++ changes_at changes there) after (listed l (grown_lines plays board v w) ++ all) all silent chief ran whole
+            whole_story text_more is
+            (λ none. (λ i. sym (grown_text plays l board v w) i ++ (none ∙ sym (lines-at changes there)) i) ∙ sym (lines-append grown (changes_at changes there))) few
 
 -- what is pending with the lines of a segment, and with what meters said behind it
 pub joined : (before grown all said after : List ℕ) → said ≡ [] → after ≡ before ++ grown → after ++ all ≡ (before ++ said) ++ (grown ++ all)
@@ -218,24 +199,25 @@ joined before grown all said after silent is =
 
 module _ {M : Type 0} {stands : M → List CallRecord → Type 0} {text : M → List CallRecord → List ℕ} {old spare : List M} {plays : Plays} {l : Listing} {board : Board} where
   -- writing what is pending failed
-  pub unwritten_here : {k : ℕ} {v : Known} {meters spares : List M} {cursor : ℕ} {before now : Option (List ℕ)} {pending : List ℕ} → IsUnderway plays l board (λ steps. steps_text text steps (handed_in old spare)) k v before now pending
-      → AreOn stands text old spare plays l board k v meters spares cursor → {new : Option (List ℕ)} → AppendsFront now new pending
-      → IsUnwritten plays l board.slots (meter_story stands text old spare meters spares) board.trace (order_of v.seen) before new
-  unwritten_here {k} {v} {meters} {spares} {cursor} {before} {now} {pending} so_far on {new} front =
-      begun_flush plays l board (meter_story stands text old spare meters spares) k v before now pending so_far new front on.left
+  pub unwritten_here : {k : ℕ} {v : Known} {meters spares : List M} {cursor : ℕ} {before now : Option (List ℕ)} {pending said : List ℕ}
+      → IsUnderway plays l board (λ steps. steps_text text steps (handed_in old spare)) k v before now pending said → AreOn stands text old spare plays l board k v meters spares cursor
+      → {handed : Dimensions → World → Type 0} {no_engine : Type 0} {new : Option (List ℕ)} {errors after : ℕ} → AppendsFront now new pending → no_engine
+      → IsRunUnwritten (party plays handed no_engine (meter_story stands text old spare meters spares) (order_of v.seen) before new errors after) l board.slots board.trace
+  unwritten_here {k} {v} {meters} {spares} {cursor} {before} {now} {pending} {said} so_far on {handed} {no_engine} {new} {errors} {after} front engine =
+      begun_flush plays l board handed no_engine (meter_story stands text old spare meters spares) k v before now errors after pending said so_far new front on.left engine
 
 module _ {M : Type 0} (stands : M → List CallRecord → Type 0) (text : M → List CallRecord → List ℕ) (old spare : List M) (plays : Plays) (l : Listing) (board : Board) where
+  -- memory ran out in the changes before the first segment
+  pub interrupted_first : {v : Known} → v ≡ first_seat (turns_of board) → {now now_spare : List M} → (now ≡ old) × (now_spare ≡ spare)
+      → {handed : Dimensions → World → Type 0} {no_engine : Type 0} {known : Option (List ℕ)} {errors after : ℕ} → no_engine
+      → IsRunInterrupted (party plays handed no_engine (meter_story stands text old spare now now_spare) (order_of v.seen) known known errors after) l board.slots board.trace
+  interrupted_first {v} fresh {now} {now_spare} kept {handed} {no_engine} {known} {errors} {after} engine =
+      begun_none plays l board.slots handed no_engine (meter_story stands text old spare now now_spare) board.trace (order_of v.seen) known errors after (ap (λ (s : Known). order_of s.seen) fresh) refl
+      (rw (kept.0, kept.1) (none_beyond stands text old spare)) engine
+
   module _ (trace : Trace) (changes : List ℕ) (same : trace ≡ board.trace) (changes_are : changes ≡ trace.changes) where
     same_changes : changes ≡ board.trace.changes
     same_changes = changes_are ∙ ap (λ (t : Trace). t.changes) same
-
-    -- memory ran out in the changes before the first segment
-    pub interrupted_first : {v : Known} → v ≡ first_seat (turns_of board) → {said : List ℕ} → said ≡ [] → {now now_spare : List M} {all : List ℕ} → AreChangesBegun stands text changes 0 old spare said now now_spare all → {known : Option (List ℕ)}
-        → IsInterrupted plays l board.slots (meter_story stands text old spare now now_spare) board.trace (order_of v.seen) known known
-    interrupted_first {v} fresh {said} silent {now} {now_spare} {all} begun {known} =
-        let b = begun_moved changes board.trace.changes 0 0 said same_changes refl silent begun in
-        begun_changes plays l board.slots (meter_story stands text old spare now now_spare) board.trace (order_of v.seen) known b.count b.left (ap (λ (s : Known). order_of s.seen) fresh) b.are
-        (beyond_none stands text (after_steps (replicate b.count Meters_changed) (handed_in old spare)) now now_spare (b.made.left (handed_in old spare) (metered-first stands text old spare)))
 
     -- before the first segment, where no line is kept
     module _ (v : Known) (fresh : v ≡ first_seat (turns_of board)) (said : List ℕ) (silent : said ≡ []) (now now_spare : List M) (all : List ℕ) (cursor : ℕ)
@@ -246,14 +228,15 @@ module _ {M : Type 0} (stands : M → List CallRecord → Type 0) (text : M → 
       pub first_on : AreOn stands text old spare plays l board 0 v now now_spare cursor
       first_on = changed_first stands text old spare plays l board v fresh now now_spare all cursor changed
 
-      pub first_underway : {known : Option (List ℕ)} {lines : List Line} → lines ≡ [] → IsUnderway plays l board (λ steps. steps_text text steps (handed_in old spare)) 0 v known known (text_of lines ++ all)
+      pub first_underway : {known : Option (List ℕ)} {lines : List Line} → lines ≡ [] → IsUnderway plays l board (λ steps. steps_text text steps (handed_in old spare)) 0 v known known (text_of lines ++ all) all
       first_underway {known} {lines} none =
-          underway_first plays l board (λ steps. steps_text text steps (handed_in old spare)) v known (text_of lines ++ all) fresh
-          (said_first stands text old spare plays l board v fresh now now_spare all cursor changed ∙ sym (ap (λ (ls : List Line). text_of ls ++ all) none))
+          let only : text_of lines ++ all ≡ all = ap (λ (ls : List Line). text_of ls ++ all) none in
+          underway_first plays l board (λ steps. steps_text text steps (handed_in old spare)) v known (text_of lines ++ all) all fresh
+          (said_first stands text old spare plays l board v fresh now now_spare all cursor changed ∙ sym only) refl (λ quiet. only ∙ quiet)
 
     -- a segment more
-    module _ (ends : List ℕ) (ends_are : ends ≡ trace.segments) (sound : IsSound trace) (k : ℕ) (v : Known) (meters spares : List M) (cursor : ℕ) (before then : Option (List ℕ)) (pending : List ℕ) (inside : k < length ends)
-        (so_far : IsUnderway plays l board (λ steps. steps_text text steps (handed_in old spare)) k v before then pending) (on : AreOn stands text old spare plays l board k v meters spares cursor) where
+    module _ (ends : List ℕ) (ends_are : ends ≡ trace.segments) (sound : IsSound trace) (k : ℕ) (v : Known) (meters spares : List M) (cursor : ℕ) (before then : Option (List ℕ)) (pending said : List ℕ) (inside : k < length ends)
+        (so_far : IsUnderway plays l board (λ steps. steps_text text steps (handed_in old spare)) k v before then pending said) (on : AreOn stands text old spare plays l board k v meters spares cursor) (silent : said ≡ []) where
       same_ends : ends ≡ board.trace.segments
       same_ends = ends_are ∙ ap (λ (t : Trace). t.segments) same
 
@@ -278,22 +261,25 @@ module _ {M : Type 0} (stands : M → List CallRecord → Type 0) (text : M → 
 
         -- memory ran out in it
         pub interrupted_here : {mid : List M} → GrowthIsTold (AreToldFront stands text meters mid) board v w
-            → IsInterrupted plays l board.slots (meter_story stands text old spare mid spares) board.trace (order_of w.seen) before then
-        interrupted_here {mid} front = interrupted_segment stands text old spare plays l board k v w meters spares cursor sound_there within so_far.done on ran_there mid front before then pending so_far
+            → {handed : Dimensions → World → Type 0} {no_engine : Type 0} {errors after : ℕ} → no_engine
+            → IsRunInterrupted (party plays handed no_engine (meter_story stands text old spare mid spares) (order_of w.seen) before then errors after) l board.slots board.trace
+        interrupted_here {mid} front {handed} {no_engine} {errors} {after} engine =
+            interrupted_segment stands text old spare plays l board k v w meters spares cursor sound_there within so_far.done on ran_there handed no_engine mid front before then errors after pending said so_far silent engine
 
         -- it was done, and its calls were noted
-        module _ (whole : RanWhole trace k v w) (mid : List M) (told : GrowthIsTold (AreTold stands text meters mid) board v w) (said : List ℕ) (silent : said ≡ []) (now now_spare : List M) (all : List ℕ) where
+        module _ (whole : RanWhole trace k v w) (mid : List M) (told : GrowthIsTold (AreTold stands text meters mid) board v w) where
           whole_there : RanWhole board.trace k v w
           whole_there = subst (λ (t : Trace). RanWhole t k v w) same whole
 
           -- memory ran out in the changes behind it
-          pub interrupted_behind : AreChangesBegun stands text changes (get_or ends k 0) mid spares said now now_spare all
-              → IsInterrupted plays l board.slots (meter_story stands text old spare now now_spare) board.trace (order_of w.seen) before then
-          interrupted_behind b =
-              interrupted_changes stands text old spare plays l board k v w meters spares cursor sound_there within so_far.done on ran_there whole_there mid told now now_spare all
-              (begun_moved changes board.trace.changes (get_or ends k 0) (place_of board.trace.segments (suc k)) said same_changes same_place silent b) before then pending so_far
+          pub interrupted_behind : {now now_spare : List M} → (now ≡ mid) × (now_spare ≡ spares)
+              → {handed : Dimensions → World → Type 0} {no_engine : Type 0} {errors after : ℕ} → no_engine
+              → IsRunInterrupted (party plays handed no_engine (meter_story stands text old spare now now_spare) (order_of w.seen) before then errors after) l board.slots board.trace
+          interrupted_behind {now} {now_spare} kept {handed} {no_engine} {errors} {after} engine =
+              rw (kept.0, kept.1)
+              (interrupted_changes stands text old spare plays l board k v w meters spares cursor sound_there within so_far.done on ran_there whole_there mid told handed no_engine before then errors after pending said so_far silent engine)
 
-          module _ (cursor_now : ℕ) (d : AreChangesDone stands text changes (get_or ends k 0) mid spares said now now_spare all cursor_now) where
+          module _ (now now_spare : List M) (all : List ℕ) (cursor_now : ℕ) (d : AreChangesDone stands text changes (get_or ends k 0) mid spares said now now_spare all cursor_now) where
             changed_then : AreChangesDone stands text board.trace.changes (place_of board.trace.segments (suc k)) mid spares [] now now_spare all cursor_now
             changed_then = done_moved changes board.trace.changes (get_or ends k 0) (place_of board.trace.segments (suc k)) said same_changes same_place silent d
 
@@ -301,7 +287,7 @@ module _ {M : Type 0} (stands : M → List CallRecord → Type 0) (text : M → 
             then_on = on_more stands text old spare plays l board k v w meters spares cursor sound_there within so_far.done on ran_there whole_there mid told now now_spare all cursor_now changed_then
 
             pub then_underway : {lines after : List Line} → pending ≡ text_of lines ++ said → IsChief (turns_of board) w → IsAdded plays l board v w lines after
-                → IsUnderway plays l board (λ steps. steps_text text steps (handed_in old spare)) (k + 1) w before then (text_of after ++ all)
+                → IsUnderway plays l board (λ steps. steps_text text steps (handed_in old spare)) (k + 1) w before then (text_of after ++ all) all
             then_underway {lines} {after} are chief added =
-                underway_changed stands text old spare plays l board k v w meters spares cursor sound_there within so_far.done on ran_there whole_there mid told now now_spare all cursor_now changed_then before then pending (text_of after ++ all) so_far
-                chief added.few (joined (text_of lines) (listed l (grown_lines plays board v w)) all said (text_of after) silent added.lines ∙ ap (λ (t : List ℕ). t ++ (listed l (grown_lines plays board v w) ++ all)) (sym are))
+                underway_changed stands text old spare plays l board k v w meters spares cursor sound_there within so_far.done on ran_there whole_there mid told now now_spare all cursor_now changed_then before then pending said (text_of after ++ all) so_far
+                silent chief added.few (joined (text_of lines) (listed l (grown_lines plays board v w)) all said (text_of after) silent added.lines ∙ ap (λ (t : List ℕ). t ++ (listed l (grown_lines plays board v w) ++ all)) (sym are))

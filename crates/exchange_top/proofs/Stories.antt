@@ -1,5 +1,5 @@
 -- The story of a run that goes on.
-use Rattle.std.proofs.Common.{◌≡◌, ℕ, suc, ◌+◌, List, [], ◌∷◌, ◌++◌, length, refl, sym, ap, ◌∙◌, subst, arith, append_assoc}
+use Rattle.std.proofs.Common.{◌≡◌, ℕ, suc, Bool, true, false, if◌then◌else◌, ◌==◌, ◌+◌, List, [], ◌∷◌, ◌++◌, length, refl, sym, ap, ◌∙◌, subst, arith, append_assoc}
 use Rattle.std.specs.Prelude.{All}
 use Rattle.exchange_events.specs.declared.record.CallRecord.{CallRecord}
 use Rattle.exchange_events.specs.declared.trace.Event.{Event}
@@ -23,7 +23,7 @@ use Rattle.circuit_model.specs.Hears.{Plays}
 use Rattle.report_text.specs.RunReport.{Played, event_line, event_lines, report}
 use Rattle.segment_run.specs.Segment.{new_events}
 use Rattle.segment_run.proofs.OrderLemmas.{order_grown}
-use Rattle.meters.specs.Changing.{Step, Event_done, Metering, AreEvents, AreMetered, after_steps, changes_at, handed_in, lines_of, records_of, steps_text, with_changes}
+use Rattle.meters.specs.Changing.{Step, Event_done, Meters_changed, Metering, AreEvents, AreMetered, after_steps, changes_at, handed_in, lines_of, records_of, steps_text, with_changes}
 use Rattle.meters.proofs.Changes.{law_of_lines, law_of_times, records-append}
 use Rattle.meters.proofs.Placed.{records-at, records-with, with-append, with-none}
 use Rattle.exchange_top.specs.Running.{grown_calls, grown_lines}
@@ -65,6 +65,22 @@ steps-lines played listing.Report s w (n ∷ order) (e ∷ events) = ap (λ (t :
 steps-lines played listing.Nothing s w [] events = refl
 steps-lines played listing.Nothing s w (n ∷ order) [] = refl
 steps-lines played listing.Nothing s w (n ∷ order) (e ∷ events) = steps-lines played listing.Nothing s (next s w e) order events
+
+-- ---- the lines in some steps
+
+pub lines-append : (xs ys : List Step) → lines_of (xs ++ ys) ≡ lines_of xs ++ lines_of ys
+lines-append [] ys = refl
+lines-append (Event_done line records ∷ xs) ys = ap (λ (l : List ℕ). line ++ l) (lines-append xs ys) ∙ sym (append_assoc line (lines_of xs) (lines_of ys))
+lines-append (Meters_changed ∷ xs) ys = lines-append xs ys
+
+-- changes have none
+pub lines-at : (changes : List ℕ) (n : ℕ) → lines_of (changes_at changes n) ≡ []
+lines-at [] n = refl
+lines-at (count ∷ changes) n = by_test (count == n) (lines-at changes n)
+  where
+    by_test : (b : Bool) → lines_of (changes_at changes n) ≡ [] → lines_of (if b then Meters_changed ∷ changes_at changes n else changes_at changes n) ≡ []
+    by_test true rest = rest
+    by_test false rest = rest
 
 -- ---- the story of a run
 

@@ -1,69 +1,82 @@
 -- A run, segment after segment, and how it ends.
-use Rattle.std.proofs.Common.{◌≡◌, ℕ, ◌+◌, ◌*◌, ◌≤◌, List, [], ◌++◌, length, Option, Result, Ok, Err, IsErrAnd, refl, sym, ap, subst, ◌∙◌, arith, append-nil, inl, inr}
-use Rattle.std.specs.Prelude.{replicate}
+use Rattle.std.proofs.Common.{◌≡◌, ℕ, ◌+◌, ◌*◌, ◌≤◌, List, [], ◌++◌, length, None, Option, Result, Ok, Err, IsErrAnd, refl, sym, ap, subst, ◌∙◌, arith, append-nil, inl, inr}
 use Rattle.std.specs.Io.KnownBytes.{Appends}
 use Rattle.std.proofs.KnownBytes.{Appends-nil}
 use Rattle.std.proofs.lemmas.List.{append_assoc}
 use Rattle.std.proofs.lemmas.List.Elements.{All-nil}
 use Rattle.exchange_events.specs.declared.record.CallRecord.{CallRecord}
 use Rattle.exchange_events.specs.declared.trace.Trace.{Trace}
+use Rattle.exchange_events.specs.Sizes.{Dimensions}
 use Rattle.seat_history.specs.declared.known.Known.{Known}
 use Rattle.seat_history.specs.Seats.{first_seat}
 use Rattle.exchange_core.specs.Boards.{Board, turns_of}
-use Rattle.exchange_events.specs.Sound.{IsSound}
-use Rattle.exchange_core.specs.Working.{order_of}
+use Rattle.exchange_events.specs.Sound.{IsSound, setting_of}
+use Rattle.exchange_core.specs.Working.{order_of, world_after}
+use Rattle.call_profile.specs.World.{World}
 use Rattle.call_processor.specs.Frames.{Plays}
 use Rattle.segment_run.specs.Segment.{IsChief, Ran, RanWhole, new_events}
 use Rattle.segment_run.specs.Segments.{IsDoneBelow}
 use Rattle.segment_run.proofs.OrderLemmas.{none as none_done, one_more, cut_short, all_done, first_chief, order_grown}
 use Rattle.line_list.specs.declared.listing.Listing.{Listing}
-use Rattle.exchange_top.specs.Outcomes.{EndsWithSegment, IsFlushed, IsInterrupted, IsRunWhole, IsUnwritten, MovesFew}
-use Rattle.meters.specs.Changing.{Step, Meters_changed, changes_at, records_of}
-use Rattle.meters.proofs.Changes.{records-changes}
+use Rattle.exchange_top.specs.declared.ending.Ending.TheVariants as ended
+use Rattle.exchange_top.specs.Outcomes.{AreOfSegments, No_segments, Some_segments, IsFlushed, IsRunInterrupted, IsRunUnwritten, IsRunWritten, MovesFew, Parties}
+use Rattle.meters.specs.Changing.{Step, changes_at, lines_of, records_of}
 use Rattle.exchange_top.specs.Story.{story}
 use Rattle.exchange_top.specs.Telling.{MeterStory}
 use Rattle.call_profile.specs.CallsTold.{calls_told}
 use Rattle.exchange_top.specs.declared.run.RunFault.{RunFault}
 use Rattle.exchange_top.specs.declared.run.RunFault.TheVariants.{Memory, Write}
-use Rattle.exchange_top.specs.Running.{GrewFew, fabric_at, status_of}
+use Rattle.exchange_top.specs.Running.{GrewFew, ending_of, engine_of, fabric_at}
 use Rattle.exchange_top.specs.Streams.{AppendsFront}
 use Rattle.exchange_top.proofs.Answered.{few_grown}
-use Rattle.exchange_top.proofs.Stories.{story_records}
-use Rattle.exchange_top.proofs.Pending.{IsPending, front_pending, pending_also, pending_flushed, pending_more, whole_pending}
+use Rattle.exchange_top.proofs.Pending.{front_pending, whole_pending}
+use Rattle.exchange_top.proofs.Stories.{lines-append, lines-at, story_records}
 
 -- what is written of a run's story
 abbrev pub Writing : Type 0
 Writing = List Step → List ℕ
 
+-- A prefix of the story of an order was written. It ends with a segment, and the text of the remaining steps is pending: the lines of their events, if
+-- no meter writes a text in them.
+pub record IsPending (plays : Plays) (l : Listing) (slots : ℕ) (trace : Trace) (written : Writing) (order : List ℕ) (old now : Option (List ℕ)) (pending said : List ℕ) : Type 0 where
+  pub front : List Step
+  pub more : List Step
+  pub parts : story plays l slots trace order ≡ front ++ more
+  pub ends : AreOfSegments plays l slots trace order front
+  pub text : Appends old now (written front)
+  pub rest : written (story plays l slots trace order) ≡ written front ++ pending
+  pub quiet : said ≡ [] → pending ≡ lines_of more
+
 -- the first k segments were done by what seat 0 knows, and of their story all is written but what is pending
-pub record IsUnderway (plays : Plays) (l : Listing) (board : Board) (written : Writing) (k : ℕ) (seat : Known) (old now : Option (List ℕ)) (pending : List ℕ) : Type 0 where
+pub record IsUnderway (plays : Plays) (l : Listing) (board : Board) (written : Writing) (k : ℕ) (seat : Known) (old now : Option (List ℕ)) (pending said : List ℕ) : Type 0 where
   pub chief : IsChief (turns_of board) seat
   pub numbers : seat.made ≤ 9 * k
   pub done : IsDoneBelow board.trace k (order_of seat.seen)
-  pub text : IsPending (EndsWithSegment plays l board.slots written board.trace (order_of seat.seen)) old now pending (written (story plays l board.slots board.trace (order_of seat.seen)))
+  pub text : IsPending plays l board.slots board.trace written (order_of seat.seen) old now pending said
   pub few : MovesFew (fabric_at board) board.trace (order_of seat.seen)
 
--- nothing is written
-ends_none : (plays : Plays) (l : Listing) (slots : ℕ) (written : Writing) (trace : Trace) → EndsWithSegment plays l slots written trace [] []
-ends_none plays l slots written trace = record { segments = 0; first = []; others = []; parts = refl; done = none_done trace; text_is = inl refl }
+-- steps of the first segments of an order are steps of the first segments of a longer order
+of_longer : (plays : Plays) (l : Listing) (slots : ℕ) (trace : Trace) (order more : List ℕ) (steps : List Step) → AreOfSegments plays l slots trace order steps
+    → AreOfSegments plays l slots trace (order ++ more) steps
+of_longer plays l slots trace order more steps (No_segments none) = No_segments none
+of_longer plays l slots trace order more steps (Some_segments segments first others parts done is) =
+    Some_segments segments first (others ++ more) (ap (λ xs. xs ++ more) parts ∙ append_assoc first others more) done is
 
--- what ends with a segment of an order does so of a longer one
-ends_longer : (plays : Plays) (l : Listing) (slots : ℕ) (written : Writing) (trace : Trace) (order more : List ℕ) (text : List ℕ) → EndsWithSegment plays l slots written trace order text
-    → EndsWithSegment plays l slots written trace (order ++ more) text
-ends_longer plays l slots written trace order more text e = record {
-  segments = e.segments;
-  first = e.first;
-  others = e.others ++ more;
-  parts = ap (λ xs. xs ++ more) e.parts ∙ append_assoc e.first e.others more;
-  done = e.done;
-  text_is = e.text_is;
+-- the parties of a run
+abbrev pub party : Plays → (Dimensions → World → Type 0) → Type 0 → MeterStory → List ℕ → (old new : Option (List ℕ)) → (before after : ℕ) → Parties
+party plays handed no_engine m order old new before after = record {
+  plays = plays;
+  handed = handed;
+  no_engine = no_engine;
+  meters = m;
+  order = order;
+  output = record { old = old; new = new; before = before; after = after };
 }
 
--- no event was done, and at the most some of the changes before the first one
-module _ (plays : Plays) (l : Listing) (slots : ℕ) (m : MeterStory) (trace : Trace) (order : List ℕ) (known : Option (List ℕ)) where
-  begun_early : (steps others : List Step) → order ≡ [] → story plays l slots trace [] ≡ steps ++ others → records_of steps ≡ [] → records_of others ≡ [] → m.left_beyond steps []
-      → IsInterrupted plays l slots m trace order known known
-  begun_early steps others empty are none left told = rw empty (record {
+-- no event was done, and no change was made
+module _ (plays : Plays) (l : Listing) (slots : ℕ) (handed : Dimensions → World → Type 0) (no_engine : Type 0) (m : MeterStory) (trace : Trace) (order : List ℕ) (known : Option (List ℕ)) (before after : ℕ) where
+  pub begun_none : order ≡ [] → m.written [] ≡ [] → m.left_beyond [] [] → no_engine → IsRunInterrupted (party plays handed no_engine m order known known before after) l slots trace
+  begun_none empty silent told engine = rw empty (record {
     lawful = (none_done trace).lawful;
     segments = 0;
     whole = [];
@@ -71,120 +84,172 @@ module _ (plays : Plays) (l : Listing) (slots : ℕ) (m : MeterStory) (trace : T
     parts = refl;
     done = none_done trace;
     next = All-nil _;
-    text = [];
-    appended = Appends-nil known;
-    ends = ends_none plays l slots m.written trace;
-    steps = steps;
-    others = others;
-    steps_are = are;
+    front = [];
     more = [];
-    calls_are = none;
-    meters = subst (m.left_beyond steps) (sym left) told;
+    others = story plays l slots trace [];
+    steps = refl;
+    ends = No_segments refl;
+    text = subst (Appends known known) (sym silent) (Appends-nil known);
+    unwritten = sym (append-nil (m.written []));
+    noted = [];
+    calls = refl;
+    meters = subst (m.left_beyond []) (sym (story_records plays l slots trace [] (All-nil _))) told;
+    engine = engine;
   })
-
-  pub begun_none : order ≡ [] → m.left_beyond [] [] → IsInterrupted plays l slots m trace order known known
-  begun_none empty told = begun_early [] (story plays l slots trace []) empty refl refl (story_records plays l slots trace [] (All-nil _)) told
-
-  -- some of these changes were made
-  pub begun_changes : (count left : ℕ) → order ≡ [] → changes_at trace.changes 0 ≡ replicate count Meters_changed ++ replicate left Meters_changed → m.left_beyond (replicate count Meters_changed) []
-      → IsInterrupted plays l slots m trace order known known
-  begun_changes count left empty are told =
-      begun_early (replicate count Meters_changed) (replicate left Meters_changed) empty (append-nil (changes_at trace.changes 0) ∙ are) (records-changes count) (records-changes left) told
 
 module _ (plays : Plays) (l : Listing) (board : Board) (written : Writing) where
   -- before the first segment
-  pub underway_first : (seat : Known) (known : Option (List ℕ)) (pending : List ℕ) → seat ≡ first_seat (turns_of board) → written (story plays l board.slots board.trace []) ≡ pending
-      → IsUnderway plays l board written 0 seat known known pending
-  underway_first seat known pending fresh all = rw fresh (record {
+  pub underway_first : (seat : Known) (known : Option (List ℕ)) (pending said : List ℕ) → seat ≡ first_seat (turns_of board) → written (story plays l board.slots board.trace []) ≡ pending
+      → written [] ≡ [] → (said ≡ [] → pending ≡ []) → IsUnderway plays l board written 0 seat known known pending said
+  underway_first seat known pending said fresh all silent none = rw fresh (record {
     chief = first_chief (turns_of board);
     numbers = omega arith;
     done = none_done board.trace;
-    text = record { done = []; written = Appends-nil known; rest = all; whole = ends_none plays l board.slots written board.trace };
+    text = record {
+      front = [];
+      more = story plays l board.slots board.trace [];
+      parts = refl;
+      ends = No_segments refl;
+      text = subst (Appends known known) (sym silent) (Appends-nil known);
+      rest = all ∙ ap (λ (t : List ℕ). t ++ pending) (sym silent);
+      quiet = λ is. none is ∙ sym (ap lines_of (append-nil (changes_at board.trace.changes 0)) ∙ lines-at board.trace.changes 0);
+    };
     few = All-nil _;
   })
 
-  module _ (k : ℕ) (v : Known) (old now : Option (List ℕ)) (pending : List ℕ) (so_far : IsUnderway plays l board written k v old now pending) where
-    -- one segment more was done, with the changes behind it, and what is written of it is pending too
-    pub underway_more : (w : Known) (after more : List ℕ) → IsChief (turns_of board) w → Ran board.trace k v w → RanWhole board.trace k v w
-        → written (story plays l board.slots board.trace (order_of w.seen)) ≡ written (story plays l board.slots board.trace (order_of v.seen)) ++ more → after ≡ pending ++ more → GrewFew board v w
-        → IsUnderway plays l board written (k + 1) w old now after
-    underway_more w after more chief ran whole grown lines few = record {
-      chief = chief;
-      numbers = let before = so_far.numbers in let made = ran.few in omega (arith, before, made);
-      done = one_more board.trace k v w so_far.done ran whole;
-      text = rw (lines, grown) (pending_more _ old now pending _ more
-          (pending_also _ (EndsWithSegment plays l board.slots written board.trace (order_of w.seen))
-          (λ text e. subst (λ order. EndsWithSegment plays l board.slots written board.trace order text) (sym (order_grown v w ran.begins)) (ends_longer plays l board.slots written board.trace (order_of v.seen) (new_events v w) text e))
-          old now pending _ so_far.text));
-      few = few_grown board v w ran.begins so_far.few few;
-    }
+  module _ (k : ℕ) (v : Known) (old now : Option (List ℕ)) (pending said : List ℕ) (so_far : IsUnderway plays l board written k v old now pending said) where
+    abbrev story_so_far : List Step
+    story_so_far = story plays l board.slots board.trace (order_of v.seen)
 
-    -- all that is written of the segments ends with one
-    ends_all : EndsWithSegment plays l board.slots written board.trace (order_of v.seen) (written (story plays l board.slots board.trace (order_of v.seen)))
-    ends_all = record { segments = k; first = order_of v.seen; others = []; parts = sym (append-nil (order_of v.seen)); done = so_far.done; text_is = inr refl }
+    -- one segment more was done, with the changes behind it, and what is written of it is pending too
+    pub underway_more : (w : Known) (steps : List Step) (after more all : List ℕ) → said ≡ [] → IsChief (turns_of board) w → Ran board.trace k v w → RanWhole board.trace k v w
+        → story plays l board.slots board.trace (order_of w.seen) ≡ story_so_far ++ steps → written (story plays l board.slots board.trace (order_of w.seen)) ≡ written story_so_far ++ more
+        → after ≡ pending ++ more → (all ≡ [] → more ≡ lines_of steps) → GrewFew board v w → IsUnderway plays l board written (k + 1) w old now after all
+    underway_more w steps after more all silent chief ran whole is lines same none few =
+        let p = so_far.text in
+        record {
+          chief = chief;
+          numbers = let before = so_far.numbers in let made = ran.few in omega (arith, before, made);
+          done = one_more board.trace k v w so_far.done ran whole;
+          text = record {
+            front = p.front;
+            more = p.more ++ steps;
+            parts = is ∙ (ap (λ (xs : List Step). xs ++ steps) p.parts ∙ append_assoc p.front p.more steps);
+            ends = subst (λ order. AreOfSegments plays l board.slots board.trace order p.front) (sym (order_grown v w ran.begins))
+                (of_longer plays l board.slots board.trace (order_of v.seen) (new_events v w) p.front p.ends);
+            text = p.text;
+            rest = lines ∙ (ap (λ (t : List ℕ). t ++ more) p.rest ∙ (append_assoc (written p.front) pending more ∙ ap (λ (t : List ℕ). written p.front ++ t) (sym same)));
+            quiet = λ said_none. same ∙ ((λ i. p.quiet silent i ++ none said_none i) ∙ sym (lines-append p.more steps));
+          };
+          few = few_grown board v w ran.begins so_far.few few;
+        }
 
     -- some of it was written, as far as is known
-    pub underway_written : (then : Option (List ℕ)) (left : List ℕ) → IsFlushed now then pending left → IsUnderway plays l board written k v old then left
-    underway_written then left flushed = record {
-      chief = so_far.chief;
-      numbers = so_far.numbers;
-      done = so_far.done;
-      text = pending_flushed _ old now then pending left _ ends_all flushed so_far.text;
-      few = so_far.few;
-    }
+    pub underway_written : (then : Option (List ℕ)) (left : List ℕ) → IsFlushed now then pending left said → (also : List ℕ) → also ≡ [] → IsUnderway plays l board written k v old then left also
+    underway_written then left flushed also silent =
+        let p = so_far.text in
+        record {
+          chief = so_far.chief;
+          numbers = so_far.numbers;
+          done = so_far.done;
+          text = elim flushed [
+            | inl same ↦ record {
+              front = p.front;
+              more = p.more;
+              parts = p.parts;
+              ends = p.ends;
+              text = subst (λ (o : Option (List ℕ)). Appends old o (written p.front)) (sym same.0) p.text;
+              rest = p.rest ∙ ap (λ (t : List ℕ). written p.front ++ t) (sym same.1);
+              quiet = λ none. same.1 ∙ p.quiet same.2;
+            }
+            | inr all ↦ record {
+              front = story_so_far;
+              more = [];
+              parts = sym (append-nil story_so_far);
+              ends = Some_segments k (order_of v.seen) [] (sym (append-nil (order_of v.seen))) so_far.done refl;
+              text = whole_pending old now then (written p.front) pending (written story_so_far) p.rest p.text all.0;
+              rest = sym (append-nil (written story_so_far)) ∙ ap (λ (t : List ℕ). written story_so_far ++ t) (sym all.1);
+              quiet = λ none. all.1;
+            }
+          ];
+          few = so_far.few;
+        }
 
-    pub all_written : (new : Option (List ℕ)) → Appends now new pending → Appends old new (written (story plays l board.slots board.trace (order_of v.seen)))
-    all_written new done = whole_pending _ old now new pending _ so_far.text done
+    pub all_written : (new : Option (List ℕ)) → Appends now new pending → Appends old new (written story_so_far)
+    all_written new done = whole_pending old now new (written so_far.text.front) pending (written story_so_far) so_far.text.rest so_far.text.text done
 
-module _ (plays : Plays) (l : Listing) (board : Board) (m : MeterStory) (k : ℕ) (v : Known) (old now : Option (List ℕ)) (pending : List ℕ) (so_far : IsUnderway plays l board m.written k v old now pending) where
-  -- memory ran out in the segment that came next, or when its lines were made, or its calls noted, or meters changed behind it
-  pub begun_segment : (w : Known) (steps others : List Step) (more : List CallRecord) → Ran board.trace k v w → story plays l board.slots board.trace (order_of w.seen) ≡ steps ++ others
-      → records_of steps ≡ calls_told board.slots board.trace (order_of v.seen) ++ more → m.left_beyond steps (records_of others)
-      → IsInterrupted plays l board.slots m board.trace (order_of w.seen) old now
-  begun_segment w steps others more ran are calls left = record {
-    lawful = cut_short board.trace k v w so_far.done ran;
-    segments = k;
-    whole = order_of v.seen;
-    rest = new_events v w;
-    parts = order_grown v w ran.begins;
-    done = so_far.done;
-    next = ran.only;
-    text = so_far.text.done;
-    appended = so_far.text.written;
-    ends = so_far.text.whole;
-    steps = steps;
-    others = others;
-    steps_are = are;
-    more = more;
-    calls_are = calls;
-    meters = left;
-  }
+module _ (plays : Plays) (l : Listing) (board : Board) (handed : Dimensions → World → Type 0) (no_engine : Type 0) (m : MeterStory) (k : ℕ) (v : Known) (old now : Option (List ℕ)) (before after : ℕ) (pending said : List ℕ)
+    (so_far : IsUnderway plays l board m.written k v old now pending said) where
+  abbrev story_before : List Step
+  story_before = story plays l board.slots board.trace (order_of v.seen)
+
+  -- memory ran out behind these segments: the meters took some steps more, of which nothing but lines is written
+  pub begun_segment : (w : Known) (steps others : List Step) (noted : List CallRecord) → said ≡ [] → Ran board.trace k v w → story plays l board.slots board.trace (order_of w.seen) ≡ (story_before ++ steps) ++ others
+      → m.written (story_before ++ steps) ≡ m.written story_before ++ lines_of steps → records_of (story_before ++ steps) ≡ calls_told board.slots board.trace (order_of v.seen) ++ noted
+      → m.left_beyond (story_before ++ steps) (records_of others) → no_engine → IsRunInterrupted (party plays handed no_engine m (order_of w.seen) old now before after) l board.slots board.trace
+  begun_segment w steps others noted silent ran are says calls left engine =
+      let p = so_far.text in
+      let same : story_before ++ steps ≡ p.front ++ (p.more ++ steps) = ap (λ (xs : List Step). xs ++ steps) p.parts ∙ append_assoc p.front p.more steps in
+      record {
+        lawful = cut_short board.trace k v w so_far.done ran;
+        segments = k;
+        whole = order_of v.seen;
+        rest = new_events v w;
+        parts = order_grown v w ran.begins;
+        done = so_far.done;
+        next = ran.only;
+        front = p.front;
+        more = p.more ++ steps;
+        others = others;
+        steps = are ∙ ap (λ (xs : List Step). xs ++ others) same;
+        ends = p.ends;
+        text = p.text;
+        unwritten = ap m.written (sym same)
+            ∙ (says
+            ∙ (ap (λ (t : List ℕ). t ++ lines_of steps) p.rest
+            ∙ (append_assoc (m.written p.front) pending (lines_of steps)
+            ∙ ap (λ (t : List ℕ). m.written p.front ++ t) (ap (λ (t : List ℕ). t ++ lines_of steps) (p.quiet silent) ∙ sym (lines-append p.more steps)))));
+        noted = noted;
+        calls = ap records_of (sym same) ∙ calls;
+        meters = subst (λ (xs : List Step). m.left_beyond xs (records_of others)) same left;
+        engine = engine;
+      }
 
   -- writing what was pending failed
-  pub begun_flush : (new : Option (List ℕ)) → AppendsFront now new pending → m.left (story plays l board.slots board.trace (order_of v.seen))
-      → IsUnwritten plays l board.slots m board.trace (order_of v.seen) old new
-  begun_flush new front left = record {
+  pub begun_flush : (new : Option (List ℕ)) → AppendsFront now new pending → m.left story_before → no_engine
+      → IsRunUnwritten (party plays handed no_engine m (order_of v.seen) old new before after) l board.slots board.trace
+  begun_flush new front left engine = record {
     segments = k;
     done = so_far.done;
-    text = front_pending _ old now new pending _ so_far.text front;
+    text = front_pending old now new (m.written so_far.text.front) pending (m.written story_before) so_far.text.rest so_far.text.text front;
     meters = left;
+    engine = engine;
   }
 
   -- every segment was done, and all was written
-  pub run_whole : IsSound board.trace → k ≡ length board.trace.segments → m.left (story plays l board.slots board.trace (order_of v.seen))
-      → IsRunWhole plays l (fabric_at board) m board.trace (order_of v.seen)
-  run_whole sound all left = record {
-    lawful = all_done board.trace (order_of v.seen) sound (subst (λ n. IsDoneBelow board.trace n (order_of v.seen)) all so_far.done);
-    few = so_far.few;
-    meters = left;
+  pub run_whole : IsSound board.trace → k ≡ length board.trace.segments → m.left story_before → (new : Option (List ℕ)) → Appends now new pending
+      → handed (setting_of board.slots board.trace).dimensions (world_after board.slots board.trace (order_of v.seen))
+      → IsRunWritten (party plays handed no_engine m (order_of v.seen) old new before after) l (fabric_at board) board.trace
+  run_whole sound all left new written engine = record {
+    whole = record {
+      lawful = all_done board.trace (order_of v.seen) sound (subst (λ n. IsDoneBelow board.trace n (order_of v.seen)) all so_far.done);
+      few = so_far.few;
+      meters = left;
+    };
+    text = all_written plays l board m.written k v old now pending said so_far new written;
+    engine = engine;
   }
 
 -- ---- what came of a run
 
-pub status_memory : {C : Type 0} (r : Result C RunFault) → IsErrAnd r (λ fault. fault ≡ Memory) → status_of r ≡ 5
-status_memory {C} (Ok e) is = absurd is
-status_memory {C} (Err f) is = ap (λ (fault : RunFault). status_of {C = C} (Err fault)) is
+pub ending_memory : {C : Type 0} (r : Result C RunFault) → IsErrAnd r (λ fault. fault ≡ Memory) → ending_of r ≡ ended.OutOfMemory
+ending_memory {C} (Ok e) is = absurd is
+ending_memory {C} (Err f) is = ap (λ (fault : RunFault). ending_of {C = C} (Err fault)) is
 
-pub status_write : {C : Type 0} (r : Result C RunFault) → IsErrAnd r (λ fault. fault ≡ Write) → status_of r ≡ 4
-status_write {C} (Ok e) is = absurd is
-status_write {C} (Err f) is = ap (λ (fault : RunFault). status_of {C = C} (Err fault)) is
+pub ending_write : {C : Type 0} (r : Result C RunFault) → IsErrAnd r (λ fault. fault ≡ Write) → ending_of r ≡ ended.WriteFailed
+ending_write {C} (Ok e) is = absurd is
+ending_write {C} (Err f) is = ap (λ (fault : RunFault). ending_of {C = C} (Err fault)) is
+
+pub no_engine_of : {C : Type 0} (P : RunFault → Type 0) (r : Result C RunFault) → IsErrAnd r P → engine_of r ≡ None
+no_engine_of P (Ok e) is = absurd is
+no_engine_of P (Err f) is = refl

@@ -1,17 +1,16 @@
 -- A report that is read with its trace, and what is said of it. Source: this exchange's own.
-use Rattle.std.specs.Prelude.{ℕ, Bool, true, false, List, [], ◌∷◌, ◌++◌, ◌≡◌, ◌≢◌, ◌⊎◌, ◌<◌, ◌≤◌, All, codes, decimal, length}
-use Rattle.std.specs.Io.KnownBytes.{Appends, Keeps}
-use Rattle.std.specs.declared.option.Option.{Option}
-use Rattle.ex_io.specs.Ends.{Rose}
+use Rattle.std.specs.Prelude.{ℕ, Bool, true, false, List, [], ◌∷◌, ◌++◌, ◌≡◌, ◌≢◌, ◌⊎◌, ◌<◌, ◌≤◌, All, codes, length}
 use Rattle.exchange_events.specs.declared.trace.Trace.{Trace}
 use Rattle.trace_text.specs.declared.fault.Reason.{Reason}
 use Rattle.trace_text.specs.declared.fault.Reason.TheVariants as reason
 use Rattle.trace_text.specs.TraceGrammar.{IsTrace, IsRefused}
 use Rattle.trace_text.specs.TraceWords.{lines}
 use Rattle.run_verifier.specs.Verdicts.{IsInvalidAt, IsValid}
-use Rattle.meters.specs.Changing.{Step}
-use Rattle.exchange_top.specs.Inputs.{IsInputWithin, IsWholeInput, SourceAndSink}
-use Rattle.exchange_top.specs.Refusals.{Says, refusal}
+use Rattle.exchange_top.specs.Inputs.{IsInputWithin}
+use Rattle.exchange_top.specs.Refusals.{Says, line_of}
+use Rattle.exchange_top.specs.Streams.{HasFailed, IsUntouched, Stream}
+use Rattle.exchange_top.specs.declared.ending.Ending.{Ending}
+use Rattle.exchange_top.specs.declared.ending.Ending.TheVariants as ended
 
 -- ---- a trace and its report in one input
 
@@ -62,68 +61,19 @@ abbrev pub slots_of : Bool → ℕ
 slots_of true = 59
 slots_of false = 30
 
--- the line that says that a report is its trace's, and the line that says which of its lines is the first that isn't good
-abbrev pub valid_line : List ℕ
-valid_line = codes "valid\n"
+-- what is found of an input, by the ending of a call that says so
+abbrev pub Finds : Bool → List ℕ → Ending → Type 0
+Finds strict bytes ended.Completed = (t : Trace) × (report : List ℕ) × IsChecked bytes t report × IsValid (slots_of strict) t report
+Finds strict bytes (ended.Refused line reason) = IsUnchecked bytes line reason
+Finds strict bytes ended.WrongArguments = ⊥
+Finds strict bytes ended.ReadFailed = ⊥
+Finds strict bytes ended.WriteFailed = ⊥
+Finds strict bytes ended.OutOfMemory = ⊥
+Finds strict bytes (ended.Invalid line) = (t : Trace) × (report : List ℕ) × IsChecked bytes t report × IsInvalidAt (slots_of strict) t report line
 
-abbrev pub invalid_line : ℕ → List ℕ
-invalid_line number = codes "invalid " ++ decimal number ++ codes "\n"
-
--- the status and the line that are due for an input
-pub data IsDue (strict : Bool) (bytes : List ℕ) (status : ℕ) (line : List ℕ) : Type 0 where
-  Due_valid : (t : Trace) (report : List ℕ) → IsChecked bytes t report → IsValid (slots_of strict) t report
-      → status ≡ 0 → line ≡ valid_line → IsDue strict bytes status line
-  Due_invalid : (t : Trace) (report : List ℕ) (number : ℕ) → IsChecked bytes t report → IsInvalidAt (slots_of strict) t report number
-      → status ≡ 6 → line ≡ invalid_line number → IsDue strict bytes status line
-  Due_refusal : (number : ℕ) (why : Reason) → IsUnchecked bytes number why
-      → status ≡ 1 → line ≡ refusal number why → IsDue strict bytes status line
-
--- how a check of an input ends: what is due was said, or its write failed; a read failed; or there was no memory
-pub data Checks (strict : Bool) (status : ℕ) (old new : SourceAndSink) : Type 0 where
-  Said : (bytes : List ℕ) → IsInputWithin most_checked old.left new.left bytes → (wanted : ℕ) (line : List ℕ) → IsDue strict bytes wanted line
-      → Says wanted line status old.written new.written old.writes new.writes → Checks strict status old new
-  Not_read : status ≡ 3 → Rose old.reads new.reads → Keeps old.written new.written → Checks strict status old new
-  Not_room : status ≡ 5 → Keeps old.written new.written → Checks strict status old new
-
--- so, by what the types of a source and a sink say of each: the bytes left and the faults of the source, the bytes written and the faults of the sink
-abbrev pub ChecksTo : {S K : Type 0} → (strict : Bool) → ℕ → (S → Option (List ℕ)) → (S → ℕ) → (K → Option (List ℕ)) → (K → ℕ)
-    → (source_old : S) → (sink_old : K) → (source_new : S) → (sink_new : K) → Type 0
-ChecksTo strict status left reads written writes source_old sink_old source_new sink_new = Checks strict status
-    (record { left = left source_old; reads = reads source_old; written = written sink_old; writes = writes sink_old })
-    (record { left = left source_new; reads = reads source_new; written = written sink_new; writes = writes sink_new })
-
--- ---- what a status says
-
--- all of the input was read, of its report a verdict was found, and the line that says so was written; no event was done, and no meter
--- noted a call
-pub record IsFound (left : List Step → Type 0) (verdict : Trace → List ℕ → Type 0) (line : List ℕ)
-    (left_old left_new : Option (List ℕ)) (order : List ℕ) (old new : Option (List ℕ)) : Type 0 where
-  pub bytes : List ℕ
-  pub input : IsWholeInput left_old left_new bytes
-  pub trace : Trace
-  pub report : List ℕ
-  pub checked : IsChecked bytes trace report
-  pub found : verdict trace report
-  pub text : Appends old new line
-  pub none : order ≡ []
-  pub meters : left []
-
--- the report is its trace's in a lawful order
-abbrev pub IsFoundValid : (List Step → Type 0) → Bool → Option (List ℕ) → Option (List ℕ) → List ℕ → Option (List ℕ) → Option (List ℕ) → Type 0
-IsFoundValid left strict = IsFound left (IsValid (slots_of strict)) valid_line
-
--- it isn't, and the line says which of its lines is the first that isn't good
-abbrev pub IsFoundInvalid : (List Step → Type 0) → Bool → Option (List ℕ) → Option (List ℕ) → List ℕ → Option (List ℕ) → Option (List ℕ) → Type 0
-IsFoundInvalid left strict left_old left_new order old new =
-    (number : ℕ) × IsFound left (λ trace report. IsInvalidAt (slots_of strict) trace report number) (invalid_line number) left_old left_new order old new
-
--- the input has no trace, and was refused
-pub record IsFoundUnchecked (left : List Step → Type 0) (left_old left_new : Option (List ℕ)) (order : List ℕ) (old new : Option (List ℕ)) : Type 0 where
-  pub bytes : List ℕ
-  pub input : IsInputWithin most_checked left_old left_new bytes
-  pub number : ℕ
-  pub why : Reason
-  pub refused : IsUnchecked bytes number why
-  pub text : Appends old new (refusal number why)
-  pub none : order ≡ []
-  pub meters : left []
+-- how a check of an input ends: what was found was said, or its write failed; a read failed; or memory ran out
+pub data Checks (strict : Bool) (input output : Stream) (ending : Ending) : Type 0 where
+  Said : (bytes : List ℕ) → IsInputWithin most_checked input.old input.new bytes → (found : Ending) → Finds strict bytes found → Says found (line_of found) ending output
+      → Checks strict input output ending
+  Not_read : ending ≡ ended.ReadFailed → HasFailed input → IsUntouched output → Checks strict input output ending
+  No_memory : ending ≡ ended.OutOfMemory → IsUntouched output → Checks strict input output ending

@@ -2,7 +2,6 @@
 use Rattle.std.specs.Prelude.{ℕ, List, length, ◌+◌, ◌≤◌}
 use Rattle.std.specs.Io.KnownBytes.{Consumes, IsAtEnd}
 use Rattle.std.specs.declared.option.Option.{Option}
-use Rattle.trace_text.specs.TraceGrammar.{most_bytes}
 
 -- how many bytes an input of this limit is read of at the most: one piece of 65,536 more
 abbrev pub most_of : ℕ → ℕ
@@ -18,14 +17,3 @@ pub record IsInputWithin (limit : ℕ) (old new : Option (List ℕ)) (bytes : Li
   pub front : Consumes old new bytes
   pub whole : length bytes ≤ limit → IsAtEnd new
   pub few : length bytes ≤ most_of limit
-
--- so were the bytes of a trace
-abbrev pub IsInput : Option (List ℕ) → Option (List ℕ) → List ℕ → Type 0
-IsInput old new bytes = IsInputWithin most_bytes old new bytes
-
--- what is seen of the source and the sink: the bytes left and written, and their counts of faults
-pub record SourceAndSink : Type 0 where
-  pub left : Option (List ℕ)
-  pub reads : ℕ
-  pub written : Option (List ℕ)
-  pub writes : ℕ

@@ -1,5 +1,5 @@
--- How far a run came, what was written of it, and what its meters noted. Source: this exchange's own.
-use Rattle.std.specs.Prelude.{◌≡◌, ◌⊎◌, ⊤, ℕ, List, [], ◌++◌, All, IfSome}
+-- How far a run came, what was written of it, what its meters noted, and the engine. Source: this exchange's own.
+use Rattle.std.specs.Prelude.{◌≡◌, ◌⊎◌, ⊤, ℕ, List, Some, None, [], ◌++◌, All, IfSome}
 use Rattle.std.specs.Io.KnownBytes.{Appends}
 use Rattle.std.specs.declared.option.Option.{Option}
 use Rattle.exchange_events.specs.declared.record.CallRecord.{CallRecord}
@@ -7,17 +7,21 @@ use Rattle.exchange_events.specs.declared.reply.Reply.{Reply}
 use Rattle.exchange_events.specs.declared.reply.Reply.TheVariants.{Granted, Busy, Seated, NoPort, Freed, NotNailed, Sent as Sent_reply, Frame as Frame_reply}
 use Rattle.exchange_events.specs.declared.trace.Trace.{Trace}
 use Rattle.exchange_events.specs.Orders.{IsLawful, IsLawfulPrefix}
+use Rattle.exchange_events.specs.Sizes.{Dimensions}
 use Rattle.exchange_events.specs.Sound.{setting_of}
+use Rattle.exchange_core.specs.Working.{world_after}
 use Rattle.call_profile.specs.Step.{run, events_of, MovesAtMost}
-use Rattle.call_profile.specs.World.{start}
+use Rattle.call_profile.specs.World.{World, start}
 use Rattle.segment_run.specs.Segment.{IsOfSegment}
 use Rattle.segment_run.specs.Segments.{IsDoneBelow}
-use Rattle.call_processor.specs.Frames.{Plays}
+use Rattle.call_processor.specs.Frames.{Carrying, CarriesFrames, Plays}
 use Rattle.line_list.specs.declared.listing.Listing.{Listing}
-use Rattle.meters.specs.Changing.{Step, records_of}
+use Rattle.meters.specs.Changing.{Step, lines_of, records_of}
+use Rattle.exchange_top.specs.declared.ending.Ending.{Ending}
+use Rattle.exchange_top.specs.declared.ending.Ending.TheVariants as ended
 use Rattle.exchange_top.specs.Story.{story}
-use Rattle.exchange_top.specs.Streams.{AppendsFront}
-use Rattle.exchange_top.specs.Telling.{AreLeft, AreTold, MeterStory}
+use Rattle.exchange_top.specs.Streams.{HasFailed, IsWritten, IsWrittenInPart, Stream, stream}
+use Rattle.exchange_top.specs.Telling.{AreLeft, AreTold, MeterStory, meter_story}
 use Rattle.call_profile.specs.CallsTold.{calls_told}
 
 -- the fabric that a trace is run on: how many internal slots it has, and how many live paths a new path moves at the most
@@ -48,56 +52,125 @@ TellsNoMoves (Frame_reply k sends records) = ⊤
 abbrev pub MovesNone : Fabric → Trace → List ℕ → Type 0
 MovesNone fabric trace order = let s = setting_of fabric.slots trace in All TellsNoMoves (run s (start s.dimensions) (events_of trace.events order))
 
--- every event of the trace was done, in a lawful order; no path that joined moved more others than the fabric allows; and the meters are those that
--- the story of the run leaves, each with the calls that ended in its time
-pub record IsRunWhole (plays : Plays) (l : Listing) (fabric : Fabric) (m : MeterStory) (trace : Trace) (order : List ℕ) : Type 0 where
-  pub lawful : IsLawful trace order
-  pub few : MovesFew fabric trace order
-  pub meters : m.left (story plays l fabric.slots trace order)
-
 -- whichever meters the story leaves: each noted the calls that ended, and the spare ones are as they were
 abbrev pub NotesAll : {M : Type 0} → (M → List CallRecord → Type 0) → (M → List CallRecord → List ℕ) → Plays → Listing → ℕ → Trace → List ℕ → Type 0
 NotesAll {M} stands text plays l slots trace order =
     (old spare new new_spare : List M) → AreLeft stands text old spare new new_spare (story plays l slots trace order) → AreTold stands text old new (calls_told slots trace order) × (new_spare ≡ spare)
 
--- the text is what is written of the first few segments of an order, with the changes behind them, or it is empty
-pub record EndsWithSegment (plays : Plays) (l : Listing) (slots : ℕ) (written : List Step → List ℕ) (trace : Trace) (order text : List ℕ) : Type 0 where
-  pub segments : ℕ
-  pub first : List ℕ
-  pub others : List ℕ
-  pub parts : order ≡ first ++ others
-  pub done : IsDoneBelow trace segments first
-  pub text_is : (text ≡ []) ⊎ (text ≡ written (story plays l slots trace first))
+-- ---- what every ending has in common
+
+-- the engine that a call hands out has these dimensions, and carries the frames of the world
+abbrev pub HandsOut : {E : Type 0} → (E → Dimensions) → Carrying E → Option E → Dimensions → World → Type 0
+HandsOut sizes carries None d w = ⊥
+HandsOut sizes carries (Some e) d w = (sizes e ≡ d) × CarriesFrames carries e w
+
+-- what every ending has in common: what the engine plays, what is said of the engine that is handed out and that none is, what becomes of the meters,
+-- the order of the events that were done, and what was written
+pub record Parties : Type 1 where
+  pub plays : Plays
+  pub handed : Dimensions → World → Type 0
+  pub no_engine : Type 0
+  pub meters : MeterStory
+  pub order : List ℕ
+  pub output : Stream
+
+-- the parties of a call: an engine plays so, has these dimensions and carries frames so, and may be handed out; meters represent calls and say a text,
+-- and some of them are on and some spare, before and after; these events were done; and a sink tells its bytes and its errors so
+abbrev pub parties : {M E K : Type 0} → Plays → (E → Dimensions) → Carrying E → Option E → (M → List CallRecord → Type 0) → (M → List CallRecord → List ℕ)
+    → (old spare new new_spare : List M) → List ℕ → (K → Option (List ℕ)) → (K → ℕ) → (sink_old sink_new : K) → Parties
+parties plays sizes carries engine stands text old spare new new_spare order written errors sink_old sink_new = record {
+  plays = plays;
+  handed = HandsOut sizes carries engine;
+  no_engine = engine ≡ None;
+  meters = meter_story stands text old spare new new_spare;
+  order = order;
+  output = stream written errors sink_old sink_new;
+}
+
+-- no event was done, no meter was changed or noted a call, and no engine is handed out
+pub record IsIdle (x : Parties) : Type 0 where
+  pub order : x.order ≡ []
+  pub meters : x.meters.left []
+  pub engine : x.no_engine
+
+-- ---- how far a run came
+
+-- every event of the trace was done, in a lawful order; no path that joined moved more others than the fabric allows; and the meters are those that
+-- the story of the run leaves, each with the calls that ended in its time
+pub record IsRunWhole (x : Parties) (l : Listing) (fabric : Fabric) (trace : Trace) : Type 0 where
+  pub lawful : IsLawful trace x.order
+  pub few : MovesFew fabric trace x.order
+  pub meters : x.meters.left (story x.plays l fabric.slots trace x.order)
+
+-- the engine that was handed out has the size of the trace's exchange over this fabric, and carries the frames of the run
+abbrev pub IsHandedOut : Parties → Fabric → Trace → Type 0
+IsHandedOut x fabric trace = x.handed (setting_of fabric.slots trace).dimensions (world_after fabric.slots trace x.order)
+
+-- it was run whole, what is written of it was written, and the engine is handed out
+pub record IsRunWritten (x : Parties) (l : Listing) (fabric : Fabric) (trace : Trace) : Type 0 where
+  pub whole : IsRunWhole x l fabric trace
+  pub text : IsWritten x.output (x.meters.written (story x.plays l fabric.slots trace x.order))
+  pub engine : IsHandedOut x fabric trace
 
 -- A write failed behind the first segments and the changes there: the order has all their events, a prefix of what is written of them was
 -- written, and the meters are those that their story leaves.
-pub record IsUnwritten (plays : Plays) (l : Listing) (slots : ℕ) (m : MeterStory) (trace : Trace) (order : List ℕ) (old new : Option (List ℕ)) : Type 0 where
+pub record IsRunUnwritten (x : Parties) (l : Listing) (slots : ℕ) (trace : Trace) : Type 0 where
   pub segments : ℕ
-  pub done : IsDoneBelow trace segments order
-  pub text : AppendsFront old new (m.written (story plays l slots trace order))
-  pub meters : m.left (story plays l slots trace order)
+  pub done : IsDoneBelow trace segments x.order
+  pub text : IsWrittenInPart x.output (x.meters.written (story x.plays l slots trace x.order))
+  pub meters : x.meters.left (story x.plays l slots trace x.order)
+  pub engine : x.no_engine
 
--- Memory ran out behind the first segments: the order has all their events, and maybe some of the next one, lawful as far as it goes.
--- What was written is all that is written of the first few of these segments, or nothing. The meters are those that the first steps of the
--- story leave, and noted all calls that ended in the first segments, and the first few that ended in the steps that are left out.
-pub record IsInterrupted (plays : Plays) (l : Listing) (slots : ℕ) (m : MeterStory) (trace : Trace) (order : List ℕ) (old new : Option (List ℕ)) : Type 0 where
-  pub lawful : IsLawfulPrefix trace order
+-- there are no steps, or they are the story of the first few segments of an order, with the changes behind them
+pub data AreOfSegments (plays : Plays) (l : Listing) (slots : ℕ) (trace : Trace) (order : List ℕ) (steps : List Step) : Type 0 where
+  No_segments : steps ≡ [] → AreOfSegments plays l slots trace order steps
+  Some_segments : (segments : ℕ) (first others : List ℕ) → order ≡ first ++ others → IsDoneBelow trace segments first → steps ≡ story plays l slots trace first
+      → AreOfSegments plays l slots trace order steps
+
+-- An allocation failed after the first segments: the order has all their events, and perhaps a lawful prefix of the next segment. Its story has three
+-- parts. Exactly the text of `front` was written: it is the story of the first few of these segments, or empty. The meters are the result of `front`
+-- and the steps after it, `more`, of which only lines of events were not written: so a meter whose text was written has been removed, and no meter was
+-- removed whose text was not written. The meters recorded all calls that ended in the first segments, and a prefix of those in the other steps.
+pub record IsRunInterrupted (x : Parties) (l : Listing) (slots : ℕ) (trace : Trace) : Type 0 where
+  pub lawful : IsLawfulPrefix trace x.order
   pub segments : ℕ
   pub whole : List ℕ
   pub rest : List ℕ
-  pub parts : order ≡ whole ++ rest
+  pub parts : x.order ≡ whole ++ rest
   pub done : IsDoneBelow trace segments whole
   pub next : All (IsOfSegment trace segments) rest
-  pub text : List ℕ
-  pub appended : Appends old new text
-  pub ends : EndsWithSegment plays l slots m.written trace whole text
-  pub steps : List Step
+  pub front : List Step
+  pub more : List Step
   pub others : List Step
-  pub steps_are : story plays l slots trace order ≡ steps ++ others
-  pub more : List CallRecord
-  pub calls_are : records_of steps ≡ calls_told slots trace whole ++ more
-  pub meters : m.left_beyond steps (records_of others)
+  pub steps : story x.plays l slots trace x.order ≡ (front ++ more) ++ others
+  pub ends : AreOfSegments x.plays l slots trace whole front
+  pub text : IsWritten x.output (x.meters.written front)
+  pub unwritten : x.meters.written (front ++ more) ≡ x.meters.written front ++ lines_of more
+  pub noted : List CallRecord
+  pub calls : records_of (front ++ more) ≡ calls_told slots trace whole ++ noted
+  pub meters : x.meters.left_beyond (front ++ more) (records_of others)
+  pub engine : x.no_engine
 
--- what was pending is left so, or all of it was written
-abbrev pub IsFlushed : (old new : Option (List ℕ)) → (pending left : List ℕ) → Type 0
-IsFlushed old new pending left = ((new ≡ old) × (left ≡ pending)) ⊎ (Appends old new pending × (left ≡ []))
+-- how a run of a trace on this fabric ends, with this listing
+abbrev pub Runs : Parties → Fabric → Listing → Trace → Ending → Type 0
+Runs x f l t ended.Completed = IsRunWritten x l f t
+Runs x f l t (ended.Refused line reason) = ⊥
+Runs x f l t ended.WrongArguments = ⊥
+Runs x f l t ended.ReadFailed = ⊥
+Runs x f l t ended.WriteFailed = HasFailed x.output × IsRunUnwritten x l f.slots t
+Runs x f l t ended.OutOfMemory = IsRunInterrupted x l f.slots t
+Runs x f l t (ended.Invalid line) = ⊥
+
+-- how writing a text that sums up a whole run ends: it is written and the engine is handed on, or a prefix of it was written and none is, or nothing was
+abbrev pub SumsUp : {E : Type 0} → Stream → List ℕ → (given handed : Option E) → Ending → Type 0
+SumsUp output text given handed ended.Completed = IsWritten output text × (handed ≡ given)
+SumsUp output text given handed (ended.Refused line reason) = ⊥
+SumsUp output text given handed ended.WrongArguments = ⊥
+SumsUp output text given handed ended.ReadFailed = ⊥
+SumsUp output text given handed ended.WriteFailed = HasFailed output × IsWrittenInPart output text × (handed ≡ None)
+SumsUp output text given handed ended.OutOfMemory = IsWritten output [] × (handed ≡ None)
+SumsUp output text given handed (ended.Invalid line) = ⊥
+
+-- what was pending is left so, and meters said nothing in it, or all of it was written
+abbrev pub IsFlushed : (old new : Option (List ℕ)) → (pending left said : List ℕ) → Type 0
+IsFlushed old new pending left said = ((new ≡ old) × (left ≡ pending) × (said ≡ [])) ⊎ (Appends old new pending × (left ≡ []))

@@ -1,11 +1,10 @@
--- The lines that refuse an input, and how a line is written that ends a call. Source: this exchange's own.
-use Rattle.std.specs.Prelude.{ℕ, List, codes, decimal, ◌++◌, ◌≡◌}
-use Rattle.std.specs.Io.KnownBytes.{Appends}
-use Rattle.std.specs.declared.option.Option.{Option}
-use Rattle.ex_io.specs.Ends.{Rose}
+-- The lines that end a call in which no trace is run, and how such a line is written. Source: this exchange's own.
+use Rattle.std.specs.Prelude.{ℕ, List, [], codes, decimal, ◌++◌, ◌≡◌}
 use Rattle.trace_text.specs.declared.fault.Reason.{Reason}
 use Rattle.trace_text.specs.declared.fault.Reason.TheVariants as reason
-use Rattle.exchange_top.specs.Streams.{AppendsFront}
+use Rattle.exchange_top.specs.declared.ending.Ending.{Ending}
+use Rattle.exchange_top.specs.declared.ending.Ending.TheVariants as ended
+use Rattle.exchange_top.specs.Streams.{HasFailed, IsWritten, IsWrittenInPart, Stream}
 
 -- how a refusal names its reason
 abbrev pub reason_name : Reason → List ℕ
@@ -26,7 +25,24 @@ refusal number why = codes "refused " ++ decimal number ++ codes " " ++ reason_n
 abbrev pub words_refusal : List ℕ
 words_refusal = codes "refused words\n"
 
--- how a line ends a call: it was written and the status is the wanted one, or the write failed; the counts are the sink's faults before and after
-pub data Says (wanted : ℕ) (line : List ℕ) (status : ℕ) (old new : Option (List ℕ)) (before after : ℕ) : Type 0 where
-  Told_so : status ≡ wanted → Appends old new line → Says wanted line status old new before after
-  Untold : status ≡ 4 → Rose before after → AppendsFront old new line → Says wanted line status old new before after
+-- the line that says that a report is its trace's, and the line that says which of its lines is the first that isn't good
+abbrev pub valid_line : List ℕ
+valid_line = codes "valid\n"
+
+abbrev pub invalid_line : ℕ → List ℕ
+invalid_line number = codes "invalid " ++ decimal number ++ codes "\n"
+
+-- the line of each ending, where no trace is run
+abbrev pub line_of : Ending → List ℕ
+line_of ended.Completed = valid_line
+line_of (ended.Refused line reason) = refusal line reason
+line_of ended.WrongArguments = words_refusal
+line_of ended.ReadFailed = []
+line_of ended.WriteFailed = []
+line_of ended.OutOfMemory = []
+line_of (ended.Invalid line) = invalid_line line
+
+-- how a line ends a call: it was written and the ending is the wanted one, or the write failed
+pub data Says (wanted : Ending) (line : List ℕ) (ending : Ending) (output : Stream) : Type 0 where
+  Told_so : ending ≡ wanted → IsWritten output line → Says wanted line ending output
+  Untold : ending ≡ ended.WriteFailed → HasFailed output → IsWrittenInPart output line → Says wanted line ending output

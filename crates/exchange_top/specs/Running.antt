@@ -3,7 +3,6 @@ use Rattle.std.specs.Prelude.{◌≡◌, ◌++◌, ℕ, List, All, Result, Ok, E
 use Rattle.tone_rules.specs.Tables.{table_of}
 use Rattle.seat_history.specs.declared.known.Known.{Known}
 use Rattle.exchange_core.specs.Boards.{Board, setting_at, world_at}
-use Rattle.exchange_core.specs.Working.{order_of}
 use Rattle.call_profile.specs.Step.{run, events_of, MovesAtMost}
 use Rattle.segment_run.specs.Segment.{new_events}
 use Rattle.call_processor.specs.Frames.{Plays}
@@ -13,7 +12,8 @@ use Rattle.line_list.specs.Lines.{Line, calls_of, line_of, listed, text_of}
 use Rattle.std.specs.declared.option.Option.{Option}
 use Rattle.exchange_top.specs.declared.run.RunFault.{RunFault}
 use Rattle.exchange_top.specs.declared.run.RunFault.TheVariants.{Memory, Write}
-use Rattle.exchange_top.specs.Commands.{Parties, RunsTo}
+use Rattle.exchange_top.specs.declared.ending.Ending.{Ending}
+use Rattle.exchange_top.specs.declared.ending.Ending.TheVariants as ended
 use Rattle.exchange_top.specs.Outcomes.{Fabric}
 use Rattle.exchange_events.specs.declared.record.CallRecord.{CallRecord}
 use Rattle.report_text.specs.RunReport.{event_lines}
@@ -55,16 +55,12 @@ pub record IsAdded (plays : Plays) (l : Listing) (board : Board) (v w : Known) (
   pub few : GrewFew board v w
   pub calls : calls_of after ≡ calls_of before ++ grown_calls board v w
 
--- the status that answers what came of a run, and the engine that is handed out then
-abbrev pub status_of : {C : Type 0} → Result C RunFault → ℕ
-status_of (Ok engine) = 0
-status_of (Err Write) = 4
-status_of (Err Memory) = 5
+-- the ending that a run's result says, and the engine that is handed out then
+abbrev pub ending_of : {C : Type 0} → Result C RunFault → Ending
+ending_of (Ok engine) = ended.Completed
+ending_of (Err Write) = ended.WriteFailed
+ending_of (Err Memory) = ended.OutOfMemory
 
 abbrev pub engine_of : {C : Type 0} → Result C RunFault → Option C
 engine_of (Ok engine) = Some engine
 engine_of (Err fault) = None
-
--- how a run on a board ends, by what came of it and what a seat has seen
-abbrev pub RunsOn : {C K : Type 0} → Parties → Board → Listing → Result C RunFault → Known → (K → Option (List ℕ)) → (K → ℕ) → (old new : K) → Type 0
-RunsOn x board l result seat written faults old new = RunsTo x (fabric_at board) l board.trace (status_of result) (order_of seat.seen) written faults old new

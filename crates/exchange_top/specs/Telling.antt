@@ -1,6 +1,6 @@
 -- The calls that the meters of a run note. Source: this exchange's own.
-use Rattle.std.specs.Prelude.{◌≡◌, ℕ, List, [], ◌∷◌, ◌++◌}
-use Rattle.std.specs.List.{AllZip}
+use Rattle.std.specs.Prelude.{◌≡◌, ℕ, List, [], ◌∷◌, ◌++◌, map}
+use Rattle.std.specs.List.{AllZip, concat}
 use Rattle.exchange_events.specs.declared.answer.Answer.{Answer}
 use Rattle.exchange_events.specs.declared.record.CallRecord.{CallRecord}
 use Rattle.call_profile.specs.CallsTold.{calls_kept}
@@ -34,11 +34,12 @@ pub record AreMeteredBeyond {M : Type 0} (more : List CallRecord) (stands : M �
   pub spares : spare ≡ s.spare
 
 -- what becomes of the meters of a run by the steps of its story: which ones are left then, and what they noted; the same where each of these noted
--- the first few of more records; and what is written
+-- the first few of more records; what is written; and what they say in the end
 pub record MeterStory : Type 1 where
   pub left : List Step → Type 0
   pub left_beyond : List Step → List CallRecord → Type 0
   pub written : List Step → List ℕ
+  pub summary : List ℕ
 
 -- the meters that are on and the spare ones are those that the steps leave of these
 abbrev pub AreLeft : {M : Type 0} → (M → List CallRecord → Type 0) → (M → List CallRecord → List ℕ) → (old spare new new_spare : List M) → List Step → Type 0
@@ -50,4 +51,5 @@ meter_story stands text old spare new new_spare = record {
   left = AreLeft stands text old spare new new_spare;
   left_beyond = λ steps more. AreMeteredBeyond more stands text (after_steps steps (handed_in old spare)) new new_spare;
   written = λ steps. steps_text text steps (handed_in old spare);
+  summary = concat (map (λ m. text m []) new);
 }

@@ -1,25 +1,23 @@
-ghost use Rattle.std.specs.Prelude.{◌≡◌, ◌+◌, ℕ, ◌≤◌, ◌⊎◌, ◌↔◌, Bool, List, [], map, IsSome, None, Some};
+ghost use Rattle.std.specs.Prelude.{◌≡◌, ◌+◌, ◌≤◌, ◌⊎◌, ◌↔◌, [], map, None};
 ghost use Rattle.std.specs.List.{concat};
-ghost use Rattle.std.specs.Io.KnownBytes.{Appends, Keeps};
-ghost use Rattle.ex_io.specs.Ends.{Rose};
-ghost use Rattle.trace_text.specs.declared.fault.Reason.{Reason};
-ghost use Rattle.trace_text.specs.TraceGrammar.{IsTrace, IsRefused, most_bytes};
-ghost use Rattle.exchange_events.specs.declared.trace.Trace.{Trace};
 ghost use Rattle.exchange_events.specs.Sound.{IsSound};
 ghost use Rattle.exchange_core.specs.Beginnings.{IsUnused};
-ghost use Rattle.run_verifier.specs.Verdicts.{IsInvalidAt, IsValid};
-ghost use Rattle.exchange_top.specs.Checking.{IsChecked, IsUnchecked, slots_of};
-ghost use Rattle.exchange_top.specs.Commands.{FindsInvalid, FindsValid, HasRun, IsCheck, IsCheckOn, IsRun, IsGeneration, IsNoCommand, IsCutOff, IsReading, IsCut, IsUnfinished, RunsTo, Sums, SumsUp, AnswersTo, CallEnds, ReportsTo, RunEnds, TurnsDown, fabric_of, most_read, parties, texts};
+ghost use Rattle.trace_text.specs.TraceGrammar.{most_bytes};
+ghost use Rattle.exchange_top.specs.declared.ending.Ending.{Ending};
+ghost use Rattle.exchange_top.specs.declared.ending.Ending.TheVariants.{Completed, ReadFailed, WriteFailed};
+ghost use Rattle.exchange_top.specs.Commands.{IsReading, fabric_of, most_read, texts};
+ghost use Rattle.exchange_top.specs.Endings.{EndsAs, GenerationEnds, HasEnded, InputEnds, IsDue, RunEnds, status_of};
 ghost use Rattle.exchange_top.specs.Inputs.{most_of};
-ghost use Rattle.exchange_top.specs.Outcomes.{fabric};
-ghost use Rattle.exchange_top.specs.Refusals.{Says, words_refusal};
-ghost use Rattle.exchange_top.specs.Streams.{AppendsFront, ConsumesAtMost};
+ghost use Rattle.exchange_top.specs.Outcomes.{Runs, SumsUp, fabric, parties};
+ghost use Rattle.exchange_top.specs.Refusals.{Says};
+ghost use Rattle.exchange_top.specs.Streams.{ConsumesAtMost, stream};
 ghost use Rattle.exchange_top.specs.Summary.{summary_text};
-ghost use Rattle.exchange_top.specs.Telling.{AreLeft};
 
 use crate::checking::check;
+use crate::ending::Ending;
 use crate::refusals::{refusal, say};
 use crate::run::{RunFault, run};
+use crate::setting::{Metering, Pending, Setting};
 use crate::streams::{ReadFault, read_all, write_all};
 use crate::summary::summary;
 use command_words::{Command, WordsFault, read_command};
@@ -34,6 +32,7 @@ use line_list::{LineList, ListingKind, NoLines, ReportLines};
 use meters::Meter;
 use std::alloc::Global;
 use std::collections::VecDeque;
+use std::mem;
 use std::sync::Wait;
 use std::thread::Threads;
 use strict_map::StrictMap;
@@ -53,31 +52,39 @@ pub struct Outcome<C: Carrier> {
     pub engine: Option<C>,
 }
 
-// An outcome of a call that did no event.
-fn without_events<C: Carrier>(alloc: Global, status: u8) -> Outcome<C>
-    ensures status { result.status ≡ status }
+// How a part of a call ended, the numbers of the events that were done, and the engine that is handed out.
+#[derive(Drop)]
+struct Ended<C: Carrier> {
+    ending: Ending,
+    order: Vec<u32>,
+    engine: Option<C>,
+}
+
+// The end of a part that did no event.
+fn idle<C: Carrier>(alloc: Global, ending: Ending) -> Ended<C>
+    ensures ending { result.ending ≡ ending }
     ensures none { result.order.items ≡ [] }
     ensures engine { result.engine ≡ None }
 {
-    Outcome {
-        status,
+    Ended {
+        ending,
         order: Vec::new(alloc),
         engine: None,
     }
 }
 
-// Writes a refusal, which answers with the given status unless a write fails.
-fn refuse<K: Sink, C: Carrier>(alloc: Global, sink: &mut K, line: &[u8], status: u8) -> Outcome<C>
+// Writes a line, and ends with the given ending unless the write fails.
+fn refuse<K: Sink, C: Carrier>(alloc: Global, sink: &mut K, line: &[u8], ending: Ending) -> Ended<C>
     ensures none { result.order.items ≡ [] }
     ensures engine { result.engine ≡ None }
-    ensures answer { Says status line.now result.status (K.written sink.old) (K.written sink.new) (K.faults sink.old) (K.faults sink.new) }
-    ensures writes { (result.status ≡ 4) ⊎ (K.faults sink.new ≡ K.faults sink.old) }
+    ensures answer { Says ending line.now result.ending (stream K.written K.faults sink.old sink.new) }
+    ensures writes { (result.ending ≡ WriteFailed) ⊎ (K.faults sink.new ≡ K.faults sink.old) }
 {
-    without_events(alloc, say(sink, line, status))
+    idle(alloc, say(sink, line, ending))
 }
 
 // Runs a trace on a map of paths, once there is room for the numbers of its events. Lines are kept in
-// `lines` until they are written.
+// `pending` until they are written.
 fn run_on<
     P: PathMap + Drop + Send,
     K: Sink,
@@ -86,44 +93,41 @@ fn run_on<
     L: ListingKind + Send + Drop,
     R: Threads + Wait + Sync,
 >(
-    rt: &R,
-    alloc: Global,
+    setting: &Setting<'_, R, G>,
     trace: &Trace,
     map: P,
-    lines: &mut LineList<L>,
+    pending: &mut Pending<L>,
     sink: &mut K,
-    gate: &G,
-    meters: &mut Vec<Box<dyn Meter>>,
-    spare: &mut VecDeque<Box<dyn Meter>>,
-) -> Outcome<C>
+    metering: &mut Metering,
+) -> Ended<C>
     requires sound { IsSound trace.now }
     requires paths { IsUnused (trace.now.external + trace.now.bridges) (P.width map) (P.depth map) (P.layout map) }
-    requires blank { lines.old ≡ [] }
-    ensures runs { RunsTo (parties C.plays C.sizes C.carries result.engine
-        (λ m. stands m) (λ m. text m) meters.old.items spare.old.items meters.new.items spare.new.items)
-        (fabric P.depth P.bound map)
-        L.listing trace.now result.status result.order.items K.written K.faults sink.old sink.new }
-    ensures engine { IsSome result.engine ↔ (result.status ≡ 0) }
-    ensures writes { (result.status ≡ 4) ⊎ (K.faults sink.new ≡ K.faults sink.old) }
+    requires blank { pending.old.lines ≡ [] }
+    requires silent { pending.old.said.items ≡ [] }
+    ensures runs { Runs
+        (parties C.plays C.sizes C.carries result.engine (λ m. stands m) (λ m. text m)
+        metering.old.on.items metering.old.spare.items metering.new.on.items metering.new.spare.items
+        result.order.items K.written K.faults sink.old sink.new)
+        (fabric P.depth P.bound map) L.listing trace.now result.ending }
+    ensures writes { (result.ending ≡ WriteFailed) ⊎ (K.faults sink.new ≡ K.faults sink.old) }
 {
+    let alloc = setting.alloc;
     let Ok(mut order) = Vec::with_capacity(alloc, trace.events.as_slice().len()) else {
-        return without_events(alloc, 5);
+        return idle(alloc, Ending::OutOfMemory);
     };
-    match run(
-        rt, alloc, trace, map, &mut order, lines, sink, gate, meters, spare,
-    ) {
-        Ok(engine) => Outcome {
-            status: 0,
+    match run(setting, trace, map, &mut order, pending, sink, metering) {
+        Ok(engine) => Ended {
+            ending: Ending::Completed,
             order,
             engine: Some(engine),
         },
-        Err(RunFault::Write) => Outcome {
-            status: 4,
+        Err(RunFault::Write) => Ended {
+            ending: Ending::WriteFailed,
             order,
             engine: None,
         },
-        Err(RunFault::Memory) => Outcome {
-            status: 5,
+        Err(RunFault::Memory) => Ended {
+            ending: Ending::OutOfMemory,
             order,
             engine: None,
         },
@@ -132,68 +136,71 @@ fn run_on<
 
 // Runs a trace on the fabric that is asked for.
 fn run_trace<K: Sink, G: Gate, C: Carrier, L: ListingKind + Send + Drop, R: Threads + Wait + Sync>(
-    rt: &R,
-    alloc: Global,
+    setting: &Setting<'_, R, G>,
     trace: &Trace,
     strict: bool,
-    lines: &mut LineList<L>,
+    pending: &mut Pending<L>,
     sink: &mut K,
-    gate: &G,
-    meters: &mut Vec<Box<dyn Meter>>,
-    spare: &mut VecDeque<Box<dyn Meter>>,
-) -> Outcome<C>
+    metering: &mut Metering,
+) -> Ended<C>
     requires sound { IsSound trace.now }
-    requires blank { lines.old ≡ [] }
-    ensures runs { RunsTo (parties C.plays C.sizes C.carries result.engine
-        (λ m. stands m) (λ m. text m) meters.old.items spare.old.items meters.new.items spare.new.items)
-        (fabric_of strict trace.now)
-        L.listing trace.now result.status result.order.items K.written K.faults sink.old sink.new }
-    ensures engine { IsSome result.engine ↔ (result.status ≡ 0) }
-    ensures writes { (result.status ≡ 4) ⊎ (K.faults sink.new ≡ K.faults sink.old) }
+    requires blank { pending.old.lines ≡ [] }
+    requires silent { pending.old.said.items ≡ [] }
+    ensures runs { Runs
+        (parties C.plays C.sizes C.carries result.engine (λ m. stands m) (λ m. text m)
+        metering.old.on.items metering.old.spare.items metering.new.on.items metering.new.spare.items
+        result.order.items K.written K.faults sink.old sink.new)
+        (fabric_of strict trace.now) L.listing trace.now result.ending }
+    ensures writes { (result.ending ≡ WriteFailed) ⊎ (K.faults sink.new ≡ K.faults sink.old) }
 {
+    let alloc = setting.alloc;
     let width = trace.external + trace.bridges;
     if strict {
         match StrictMap::new(alloc, width) {
-            Ok(paths) => run_on(rt, alloc, trace, paths, lines, sink, gate, meters, spare),
-            Err(_) => without_events(alloc, 5),
+            Ok(paths) => run_on(setting, trace, paths, pending, sink, metering),
+            Err(_) => idle(alloc, Ending::OutOfMemory),
         }
     } else {
         match FabricMap::new(alloc, width) {
-            Ok(paths) => run_on(rt, alloc, trace, paths, lines, sink, gate, meters, spare),
-            Err(_) => without_events(alloc, 5),
+            Ok(paths) => run_on(setting, trace, paths, pending, sink, metering),
+            Err(_) => idle(alloc, Ending::OutOfMemory),
         }
     }
 }
 
-// Answers the bytes that were read.
-fn answer<K: Sink, G: Gate, C: Carrier, R: Threads + Wait + Sync>(
-    rt: &R,
-    alloc: Global,
+// Runs the trace that the bytes are, or refuses them.
+fn run_bytes<K: Sink, G: Gate, C: Carrier, R: Threads + Wait + Sync>(
+    setting: &Setting<'_, R, G>,
     bytes: Vec<u8>,
     strict: bool,
     sink: &mut K,
-    gate: &G,
-    meters: &mut Vec<Box<dyn Meter>>,
-    spare: &mut VecDeque<Box<dyn Meter>>,
-) -> Outcome<C>
-    ensures answers { AnswersTo (parties C.plays C.sizes C.carries result.engine
-        (λ m. stands m) (λ m. text m) meters.old.items spare.old.items meters.new.items spare.new.items)
-        strict bytes.items result.status result.order.items K.written K.faults sink.old sink.new }
-    ensures engine { IsSome result.engine ↔ (result.status ≡ 0) }
-    ensures writes { (result.status ≡ 4) ⊎ (K.faults sink.new ≡ K.faults sink.old) }
+    metering: &mut Metering,
+) -> Ended<C>
+    ensures ends { InputEnds strict bytes.items
+        (parties C.plays C.sizes C.carries result.engine (λ m. stands m) (λ m. text m)
+        metering.old.on.items metering.old.spare.items metering.new.on.items metering.new.spare.items
+        result.order.items K.written K.faults sink.old sink.new) result.ending }
+    ensures writes { (result.ending ≡ WriteFailed) ⊎ (K.faults sink.new ≡ K.faults sink.old) }
 {
+    let alloc = setting.alloc;
     match read_trace(alloc, bytes.as_slice()) {
         Ok(trace) => {
             // The lines take the memory that the input had, so that its pages are not faulted in anew.
-            let mut lines: LineList<ReportLines> = LineList::new(alloc, bytes);
-            run_trace(
-                rt, alloc, &trace, strict, &mut lines, sink, gate, meters, spare,
-            )
+            let mut pending: Pending<ReportLines> = Pending {
+                lines: LineList::new(alloc, bytes),
+                said: Vec::new(alloc),
+            };
+            run_trace(setting, &trace, strict, &mut pending, sink, metering)
         }
-        Err(TraceFault::Memory) => without_events(alloc, 5),
+        Err(TraceFault::Memory) => idle(alloc, Ending::OutOfMemory),
         Err(TraceFault::Line { number, reason }) => match refusal(alloc, number, reason) {
-            Ok(line) => refuse(alloc, sink, line.as_slice(), 1),
-            Err(_) => without_events(alloc, 5),
+            Ok(line) => refuse(
+                alloc,
+                sink,
+                line.as_slice(),
+                Ending::Refused { number, reason },
+            ),
+            Err(_) => idle(alloc, Ending::OutOfMemory),
         },
     }
 }
@@ -202,38 +209,31 @@ fn answer<K: Sink, G: Gate, C: Carrier, R: Threads + Wait + Sync>(
 fn sum_up<K: Sink, C: Carrier>(
     alloc: Global,
     trace: &Trace,
-    outcome: Outcome<C>,
+    ended: Ended<C>,
     sink: &mut K,
     meters: &[Box<dyn Meter>],
-) -> Outcome<C>
-    requires whole { outcome.status ≡ 0 }
-    requires engine { IsSome outcome.engine }
-    ensures order { result.order ≡ outcome.order }
-    ensures summed { result.status ≡ 0 → (result.engine ≡ outcome.engine)
-        × Appends (K.written sink.old) (K.written sink.new) (summary_text trace.now (concat (map (λ m. text m []) meters.now))) }
-    ensures unwritten { result.status ≡ 4 → Rose (K.faults sink.old) (K.faults sink.new)
-        × AppendsFront (K.written sink.old) (K.written sink.new) (summary_text trace.now (concat (map (λ m. text m []) meters.now))) }
-    ensures unsaid { result.status ≡ 5 → Keeps (K.written sink.old) (K.written sink.new) }
-    ensures statuses { (result.status ≡ 0) ⊎ (result.status ≡ 4) ⊎ (result.status ≡ 5) }
-    ensures engine { IsSome result.engine ↔ (result.status ≡ 0) }
-    ensures writes { (result.status ≡ 4) ⊎ (K.faults sink.new ≡ K.faults sink.old) }
+) -> Ended<C>
+    ensures order { result.order ≡ ended.order }
+    ensures sums { SumsUp (stream K.written K.faults sink.old sink.new)
+        (summary_text trace.now (concat (map (λ m. text m []) meters.now))) ended.engine result.engine result.ending }
+    ensures writes { (result.ending ≡ WriteFailed) ⊎ (K.faults sink.new ≡ K.faults sink.old) }
 {
-    let Outcome { order, engine, .. } = outcome;
+    let Ended { order, engine, .. } = ended;
     let Ok(text) = summary(alloc, trace, meters) else {
-        return Outcome {
-            status: 5,
+        return Ended {
+            ending: Ending::OutOfMemory,
             order,
             engine: None,
         };
     };
     match write_all(sink, text.as_slice()) {
-        Ok(()) => Outcome {
-            status: 0,
+        Ok(()) => Ended {
+            ending: Ending::Completed,
             order,
             engine,
         },
-        Err(_) => Outcome {
-            status: 4,
+        Err(_) => Ended {
+            ending: Ending::WriteFailed,
             order,
             engine: None,
         },
@@ -243,96 +243,89 @@ fn sum_up<K: Sink, C: Carrier>(
 // Runs the trace generated of a seed with n calls, on thirty internal slots, and writes its
 // summary.
 fn run_generated<K: Sink, G: Gate, C: Carrier, R: Threads + Wait + Sync>(
-    rt: &R,
-    alloc: Global,
+    setting: &Setting<'_, R, G>,
     seed: u32,
     calls: u32,
     sink: &mut K,
-    gate: &G,
-    meters: &mut Vec<Box<dyn Meter>>,
-    spare: &mut VecDeque<Box<dyn Meter>>,
-) -> Outcome<C>
+    metering: &mut Metering,
+) -> Ended<C>
     requires some { 1 ≤ calls }
     requires most { calls ≤ 2000 }
-    ensures sums { Sums (parties C.plays C.sizes C.carries result.engine
-        (λ m. stands m) (λ m. text m) meters.old.items spare.old.items meters.new.items spare.new.items)
-        seed calls result.status result.order.items (K.written sink.old) (K.written sink.new) (K.faults sink.old) (K.faults sink.new) }
-    ensures engine { IsSome result.engine ↔ (result.status ≡ 0) }
-    ensures writes { (result.status ≡ 4) ⊎ (K.faults sink.new ≡ K.faults sink.old) }
+    ensures ends { GenerationEnds seed calls
+        (parties C.plays C.sizes C.carries result.engine (λ m. stands m) (λ m. text m)
+        metering.old.on.items metering.old.spare.items metering.new.on.items metering.new.spare.items
+        result.order.items K.written K.faults sink.old sink.new) result.ending }
+    ensures writes { (result.ending ≡ WriteFailed) ⊎ (K.faults sink.new ≡ K.faults sink.old) }
 {
+    let alloc = setting.alloc;
     let Ok(trace) = generated(alloc, u64::from(seed), calls) else {
-        return without_events(alloc, 5);
+        return idle(alloc, Ending::OutOfMemory);
     };
-    let mut lines: LineList<NoLines> = LineList::new(alloc, Vec::new(alloc));
-    let outcome = run_trace(
-        rt, alloc, &trace, false, &mut lines, sink, gate, meters, spare,
-    );
-    if outcome.status != 0 {
-        return outcome;
+    let mut pending: Pending<NoLines> = Pending {
+        lines: LineList::new(alloc, Vec::new(alloc)),
+        said: Vec::new(alloc),
+    };
+    let ended = run_trace(setting, &trace, false, &mut pending, sink, metering);
+    match ended.ending {
+        Ending::Completed => sum_up(alloc, &trace, ended, sink, metering.on.as_slice()),
+        _ => ended,
     }
-    sum_up(alloc, &trace, outcome, sink, meters.as_slice())
 }
 
-// Reads the input, and answers it.
+// Reads the input, and runs it.
 fn run_input<S: Source, K: Sink, G: Gate, C: Carrier, R: Threads + Wait + Sync>(
-    rt: &R,
-    alloc: Global,
+    setting: &Setting<'_, R, G>,
     strict: bool,
     source: &mut S,
     sink: &mut K,
-    gate: &G,
-    meters: &mut Vec<Box<dyn Meter>>,
-    spare: &mut VecDeque<Box<dyn Meter>>,
-) -> Outcome<C>
-    ensures ends { RunEnds (parties C.plays C.sizes C.carries result.engine
-        (λ m. stands m) (λ m. text m) meters.old.items spare.old.items meters.new.items spare.new.items)
-        strict result.status result.order.items
-        S.left S.faults K.written K.faults source.old sink.old source.new sink.new }
+    metering: &mut Metering,
+) -> Ended<C>
+    ensures ends { RunEnds strict (stream S.left S.faults source.old source.new)
+        (parties C.plays C.sizes C.carries result.engine (λ m. stands m) (λ m. text m)
+        metering.old.on.items metering.old.spare.items metering.new.on.items metering.new.spare.items
+        result.order.items K.written K.faults sink.old sink.new) result.ending }
     ensures stops { ConsumesAtMost (most_of most_bytes) (S.left source.old) (S.left source.new) }
-    ensures engine { IsSome result.engine ↔ (result.status ≡ 0) }
-    ensures reads { (result.status ≡ 3) ⊎ (S.faults source.new ≡ S.faults source.old) }
-    ensures writes { (result.status ≡ 4) ⊎ (K.faults sink.new ≡ K.faults sink.old) }
+    ensures reads { (result.ending ≡ ReadFailed) ⊎ (S.faults source.new ≡ S.faults source.old) }
+    ensures writes { (result.ending ≡ WriteFailed) ⊎ (K.faults sink.new ≡ K.faults sink.old) }
 {
+    let alloc = setting.alloc;
     match read_all(alloc, source, MOST_BYTES) {
-        Ok(bytes) => answer(rt, alloc, bytes, strict, sink, gate, meters, spare),
-        Err(ReadFault::Read) => without_events(alloc, 3),
-        Err(ReadFault::Memory) => without_events(alloc, 5),
+        Ok(bytes) => run_bytes(setting, bytes, strict, sink, metering),
+        Err(ReadFault::Read) => idle(alloc, Ending::ReadFailed),
+        Err(ReadFault::Memory) => idle(alloc, Ending::OutOfMemory),
     }
 }
 
-// Answers the words.
+// Does what the words ask for.
 fn answer_words<S: Source, K: Sink, G: Gate, C: Carrier, R: Threads + Wait + Sync>(
-    rt: &R,
-    alloc: Global,
+    setting: &Setting<'_, R, G>,
     words: &[String],
     source: &mut S,
     sink: &mut K,
-    gate: &G,
-    meters: &mut Vec<Box<dyn Meter>>,
-    spare: &mut VecDeque<Box<dyn Meter>>,
-) -> Outcome<C>
-    ensures ends { CallEnds (parties C.plays C.sizes C.carries result.engine
-        (λ m. stands m) (λ m. text m) meters.old.items spare.old.items meters.new.items spare.new.items)
-        (texts words.now) result.status result.order.items
-        S.left S.faults K.written K.faults source.old sink.old source.new sink.new }
+    metering: &mut Metering,
+) -> Ended<C>
+    ensures ends { HasEnded (texts words.now) (stream S.left S.faults source.old source.new)
+        (parties C.plays C.sizes C.carries result.engine (λ m. stands m) (λ m. text m)
+        metering.old.on.items metering.old.spare.items metering.new.on.items metering.new.spare.items
+        result.order.items K.written K.faults sink.old sink.new) result.ending }
     ensures unread { ¬ IsReading (texts words.now) → source.new ≡ source.old }
     ensures stops { ConsumesAtMost (most_read (texts words.now)) (S.left source.old) (S.left source.new) }
-    ensures engine { IsSome result.engine ↔ HasRun result.status (texts words.now) }
-    ensures reads { (result.status ≡ 3) ⊎ (S.faults source.new ≡ S.faults source.old) }
-    ensures writes { (result.status ≡ 4) ⊎ (K.faults sink.new ≡ K.faults sink.old) }
+    ensures reads { (result.ending ≡ ReadFailed) ⊎ (S.faults source.new ≡ S.faults source.old) }
+    ensures writes { (result.ending ≡ WriteFailed) ⊎ (K.faults sink.new ≡ K.faults sink.old) }
 {
+    let alloc = setting.alloc;
     match read_command(alloc, words) {
-        Ok(Command::Run { strict }) => run_input(
-            rt, alloc, strict, source, sink, gate, meters, spare,
+        Ok(Command::Run { strict }) => run_input(setting, strict, source, sink, metering),
+        Ok(Command::Generate { seed, calls }) => run_generated(
+            setting, seed, calls, sink, metering,
         ),
-        Ok(Command::Generate { seed, calls }) => {
-            run_generated(rt, alloc, seed, calls, sink, gate, meters, spare)
-        }
         Ok(Command::Check { strict }) => {
-            without_events(alloc, check(rt, alloc, strict, source, sink))
+            idle(alloc, check(setting.rt, alloc, strict, source, sink))
         }
-        Err(WordsFault::NoCommand) => refuse(alloc, sink, b"refused words\n", 2),
-        Err(WordsFault::Memory) => without_events(alloc, 5),
+        Err(WordsFault::NoCommand) => {
+            refuse(alloc, sink, b"refused words\n", Ending::WrongArguments)
+        }
+        Err(WordsFault::Memory) => idle(alloc, Ending::OutOfMemory),
     }
 }
 
@@ -372,76 +365,32 @@ pub fn exchange<S: Source, K: Sink, G: Gate, C: Carrier, R: Threads + Wait + Syn
     meters: &mut Vec<Box<dyn Meter>>,
     spare: &mut VecDeque<Box<dyn Meter>>,
 ) -> Outcome<C>
-    // 0 for `run`: all of the input was read, it is a trace, its events were done in an order that is
-    // lawful for it, their report was written, with what the engine plays in each frame and what each
-    // meter says that is taken out, the meters that are left noted the calls that ended in their time,
-    // and the engine has the trace's sizes and carries their frames. With the flag the fabric is a
-    // strict one, and each number of moved paths in the report is 0.
-    ensures done { result.status ≡ 0 → ReportsTo (parties C.plays C.sizes C.carries result.engine
-        (λ m. stands m) (λ m. text m) meters.old.items spare.old.items meters.new.items spare.new.items)
-        words.now result.order.items S.left K.written source.old source.new sink.old sink.new }
-    // 0 for `gen`: the same for the generated trace, whose summary was written.
-    ensures summed { result.status ≡ 0 → SumsUp (parties C.plays C.sizes C.carries result.engine
-        (λ m. stands m) (λ m. text m) meters.old.items spare.old.items meters.new.items spare.new.items)
-        (texts words.now) result.order.items K.written sink.old sink.new }
-    // 0 for `check`: all of the input was read, it has a trace and the report of that trace in some order
-    // that is lawful for it, and the line that says so was written.
-    ensures found_valid { result.status ≡ 0 → FindsValid
-        (AreLeft (λ m. stands m) (λ m. text m) meters.old.items spare.old.items meters.new.items spare.new.items)
-        words.now result.order.items S.left K.written source.old source.new sink.old sink.new }
-    // An engine is handed out where a trace was run.
-    ensures engine { IsSome result.engine ↔ HasRun result.status (texts words.now) }
-    // 6, for `check` alone: the same of a report that isn't its trace's, and the line was written that says
-    // which of its lines is the first that isn't good.
-    ensures found_invalid { result.status ≡ 6 → FindsInvalid
-        (AreLeft (λ m. stands m) (λ m. text m) meters.old.items spare.old.items meters.new.items spare.new.items)
-        words.now result.order.items S.left K.written source.old source.new sink.old sink.new }
-    // 1: what was read is no trace, or for `check` has none, and the line that says so was written.
-    ensures turned_down { result.status ≡ 1 → TurnsDown
-        (AreLeft (λ m. stands m) (λ m. text m) meters.old.items spare.old.items meters.new.items spare.new.items)
-        words.now result.order.items S.left K.written source.old source.new sink.old sink.new }
-    // 2: the words are no command, and the line that says so was written.
-    ensures wrong_words { result.status ≡ 2 → IsNoCommand (texts words.now)
-        × (result.order.items ≡ [])
-        × Appends (K.written sink.old) (K.written sink.new) words_refusal
-        × AreLeft (λ m. stands m) (λ m. text m) meters.old.items spare.old.items meters.new.items spare.new.items [] }
-    // 3: a read failed, nothing was written, no meter was changed, and none noted a call.
-    ensures read_failed { result.status ≡ 3 → Rose (S.faults source.old) (S.faults source.new) }
-    ensures silent { result.status ≡ 3 → (result.order.items ≡ []) × Keeps (K.written sink.old) (K.written sink.new)
-        × AreLeft (λ m. stands m) (λ m. text m) meters.old.items spare.old.items meters.new.items spare.new.items [] }
-    // 4: a write failed; whole segments were run and noted by the meters, which were changed at their
-    // ends, and a prefix of their text was written, or a prefix of a verdict's line. 5: there was no memory;
-    // behind whole segments maybe one was begun, or some of the changes behind it were made, and what was
-    // written ends with a segment; of a verdict nothing was.
-    ensures write_failed { result.status ≡ 4 → Rose (K.faults sink.old) (K.faults sink.new) }
-    ensures cut_short { IsCut result.status → IsCutOff (parties C.plays C.sizes C.carries result.engine
-        (λ m. stands m) (λ m. text m) meters.old.items spare.old.items meters.new.items spare.new.items)
-        result.status words.now result.order.items S.left K.written source.old source.new sink.old sink.new }
-    // There is no other status, and a fault is answered by its own alone.
-    ensures statuses { result.status ≤ 6 }
-    ensures reads { (result.status ≡ 3) ⊎ (S.faults source.new ≡ S.faults source.old) }
-    ensures writes { (result.status ≡ 4) ⊎ (K.faults sink.new ≡ K.faults sink.old) }
+    // How the call ended: what is true of it for each cause.
+    ensures ends { (ending : Ending) × (result.status ≡ status_of ending) × HasEnded (texts words.now)
+        (stream S.left S.faults source.old source.new)
+        (parties C.plays C.sizes C.carries result.engine
+        (λ m. stands m) (λ m. text m) meters.old.items spare.old.items meters.new.items spare.new.items
+        result.order.items K.written K.faults sink.old sink.new) ending }
+    // The arguments and the input decide the ending, unless a read or a write fails or memory runs out.
+    ensures due { (due : Ending) → IsDue (texts words.now) (S.left source.old) due → EndsAs due result.status }
+    // No other ending hides an error of the source or of the sink.
+    ensures reads { (result.status ≡ status_of ReadFailed) ⊎ (S.faults source.new ≡ S.faults source.old) }
+    ensures writes { (result.status ≡ status_of WriteFailed) ⊎ (K.faults sink.new ≡ K.faults sink.old) }
     // No more of the input is read than the command's limit and one piece; only `run` and `check` read any.
     ensures stops { ConsumesAtMost (most_read (texts words.now)) (S.left source.old) (S.left source.new) }
     ensures unread { ¬ IsReading (texts words.now) → source.new ≡ source.old }
-    // The words and the input decide, unless a fault comes or memory runs out.
-    ensures other_words { IsNoCommand (texts words.now) → (result.status ≡ 2) ⊎ (result.status ≡ 4) ⊎ (result.status ≡ 5) }
-    ensures command { IsRun (texts words.now) → (result.status ≡ 0) ⊎ (result.status ≡ 1) ⊎ IsUnfinished result.status }
-    ensures verdict { IsCheck (texts words.now) → (result.status ≡ 0) ⊎ (result.status ≡ 1) ⊎ (result.status ≡ 6) ⊎ IsUnfinished result.status }
-    ensures generation { (seed calls : ℕ) → IsGeneration (texts words.now) seed calls
-        → (result.status ≡ 0) ⊎ (result.status ≡ 4) ⊎ (result.status ≡ 5) }
-    ensures trace { (bytes : List ℕ) (t : Trace) → S.left source.old ≡ Some bytes → IsTrace bytes t
-        → IsRun (texts words.now) → (result.status ≡ 0) ⊎ IsUnfinished result.status }
-    ensures no_trace { (bytes : List ℕ) (number : ℕ) (why : Reason) → S.left source.old ≡ Some bytes → IsRefused bytes number why
-        → IsRun (texts words.now) → (result.status ≡ 1) ⊎ IsUnfinished result.status }
-    ensures checked { (bytes report : List ℕ) (t : Trace) → S.left source.old ≡ Some bytes → IsChecked bytes t report
-        → IsCheck (texts words.now) → (result.status ≡ 0) ⊎ (result.status ≡ 6) ⊎ IsUnfinished result.status }
-    ensures valid { (bytes report : List ℕ) (t : Trace) (strict : Bool) → S.left source.old ≡ Some bytes → IsChecked bytes t report
-        → IsCheckOn (texts words.now) strict → IsValid (slots_of strict) t report → (result.status ≡ 0) ⊎ IsUnfinished result.status }
-    ensures invalid { (bytes report : List ℕ) (t : Trace) (strict : Bool) (n : ℕ) → S.left source.old ≡ Some bytes → IsChecked bytes t report
-        → IsCheckOn (texts words.now) strict → IsInvalidAt (slots_of strict) t report n → (result.status ≡ 6) ⊎ IsUnfinished result.status }
-    ensures unchecked { (bytes : List ℕ) (number : ℕ) (why : Reason) → S.left source.old ≡ Some bytes → IsUnchecked bytes number why
-        → IsCheck (texts words.now) → (result.status ≡ 1) ⊎ IsUnfinished result.status }
 {
-    answer_words(rt, alloc, words, source, sink, gate, meters, spare)
+    let setting = Setting { rt, alloc, gate };
+    let mut metering = Metering {
+        on: mem::replace(meters, Vec::new(alloc)),
+        spare: mem::replace(spare, VecDeque::new(alloc)),
+    };
+    let ended = answer_words(&setting, words, source, sink, &mut metering);
+    *meters = metering.on;
+    *spare = metering.spare;
+    Outcome {
+        status: ended.ending.status(),
+        order: ended.order,
+        engine: ended.engine,
+    }
 }

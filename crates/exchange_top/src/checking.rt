@@ -1,9 +1,12 @@
 //! A report that is read with its trace, and verified against it.
 ghost use Rattle.std.specs.Prelude.{◌≡◌, ◌⊎◌, IfOk};
-ghost use Rattle.exchange_top.specs.Checking.{ChecksTo, IsDivided, IsDue, IsFirstLine, invalid_line, most_checked, slots_of};
+ghost use Rattle.exchange_top.specs.declared.ending.Ending.TheVariants.{ReadFailed, Refused, WriteFailed};
+ghost use Rattle.exchange_top.specs.Checking.{Checks, Finds, IsDivided, IsFirstLine, most_checked, slots_of};
 ghost use Rattle.exchange_top.specs.Inputs.{most_of};
-ghost use Rattle.exchange_top.specs.Streams.{ConsumesAtMost};
+ghost use Rattle.exchange_top.specs.Refusals.{invalid_line, line_of};
+ghost use Rattle.exchange_top.specs.Streams.{ConsumesAtMost, stream};
 
+use crate::ending::Ending;
 use crate::refusals::{refusal, say};
 use crate::streams::{ReadFault, read_all};
 use ex_io::{Sink, Source};
@@ -22,50 +25,61 @@ const MOST_CHECKED: usize = 268_435_456;
 const DIVIDER: &[u8] = b"report";
 
 /// Reads a trace and a report, and writes the verdict on the report, of the fabric with the flag or of the
-/// one without. Returns the status: 0 for `valid`, 6 for `invalid`, 1 for a refusal, 3 where a read failed,
-/// 4 where a write failed, 5 where memory ran out.
+/// one without. Returns the ending: `Completed` for `valid`, `Invalid`, or `Refused` where there is no trace;
+/// or a failed read or write, or memory that ran out.
 pub fn check<S: Source, K: Sink, R: Threads + Sync>(
     rt: &R,
     alloc: Global,
     strict: bool,
     source: &mut S,
     sink: &mut K,
-) -> u8
-    ensures ends { ChecksTo strict result S.left S.faults K.written K.faults source.old sink.old source.new sink.new }
+) -> Ending
+    ensures ends { Checks strict
+        (stream S.left S.faults source.old source.new) (stream K.written K.faults sink.old sink.new) result }
     ensures stops { ConsumesAtMost (most_of most_checked) (S.left source.old) (S.left source.new) }
-    ensures reads { (result ≡ 3) ⊎ (S.faults source.new ≡ S.faults source.old) }
-    ensures writes { (result ≡ 4) ⊎ (K.faults sink.new ≡ K.faults sink.old) }
+    ensures reads { (result ≡ ReadFailed) ⊎ (S.faults source.new ≡ S.faults source.old) }
+    ensures writes { (result ≡ WriteFailed) ⊎ (K.faults sink.new ≡ K.faults sink.old) }
 {
     let bytes = match read_all(alloc, source, MOST_CHECKED) {
         Ok(bytes) => bytes,
-        Err(ReadFault::Read) => return 3,
-        Err(ReadFault::Memory) => return 5,
+        Err(ReadFault::Read) => return Ending::ReadFailed,
+        Err(ReadFault::Memory) => return Ending::OutOfMemory,
     };
-    match due(rt, alloc, bytes.as_slice(), strict) {
-        Ok((status, line)) => say(sink, line.as_slice(), status),
-        Err(_) => 5,
+    match found(rt, alloc, bytes.as_slice(), strict) {
+        Ok((ending, line)) => say(sink, line.as_slice(), ending),
+        Err(_) => Ending::OutOfMemory,
     }
 }
 
-// The status and the line that are due for an input.
-fn due<R: Threads + Sync>(
+// What is found of an input, and the line that says so.
+fn found<R: Threads + Sync>(
     rt: &R,
     alloc: Global,
     bytes: &[u8],
     strict: bool,
-) -> Result<(u8, Vec<u8>), AllocError>
-    ensures { IfOk result (λ due. IsDue strict bytes.now due.0 due.1.items) }
+) -> Result<(Ending, Vec<u8>), AllocError>
+    ensures { IfOk result (λ found. Finds strict bytes.now found.0 × (found.1.items ≡ line_of found.0)) }
 {
     if bytes.len() > MOST_CHECKED {
-        return Ok((1, refusal(alloc, 0, Reason::Limit)?));
+        return refused(alloc, 0, Reason::Limit);
     }
     let (trace, report) = divided(bytes);
     match verify(rt, alloc, trace, report, slots_of(strict)) {
-        Ok(Verdict::Valid) => Ok((0, Vec::from_slice(alloc, b"valid\n")?)),
-        Ok(Verdict::Invalid(number)) => Ok((6, invalid_line(alloc, number)?)),
-        Err(VerifyFault::Trace { number, reason }) => Ok((1, refusal(alloc, number, reason)?)),
+        Ok(Verdict::Valid) => Ok((Ending::Completed, Vec::from_slice(alloc, b"valid\n")?)),
+        Ok(Verdict::Invalid(number)) => {
+            Ok((Ending::Invalid { number }, invalid_line(alloc, number)?))
+        }
+        Err(VerifyFault::Trace { number, reason }) => refused(alloc, number, reason),
         Err(VerifyFault::Memory) => Err(AllocError),
     }
+}
+
+// The refusal of an input at a line, and the line that says so.
+fn refused(alloc: Global, number: u32, reason: Reason) -> Result<(Ending, Vec<u8>), AllocError>
+    ensures { IfOk result (λ found. (found.0 ≡ Refused number reason) × (found.1.items ≡ line_of found.0)) }
+{
+    let line = refusal(alloc, number, reason)?;
+    Ok((Ending::Refused { number, reason }, line))
 }
 
 // How many internal slots a strict fabric has, and how many the other.

@@ -30,13 +30,16 @@
 mod call;
 mod changing;
 mod checking;
+mod ending;
 mod laws;
 mod refusals;
 mod run;
 mod segments;
+mod setting;
 mod streams;
 mod summary;
 mod telling;
 
 pub use call::{Outcome, exchange};
+pub use ending::Ending;
 pub use laws::{law_of_divisions, law_of_unchanged_meters, strict_runs_move_nothing};

@@ -1,7 +1,10 @@
 //! The lines that refuse an input, and a line that ends a call.
 ghost use Rattle.std.specs.Prelude.{◌≡◌, ◌⊎◌, IfOk};
+ghost use Rattle.exchange_top.specs.declared.ending.Ending.TheVariants.{WriteFailed};
 ghost use Rattle.exchange_top.specs.Refusals.{Says, reason_name, refusal};
+ghost use Rattle.exchange_top.specs.Streams.{stream};
 
+use crate::ending::Ending;
 use crate::streams::write_all;
 use ex_io::Sink;
 use itoa::Buffer;
@@ -37,13 +40,13 @@ pub fn refusal(alloc: Global, number: u32, reason: Reason) -> Result<Vec<u8>, Al
     Ok(line)
 }
 
-/// Writes the line that ends a call, and returns the call's status: the given one, unless the write fails.
-pub fn say<K: Sink>(sink: &mut K, line: &[u8], status: u8) -> u8
-    ensures answer { Says status line.now result (K.written sink.old) (K.written sink.new) (K.faults sink.old) (K.faults sink.new) }
-    ensures writes { (result ≡ 4) ⊎ (K.faults sink.new ≡ K.faults sink.old) }
+/// Writes the line that ends a call, and returns the call's ending: the given one, unless the write fails.
+pub fn say<K: Sink>(sink: &mut K, line: &[u8], ending: Ending) -> Ending
+    ensures answer { Says ending line.now result (stream K.written K.faults sink.old sink.new) }
+    ensures writes { (result ≡ WriteFailed) ⊎ (K.faults sink.new ≡ K.faults sink.old) }
 {
     match write_all(sink, line) {
-        Ok(()) => status,
-        Err(_) => 4,
+        Ok(()) => ending,
+        Err(_) => Ending::WriteFailed,
     }
 }

@@ -6,11 +6,13 @@ ghost use Rattle.exchange_core.specs.Working.{order_of};
 ghost use Rattle.seat_history.specs.Seats.{first_seat};
 ghost use Rattle.shared_exchange.specs.Sharing.{IsSeated};
 ghost use Rattle.call_processor.specs.Frames.{IsReady};
-ghost use Rattle.exchange_top.specs.Commands.{RunsTo, parties};
-ghost use Rattle.exchange_top.specs.Outcomes.{fabric};
-ghost use Rattle.exchange_top.specs.Running.{engine_of, status_of};
+ghost use Rattle.exchange_top.specs.declared.ending.Ending.TheVariants.{WriteFailed};
+ghost use Rattle.exchange_top.specs.Outcomes.{Runs, fabric, parties};
+ghost use Rattle.exchange_top.specs.Running.{ending_of, engine_of};
 
 use crate::segments::{Carried, report_segments};
+use crate::setting::{Metering, Pending, Setting};
+use call_processor::{Machine, RunContext};
 use control_memory::{Image, PathMap};
 use ex_io::{Failed, Sink};
 use exchange_core::{Core, Tool};
@@ -18,11 +20,9 @@ use exchange_events::Trace;
 use frame_engine::Carrier;
 use gate::Gate;
 use line_list::{LineList, ListingKind};
-use meters::Meter;
 use segment_run::Workroom;
 use shared_exchange::{Seat, SharedExchange};
 use std::alloc::{AllocError, Global};
-use std::collections::VecDeque;
 use std::sync::Wait;
 use std::thread::Threads;
 
@@ -54,7 +54,7 @@ impl From<Failed> for RunFault {
 /// Runs a trace on a map of paths, segment after segment, each by its call processors and its frame
 /// worker side by side; writes what is listed of it, tells the meters of the calls that end, changes them
 /// where the trace does, and notes the numbers of the events of the journal in `order`, which has room
-/// for them. Lines are kept in `lines` until they are written. Returns the engine that carried the octets.
+/// for them. Lines are kept in `pending` until they are written. Returns the engine that carried the octets.
 ///
 /// # Errors
 ///
@@ -69,45 +69,37 @@ pub fn run<
     L: ListingKind + Send + Drop,
     R: Threads + Wait + Sync,
 >(
-    rt: &R,
-    alloc: Global,
+    setting: &Setting<'_, R, G>,
     trace: &Trace,
     paths: P,
     order: &mut Vec<u32>,
-    lines: &mut LineList<L>,
+    pending: &mut Pending<L>,
     sink: &mut K,
-    gate: &G,
-    meters: &mut Vec<Box<dyn Meter>>,
-    spare: &mut VecDeque<Box<dyn Meter>>,
+    metering: &mut Metering,
 ) -> Result<C, RunFault>
     requires sound { IsSound trace.now }
     requires paths { IsUnused (trace.now.external + trace.now.bridges) (P.width paths) (P.depth paths) (P.layout paths) }
     requires empty { order.old.items ≡ [] }
-    requires blank { lines.old ≡ [] }
+    requires blank { pending.old.lines ≡ [] }
+    requires silent { pending.old.said.items ≡ [] }
     requires room { length trace.now.events ≤ vec_capacity order.old }
-    ensures runs { RunsTo (parties C.plays C.sizes C.carries (engine_of result)
-        (λ m. stands m) (λ m. text m) meters.old.items spare.old.items meters.new.items spare.new.items)
-        (fabric P.depth P.bound paths)
-        L.listing trace.now (status_of result) order.new.items K.written K.faults sink.old sink.new }
-    ensures writes { (status_of result ≡ 4) ⊎ (K.faults sink.new ≡ K.faults sink.old) }
+    ensures runs { Runs (parties C.plays C.sizes C.carries (engine_of result) (λ m. stands m) (λ m. text m)
+        metering.old.on.items metering.old.spare.items metering.new.on.items metering.new.spare.items
+        order.new.items K.written K.faults sink.old sink.new)
+        (fabric P.depth P.bound paths) L.listing trace.now (ending_of result) }
+    ensures writes { (ending_of result ≡ WriteFailed) ⊎ (K.faults sink.new ≡ K.faults sink.old) }
 {
-    let (board, mut seat, carried) = equipped(alloc, trace, paths, lines)?;
+    let (board, mut seat, carried) = equipped(setting.alloc, trace, paths, &pending.lines)?;
     let mut carried = Some(carried);
-    let mut said = Vec::new(alloc);
-    let done = report_segments(
-        rt,
-        alloc,
-        &board,
-        &mut seat,
+    let cx = RunContext {
+        rt: setting.rt,
+        alloc: setting.alloc,
+        board: &board,
         trace,
-        &mut carried,
-        lines,
-        &mut said,
-        sink,
-        gate,
-        meters,
-        spare,
-    );
+        gate: setting.gate,
+    };
+    let done = report_segments(&cx, &mut seat, &mut carried, pending, sink, metering);
+    drop(cx);
     note_order(order, board.close(seat).journal());
     done
 }
@@ -131,7 +123,7 @@ fn equipped<'t, P: PathMap + Drop, C: Carrier, L: ListingKind + Send + Drop>(
     requires paths { IsUnused (trace.now.external + trace.now.bridges) (P.width paths) (P.depth paths) (P.layout paths) }
     ensures board { IfOk result (λ r. r.0.setting ≡ record { trace = trace.now; slots = P.depth paths; bound = P.bound paths }) }
     ensures seat { IfOk result (λ r. IsSeated r.0 r.1 × (r.1.known ≡ first_seat (length trace.now.events))) }
-    ensures ready { IfOk result (λ r. IsReady C.carries C.next C.sizes r.0.setting [] r.2.engine r.2.tool) }
+    ensures ready { IfOk result (λ r. IsReady C.carries C.next C.sizes r.0.setting [] r.2.machine.value.engine r.2.machine.value.desk.tool) }
 {
     let slots = paths.slots();
     let core = Core::new(alloc, trace, paths)?;
@@ -151,15 +143,15 @@ fn carried_first<T: Drop, C: Carrier, L: ListingKind + Send + Drop>(
     requires sound { IsSound trace.now }
     requires slots { 1 ≤ slots × (slots ≤ 59) }
     ensures ready { IfOk result (λ r. (bound : ℕ)
-        → IsReady C.carries C.next C.sizes (record { trace = trace.now; slots = slots; bound = bound }) [] r.engine r.tool) }
+        → IsReady C.carries C.next C.sizes (record { trace = trace.now; slots = slots; bound = bound }) [] r.machine.value.engine r.machine.value.desk.tool) }
 {
     let (external, bridges) = (trace.external, trace.bridges);
     let workroom = Workroom::new(alloc, lines)?;
     let image = Image::new(alloc, external, bridges, slots)?;
     let engine = C::new(alloc, external, bridges, slots)?;
+    let machine = Machine::new(alloc, engine, Tool::Image(image));
     Ok(Carried {
-        engine,
-        tool: Tool::Image(image),
+        machine: Box::new(alloc, machine)?,
         workroom,
     })
 }

@@ -1,50 +1,48 @@
 //! The segments of a run, and what is written of each.
-ghost use Rattle.std.specs.Prelude.{◌≡◌, ◌⊎◌, ◌*◌, ◌<◌, ◌≤◌, ◌++◌, [], drop, length, IsSomeAnd, OnOk, OnErr};
+ghost use Rattle.std.specs.Prelude.{◌≡◌, ◌⊎◌, ◌*◌, ◌<◌, ◌≤◌, ◌++◌, [], drop, length, IsSome, IsSomeAnd, OnOk, OnErr};
 ghost use Rattle.std.specs.Io.KnownBytes.{Appends};
 ghost use Rattle.ex_io.specs.Ends.{Rose};
 ghost use Rattle.seat_history.specs.Seats.{first_seat};
 ghost use Rattle.exchange_core.specs.Boards.{turns_of};
 ghost use Rattle.exchange_events.specs.Sound.{IsSound};
 ghost use Rattle.exchange_core.specs.Working.{order_of};
-ghost use Rattle.call_processor.specs.Frames.{IsReady, IsReadyFor};
+ghost use Rattle.call_processor.specs.Frames.{IsReady, IsReadyAt};
 ghost use Rattle.segment_run.specs.Segment.{IsChief, Ran, RanWhole};
 ghost use Rattle.segment_run.specs.Segments.{IsDoneBelow};
 ghost use Rattle.line_list.specs.Lines.{calls_of, text_of};
-ghost use Rattle.exchange_top.specs.Commands.{parties};
-ghost use Rattle.exchange_top.specs.Outcomes.{IsFlushed};
-ghost use Rattle.exchange_top.specs.Running.{AreOfAnswers, GrowthIsTold, IsAdded, RunsOn, engine_of, status_of};
+ghost use Rattle.exchange_top.specs.declared.ending.Ending.TheVariants.{WriteFailed};
+ghost use Rattle.exchange_top.specs.Outcomes.{IsFlushed, Runs, parties};
+ghost use Rattle.exchange_top.specs.Running.{AreOfAnswers, GrowthIsTold, IsAdded, ending_of, engine_of, fabric_at};
 ghost use Rattle.exchange_top.specs.Streams.{AppendsFront};
 ghost use Rattle.exchange_top.specs.Telling.{AreTold, AreToldFront};
 
 use crate::changing::change_at;
 use crate::run::RunFault;
+use crate::setting::{Metering, Pending};
 use crate::streams::write_all;
 use crate::telling::tell;
-use call_processor::Keeper;
+use call_processor::{Keeper, Machine, RunContext};
 use ex_io::{Failed, Sink};
-use exchange_core::{Switchboard, Tool};
-use exchange_events::{CallRecord, Trace};
+use exchange_core::Switchboard;
+use exchange_events::CallRecord;
 use frame_engine::Carrier;
 use gate::Gate;
 use line_list::{LineList, ListingKind};
 use meters::Meter;
 use segment_run::{Workroom, run_segment_with};
-use std::alloc::{AllocError, Global};
-use std::collections::VecDeque;
+use std::alloc::AllocError;
 use std::sync::Wait;
 use std::thread::Threads;
 
 // How many bytes of a report are gathered before they are written, the lines of a segment together.
 const PIECE: usize = 65_536;
 
-/// What goes from one segment to the next: the engine, the control memory of its next frame, and the
-/// workroom. `T` is the type of the workers' seats, and `L` says what is listed.
+/// What goes from one segment to the next: the machine and the workroom. `T` is the type of the workers'
+/// seats, and `L` says what is listed.
 #[derive(Drop)]
 pub struct Carried<T, C, L> {
-    /// The engine, which has carried the frames so far.
-    pub engine: C,
-    /// The control memory.
-    pub tool: Tool,
+    /// The machine, which has carried the frames so far.
+    pub machine: Box<Machine<C>>,
     /// Where the workers of a segment work.
     pub workroom: Workroom<T, LineList<L>>,
 }
@@ -52,7 +50,7 @@ pub struct Carried<T, C, L> {
 /// Runs the segments of a board's trace one after the other, writes of them what is listed, and tells
 /// the meters of the calls that end. Then the changes behind a segment are made, those before the first
 /// event before any segment. The lines of a segment are written once all of that is done; until then they
-/// are kept in `lines`, and what the meters say that are taken out behind them, in `said`.
+/// are pending, and so is what the meters say that are taken out behind them.
 pub fn report_segments<
     B: Switchboard,
     K: Sink,
@@ -61,49 +59,72 @@ pub fn report_segments<
     L: ListingKind + Send + Drop,
     R: Threads + Wait + Sync,
 >(
-    rt: &R,
-    alloc: Global,
-    board: &B,
+    cx: &RunContext<'_, B, G, R>,
     seat: &mut B::Seat,
-    trace: &Trace,
     carried: &mut Option<Carried<B::Seat, C, L>>,
-    lines: &mut LineList<L>,
-    said: &mut Vec<u8>,
+    pending: &mut Pending<L>,
     sink: &mut K,
-    gate: &G,
-    meters: &mut Vec<Box<dyn Meter>>,
-    spare: &mut VecDeque<Box<dyn Meter>>,
+    metering: &mut Metering,
 ) -> Result<C, RunFault>
-    requires blank { lines.old ≡ [] }
-    requires silent { said.old.items ≡ [] }
-    requires seated { B.seated board.now seat.old }
-    requires trace { trace.now ≡ (B.board board.now).trace }
-    requires sound { IsSound trace.now }
-    requires fresh { B.known seat.old ≡ first_seat (turns_of (B.board board.now)) }
-    requires ready { IsSomeAnd carried.old (λ c. IsReady C.carries C.next C.sizes (B.board board.now) [] c.engine c.tool) }
-    ensures seated { B.seated board.now seat.new }
-    ensures chief { IsChief (turns_of (B.board board.now)) (B.known seat.new) }
-    ensures runs { RunsOn (parties C.plays C.sizes C.carries (engine_of result)
-        (λ m. stands m) (λ m. text m) meters.old.items spare.old.items meters.new.items spare.new.items)
-        (B.board board.now) L.listing result (B.known seat.new) K.written K.faults sink.old sink.new }
-    ensures writes { (status_of result ≡ 4) ⊎ (K.faults sink.new ≡ K.faults sink.old) }
+    requires blank { pending.old.lines ≡ [] }
+    requires silent { pending.old.said.items ≡ [] }
+    requires seated { B.seated cx.now.board.now seat.old }
+    requires trace { cx.now.trace.now ≡ (B.board cx.now.board.now).trace }
+    requires sound { IsSound cx.now.trace.now }
+    requires fresh { B.known seat.old ≡ first_seat (turns_of (B.board cx.now.board.now)) }
+    requires ready { IsSomeAnd carried.old (λ c. IsReady C.carries C.next C.sizes (B.board cx.now.board.now) [] c.machine.value.engine c.machine.value.desk.tool) }
+    ensures seated { B.seated cx.now.board.now seat.new }
+    ensures chief { IsChief (turns_of (B.board cx.now.board.now)) (B.known seat.new) }
+    ensures runs { Runs (parties C.plays C.sizes C.carries (engine_of result) (λ m. stands m) (λ m. text m)
+        metering.old.on.items metering.old.spare.items metering.new.on.items metering.new.spare.items
+        (order_of (B.known seat.new).seen) K.written K.faults sink.old sink.new)
+        (fabric_at (B.board cx.now.board.now)) L.listing (B.board cx.now.board.now).trace (ending_of result) }
+    ensures writes { (ending_of result ≡ WriteFailed) ⊎ (K.faults sink.new ≡ K.faults sink.old) }
 {
-    let ends = trace.segments.as_slice();
-    let changes = trace.changes.as_slice();
-    let mut made = change_at(changes, 0, 0, meters, spare, said)?;
-    flush_full(sink, lines, said)?;
+    let ends = cx.trace.segments.as_slice();
+    let changes = cx.trace.changes.as_slice();
+    let mut made = change_at(
+        changes,
+        0,
+        0,
+        &mut metering.on,
+        &mut metering.spare,
+        &mut pending.said,
+    )?;
+    flush_full(sink, pending)?;
     for segment in 0..ends.len() as u32 {
         report_segment(
-            rt, alloc, board, seat, trace, segment, carried, lines, gate, meters,
+            cx,
+            seat,
+            segment,
+            carried,
+            &mut pending.lines,
+            &mut metering.on,
         )?;
-        made = change_at(changes, made, ends[segment as usize], meters, spare, said)?;
-        flush_full(sink, lines, said)?;
+        made = change_at(
+            changes,
+            made,
+            ends[segment as usize],
+            &mut metering.on,
+            &mut metering.spare,
+            &mut pending.said,
+        )?;
+        flush_full(sink, pending)?;
     }
-    flush(sink, lines, said)?;
-    let Some(last) = carried.take() else {
-        unreachable!()
-    };
-    Ok(last.engine)
+    flush(sink, pending)?;
+    let machine = Box::into_inner(taken(carried).machine);
+    Ok(machine.engine)
+}
+
+// Takes the value that there is.
+fn taken<T>(place: &mut Option<T>) -> T
+    requires { IsSome place.old }
+    ensures { place.old ≡ Some result }
+{
+    match place.take() {
+        Some(value) => value,
+        None => unreachable!(),
+    }
 }
 
 // Runs one segment, and keeps the lines of its events behind those before them. What goes from one segment
@@ -115,57 +136,38 @@ fn report_segment<
     L: ListingKind + Send + Drop,
     R: Threads + Wait + Sync,
 >(
-    rt: &R,
-    alloc: Global,
-    board: &B,
+    cx: &RunContext<'_, B, G, R>,
     seat: &mut B::Seat,
-    trace: &Trace,
     segment: u32,
     carried: &mut Option<Carried<B::Seat, C, L>>,
     lines: &mut LineList<L>,
-    gate: &G,
     meters: &mut Vec<Box<dyn Meter>>,
 ) -> Result<(), AllocError>
-    requires seated { B.seated board.now seat.old }
-    requires trace { trace.now ≡ (B.board board.now).trace }
-    requires sound { IsSound trace.now }
-    requires segment { segment < length trace.now.segments }
-    requires chief { IsChief (turns_of (B.board board.now)) (B.known seat.old) }
+    requires seated { B.seated cx.now.board.now seat.old }
+    requires trace { cx.now.trace.now ≡ (B.board cx.now.board.now).trace }
+    requires sound { IsSound cx.now.trace.now }
+    requires segment { segment < length cx.now.trace.now.segments }
+    requires chief { IsChief (turns_of (B.board cx.now.board.now)) (B.known seat.old) }
     requires numbers { (B.known seat.old).made ≤ 9 * segment }
     requires kept { AreOfAnswers L.listing lines.old }
-    requires done { IsDoneBelow trace.now segment (order_of (B.known seat.old).seen) }
-    requires ready { IsSomeAnd carried.old (λ c. IsReadyFor C.carries C.next C.sizes (B.board board.now) (B.known seat.old) c.engine c.tool) }
-    ensures seated { B.seated board.now seat.new }
-    ensures chief { IsChief (turns_of (B.board board.now)) (B.known seat.new) }
-    ensures ran { Ran trace.now segment (B.known seat.old) (B.known seat.new) }
-    ensures whole { OnOk result (RanWhole trace.now segment (B.known seat.old) (B.known seat.new)) }
-    ensures added { OnOk result (IsAdded C.plays L.listing (B.board board.now) (B.known seat.old) (B.known seat.new) lines.old lines.new) }
+    requires done { IsDoneBelow cx.now.trace.now segment (order_of (B.known seat.old).seen) }
+    requires ready { IsSomeAnd carried.old (λ c. IsReadyAt C.carries C.next C.sizes (B.board cx.now.board.now) (B.known seat.old) c.machine.value) }
+    ensures seated { B.seated cx.now.board.now seat.new }
+    ensures chief { IsChief (turns_of (B.board cx.now.board.now)) (B.known seat.new) }
+    ensures ran { Ran cx.now.trace.now segment (B.known seat.old) (B.known seat.new) }
+    ensures whole { OnOk result (RanWhole cx.now.trace.now segment (B.known seat.old) (B.known seat.new)) }
+    ensures added { OnOk result (IsAdded C.plays L.listing (B.board cx.now.board.now) (B.known seat.old) (B.known seat.new) lines.old lines.new) }
     ensures told { OnOk result (GrowthIsTold (AreTold (λ m. stands m) (λ m. text m) meters.old.items meters.new.items)
-        (B.board board.now) (B.known seat.old) (B.known seat.new)) }
+        (B.board cx.now.board.now) (B.known seat.old) (B.known seat.new)) }
     ensures told_front { OnErr result (GrowthIsTold (AreToldFront (λ m. stands m) (λ m. text m) meters.old.items meters.new.items)
-        (B.board board.now) (B.known seat.old) (B.known seat.new)) }
-    ensures ready { OnOk result (IsSomeAnd carried.new (λ c. IsReadyFor C.carries C.next C.sizes (B.board board.now) (B.known seat.new) c.engine c.tool)) }
+        (B.board cx.now.board.now) (B.known seat.old) (B.known seat.new)) }
+    ensures ready { OnOk result (IsSomeAnd carried.new (λ c. IsReadyAt C.carries C.next C.sizes (B.board cx.now.board.now) (B.known seat.new) c.machine.value)) }
 {
-    let Some(before) = carried.take() else {
-        unreachable!()
-    };
+    let Carried { machine, workroom } = taken(carried);
     let told = lines.records().len();
-    let done = run_segment_with(
-        rt,
-        alloc,
-        board,
-        seat,
-        trace,
-        segment,
-        before.engine,
-        before.tool,
-        before.workroom,
-        lines,
-        gate,
-    )?;
+    let done = run_segment_with(cx, seat, segment, machine, workroom, lines)?;
     *carried = Some(Carried {
-        engine: done.engine,
-        tool: done.tool,
+        machine: done.machine,
         workroom: done.workroom,
     });
     tell(meters, records_behind(lines, told))
@@ -183,41 +185,39 @@ fn records_behind<L>(lines: &LineList<L>, told: usize) -> &[CallRecord]
 // is none.
 fn flush_full<K: Sink, L: ListingKind + Send + Drop>(
     sink: &mut K,
-    lines: &mut LineList<L>,
-    said: &mut Vec<u8>,
+    pending: &mut Pending<L>,
 ) -> Result<(), Failed>
     ensures flushed { OnOk result (IsFlushed (K.written sink.old) (K.written sink.new)
-        (text_of lines.old ++ said.old.items) (text_of lines.new ++ said.new.items)) }
-    ensures silent { OnOk result (said.new.items ≡ []) }
-    ensures kept { OnOk result ((lines.new ≡ lines.old) ⊎ (lines.new ≡ [])) }
+        (text_of pending.old.lines ++ pending.old.said.items) (text_of pending.new.lines ++ pending.new.said.items) pending.old.said.items) }
+    ensures silent { OnOk result (pending.new.said.items ≡ []) }
+    ensures kept { OnOk result ((pending.new.lines ≡ pending.old.lines) ⊎ (pending.new.lines ≡ [])) }
     ensures steady { OnOk result (K.faults sink.new ≡ K.faults sink.old) }
 
-    ensures front { OnErr result (AppendsFront (K.written sink.old) (K.written sink.new) (text_of lines.old ++ said.old.items)) }
+    ensures front { OnErr result (AppendsFront (K.written sink.old) (K.written sink.new) (text_of pending.old.lines ++ pending.old.said.items)) }
     ensures cause { OnErr result (Rose (K.faults sink.old) (K.faults sink.new)) }
 {
-    let pending = lines.text().len();
-    if said.is_empty() && 0 < pending && pending < PIECE {
+    let text = pending.lines.text().len();
+    if pending.said.is_empty() && 0 < text && text < PIECE {
         return Ok(());
     }
-    flush(sink, lines, said)
+    flush(sink, pending)
 }
 
 // Writes all that is pending: the lines, and then what meters said.
 fn flush<K: Sink, L: ListingKind + Send + Drop>(
     sink: &mut K,
-    lines: &mut LineList<L>,
-    said: &mut Vec<u8>,
+    pending: &mut Pending<L>,
 ) -> Result<(), Failed>
-    ensures whole { OnOk result (Appends (K.written sink.old) (K.written sink.new) (text_of lines.old ++ said.old.items)) }
-    ensures empty { OnOk result ((lines.new ≡ []) × (said.new.items ≡ [])) }
+    ensures whole { OnOk result (Appends (K.written sink.old) (K.written sink.new) (text_of pending.old.lines ++ pending.old.said.items)) }
+    ensures empty { OnOk result ((pending.new.lines ≡ []) × (pending.new.said.items ≡ [])) }
     ensures steady { OnOk result (K.faults sink.new ≡ K.faults sink.old) }
 
-    ensures front { OnErr result (AppendsFront (K.written sink.old) (K.written sink.new) (text_of lines.old ++ said.old.items)) }
+    ensures front { OnErr result (AppendsFront (K.written sink.old) (K.written sink.new) (text_of pending.old.lines ++ pending.old.said.items)) }
     ensures cause { OnErr result (Rose (K.faults sink.old) (K.faults sink.new)) }
 {
-    write_all(sink, lines.text())?;
-    lines.clear();
-    write_all(sink, said.as_slice())?;
-    said.clear();
+    write_all(sink, pending.lines.text())?;
+    pending.lines.clear();
+    write_all(sink, pending.said.as_slice())?;
+    pending.said.clear();
     Ok(())
 }

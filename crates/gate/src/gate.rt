@@ -1,27 +1,32 @@
-/// What the threads of a segment call on their way. Whoever runs a segment hands a gate in, and a
-/// call may take as long as it likes. It promises nothing, so that what the threads do can't hang
-/// on what a gate does.
+/// Calls that the threads of a segment make at each event. The caller of a segment run passes a gate. Its contracts
+/// guarantee nothing, so no result of the threads can depend on a gate.
 pub trait Gate: Sync {
-    /// A call processor or the frame worker is about to ask for its turn at this event, by number.
+    /// Called before a call processor or the frame worker takes its turn at this event, by number.
     fn before_turn(&self, worker: u32, event: u32);
 
-    /// Its turn at this event is over: the event is in the history, and the turn was given on.
+    /// Called after the step of this event. The event is in the history, and the worker passed or kept the turn.
     fn after_turn(&self, worker: u32, event: u32);
 
-    /// The frame worker is about to move the octets of this frame, by number.
+    /// Called before the frame worker moves the octets of this frame, by number.
     fn before_crossing(&self, frame: u32);
 
-    /// The octets of this frame were moved.
+    /// Called after the frame worker has moved the octets of this frame.
     fn after_crossing(&self, frame: u32);
 
-    /// Whether the workers of a segment are to run in threads of their own in any case, also where its
-    /// events are too few for threads to pay.
+    /// Whether each worker of a segment runs in its own thread, even if the segment has too few events for threads to
+    /// pay.
     fn apart(&self) -> bool {
+        true
+    }
+
+    /// Whether a call can wait for another thread. If so, no worker keeps the turn from one event to the next, because a
+    /// worker that waits with the turn stops all others.
+    fn may_hold(&self) -> bool {
         true
     }
 }
 
-/// A gate that holds nobody up: the one of the program.
+/// The gate of the program. It holds no thread.
 #[derive(Clone, Copy)]
 pub struct OpenGate;
 
@@ -35,6 +40,10 @@ impl Gate for OpenGate {
     fn after_crossing(&self, _frame: u32) {}
 
     fn apart(&self) -> bool {
+        false
+    }
+
+    fn may_hold(&self) -> bool {
         false
     }
 }

@@ -1,10 +1,8 @@
-//! The places at which the threads of a segment may be held up.
+//! The places where a caller can hold the threads of a segment.
 //!
-//! A [`Gate`] is called before and after a turn, and before and after a crossing. [`OpenGate`]
-//! holds nobody. A [`TestGate`] holds two threads against each other, so that a test sees that they
-//! ran at once. A gate promises nothing but that each call ends, so that no reply can rest on one.
-//!
-//! It uses no other crate.
+//! The threads call a [`Gate`] before and after the step of an event, and before and after the crossing of a frame.
+//! [`OpenGate`] holds no thread. A [`TestGate`] makes two threads wait for each other, so a test sees that they ran at
+//! once. A gate guarantees only that each call ends, so no reply can depend on it.
 #![tactic(auto)]
 
 mod gate;

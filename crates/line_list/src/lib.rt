@@ -1,14 +1,13 @@
-//! The keeper of lines: of each event that a worker did, the line of the report and the records of calls.
+//! A list of report lines and call records, one for each processed event.
 //!
-//! A [`LineList`] is a `Keeper` (of `call_processor`). It makes the line of an event at once, from the
-//! response and the outbox of its step, behind the lines before it in one text; nothing is copied into an
-//! answer, and no event takes memory but where a buffer grows. What it holds is, for each answer, its
-//! place, its line and its records (`line_of`). Lines are handed on by the run: one copy of their text,
-//! of their records and of what is known of each line.
+//! A [`LineList`] is a `Keeper` (of `call_processor`). It formats the line of an event directly from the response and
+//! the outbox of the step, and appends it to one text. It copies nothing into an answer, and it allocates only when a
+//! buffer grows. It stores the place, the line and the records of each answer (`line_of`). A run of lines moves to
+//! another list with one copy of its text, of its records and of its marks.
 //!
-//! What is listed is part of its type ([`ListingKind`]): [`ReportLines`] makes lines, and with
-//! [`NoLines`] no line is made. [`LineList::text`] is the text of its lines, and [`LineList::records`]
-//! are their records (`text`, `records`).
+//! Its type states what it lists ([`ListingKind`]): with [`ReportLines`] it has lines, and with [`NoLines`] it has only
+//! records. [`LineList::text`] returns the text of its lines and [`LineList::records`] their records (`text`,
+//! `records`).
 //!
 //! It uses `exchange_events`, `report_text`, `call_processor` and `call_profile`.
 #![tactic(auto)]
@@ -17,6 +16,6 @@ mod lines;
 mod list;
 mod listing;
 
-pub use lines::{Extent, Lines, Mark};
+pub use lines::{Buffers, Extent, Lines, Mark};
 pub use list::LineList;
 pub use listing::{Listing, ListingKind, NoLines, ReportLines};

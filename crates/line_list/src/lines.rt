@@ -1,4 +1,4 @@
-//! Lines in one text, one behind another.
+//! Lines in one text, one after another.
 ghost use Rattle.std.specs.Prelude.{◌≡◌, ◌+◌, ◌-◌, ◌<◌, ◌≤◌, ◌++◌, ◌∷◌, ◌^◌, [], All, OnOk, OnErr, length, take, drop};
 ghost use Rattle.exchange_events.specs.Kept.{kept_of};
 ghost use Rattle.exchange_events.specs.Responses.{reply_of};
@@ -14,47 +14,53 @@ use report_text::append_line;
 use std::alloc::{AllocError, Global};
 use std::marker::Model;
 
-/// What is known of a line: the place of its event in the history, and how many octets of the text and
-/// how many records are its own.
+/// The mark of a line: the place of its event in the history, and the number of its octets and of its records.
 #[derive(Clone, Copy, Debug, PartialEq, Eq)]
 pub struct Mark {
     /// The place of its event in the history.
     pub place: u32,
-    /// The octets of the line.
+    /// The number of octets of the line.
     pub octets: usize,
-    /// The records of calls that ended.
+    /// The number of records of calls that ended.
     pub records: usize,
 }
 
-/// How much some lines take up.
+/// The extent of several lines.
 #[derive(Clone, Copy, Debug, PartialEq, Eq)]
 pub struct Extent {
-    /// How many lines they are.
+    /// The number of lines.
     pub lines: usize,
-    /// Their octets.
+    /// The number of their octets.
     pub octets: usize,
-    /// Their records of calls.
+    /// The number of their records of calls.
     pub records: usize,
 }
 
-// Nothing at all.
+// The extent of no lines.
 const NONE: Extent = Extent {
     lines: 0,
     octets: 0,
     records: 0,
 };
 
-/// Lines, each with its place in the history and with the records of the calls that ended. Contracts see
-/// their list.
+/// The text of lines, their records of calls and their marks, each one after another.
+#[derive(Drop)]
+pub struct Buffers {
+    /// The text of the lines.
+    pub text: Vec<u8>,
+    /// Their records.
+    pub records: Vec<CallRecord>,
+    /// Their marks.
+    pub marks: Vec<Mark>,
+}
+
+/// Lines, each with its place in the history and with the records of the calls that ended. The model is their list.
 #[derive(Drop)]
 pub struct Lines {
-    // The text of the lines, one behind another.
-    text: Vec<u8>,
-    // Their records, one behind another.
-    records: Vec<CallRecord>,
-    // What is known of each line.
-    marks: Vec<Mark>,
-    // What was handed on; it lies in front of the lines.
+    // The lines that were moved to another list, and then the others. A mark has the length of its line, not its end, so
+    // a run is appended unchanged, and nothing is shifted.
+    buffers: Buffers,
+    // The extent of the lines that were moved.
     handed: Extent,
 }
 
@@ -65,42 +71,43 @@ impl Model for Lines {
 
     ghost Value = { List Line };
 
-    ghost view = { λ s. lines_left s.text.items s.records.items s.marks.items s.handed };
+    ghost view = { λ s. lines_left s.buffers.text.items s.buffers.records.items s.buffers.marks.items s.handed };
 
-    ghost invariant = { λ s. AreMarked s.text.items s.records.items s.marks.items s.handed };
+    ghost invariant = { λ s. AreMarked s.buffers.text.items s.buffers.records.items s.buffers.marks.items s.handed };
 }
 
 impl Lines {
-    /// No lines yet. Their text takes the memory of another text, which is gone.
-    pub fn new(alloc: Global, text: Vec<u8>) -> Lines
+    /// No lines. It reuses the buffer of a text.
+    pub fn new(alloc: Global, mut text: Vec<u8>) -> Lines
         ensures { result ≡ [] }
     {
-        let mut text = text;
         text.clear();
         Lines {
-            text,
-            records: Vec::new(alloc),
-            marks: Vec::new(alloc),
+            buffers: Buffers {
+                text,
+                records: Vec::new(alloc),
+                marks: Vec::new(alloc),
+            },
             handed: NONE,
         }
     }
 
-    /// No lines any more.
+    /// Removes all lines.
     pub fn clear(&mut self)
         ensures { self.new ≡ [] }
     {
-        self.text.clear();
-        self.records.clear();
-        self.marks.clear();
+        self.buffers.text.clear();
+        self.buffers.records.clear();
+        self.buffers.marks.clear();
         self.handed = NONE;
     }
 
-    /// One line more, of an event that was answered by a response and the outbox of its step, at its
-    /// place in the history; where nothing is listed, it is empty.
+    /// Appends the line of an event at its place in the history, from the response and the outbox of its step. If
+    /// nothing is listed, the line is empty.
     ///
     /// # Errors
     ///
-    /// [`AllocError`] where memory runs out, and then the lines are as they were.
+    /// [`AllocError`] if an allocation fails. The lines are then unchanged.
     pub fn push(
         &mut self,
         listing: Listing,
@@ -114,9 +121,7 @@ impl Lines {
         ensures kept { OnErr result (self.new ≡ self.old) }
     {
         append_event(
-            &mut self.text,
-            &mut self.records,
-            &mut self.marks,
+            &mut self.buffers,
             listing,
             place,
             event,
@@ -126,100 +131,74 @@ impl Lines {
         )
     }
 
-    /// How many lines there are.
+    /// The number of lines.
     pub fn count(&self) -> usize
         ensures { result ≡ length self.now }
     {
-        self.marks.len() - self.handed.lines
+        self.buffers.marks.len() - self.handed.lines
     }
 
-    /// Keeps only the first n.
+    /// Removes all lines but the first n.
     pub fn truncate(&mut self, count: usize)
         ensures { self.new ≡ take count self.old }
     {
-        let left = marks_left(&self.marks, self.handed.lines);
+        let left = marks_left(&self.buffers.marks, self.handed.lines);
         if count >= left.len() {
             return;
         }
         let end = behind(self.handed, &left[..count]);
-        self.text.truncate(end.octets);
-        self.records.truncate(end.records);
-        self.marks.truncate(end.lines);
+        self.buffers.text.truncate(end.octets);
+        self.buffers.records.truncate(end.records);
+        self.buffers.marks.truncate(end.lines);
     }
 
     /// The place of the first line.
     pub fn first_place(&self) -> Option<u32>
         ensures { result ≡ first_line self.now }
     {
-        match self.marks.get(self.handed.lines) {
+        match self.buffers.marks.get(self.handed.lines) {
             Some(first) => Some(first.place),
             None => None,
         }
     }
 
-    /// Hands the first line to others, and with it the next ones as far as they come before the place
-    /// `below`.
+    /// Moves the first line to the end of others, and the next ones as long as they come before the place `below`.
     ///
     /// # Errors
     ///
-    /// [`AllocError`] where memory runs out, and then the others are as they were.
+    /// [`AllocError`] if an allocation fails. The others are then unchanged.
     pub fn hand_on(&mut self, to: &mut Lines, below: u32) -> Result<(), AllocError>
         ensures handed { OnOk result (HandsLines below self.old to.old self.new to.new) }
         ensures refused { OnErr result (to.new ≡ to.old) }
     {
-        let left = marks_left(&self.marks, self.handed.lines);
+        let left = marks_left(&self.buffers.marks, self.handed.lines);
         let marks = &left[..run_length(left, below)];
         let end = behind(self.handed, marks);
-        let text = between(&self.text, self.handed.octets, end.octets);
-        let records = between(&self.records, self.handed.records, end.records);
-        to.append(text, records, marks)?;
+        let text = between(&self.buffers.text, self.handed.octets, end.octets);
+        let records = between(&self.buffers.records, self.handed.records, end.records);
+        append_run(&mut to.buffers, text, records, marks)?;
         self.handed = end;
         Ok(())
-    }
-
-    // Appends the lines of a text, with their records.
-    fn append(
-        &mut self,
-        text: &[u8],
-        records: &[CallRecord],
-        marks: &[Mark],
-    ) -> Result<(), AllocError>
-        requires text { length text.now ≡ octets_in marks.now }
-        requires records { length records.now ≡ records_in marks.now }
-        ensures lines { OnOk result (self.new ≡ self.old ++ lines_in text.now records.now marks.now) }
-        ensures kept { OnErr result (self.new ≡ self.old) }
-    {
-        append_run(
-            &mut self.text,
-            &mut self.records,
-            &mut self.marks,
-            text,
-            records,
-            marks,
-        )
     }
 
     /// The text of the lines.
     pub fn text(&self) -> &[u8]
         ensures { result.now ≡ text_of self.now }
     {
-        &self.text.as_slice()[self.handed.octets..]
+        &self.buffers.text.as_slice()[self.handed.octets..]
     }
 
     /// The records of the calls that ended, line by line.
     pub fn records(&self) -> &[CallRecord]
         ensures { result.now ≡ calls_of self.now }
     {
-        &self.records.as_slice()[self.handed.records..]
+        &self.buffers.records.as_slice()[self.handed.records..]
     }
 }
 
-// Appends the line of an event, where lines are listed, its records, and what is known of it. A refusal
-// leaves all as it was.
+// Appends the line of an event, if lines are listed, its records and its mark. An error leaves the buffers unchanged.
 fn append_event(
-    text: &mut Vec<u8>,
-    records: &mut Vec<CallRecord>,
-    marks: &mut Vec<Mark>,
+    buffers: &mut Buffers,
     listing: Listing,
     place: u32,
     event: u32,
@@ -227,50 +206,48 @@ fn append_event(
     outbox: &Outbox,
     octets: &[[u8; 30]],
 ) -> Result<(), AllocError>
-    ensures text { OnOk result (text.new.items ≡ text.old.items ++ listed listing (response_line octets.now event response outbox.now)) }
-    ensures records { OnOk result (records.new.items ≡ records.old.items ++ calls_kept (kept_of (reply_of response outbox.now))) }
-    ensures mark { OnOk result (marks.new.items ≡ marks.old.items ++ mark_of (line_of listing (placed place event response outbox.now octets.now)) ∷ []) }
-    ensures kept { OnErr result ((text.new.items ≡ text.old.items) × (records.new.items ≡ records.old.items) × (marks.new.items ≡ marks.old.items)) }
+    ensures text { OnOk result (buffers.new.text.items ≡ buffers.old.text.items ++ listed listing (response_line octets.now event response outbox.now)) }
+    ensures records { OnOk result (buffers.new.records.items ≡ buffers.old.records.items ++ calls_kept (kept_of (reply_of response outbox.now))) }
+    ensures mark { OnOk result (buffers.new.marks.items ≡ buffers.old.marks.items ++ mark_of (line_of listing (placed place event response outbox.now octets.now)) ∷ []) }
+    ensures kept { OnErr result ((buffers.new.text.items ≡ buffers.old.text.items) × (buffers.new.records.items ≡ buffers.old.records.items) × (buffers.new.marks.items ≡ buffers.old.marks.items)) }
 {
-    let start = text.len();
-    append_listed(text, listing, event, response, outbox, octets)?;
+    let start = buffers.text.len();
+    append_listed(&mut buffers.text, listing, event, response, outbox, octets)?;
     let calls = records_told(response, outbox);
     let mark = Mark {
         place,
-        octets: text.len() - start,
+        octets: buffers.text.len() - start,
         records: calls.len(),
     };
-    let done = append_one(records, marks, calls, mark);
+    let done = append_one(&mut buffers.records, &mut buffers.marks, calls, mark);
     if done.is_err() {
-        text.truncate(start);
+        buffers.text.truncate(start);
     }
     done
 }
 
-// Appends lines of another text. A refusal leaves all as it was.
+// Appends lines of other buffers. An error leaves the buffers unchanged.
 fn append_run(
-    text: &mut Vec<u8>,
-    records: &mut Vec<CallRecord>,
-    marks: &mut Vec<Mark>,
+    buffers: &mut Buffers,
     more: &[u8],
     calls: &[CallRecord],
     known: &[Mark],
 ) -> Result<(), AllocError>
-    ensures text { OnOk result (text.new.items ≡ text.old.items ++ more.now) }
-    ensures records { OnOk result (records.new.items ≡ records.old.items ++ calls.now) }
-    ensures marks { OnOk result (marks.new.items ≡ marks.old.items ++ known.now) }
-    ensures kept { OnErr result ((text.new.items ≡ text.old.items) × (records.new.items ≡ records.old.items) × (marks.new.items ≡ marks.old.items)) }
+    ensures text { OnOk result (buffers.new.text.items ≡ buffers.old.text.items ++ more.now) }
+    ensures records { OnOk result (buffers.new.records.items ≡ buffers.old.records.items ++ calls.now) }
+    ensures marks { OnOk result (buffers.new.marks.items ≡ buffers.old.marks.items ++ known.now) }
+    ensures kept { OnErr result ((buffers.new.text.items ≡ buffers.old.text.items) × (buffers.new.records.items ≡ buffers.old.records.items) × (buffers.new.marks.items ≡ buffers.old.marks.items)) }
 {
-    let before = text.len();
-    text.extend_from_slice(more)?;
-    let done = append_marked(records, marks, calls, known);
+    let before = buffers.text.len();
+    buffers.text.extend_from_slice(more)?;
+    let done = append_marked(&mut buffers.records, &mut buffers.marks, calls, known);
     if done.is_err() {
-        text.truncate(before);
+        buffers.text.truncate(before);
     }
     done
 }
 
-// Appends the line of an event, where lines are listed.
+// Appends the line of an event, if lines are listed.
 fn append_listed(
     text: &mut Vec<u8>,
     listing: Listing,
@@ -288,7 +265,7 @@ fn append_listed(
     }
 }
 
-// The records of the calls that ended with a response.
+// The records of the calls that ended in a step.
 fn records_told(response: Response, outbox: &Outbox) -> &[CallRecord]
     ensures { result.now ≡ calls_kept (kept_of (reply_of response outbox.now)) }
 {
@@ -299,7 +276,7 @@ fn records_told(response: Response, outbox: &Outbox) -> &[CallRecord]
     }
 }
 
-// Appends the records of a line, which most have none of, and its mark. A refusal leaves both as they were.
+// Appends the records of a line and its mark. Most lines have no records. An error leaves both unchanged.
 fn append_one(
     records: &mut Vec<CallRecord>,
     marks: &mut Vec<Mark>,
@@ -316,7 +293,7 @@ fn append_one(
     append_marked(records, marks, calls, &[mark])
 }
 
-// Appends records and marks. A refusal leaves both as they were.
+// Appends records and marks. An error leaves both unchanged.
 fn append_marked(
     records: &mut Vec<CallRecord>,
     marks: &mut Vec<Mark>,
@@ -345,7 +322,7 @@ fn between<T>(items: &Vec<T>, start: usize, end: usize) -> &[T]
     &items.as_slice()[start..end]
 }
 
-// What is known of the lines behind those that were handed on.
+// The marks of the lines after those that were moved.
 fn marks_left(marks: &Vec<Mark>, handed: usize) -> &[Mark]
     requires { handed ≤ length marks.now.items }
     ensures { result.now ≡ drop handed marks.now.items }
@@ -353,7 +330,7 @@ fn marks_left(marks: &Vec<Mark>, handed: usize) -> &[Mark]
     &marks.as_slice()[handed..]
 }
 
-// How many lines come first: the first of all, and the next ones as far as they come before a place.
+// The length of the first run: the first line, and the next ones as long as they come before a place.
 fn run_length(marks: &[Mark], below: u32) -> usize
     ensures within { result ≤ length marks.now }
     ensures some { 0 < length marks.now → 0 < result }
@@ -370,7 +347,7 @@ fn run_length(marks: &[Mark], below: u32) -> usize
     count
 }
 
-// How much lines take up with those before them.
+// The extent of lines together with those before them.
 fn behind(front: Extent, marks: &[Mark]) -> Extent
     requires lines { front.lines + length marks.now < 2 ^ 64 }
     requires octets { front.octets + octets_in marks.now < 2 ^ 64 }

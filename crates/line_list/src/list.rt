@@ -1,4 +1,4 @@
-//! The keeper of lines, by what it lists.
+//! The keeper of lines, by its listing.
 ghost use Rattle.std.specs.Prelude.{◌≡◌, [], map};
 ghost use Rattle.line_list.specs.Lines.{calls_of, line_of, text_of};
 
@@ -9,7 +9,7 @@ use exchange_events::{CallRecord, Outbox, Response};
 use std::alloc::{AllocError, Global};
 use std::marker::{Model, PhantomData};
 
-/// A keeper of lines. Contracts see their list. `L` says whether lines are made.
+/// A keeper of lines. Its model is their list. `L` states whether it has the lines of the report.
 #[derive(Drop)]
 pub struct LineList<L> {
     lines: Lines,
@@ -26,7 +26,7 @@ impl<L> Model for LineList<L> {
 }
 
 impl<L> LineList<L> {
-    /// No lines yet. Their text takes the memory of another text, which is gone.
+    /// An empty list, which reuses the buffer of a text.
     pub fn new(alloc: Global, text: Vec<u8>) -> LineList<L>
         ensures { result ≡ [] }
     {

@@ -1,32 +1,32 @@
-//! What a keeper of lines lists: the report, or nothing.
+//! The listing of a keeper of lines: the report, or nothing.
 ghost use Rattle.std.specs.Prelude.{◌≡◌};
 ghost use Rattle.line_list.specs.declared.listing.Listing.{Listing};
 ghost use Rattle.line_list.specs.declared.listing.Listing.TheVariants as listed;
 
-/// What a run writes of its events.
+/// What a run writes for its events.
 #[derive(Clone, Copy, Debug, PartialEq, Eq)]
 pub enum Listing {
     /// The lines of their report.
     Report,
-    /// No line: a summary has none.
+    /// Nothing: a summary has no lines.
     Nothing,
 }
 
-/// A listing as a type, so that keepers of one type list the same.
+/// A listing as a type, not a field: lines move from one keeper to another, and two keepers of one type list the same.
 pub trait ListingKind {
-    /// What is listed.
+    /// The listing.
     ghost listing: { Listing };
 
-    /// What is listed.
+    /// The listing.
     fn listing() -> Listing
         ensures { result ≡ listing };
 }
 
-/// The lines of the report are listed.
+/// The listing of the report.
 #[derive(Drop)]
 pub struct ReportLines;
 
-/// Nothing is listed.
+/// The empty listing.
 #[derive(Drop)]
 pub struct NoLines;
 

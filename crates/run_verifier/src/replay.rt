@@ -14,11 +14,12 @@ ghost use Rattle.call_processor.specs.Frames.{IsPlayed};
 ghost use Rattle.run_verifier.specs.Replaying.{IsReadyAt, line_due, with_event};
 
 use control_memory::PathMap;
-use exchange_core::{Core, Tool};
-use exchange_events::{Event, Input, Outbox, Response, Trace};
+use exchange_core::{Core, Desk, Tool};
+use exchange_events::{Event, Input, Response, Trace};
 use frame_engine::{Carrier, Engine};
 use report_text::append_line;
 use std::alloc::AllocError;
+use std::mem;
 use std::thread::Threads;
 use tone_rules::Tones;
 
@@ -45,8 +46,7 @@ fn do_frame<'t, P: PathMap, R: Threads + Sync>(
     event: u32,
     input: &Input,
     engine: &mut Engine,
-    tool: &mut Tool,
-    out: &mut Outbox,
+    desk: &mut Desk,
     octets: &mut [[u8; 30]],
     tones: &Tones,
 ) -> Response
@@ -54,33 +54,38 @@ fn do_frame<'t, P: PathMap, R: Threads + Sync>(
     requires frame { IsNumbered core.old.trace event (Frame input.now) }
     requires room { length core.old.journal < length core.old.trace.events }
     requires sound { IsSound core.old.trace }
-    requires ready { IsReadyAt core.old engine.old tool.old }
+    requires ready { IsReadyAt core.old engine.old desk.old.tool }
     requires tones { tones.now ≡ core.old.trace.tones }
     requires lines { length octets.old ≡ core.old.trace.external }
     ensures done { core.new ≡ with_event core.old event }
-    ensures ready { IsReadyAt core.new engine.new tool.new }
+    ensures ready { IsReadyAt core.new engine.new desk.new.tool }
     ensures lines { length octets.new ≡ core.old.trace.external }
-    ensures reply { reply_of result out.new ≡ reply (setting core.old) (world_of core.old) (Frame input.now) }
+    ensures reply { reply_of result desk.new.out ≡ reply (setting core.old) (world_of core.old) (Frame input.now) }
     ensures played { IsPlayed hears (table_of core.old.trace.tones) core.old.trace.external (world_of core.old) input.now octets.new }
 {
-    let response = core.work(0, event, tool, out, None);
-    let Tool::Image(image) = tool else {
+    desk.ahead = None;
+    let response = core.work(0, event, desk);
+    let Tool::Image(image) = &mut desk.tool else {
         unreachable!()
     };
     engine.frame(rt, image, tones, input.as_slice(), octets);
     response
 }
 
-// Does an event that is no frame.
-fn do_other<'t, P: PathMap>(core: &mut Core<'t, P>, event: u32, out: &mut Outbox) -> Response
+// Does an event that is no frame. The control memory is put aside for it.
+fn do_other<'t, P: PathMap>(core: &mut Core<'t, P>, event: u32, desk: &mut Desk) -> Response
     requires known { IsEvent core.old.trace event }
     requires other { (input : An_input) → IsNumbered core.old.trace event (Frame input) → ⊥ }
     requires room { length core.old.journal < length core.old.trace.events }
     ensures done { core.new ≡ with_event core.old event }
-    ensures reply { (e : An_event) → IsNumbered core.old.trace event e → reply_of result out.new ≡ reply (setting core.old) (world_of core.old) e }
+    ensures tool { desk.new.tool ≡ desk.old.tool }
+    ensures reply { (e : An_event) → IsNumbered core.old.trace event e → reply_of result desk.new.out ≡ reply (setting core.old) (world_of core.old) e }
 {
-    let mut nothing = Tool::Nothing;
-    core.work(0, event, &mut nothing, out, None)
+    desk.ahead = None;
+    let tool = mem::replace(&mut desk.tool, Tool::Nothing);
+    let response = core.work(0, event, desk);
+    desk.tool = tool;
+    response
 }
 
 // Does an event, whichever it is.
@@ -90,36 +95,25 @@ fn happen<'t, P: PathMap, R: Threads + Sync>(
     core: &mut Core<'t, P>,
     event: u32,
     engine: &mut Engine,
-    tool: &mut Tool,
-    out: &mut Outbox,
+    desk: &mut Desk,
     octets: &mut [[u8; 30]],
 ) -> Response
     requires trace { trace.now ≡ core.old.trace }
     requires known { IsEvent core.old.trace event }
     requires room { length core.old.journal < length core.old.trace.events }
     requires sound { IsSound core.old.trace }
-    requires ready { IsReadyAt core.old engine.old tool.old }
+    requires ready { IsReadyAt core.old engine.old desk.old.tool }
     requires lines { length octets.old ≡ core.old.trace.external }
     ensures done { core.new ≡ with_event core.old event }
-    ensures ready { IsReadyAt core.new engine.new tool.new }
+    ensures ready { IsReadyAt core.new engine.new desk.new.tool }
     ensures lines { length octets.new ≡ core.old.trace.external }
-    ensures reply { (e : An_event) → IsNumbered core.old.trace event e → reply_of result out.new ≡ reply (setting core.old) (world_of core.old) e }
+    ensures reply { (e : An_event) → IsNumbered core.old.trace event e → reply_of result desk.new.out ≡ reply (setting core.old) (world_of core.old) e }
     ensures played { (input : An_input) → IsNumbered core.old.trace event (Frame input)
         → IsPlayed hears (table_of core.old.trace.tones) core.old.trace.external (world_of core.old) input octets.new }
 {
     match input_of(trace, event) {
-        Some(input) => do_frame(
-            rt,
-            core,
-            event,
-            input,
-            engine,
-            tool,
-            out,
-            octets,
-            &trace.tones,
-        ),
-        None => do_other(core, event, out),
+        Some(input) => do_frame(rt, core, event, input, engine, desk, octets, &trace.tones),
+        None => do_other(core, event, desk),
     }
 }
 
@@ -134,8 +128,7 @@ pub(crate) fn line_of<'t, P: PathMap, R: Threads + Sync>(
     core: &mut Core<'t, P>,
     event: u32,
     engine: &mut Engine,
-    tool: &mut Tool,
-    out: &mut Outbox,
+    desk: &mut Desk,
     octets: &mut [[u8; 30]],
     line: &mut Vec<u8>,
 ) -> Result<(), AllocError>
@@ -143,14 +136,14 @@ pub(crate) fn line_of<'t, P: PathMap, R: Threads + Sync>(
     requires known { IsEvent core.old.trace event }
     requires room { length core.old.journal < length core.old.trace.events }
     requires sound { IsSound core.old.trace }
-    requires ready { IsReadyAt core.old engine.old tool.old }
+    requires ready { IsReadyAt core.old engine.old desk.old.tool }
     requires lines { length octets.old ≡ core.old.trace.external }
     ensures done { core.new ≡ with_event core.old event }
-    ensures ready { IsReadyAt core.new engine.new tool.new }
+    ensures ready { IsReadyAt core.new engine.new desk.new.tool }
     ensures lines { length octets.new ≡ core.old.trace.external }
     ensures line { (e : An_event) → IsNumbered core.old.trace event e → OnOk result (line.new.items ≡ line_due core.old event e) }
 {
-    let response = happen(rt, trace, core, event, engine, tool, out, octets);
+    let response = happen(rt, trace, core, event, engine, desk, octets);
     line.clear();
-    append_line(line, event, response, out, octets)
+    append_line(line, event, response, &desk.out, octets)
 }

@@ -9,8 +9,8 @@ use crate::replay::line_of;
 use crate::turns::Turns;
 use crate::verdict::Verdict;
 use control_memory::PathMap;
-use exchange_core::{Core, Tool};
-use exchange_events::{Outbox, Trace};
+use exchange_core::{Core, Desk};
+use exchange_events::Trace;
 use frame_engine::Engine;
 use report_reader::number_at;
 use std::alloc::AllocError;
@@ -24,17 +24,16 @@ fn next_line<'t, 'r, P: PathMap, R: Threads + Sync>(
     turns: &mut Turns,
     core: &mut Core<'t, P>,
     engine: &mut Engine,
-    tool: &mut Tool,
-    out: &mut Outbox,
+    desk: &mut Desk,
     octets: &mut [[u8; 30]],
     line: &mut Vec<u8>,
     text: &'r [u8],
 ) -> Result<Option<&'r [u8]>, AllocError>
     requires trace { trace.now ≡ core.old.trace }
     requires room { length core.old.journal < length core.old.trace.events }
-    requires underway { IsUnderway core.old turns.old engine.old tool.old octets.old }
+    requires underway { IsUnderway core.old turns.old engine.old desk.old.tool octets.old }
     ensures next { IfOk result (λ found. MatchOption found (IsStuck core.old text.now) (λ behind. GoesOn core.old core.new text.now behind.now
-        × IsUnderway core.new turns.new engine.new tool.new octets.new)) }
+        × IsUnderway core.new turns.new engine.new desk.new.tool octets.new)) }
 {
     let Some((event, _)) = number_at(text) else {
         return Ok(None);
@@ -42,7 +41,7 @@ fn next_line<'t, 'r, P: PathMap, R: Threads + Sync>(
     if !turns.may_come(trace, event) {
         return Ok(None);
     }
-    line_of(rt, trace, core, event, engine, tool, out, octets, line)?;
+    line_of(rt, trace, core, event, engine, desk, octets, line)?;
     let Some(behind) = text.strip_prefix(line.as_slice()) else {
         return Ok(None);
     };
@@ -62,8 +61,7 @@ pub(crate) fn verdict_on<'t, P: PathMap, R: Threads + Sync>(
     trace: &Trace,
     core: &mut Core<'t, P>,
     engine: &mut Engine,
-    tool: &mut Tool,
-    out: &mut Outbox,
+    desk: &mut Desk,
     octets: &mut [[u8; 30]],
     line: &mut Vec<u8>,
     report: &[u8],
@@ -71,7 +69,7 @@ pub(crate) fn verdict_on<'t, P: PathMap, R: Threads + Sync>(
     requires trace { trace.now ≡ core.old.trace }
     requires sound { IsSound core.old.trace }
     requires fresh { core.old.journal ≡ [] }
-    requires ready { IsReadyAt core.old engine.old tool.old }
+    requires ready { IsReadyAt core.old engine.old desk.old.tool }
     requires lines { length octets.old ≡ core.old.trace.external }
     ensures right { IfOk result (λ verdict. IsRight core.old.slots core.old.trace report.now verdict) }
 {
@@ -79,7 +77,7 @@ pub(crate) fn verdict_on<'t, P: PathMap, R: Threads + Sync>(
     let mut text = report;
     for number in 0..trace.events.as_slice().len() as u32 {
         let Some(behind) = next_line(
-            rt, trace, &mut turns, core, engine, tool, out, octets, line, text,
+            rt, trace, &mut turns, core, engine, desk, octets, line, text,
         )?
         else {
             return Ok(Verdict::Invalid(number + 1));

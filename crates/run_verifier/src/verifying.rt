@@ -14,8 +14,8 @@ use crate::replaying::verdict_on;
 use crate::verdict::{Verdict, VerifyFault};
 use circuit_model::IDLE;
 use control_memory::{Image, PathMap};
-use exchange_core::{Core, Tool};
-use exchange_events::{Outbox, Trace};
+use exchange_core::{Core, Desk, Tool};
+use exchange_events::Trace;
 use fabric_map::FabricMap;
 use frame_engine::{Carrier, Engine};
 use std::alloc::{AllocError, Global};
@@ -126,18 +126,17 @@ fn on_map<P: PathMap + Drop, R: Threads + Sync>(
     let Parts { mut core, frames } = equipped(alloc, trace, paths)?;
     let FrameParts {
         mut engine,
-        mut tool,
+        tool,
         mut octets,
     } = frames;
-    let mut out = Outbox::new();
+    let mut desk = Desk::new(tool);
     let mut line = Vec::new(alloc);
     verdict_on(
         rt,
         trace,
         &mut core,
         &mut engine,
-        &mut tool,
-        &mut out,
+        &mut desk,
         octets.as_mut_slice(),
         &mut line,
         report,

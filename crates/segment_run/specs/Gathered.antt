@@ -6,7 +6,7 @@ use Rattle.exchange_core.specs.Boards.{Board, turns_of}
 use Rattle.exchange_events.specs.Sizes.{Dimensions}
 use Rattle.tone_rules.specs.Tables.{table_of}
 use Rattle.call_processor.specs.declared.worked.Placed.{Placed}
-use Rattle.call_processor.specs.Frames.{Carrying, Plays, IsReady}
+use Rattle.call_processor.specs.Frames.{Carrying, Plays, IsReadyAt}
 use Rattle.call_processor.specs.Parts.{events_of_segment}
 use Rattle.segment_run.specs.declared.working.Gathered.{Gathered}
 use Rattle.segment_run.specs.Merging.{AreApart}
@@ -23,12 +23,12 @@ pub record IsComplete {T E K : Type 0} (g : Gathered T E K) : Type 0 where
   pub jobs : HasRoom g.crew.jobs
   pub done : HasRoom g.crew.done
 
--- From v to w all workers did their whole parts, the engine and the tool are ready for the next frame, and at the used workplaces the answers are
+-- From v to w all workers did their whole parts, the machine is ready for the next frame, and at the used workplaces the answers are
 -- kept, which put together answer what the history grew by.
 pub record AllDone {T E K : Type 0} (holds : K → List Placed → Type 0) (plays : Plays) (carries : Carrying E) (next : E → ℕ) (sizes : E → Dimensions) (board : Board) (trace : Trace) (segment : ℕ) (v w : Known) (g : Gathered T E K) : Type 0 where
   pub whole : RanWhole trace segment v w
   pub long : HasGrown trace segment v w
-  pub ready : IsReady carries next sizes board w.seen g.engine g.tool
+  pub ready : IsReadyAt carries next sizes board w g.machine.value
   pub parts : List (List Placed)
   pub kept : Keep holds g.used.items parts
   pub apart : AreApart parts

@@ -1,16 +1,16 @@
 -- The jobs of a segment's workers, and what came of them. Source: this exchange's own.
-use Rattle.std.specs.Prelude.{◌≡◌, ℕ, ◌<◌, ◌≤◌, List, [], length, map, All, vec_capacity}
+use Rattle.std.specs.Prelude.{◌≡◌, ℕ, ◌+◌, ◌<◌, ◌≤◌, List, [], length, map, All, vec_len, vec_capacity}
 use Rattle.std.specs.List.{AllZip}
 use Rattle.circuit_model.specs.declared.circuit.Kind.{Kind}
-use Rattle.exchange_core.specs.declared.tool.Tool.{Tool}
 use Rattle.exchange_events.specs.declared.trace.Trace.{Trace}
 use Rattle.exchange_events.specs.Orders.{Processor}
 use Rattle.seat_history.specs.declared.known.Known.{Known}
 use Rattle.exchange_core.specs.Boards.{Board}
 use Rattle.exchange_events.specs.Sizes.{Dimensions}
+use Rattle.call_processor.specs.declared.machine.Machine.{Machine}
 use Rattle.call_processor.specs.declared.worked.Finished.{Finished}
 use Rattle.call_processor.specs.declared.worked.Placed.{Placed}
-use Rattle.call_processor.specs.Frames.{Carrying, HasFrame, Plays, IsReady}
+use Rattle.call_processor.specs.Frames.{Carrying, HasFrame, Plays, IsReadyAt}
 use Rattle.call_processor.specs.Keeping.{has_no_octets}
 use Rattle.call_processor.specs.Parts.{part_of}
 use Rattle.call_processor.specs.Work.{MayWork}
@@ -53,14 +53,31 @@ pub record IsThrough {T K : Type 0} (n : ℕ) (before after : Crew T K) : Type 0
   pub room : vec_capacity before.done ≤ vec_capacity after.done
   pub count : length after.done.items ≡ n
 
--- whichever of these jobs is the frame worker's, the engine and the tool are ready for its next frame
-abbrev pub AreReady : {T E K : Type 0} → Carrying E → (E → ℕ) → (E → Dimensions) → (T → Known) → Board → E → Tool → List (Job T K) → Type 0
-AreReady carries next sizes known board engine tool jobs = All (λ j. IsReady carries next sizes board (known j.seat).seen engine tool) jobs
+-- the call processor with this job may begin; its seat is one of the board's
+abbrev pub MayStart : {T K : Type 0} → (T → Type 0) → (T → Known) → Board → Trace → ℕ → Job T K → Type 0
+MayStart of_board known board trace segment j = of_board j.seat × MayProcess known board trace segment j
+
+-- the call processors with a crew's jobs may begin: there is room for what comes of each of them and of n workers more, and nothing came of any
+pub record MayBegin {T K : Type 0} (of_board : T → Type 0) (known : T → Known) (board : Board) (trace : Trace) (segment n : ℕ) (crew : Crew T K) : Type 0 where
+  pub seated : All (λ j. of_board j.seat) crew.jobs.items
+  pub may : All (MayProcess known board trace segment) crew.jobs.items
+  pub room : vec_len crew.jobs + n ≤ vec_capacity crew.done
+  pub empty : crew.done.items ≡ []
+
+-- the call processors with these jobs did their parts, and what came of each is in the crew
+pub record AreThrough {T K : Type 0} (holds : K → List Placed → Type 0) (of_board : T → Type 0) (known : T → Known) (board : Board) (trace : Trace) (segment : ℕ) (jobs : List (Job T K)) (before after : Crew T K) : Type 0 where
+  pub through : IsThrough (length jobs) before after
+  pub seated : All (λ f. of_board f.seat) after.done.items
+  pub works : HaveProcessed holds known board trace segment jobs after.done.items
+
+-- whichever of these jobs is the frame worker's, the machine is ready for its next frame
+abbrev pub AreReady : {T E K : Type 0} → Carrying E → (E → ℕ) → (E → Dimensions) → (T → Known) → Board → Machine E → List (Job T K) → Type 0
+AreReady carries next sizes known board machine jobs = All (λ j. IsReadyAt carries next sizes board (known j.seat) machine) jobs
 
 -- and so once it is done
 abbrev pub StayReady : {T E K : Type 0} → Carrying E → (E → ℕ) → (E → Dimensions) → (T → Known) → Board → Trace → List (Job T K) → Team T E K → Type 0
 StayReady carries next sizes known board trace jobs team =
-    AllZip (λ j f. j.worker ≡ trace.processors → IsReady carries next sizes board (known f.seat).seen team.engine team.tool) jobs team.crew.done.items
+    AllZip (λ j f. j.worker ≡ trace.processors → IsReadyAt carries next sizes board (known f.seat) team.machine.value) jobs team.crew.done.items
 
 -- the workers' numbers, with what their seats know
 abbrev pub seats_of : {T K : Type 0} → (T → Known) → List (Job T K) → List (ℕ × Known)

@@ -16,7 +16,7 @@ use Rattle.call_profile.specs.Step.{MovesAtMost}
 use Rattle.exchange_core.specs.Working.{Entry, IsNumbered, order_of}
 use Rattle.exchange_events.specs.Sizes.{Dimensions}
 use Rattle.tone_rules.specs.Tables.{table_of}
-use Rattle.call_processor.specs.Frames.{Carrying, Plays, IsPlayed, IsReady}
+use Rattle.call_processor.specs.Frames.{Carrying, Plays, IsPlayed, IsReady, IsReadyAt}
 use Rattle.call_processor.specs.Parts.{events_of_segment, is_its, part_of}
 use Rattle.call_processor.specs.declared.worked.Placed.{Placed}
 use Rattle.segment_run.specs.declared.answers.SegmentAnswer.{SegmentAnswer}
@@ -95,11 +95,11 @@ pub record AddsAnswers {K : Type 0} (holds : K → List Placed → Type 0) (play
   pub answered : AreAnswered plays tones board v w (map (λ (p : Placed). p.answer) answers)
   pub held : holds keeper (kept ++ answers)
 
--- from v to w the segment was run whole, and the engine and the tool came back ready for the next frame
+-- from v to w the segment was run whole, and the machine came back ready for the next frame
 pub record RanTo {T E K : Type 0} (carries : Carrying E) (next : E → ℕ) (sizes : E → Dimensions) (board : Board) (trace : Trace) (segment : ℕ) (v w : Known) (a : SegmentDone T E K) : Type 0 where
   pub whole : RanWhole trace segment v w
   pub long : HasGrown trace segment v w
-  pub ready : IsReady carries next sizes board w.seen a.engine a.tool
+  pub ready : IsReadyAt carries next sizes board w a.machine.value
 
 -- from v to w the segment was run whole, and this is its answer
 pub record IsAnswerOf {E : Type 0} (plays : Plays) (carries : Carrying E) (next : E → ℕ) (sizes : E → Dimensions) (board : Board) (trace : Trace) (segment : ℕ) (v w : Known) (a : SegmentAnswer E) : Type 0 where

@@ -1,10 +1,10 @@
-//! Whether a segment is worth threads.
+//! The choice between threads and one thread for a segment.
 ghost use Rattle.std.specs.Prelude.{◌≤◌, ◌↔◌, IsTrue};
 ghost use Rattle.segment_run.specs.Choice.{events_beside};
 ghost use Rattle.segment_run.specs.declared.choice.TheConstants.{FEWEST_BESIDE};
 
-/// How many events at least have to be done beside the largest part of a segment, for threads to pay
-/// (`bench/README.md` says where the number is measured).
+/// The least number of events outside the largest part of a segment for which threads pay. `bench/README.md` has the
+/// measurements.
 pub const FEWEST_BESIDE: u32 = 128;
 
 /// Whether a segment is worth threads, by how many events each worker has in it: all parts but the

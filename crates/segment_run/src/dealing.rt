@@ -1,4 +1,4 @@
-//! Who has how many events of a segment, and a seat and a workplace for each who has some.
+//! The number of events of each worker of a segment, and a seat and a workplace for each worker that has events.
 ghost use Rattle.std.specs.Prelude.{◌≡◌, ◌≢◌, ℕ, ◌+◌, ◌<◌, ◌≤◌, ◌||◌, ◌^◌, [], IsTrue, length, map, slice_index, All, vec_capacity};
 ghost use Rattle.exchange_events.specs.Sound.{IsSound};
 ghost use Rattle.segment_run.specs.Jobs.{seats_of};
@@ -9,19 +9,19 @@ use call_processor::{Keeper, Workplace, numbers_of, processor_of};
 use exchange_core::Switchboard;
 use exchange_events::Trace;
 
-/// A worker's number, and its seat. The call processors count from 0, and the frame worker comes
-/// behind them.
+/// A worker with its seat and its workplace. The numbers of the call processors begin at 0. The number of the frame
+/// worker follows theirs.
 #[derive(Drop)]
 pub struct Job<T, K> {
-    /// Who does it, by number.
+    /// The number of the worker.
     pub worker: u32,
     /// Its seat.
     pub seat: T,
-    /// Where it works.
+    /// Its workplace.
     pub workplace: Workplace<K>,
 }
 
-/// How many events each worker has to do in a segment, by the worker's number.
+/// The number of events of each worker in a segment, by the number of the worker.
 pub fn loads_of(trace: &Trace, segment: u32) -> [u32; 9]
     requires sound { IsSound trace.now }
     requires segment { segment < length trace.now.segments }
@@ -38,15 +38,16 @@ pub fn loads_of(trace: &Trace, segment: u32) -> [u32; 9]
     loads
 }
 
-/// Splits a seat off for each worker that has events, with a turn for each of them, and hands it a
-/// workplace. The frame worker's seat gets the baton.
+/// Makes a seat for each worker that has events, with a turn for each of them, and assigns it a workplace. The seat of
+/// the frame worker gets the baton. No two seats of a run have the same number, so the entries of a seat are those with
+/// its number.
 pub fn deal<B: Switchboard, K: Keeper>(
     board: &B,
     seat: &mut B::Seat,
     trace: &Trace,
     segment: u32,
     loads: &[u32; 9],
-    jobs: Vec<Job<B::Seat, K>>,
+    mut jobs: Vec<Job<B::Seat, K>>,
     workplaces: &mut Vec<Workplace<K>>,
 ) -> Vec<Job<B::Seat, K>>
     requires seated { B.seated board.now seat.old }
@@ -70,14 +71,11 @@ pub fn deal<B: Switchboard, K: Keeper>(
     ensures turns { (B.known seat.new).left + turns_left (seats_of B.known result.items) ≡ (B.known seat.old).left }
     ensures all { turns_left (seats_of B.known result.items) ≡ loads_below trace.now segment (trace.now.processors + 1) }
 {
-    let mut jobs = jobs;
     let processors = u32::from(trace.processors);
     for worker in 0..processors + 1 {
         let turns = loads[worker as usize];
         if turns > 0 {
-            let Some(workplace) = workplaces.pop() else {
-                unreachable!()
-            };
+            let workplace = pop_workplace(workplaces);
             let mine = board.split(seat, turns, worker == processors);
             jobs.push_reserved(Job {
                 worker,
@@ -87,4 +85,16 @@ pub fn deal<B: Switchboard, K: Keeper>(
         }
     }
     jobs
+}
+
+// Takes one of the workplaces.
+fn pop_workplace<K>(workplaces: &mut Vec<Workplace<K>>) -> Workplace<K>
+    requires some { 0 < length workplaces.old.items }
+    ensures one { length workplaces.new.items + 1 ≡ length workplaces.old.items }
+    ensures kept { vec_capacity workplaces.new ≡ vec_capacity workplaces.old }
+{
+    let Some(workplace) = workplaces.pop() else {
+        unreachable!()
+    };
+    workplace
 }

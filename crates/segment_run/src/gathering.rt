@@ -1,4 +1,4 @@
-//! What the workers kept, put together by place.
+//! The results of the workers, gathered.
 ghost use Rattle.std.specs.Prelude.{◌≡◌, ◌<◌, ◌≤◌, ◌+◌, ◌↔◌, [], IsTrue, length, map, reverse, All, vec_len, vec_capacity};
 ghost use Rattle.seat_history.specs.Histories.{StartsWith};
 ghost use Rattle.seat_history.specs.Seats.{Settled};
@@ -9,7 +9,7 @@ ghost use Rattle.segment_run.specs.Team.{after_joins};
 use call_processor::{Finished, Keeper, Workplace};
 use exchange_core::Switchboard;
 
-/// Whether all workers did their parts whole.
+/// Whether the parts of all workers are complete.
 pub fn all_whole<T, K>(workers: &[Finished<T, K>]) -> bool
     ensures { IsTrue result ↔ All (λ f. IsTrue f.whole) workers.now }
 {
@@ -21,7 +21,7 @@ pub fn all_whole<T, K>(workers: &[Finished<T, K>]) -> bool
     true
 }
 
-/// Joins the seats of all workers, the last first. Their workplaces come in this order.
+/// Joins the seats of all workers, the last first, and collects their workplaces in this order.
 pub fn gather<B: Switchboard, K: Keeper>(
     board: &B,
     seat: &mut B::Seat,

@@ -1,4 +1,4 @@
-//! Laws of the orders in which a trace's segments are done.
+//! Theorems on the orders in which the segments of a trace are processed.
 ghost use Rattle.std.specs.Prelude.{◌≡◌, ℕ, ◌+◌, ◌*◌, ◌^◌, ◌<◌, ◌≤◌, List, [], length};
 ghost use Rattle.exchange_events.specs.declared.trace.Trace.{Trace};
 ghost use Rattle.exchange_events.specs.Orders.{IsLawful, IsLawfulPrefix};
@@ -10,8 +10,7 @@ ghost use Rattle.exchange_core.specs.Working.{order_of};
 ghost use Rattle.segment_run.specs.Segment.{HasTurns, IsChief, Ran, RanWhole};
 ghost use Rattle.segment_run.specs.Segments.{IsDoneBelow, HasDoneBelow, events_before};
 
-/// Segments that are run one after another make a lawful order; where the last of them is cut short,
-/// a lawful beginning.
+/// Segments that run in sequence have a lawful order. If the last one is incomplete, they have a prefix of one.
 pub fn segments_make_lawful_orders()
     ensures none { (t : Trace) → IsDoneBelow t 0 [] }
     ensures more { (t : Trace) (k : ℕ) (v w : Known) → HasDoneBelow t k v → Ran t k v w → RanWhole t k v w → HasDoneBelow t (k + 1) w }
@@ -19,13 +18,13 @@ pub fn segments_make_lawful_orders()
     ensures whole { (t : Trace) (order : List ℕ) → IsSound t → IsDoneBelow t (length t.segments) order → IsLawful t order }
 {}
 
-/// The seat that a board begins with may begin the first segment.
+/// The first seat of a board meets the condition of the first segment.
 pub fn first_seat_is_chief()
     ensures { (turns : ℕ) → IsChief turns (first_seat turns) }
 {}
 
-/// When the segments before one are done, the history is as long as they have events, seat 0 has a turn
-/// for each event of the next, and there are numbers left for the seats of its workers.
+/// After the segments before one, the history has one entry for each of their events, seat 0 has a turn for each event
+/// of the next segment, and there are numbers left for the seats of its workers.
 pub fn segments_leave_room()
     ensures long { (t : Trace) (k : ℕ) (v : Known) → IsSound t → k ≤ length t.segments → HasDoneBelow t k v → length v.seen ≡ events_before t.segments k }
     ensures turns { (b : Board) (k : ℕ) (v : Known) → IsSound b.trace → k < length b.trace.segments → IsChief (turns_of b) v

@@ -1,14 +1,16 @@
-//! A segment of a trace: its call processors and its frame worker side by side, and their answers
-//! in the order of the history.
+//! A segment of a trace: its workers, in threads or in sequence, and their answers in the order of the history.
 //!
-//! Where threads pay, or the gate asks for them, `run_segment_with` starts one for each worker that has
-//! events, except one, which is the caller; else the caller does all events in the order of the file
-//! (`FEWEST_BESIDE`). Its clauses, both ways: the history grows by the segment's events alone (`ran`), by
-//! each worker's whole part where it is answered (`whole`); a keeper has their answers behind what it had,
-//! each the exchange's at its place of the history, with the octets that the engine plays (`answered`);
-//! the engine carries the frames of the history (`ready`). A `Workroom` keeps the desks and lists of the
-//! workers from one segment to the next; `run_segment` is the same for one segment, with whole answers.
-//! Segments that are run one after another make a lawful order (`segments_make_lawful_orders`).
+//! If threads pay, or if the gate requests them, [`run_segment_with`] runs the workers that have events in parallel, one
+//! of them in the calling thread. Otherwise the calling thread processes all events in file order ([`FEWEST_BESIDE`]).
+//! Its contract is the same in both cases:
+//!
+//! - The history grows only by events of the segment (`ran`), and on success by all of them (`whole`).
+//! - A keeper has their answers after its earlier answers. Each is the exchange's at its place of the history, with the
+//!   octets that the engine plays (`answered`).
+//! - The machine is ready for the next frame (`whole`).
+//!
+//! A [`Workroom`] has the buffers of the workers, which serve one segment after another. [`run_segment`] runs one segment
+//! and returns complete answers. Segments that run in sequence have a lawful order ([`segments_make_lawful_orders`]).
 //!
 //! It uses `circuit_model`, `seat_history`, `tone_rules`, `frame_engine`, `exchange_core`,
 //! `gate`, `call_processor`, `exchange_events` and `call_profile`.

@@ -1,4 +1,4 @@
-//! What several workers kept, put together by place.
+//! The answers of several workers, merged by their places in the history.
 ghost use Rattle.std.specs.Prelude.{◌≡◌, ◌≤◌, ℕ, List, length, OnOk, OnErr, vec_capacity};
 ghost use Rattle.call_processor.specs.declared.worked.Placed.{Placed};
 ghost use Rattle.call_processor.specs.Keeping.{StillHolds};
@@ -9,8 +9,8 @@ ghost use Rattle.segment_run.specs.Merging.{all_of};
 use call_processor::{Keeper, Workplace};
 use std::alloc::AllocError;
 
-// Which of these keepers has the first event of all, its place, and the place of the first event of the
-// others.
+// The index of the keeper that has the first event of all, the place of this event, and the place of the first event
+// of the others.
 fn next_run<K: Keeper>(used: &[Workplace<K>]) -> Option<(usize, u32, u32)>
     ensures { IsNextRun K.holds used.now (length used.now) result }
 {
@@ -23,7 +23,7 @@ fn next_run<K: Keeper>(used: &[Workplace<K>]) -> Option<(usize, u32, u32)>
     found
 }
 
-// What was found or an event of workplace i, whichever is earlier, with the first place of all others.
+// The earlier of what was found and an event of workplace i, with the first place of all others.
 fn earlier(found: Option<(usize, u32, u32)>, i: usize, place: u32) -> (usize, u32, u32)
     ensures { result ≡ first_of_two found i place }
 {
@@ -41,12 +41,13 @@ fn earlier(found: Option<(usize, u32, u32)>, i: usize, place: u32) -> (usize, u3
     }
 }
 
-/// Puts what all these keepers keep behind what one keeps, by their places, run by run. There are n
-/// events.
+/// Appends the answers of all these keepers to the answers of `into`, in the order of their places. The keeper whose
+/// first event comes first moves all its events that come before any other keeper's, so each round compares at most nine
+/// places. `count` is the number of all events.
 ///
 /// # Errors
 ///
-/// [`AllocError`] where memory runs out. Then what the one kept may have more behind it.
+/// [`AllocError`] if an allocation fails. Then `into` has the answers that it had before, and perhaps more after them.
 pub fn merge<K: Keeper>(
     into: &mut K,
     used: &mut Vec<Workplace<K>>,

@@ -1,9 +1,9 @@
-//! A run of a segment, with any keeper or with whole answers.
+//! A run of a segment, with any keeper or with complete answers.
 ghost use Rattle.std.specs.Prelude.{◌≡◌, ◌+◌, ◌<◌, ◌≤◌, ◌^◌, List, IfOk, OnOk, OnErr, length, map};
 ghost use Rattle.exchange_core.specs.Boards.{turns_of};
 ghost use Rattle.tone_rules.specs.Tables.{table_of};
 ghost use Rattle.call_processor.specs.declared.worked.Placed.{Placed};
-ghost use Rattle.call_processor.specs.Frames.{IsReady, IsReadyFor};
+ghost use Rattle.call_processor.specs.Frames.{IsReady, IsReadyAt, IsReadyFor};
 ghost use Rattle.segment_run.specs.Segment.{AddsAnswers, HasGrown, HasTurns, IsAnswerOf, IsChief, MayRun, Ran, RanTo, RanWhole, HasAnswers};
 
 use crate::answers::{SegmentAnswer, SegmentDone};
@@ -12,7 +12,7 @@ use crate::by_caller::run_by_caller;
 use crate::choice::is_worth_threads;
 use crate::dealing::loads_of;
 use crate::workroom::Workroom;
-use call_processor::{AnswerList, Keeper, Placed};
+use call_processor::{AnswerList, Keeper, Machine, Placed, RunContext};
 use exchange_core::{Switchboard, Tool};
 use exchange_events::{Answer, Trace};
 use frame_engine::Carrier;
@@ -22,19 +22,17 @@ use std::collections::VecDeque;
 use std::sync::Wait;
 use std::thread::Threads;
 
-/// Runs one segment of a board's trace; segments are counted from 0. The answers come in the order of
-/// the history.
+/// Runs one segment of a board's trace. Segments are counted from 0. Returns the answers in the order of the history.
 ///
-/// Where threads pay, or the gate asks for them, each worker that has events gets a seat of its own,
-/// with a turn for each of them, and does them in the order of the file; all of them run at once, one
-/// as the caller, and when all are done, seat 0 joins their seats again. Else the caller does all
-/// events in the order of the file.
+/// If threads pay, or if the gate requests them, each worker that has events gets its own seat, with a turn for each of
+/// them, and processes them in file order. All workers run in parallel, one of them in the calling thread, and then
+/// seat 0 joins their seats. Otherwise the calling thread processes all events in file order.
 ///
 /// Seat 0 holds the baton, all other seats are joined, and it has a turn for each event of the segment.
 ///
 /// # Errors
 ///
-/// [`AllocError`] where memory runs out. What was done by then is in the history.
+/// [`AllocError`] if an allocation fails. The history then has the events processed so far.
 pub fn run_segment<B: Switchboard, G: Gate, C: Carrier, R: Threads + Wait + Sync>(
     rt: &R,
     alloc: Global,
@@ -61,57 +59,48 @@ pub fn run_segment<B: Switchboard, G: Gate, C: Carrier, R: Threads + Wait + Sync
     ensures answered { IfOk result (HasAnswers C.plays (B.board board.now) trace.now (B.known seat.old) (B.known seat.new)) }
     ensures ready { IfOk result (λ a. IsReadyFor C.carries C.next C.sizes (B.board board.now) (B.known seat.new) a.engine a.tool) }
 {
-    let workroom = Workroom::new(alloc, &AnswerList::new(alloc))?;
-    let answer = run_for_answers(
-        rt, alloc, board, seat, trace, segment, engine, tool, workroom, gate,
-    )?;
-    Ok(answer)
-}
-
-// Runs one segment of a board's trace in this workroom. What keeps its events is a list of answers.
-fn run_for_answers<B: Switchboard, G: Gate, C: Carrier, R: Threads + Wait + Sync>(
-    rt: &R,
-    alloc: Global,
-    board: &B,
-    seat: &mut B::Seat,
-    trace: &Trace,
-    segment: u32,
-    engine: C,
-    tool: Tool,
-    workroom: Workroom<B::Seat, AnswerList>,
-    gate: &G,
-) -> Result<SegmentAnswer<C>, AllocError>
-    requires seated { B.seated board.now seat.old }
-    requires may { MayRun (B.board board.now) trace.now segment (B.known seat.old) }
-    requires ready { IsReadyFor C.carries C.next C.sizes (B.board board.now) (B.known seat.old) engine tool }
-    ensures seated { B.seated board.now seat.new }
-    ensures chief { IsChief (turns_of (B.board board.now)) (B.known seat.new) }
-    ensures ran { Ran trace.now segment (B.known seat.old) (B.known seat.new) }
-    ensures answer { IfOk result (IsAnswerOf C.plays C.carries C.next C.sizes (B.board board.now)
-        trace.now segment (B.known seat.old) (B.known seat.new)) }
-{
-    let mut keeper = AnswerList::new(alloc);
-    let done = run_segment_with(
+    let cx = RunContext {
         rt,
         alloc,
         board,
-        seat,
         trace,
-        segment,
-        engine,
-        tool,
-        workroom,
-        &mut keeper,
         gate,
-    )?;
+    };
+    let workroom = Workroom::new(alloc, &AnswerList::new(alloc))?;
+    let machine = Box::new(alloc, Machine::new(alloc, engine, tool))?;
+    let answer = run_for_answers(&cx, seat, segment, machine, workroom)?;
+    Ok(answer)
+}
+
+// Runs one segment in this workroom, with a list of complete answers as the keeper.
+fn run_for_answers<B: Switchboard, G: Gate, C: Carrier, R: Threads + Wait + Sync>(
+    cx: &RunContext<B, G, R>,
+    seat: &mut B::Seat,
+    segment: u32,
+    machine: Box<Machine<C>>,
+    workroom: Workroom<B::Seat, AnswerList>,
+) -> Result<SegmentAnswer<C>, AllocError>
+    requires seated { B.seated cx.now.board.now seat.old }
+    requires may { MayRun (B.board cx.now.board.now) cx.now.trace.now segment (B.known seat.old) }
+    requires ready { IsReadyAt C.carries C.next C.sizes (B.board cx.now.board.now) (B.known seat.old) machine.value }
+    ensures seated { B.seated cx.now.board.now seat.new }
+    ensures chief { IsChief (turns_of (B.board cx.now.board.now)) (B.known seat.new) }
+    ensures ran { Ran cx.now.trace.now segment (B.known seat.old) (B.known seat.new) }
+    ensures answer { IfOk result (IsAnswerOf C.plays C.carries C.next C.sizes (B.board cx.now.board.now)
+        cx.now.trace.now segment (B.known seat.old) (B.known seat.new)) }
+{
+    let mut keeper = AnswerList::new(cx.alloc);
+    let done = run_segment_with(cx, seat, segment, machine, workroom, &mut keeper)?;
+    let answers = answers_of(cx.alloc, &mut keeper.items)?;
+    let machine = Box::into_inner(done.machine);
     Ok(SegmentAnswer {
-        answers: answers_of(alloc, &mut keeper.items)?,
-        engine: done.engine,
-        tool: done.tool,
+        answers,
+        engine: machine.engine,
+        tool: machine.desk.tool,
     })
 }
 
-// The answers without their places.
+// Moves the answers out of their places.
 fn answers_of(alloc: Global, placed: &mut VecDeque<Placed>) -> Result<Vec<Answer>, AllocError>
     ensures { IfOk result (λ m. m.items ≡ map (λ p. p.answer) placed.old.items) }
 {
@@ -122,45 +111,36 @@ fn answers_of(alloc: Global, placed: &mut VecDeque<Placed>) -> Result<Vec<Answer
     Ok(answers)
 }
 
-/// Runs one segment of a board's trace as [`run_segment`] does, in a workroom that is handed back for the
-/// next segment. A keeper gets the answers, in the order of the history.
+/// Runs one segment of a board's trace as [`run_segment`] does, with a machine and in a workroom that it returns for the
+/// next segment. Appends the answers to a keeper's, in the order of the history.
 ///
 /// # Errors
 ///
-/// [`AllocError`] where memory runs out. What was done by then is in the history, the workroom is gone, and
-/// the keeper keeps what it kept before.
+/// [`AllocError`] if an allocation fails. The history then has the events processed so far, the workroom is dropped,
+/// and the keeper has only the answers that it had before.
 pub fn run_segment_with<B: Switchboard, G: Gate, C: Carrier, K: Keeper, R: Threads + Wait + Sync>(
-    rt: &R,
-    alloc: Global,
-    board: &B,
+    cx: &RunContext<B, G, R>,
     seat: &mut B::Seat,
-    trace: &Trace,
     segment: u32,
-    engine: C,
-    tool: Tool,
+    machine: Box<Machine<C>>,
     workroom: Workroom<B::Seat, K>,
     keeper: &mut K,
-    gate: &G,
 ) -> Result<SegmentDone<B::Seat, C, K>, AllocError>
-    requires seated { B.seated board.now seat.old }
-    requires may { MayRun (B.board board.now) trace.now segment (B.known seat.old) }
-    requires ready { IsReadyFor C.carries C.next C.sizes (B.board board.now) (B.known seat.old) engine tool }
-    ensures seated { B.seated board.now seat.new }
-    ensures chief { IsChief (turns_of (B.board board.now)) (B.known seat.new) }
-    ensures ran { Ran trace.now segment (B.known seat.old) (B.known seat.new) }
-    ensures whole { IfOk result (RanTo C.carries C.next C.sizes (B.board board.now)
-        trace.now segment (B.known seat.old) (B.known seat.new)) }
+    requires seated { B.seated cx.now.board.now seat.old }
+    requires may { MayRun (B.board cx.now.board.now) cx.now.trace.now segment (B.known seat.old) }
+    requires ready { IsReadyAt C.carries C.next C.sizes (B.board cx.now.board.now) (B.known seat.old) machine.value }
+    ensures seated { B.seated cx.now.board.now seat.new }
+    ensures chief { IsChief (turns_of (B.board cx.now.board.now)) (B.known seat.new) }
+    ensures ran { Ran cx.now.trace.now segment (B.known seat.old) (B.known seat.new) }
+    ensures whole { IfOk result (RanTo C.carries C.next C.sizes (B.board cx.now.board.now)
+        cx.now.trace.now segment (B.known seat.old) (B.known seat.new)) }
     ensures answered { OnOk result ((kept : List Placed) → K.holds keeper.old kept
-        → AddsAnswers K.holds C.plays (table_of trace.now.tones) (B.board board.now) (B.known seat.old) (B.known seat.new) kept keeper.new) }
+        → AddsAnswers K.holds C.plays (table_of cx.now.trace.now.tones) (B.board cx.now.board.now) (B.known seat.old) (B.known seat.new) kept keeper.new) }
     ensures kept { OnErr result ((kept : List Placed) → K.holds keeper.old kept → K.holds keeper.new kept) }
 {
-    let loads = loads_of(trace, segment);
-    if gate.apart() || is_worth_threads(&loads) {
-        return run_apart(
-            rt, alloc, board, seat, trace, segment, engine, tool, workroom, keeper, &loads, gate,
-        );
+    let loads = loads_of(cx.trace, segment);
+    if cx.gate.apart() || is_worth_threads(&loads) {
+        return run_apart(cx, seat, segment, machine, workroom, keeper, &loads);
     }
-    run_by_caller(
-        rt, alloc, board, seat, trace, segment, engine, tool, workroom, keeper, gate,
-    )
+    run_by_caller(cx, seat, segment, machine, workroom, keeper)
 }

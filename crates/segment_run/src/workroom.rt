@@ -1,4 +1,4 @@
-//! Where the workplaces of the workers are kept from one segment to the next.
+//! The workplaces of the workers, which serve one segment after another.
 ghost use Rattle.std.specs.Prelude.{◌≡◌, ◌≤◌, [], IfOk, length, vec_capacity};
 
 use crate::crew::Crew;
@@ -9,16 +9,15 @@ use std::marker::Model;
 // Eight call processors and the frame worker.
 const WORKERS: usize = 9;
 
-/// What the workers of a segment need, kept for the workers of the next one: a workplace for each of up to
-/// nine, and the lists of their jobs and of what came of them. `T` is the type of
-/// their seats, and `K` the type of their keepers.
+/// The buffers of the workers of a segment, which also serve the next segment's: nine workplaces, the most that a segment
+/// needs, and the lists of jobs and results. `T` is the type of the seats and `K` the type of the keepers.
 ///
-/// Contracts see how many workers it has room for.
+/// Its model is the number of workers that it has room for.
 #[derive(Drop)]
 pub struct Workroom<T, K> {
-    // Those that nobody works at.
+    // The workplaces that no worker uses.
     pub(crate) workplaces: Vec<Workplace<K>>,
-    // Those that hold the answers of a segment; none between two segments.
+    // The workplaces whose keepers have the answers of a segment. There are none between two segments.
     pub(crate) used: Vec<Workplace<K>>,
     pub(crate) crew: Crew<T, K>,
 }
@@ -35,7 +34,7 @@ impl<T, K> Model for Workroom<T, K> {
 }
 
 impl<T: Drop, K: Keeper> Workroom<T, K> {
-    /// A workroom that nobody used yet, with keepers of this kind. `AllocError` where memory is lacking.
+    /// A new workroom, with keepers of this kind. [`AllocError`] if an allocation fails.
     pub fn new(alloc: Global, keeper: &K) -> Result<Workroom<T, K>, AllocError>
         ensures { IfOk result (λ r. r ≡ 9) }
     {

@@ -1,4 +1,4 @@
-ghost use Rattle.std.specs.Prelude.{◌≡◌, [], IfOk, length};
+ghost use Rattle.std.specs.Prelude.{◌≡◌, [], false, IfOk, length};
 ghost use Rattle.seat_history.specs.Seats.{HasJoinedAll, Settled, first_seat};
 ghost use Rattle.exchange_core.specs.Boards.{IsFrame, turns_of};
 ghost use Rattle.shared_exchange.specs.Sharing.{IsSeated, board_of};
@@ -14,7 +14,7 @@ use std::mem;
 use std::sync::Wait;
 use turn_lock::TurnLock;
 
-/// A core that many callers share: a switchboard. Contracts see the lock, whose setting is the board.
+/// A core that many callers share: a switchboard. Contracts see its lock, whose setting is the board.
 #[derive(Drop)]
 pub struct SharedExchange<'t, P: PathMap> {
     lock: TurnLock<Exchange<'t, P>>,
@@ -32,7 +32,8 @@ impl<'t, P: PathMap> Model for SharedExchange<'t, P> {
     ghost invariant = { λ x. IsBoard x.lock };
 }
 
-/// A seat at a shared exchange: the right to do n events. Contracts see what its lock's seat knows.
+/// A seat at a shared exchange: the right to process a number of events. Contracts see what the seat of its lock knows, and
+/// whether it has kept the turn.
 #[derive(Drop)]
 pub struct Seat<'t, P: PathMap> {
     turns: turn_lock::Seat<Exchange<'t, P>>,
@@ -48,8 +49,8 @@ impl<'t, P: PathMap> Model for Seat<'t, P> {
 }
 
 impl<'t, P: PathMap + Drop> SharedExchange<'t, P> {
-    /// Shares a core that has done nothing yet. Seat 0 gets a turn for each event of the trace, and the
-    /// baton. `AllocError` where memory is lacking; then the core is dropped.
+    /// Shares a core that has processed no event. Seat 0 gets a step for each event of the trace, and the baton. Returns
+    /// `AllocError` if an allocation fails, and drops the core.
     pub fn open(
         alloc: Global,
         core: Core<'t, P>,
@@ -57,7 +58,7 @@ impl<'t, P: PathMap + Drop> SharedExchange<'t, P> {
         requires empty { core.journal ≡ [] }
         ensures board { IfOk result (λ r. r.0.setting ≡ board_of core.entry) }
         ensures of { IfOk result (λ r. IsSeated r.0 r.1) }
-        ensures seat { IfOk result (λ r. r.1.known ≡ first_seat (length core.entry.trace.events)) }
+        ensures seat { IfOk result (λ r. (r.1.known ≡ first_seat (length core.entry.trace.events)) × (r.1.keeps ≡ false)) }
     {
         let turns = core.trace().events.as_slice().len() as u32;
         let core = Box::new(alloc, core)?;
@@ -69,8 +70,8 @@ impl<'t, P: PathMap + Drop> SharedExchange<'t, P> {
 }
 
 impl<'t, P: PathMap> SharedExchange<'t, P> {
-    /// Ends the sharing once seat 0 has joined all other seats, and hands the core out. Its journal is
-    /// the whole history, which is what seat 0 has seen.
+    /// Ends the sharing once seat 0 has joined all other seats, and returns the core. Its journal is the whole history, all
+    /// of which seat 0 has seen. Passes the turn first, if the seat kept it.
     pub fn close(self, seat: Seat<'t, P>) -> Core<'t, P>
         requires of { IsSeatOf self seat }
         requires chief { seat.known.number ≡ 0 }
@@ -93,6 +94,8 @@ impl<'t, P: PathMap + Send> Switchboard for SharedExchange<'t, P> {
 
     ghost known = { λ s. s.known };
 
+    ghost keeps = { λ s. s.keeps };
+
     ghost seated = { IsSeated };
 
     ghost sound_trace = { λ x s seated. seated.sound };
@@ -111,7 +114,7 @@ impl<'t, P: PathMap + Send> Switchboard for SharedExchange<'t, P> {
         tool: &mut Tool,
     ) -> (u32, Reply) {
         let mut desk = Desk::new(mem::replace(tool, Tool::Nothing));
-        let (place, response) = self.work(rt, seat, event, &mut desk);
+        let (place, response) = self.work(rt, seat, event, &mut desk, false);
         let Desk {
             tool: lent,
             out,
@@ -127,8 +130,13 @@ impl<'t, P: PathMap + Send> Switchboard for SharedExchange<'t, P> {
         seat: &mut Seat<'t, P>,
         event: u32,
         desk: &mut Desk,
+        keep: bool,
     ) -> (u32, Response) {
-        self.lock.step(rt, &mut seat.turns, event, desk)
+        self.lock.step(rt, &mut seat.turns, event, desk, keep)
+    }
+
+    fn release(&self, seat: &mut Seat<'t, P>) {
+        seat.turns.release(&self.lock);
     }
 
     fn join(&self, seat: &mut Seat<'t, P>, other: Seat<'t, P>) {

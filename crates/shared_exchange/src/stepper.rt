@@ -27,8 +27,7 @@ impl Model for Setting {
     ghost view = { λ s. record { trace = s.trace; slots = s.slots; bound = s.bound } };
 }
 
-/// The core, each of whose steps is a turn of the lock. It is in a box, so that a turn moves one
-/// word out of the lock and home again.
+/// The core, which the lock steps. It is in a box, so that a step moves one word out of the lock and back.
 #[derive(Drop)]
 pub struct Exchange<'t, P: PathMap> {
     pub core: Box<Core<'t, P>>,
@@ -54,9 +53,6 @@ impl<'t, P: PathMap> Stepper for Exchange<'t, P> {
     ghost answers = { λ board history by event response desk. Answers board history event (reply_of response desk.out) desk.tool × (desk.ahead ≡ None) };
 
     fn step(&mut self, by: u32, event: u32, desk: &mut Desk) -> Response {
-        let ahead = desk.ahead;
-        desk.ahead = None;
-        self.core
-            .work(by, event, &mut desk.tool, &mut desk.out, ahead)
+        self.core.work(by, event, desk)
     }
 }

@@ -1,4 +1,5 @@
 //! What no clause says: that the calls come to an end, in threads too. And a worked example, whose numbers were found by hand.
+mod core_steps;
 mod opened;
 mod segments;
 mod traces;
@@ -7,6 +8,7 @@ mod work;
 ghost use Rattle.std.specs.Prelude.{◌≡◌, ◌≤◌, length};
 ghost use Rattle.exchange_events.specs.Sound.{IsSound};
 
+use core_steps::nail_is_shown;
 use exchange_core::Switchboard;
 use exchange_events::Trace;
 use gate::{Gate, OpenGate, TestGate};
@@ -105,6 +107,12 @@ fn two_threads_agree(rt: &(impl Threads + Wait + Sync), alloc: Global) -> Result
     in_threads(rt, alloc, &trace)
 }
 
+// A core with a trace of its own.
+fn core_steps_agree(alloc: Global) -> Result<bool, AllocError> {
+    let trace = nail_and_five_frames(alloc)?;
+    nail_is_shown(alloc, &trace)
+}
+
 // A call processor with a trace of its own.
 fn processor_answers(rt: &impl Wait, alloc: Global) -> Result<bool, AllocError> {
     let trace = nail_and_five_frames(alloc)?;
@@ -128,6 +136,12 @@ fn all_workers_answer<G: Gate>(
 ) -> Result<bool, AllocError> {
     let trace = nail_and_five_frames(alloc)?;
     segments_are_answered(rt, alloc, &trace, gate)
+}
+
+#[test]
+fn a_core_does_a_nail_and_a_frame(rt: HostRuntime) -> Result<(), Fail> {
+    assert!(rt; core_steps_agree(rt.alloc())?);
+    Ok(())
 }
 
 #[test]

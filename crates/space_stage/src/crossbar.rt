@@ -21,9 +21,9 @@ pub fn cross(highway: &Highway, image: &Image, crossed: &mut Crossed)
     cross_part(highway, image, slots, 0, crossed.parts());
 }
 
-// Crosses to some outgoing lines, from line `first` on: `part` holds their rows, of `slots` octets
-// each, and gets what `cross` gives these lines.
-pub(crate) fn cross_part(highway: &Highway, image: &Image, slots: u8, first: u8, part: &mut [u8])
+/// Crosses one frame to some outgoing lines: `part` has their rows, of `slots` octets each, from the row of
+/// line `first` on. They get the octets that [`cross`] gives these lines.
+pub fn cross_part(highway: &Highway, image: &Image, slots: u8, first: u8, part: &mut [u8])
     requires lines { highway.now.lines ≡ lines_of image.now }
     requires highway { highway.now.slots ≡ slots }
     requires image { image.now.slots ≡ slots }

@@ -3,6 +3,7 @@
 //!
 //! [`cross`] gives each outgoing line, in each internal slot, the octet of the incoming line that
 //! the control memory names there, and the idle octet where it names none (`octets`).
+//! [`cross_part`] does so for some outgoing lines, and writes their rows (`octets`).
 //! [`cross_shared`] does so by halves of the lines, in threads of their own where that pays, and
 //! [`cross_by_halves`] where they have as many octets as the caller says: they have the clauses of
 //! [`cross`]. None says that the halves ran at once.
@@ -13,5 +14,5 @@
 mod crossbar;
 mod shared;
 
-pub use crossbar::cross;
+pub use crossbar::{cross, cross_part};
 pub use shared::{cross_by_halves, cross_shared};

@@ -4,6 +4,7 @@ mod buffers;
 mod channels;
 mod engine;
 mod example_traces;
+mod halved_stages;
 mod ports;
 mod rooms;
 mod stages;

@@ -18,7 +18,7 @@ use Rattle.turn_lock.specs.declared.board.Stage.{Stage}
 use Rattle.turn_lock.specs.declared.board.Stage.TheVariants.{Idle, Waits, Served}
 use Rattle.turn_lock.specs.Views.{HoldsTicket, IsServed, tickets_of, IsLive, Sits, Pairs, NoneServed}
 use Rattle.turn_lock.specs.Rule.{Reserves, IsAt, TurnRule}
-use Rattle.turn_lock.specs.Moves.{Foreign, first_view, spent_view, view_after_split, new_view, view_after_join, view_after_meet, view_after_pass, IsDraw, Gets, IsLook, IsPass, IsMeet, KnowsAll, IsEnd}
+use Rattle.turn_lock.specs.Moves.{Foreign, first_view, spent_view, view_after_split, new_view, view_after_join, view_after_meet, view_after_pass, view_after_renew, view_after_append, IsDraw, Gets, IsLook, IsMeet, IsPass, IsRenew, IsAppend, KnowsAll, IsEnd}
 use Rattle.turn_lock.proofs.RuleFacts.{IsPast, Apart, Knows, SeatOk, Facts, facts_of, rule_of, ticket_below, turn_known}
 use Rattle.turn_lock.proofs.NumberLemmas.{all_kept, all_once}
 use Rattle.seat_history.proofs.HistoryLemmas.{every_more, every_left, every_right, every_map, every_both, every_swap, entries_none, entries_same, entries_else, entries_front, starts_more, starts_same, both_begin, nothing_behind, is_all}
@@ -49,6 +49,9 @@ module _ {C : Type 0} where
   abbrev left_of : View C → ℕ
   left_of v = v.known.left
 
+  abbrev due_of : View C → ℕ
+  due_of v = v.due
+
   abbrev held_of : View C → ℕ
   held_of v = tickets_of v.stage
 
@@ -78,25 +81,31 @@ module _ {C : Type 0} where
       (λ other. (l.0, l.1, sits_else vs id w l.0 l.1 other l.2, l.3))
 
   -- one more ticket is given
-  knows_more : (reserved : C → ℕ → Type 0) (log : List Entry) (next next' : ℕ) (v : View C) (st : Stage) → next ≤ next' → Knows reserved log next v st → Knows reserved log next' v st
-  knows_more reserved log next next' v Idle l k = tt
-  knows_more reserved log next next' v (Waits u) l k = let b = k.1 in (k.0, omega arith, k.2)
-  knows_more reserved log next next' v (Served u) l k = let b = k.1 in (k.0, omega arith, k.2, k.3)
+  knows_more : (reserved : C → ℕ → Type 0) (log : List Entry) (now now' next next' : ℕ) (v : View C) (st : Stage) → now' ≡ now → next ≤ next' → Knows reserved log now next v st → Knows reserved log now' next' v st
+  knows_more reserved log now now' next next' v Idle same l k = tt
+  knows_more reserved log now now' next next' v (Waits u) same l k = let a = k.0 in let b = k.1 in (omega arith, omega arith, k.2)
+  knows_more reserved log now now' next next' v (Served u) same l k = let b = k.1 in (same ∙ k.0, omega arith, k.2, k.3)
 
-  -- the others, where the seat that was served has passed
-  others_pass : (reserved : C → ℕ → Type 0) (log log' : List Entry) (next : ℕ) (v : View C) (st : Stage) → length log' ≡ length log + 1 → (HoldsTicket st (length log) → ⊥) → Knows reserved log next v st → Knows reserved log' next v st
-  others_pass reserved log log' next v Idle more other k = tt
-  others_pass reserved log log' next v (Waits u) more other k = let a = k.0 in let ne : u ≢ length log = other in (omega arith, k.1, k.2)
-  others_pass reserved log log' next v (Served u) more other k = absurd (other (sym k.0))
+  -- the others, when the served seat appends an entry to the history
+  others_append : (reserved : C → ℕ → Type 0) (log log' : List Entry) (now now' next next' : ℕ) (v : View C) (st : Stage) → now' ≡ now → next' ≡ next → (HoldsTicket st now → ⊥) → Knows reserved log now next v st → Knows reserved log' now' next' v st
+  others_append reserved log log' now now' next next' v Idle same same' other k = tt
+  others_append reserved log log' now now' next next' v (Waits u) same same' other k = let a = k.0 in let b = k.1 in (omega arith, omega arith, k.2)
+  others_append reserved log log' now now' next next' v (Served u) same same' other k = absurd (other (sym k.0))
+
+  -- the others, when the served seat passes the turn
+  others_pass : (reserved : C → ℕ → Type 0) (log : List Entry) (now now' next next' : ℕ) (v : View C) (st : Stage) → now' ≡ now + 1 → next' ≡ next → (HoldsTicket st now → ⊥) → Knows reserved log now next v st → Knows reserved log now' next' v st
+  others_pass reserved log now now' next next' v Idle more same other k = tt
+  others_pass reserved log now now' next next' v (Waits u) more same other k = let a = k.0 in let b = k.1 in let ne : u ≢ now = other in (omega arith, omega arith, k.2)
+  others_pass reserved log now now' next next' v (Served u) more same other k = absurd (other (sym k.0))
 
   -- a seat that waits for the ticket that is served, and no other, holds it: no seat is served
-  turn_free : (reserved : C → ℕ → Type 0) (vs : List (View C)) (id : ℕ) (me : View C) (log : List Entry) (next t : ℕ) → Sits vs id me → me.stage ≡ Waits t → length log ≡ t
-      → ((j : ℕ) (v : View C) → Sits vs j v → Knows reserved log next v v.stage) → Pairs Apart vs → NoneServed vs
-  turn_free reserved vs id me log next t sits waits turn knows apart j v sit served = dite (ℕ_discrete j id)
+  turn_free : (reserved : C → ℕ → Type 0) (vs : List (View C)) (id : ℕ) (me : View C) (log : List Entry) (now next t : ℕ) → Sits vs id me → me.stage ≡ Waits t → now ≡ t
+      → ((j : ℕ) (v : View C) → Sits vs j v → Knows reserved log now next v v.stage) → Pairs Apart vs → NoneServed vs
+  turn_free reserved vs id me log now next t sits waits turn knows apart j v sit served = dite (ℕ_discrete j id)
       (λ (same : j ≡ id). subst (λ st. IsServed st) (ap (λ (z : View C). z.stage) (some-injective v me (sym sit.0 ∙ (ap (get_elem? vs) same ∙ sits.0))) ∙ waits) served)
       (λ other. (apart j id v me sit sits other).ticket t (ticket_of v.stage (knows j v sit) served) (subst (λ st. HoldsTicket st t) (sym waits) refl))
     where
-      ticket_of : (st : Stage) → Knows reserved log next v st → IsServed st → HoldsTicket st t
+      ticket_of : (st : Stage) → Knows reserved log now next v st → IsServed st → HoldsTicket st t
       ticket_of Idle k h = absurd h
       ticket_of (Waits u) k h = absurd h
       ticket_of (Served u) k h = sym k.0 ∙ turn
@@ -143,11 +152,10 @@ module _ {S C : Type 0} (setting : S → C) (journal : S → List Entry) (room :
       (λ other. absurd (alone s r id v sits first all l.0 l.1 l.2 other))
 
   -- what seat 0 knows adds up, between two calls of its own
-  settles : (s : St) → Full s → (id : ℕ) (v : V) → Sits s.views id v → v.stage ≡ Idle → v.known.number ≡ 0 → KnowsAll v
-  settles s r id v sits idle first =
+  settles : (s : St) → Full s → (id : ℕ) (v : V) → Sits s.views id v → v.due ≡ 0 → v.known.number ≡ 0 → KnowsAll v
+  settles s r id v sits none_due first =
       let ok = r.seats id v sits in
       let made_is : v.known.made ≡ r.made = ok.chief first in
-      let none_held : tickets_of v.stage ≡ 0 = ap tickets_of idle in
       let behind = every_swap (λ (e : Entry) (k : JoinedSeat). e.0 ≢ k.number) ok.rest v.known.kept (every_map ok.rest (λ e f. f.kept_are) ok.foreign) in
       let born : Every (λ (e : Entry). e.0 ≤ v.known.made) v.known.seen = subst (λ (m : ℕ). Every (λ (e : Entry). e.0 ≤ m) v.known.seen) (sym made_is) (every_left _ v.known.seen ok.rest (subst (Every (λ (e : Entry). e.0 ≤ r.made)) ok.whole r.born)) in
       let others : Every (λ (k : JoinedSeat). (k.number ≢ v.known.number) × (k.number ≤ v.known.made)) v.known.kept = every_map v.known.kept (λ k p. let low = p.made_so in (p.other, omega arith)) ok.kept_is in
@@ -158,33 +166,35 @@ module _ {S C : Type 0} (setting : S → C) (journal : S → List Entry) (room :
         others = All-from_recursion (λ (k : JoinedSeat). (k.number ≢ v.known.number) × (k.number ≤ v.known.made)) v.known.kept others;
         once = all_once v.known.kept ok.once;
         entries_made = All-from_recursion (λ (e : Entry). e.0 ≤ v.known.made) v.known.seen born;
-        within = let a = total_one left_of s.views id v sits in let g = r.given in let b = ok.budget_is in omega arith;
+        within = let a = total_one left_of s.views id v sits in let g = r.drawn in let b = ok.budget_is in omega arith;
         accounted = λ all. All-from_recursion (λ (e : Entry). Accounts v.known e.0) v.known.seen
             (every_map v.known.seen (λ e low. all_kept v.known.number v.known.made v.known.kept first all others ok.once e.0 low) born);
         whole = λ all. let only = alone s r id v sits first all in
-            let a = total_alone left_of s.views id v sits only in let b = total_alone held_of s.views id v sits only in
+            let a = total_alone left_of s.views id v sits only in let b = total_alone due_of s.views id v sits only in
             let seen_is = seen_whole s r id v sits first all in
-            let l = ap length seen_is in let h = r.held in let g = r.given in let c = ok.budget_is in omega arith;
+            let l = ap length seen_is in let g = r.given in let c = ok.budget_is in omega arith;
       }
 
-  pub draw_keeps : (slots id : ℕ) (me : M) (event : ℕ) → IsLive me.0.setting → me.0.stage ≡ Idle → 0 < me.0.known.left → (Reserves reserved me.0.setting event → IsTrue me.0.known.baton)
+  pub draw_keeps : (slots id : ℕ) (me : M) (event : ℕ) → IsLive me.0.setting → me.0.stage ≡ Idle → me.0.due ≡ 0 → 0 < me.0.known.left → (Reserves reserved me.0.setting event → IsTrue me.0.known.baton)
       → Allows Rule slots id me 0 (λ n. (n + 1) % 2 ^ 64) (IsDraw setting journal room reserved event (step slots 0 1 0 none) me)
-  draw_keeps slots id me event live idle some_left allowed s ru deep at small =
+  draw_keeps slots id me event live idle none_due some_left allowed s ru deep at small =
       let r : Full s = in_full s ru in
       let n : ℕ = get_or s.words 0 0 in
-      let w : V = record me.0 { known = record me.0.known { left = me.0.known.left - 1 }; stage = Waits n; event = event } in
+      let w : V = record me.0 { known = record me.0.known { left = me.0.known.left - 1 }; stage = Waits n; event = event; due = 1 } in
       let sits : Sits s.views id me.0 = (at, live) in
       let one = total_one left_of s.views id me.0 sits in
       let turns = total_set left_of s.views id me.0 w sits live in
       let tickets = total_set held_of s.views id me.0 w sits live in
+      let dues = total_set due_of s.views id me.0 w sits live in
       let none_held : tickets_of me.0.stage ≡ 0 = ap tickets_of idle in
       let alive = total_set one_of s.views id me.0 w sits live in
       let stays = total_set kept_count s.views id me.0 w sits live in
-      let given = r.given in let held = r.held in let bound = r.small in let wide = r.wide in let count = r.count in
+      let given = r.given in let drawn = r.drawn in let held = r.held in let bound = r.small in let wide = r.wide in let count = r.count in
       let next : (n + 1) % 2 ^ 64 ≡ n + 1 = omega arith in
       let now : get_or (set s.words 0 ((n + 1) % 2 ^ 64)) 0 0 ≡ n + 1 = get_or-set_same s.words 0 ((n + 1) % 2 ^ 64) 0 (omega arith) ∙ next in
+      let serves : get_or (set s.words 0 ((n + 1) % 2 ^ 64)) 16 0 ≡ get_or s.words 16 0 = get_or-set_other s.words 0 16 ((n + 1) % 2 ^ 64) 0 (λ e. omega arith) in
       let ok = r.seats id me.0 sits in
-      let fresh : (j : ℕ) (v : V) → Sits s.views j v → HoldsTicket v.stage n → ⊥ = λ j v sit h. let k = (ticket_below reserved r.log n v v.stage n (r.knows j v sit) h).1 in omega arith in (
+      let fresh : (j : ℕ) (v : V) → Sits s.views j v → HoldsTicket v.stage n → ⊥ = λ j v sit h. let k = (ticket_below reserved r.log (get_or s.words 16 0) n v v.stage n (r.knows j v sit) h).1 in omega arith in (
         w,
         keeps,
         tt,
@@ -194,15 +204,16 @@ module _ {S C : Type 0} (setting : S → C) (journal : S → List Entry) (room :
           small = r.small;
           wide = length-set s.words 0 ((n + 1) % 2 ^ 64) ∙ r.wide;
           deep = r.deep;
-          serving = get_or-set_other s.words 0 16 ((n + 1) % 2 ^ 64) 0 (λ e. omega arith) ∙ r.serving;
+          placed = get_or-set_other s.words 0 32 ((n + 1) % 2 ^ 64) 0 (λ e. omega arith) ∙ r.placed;
           held = omega arith;
           given = omega arith;
+          drawn = omega arith;
           seats = seats_set s.views (λ _ v. Ok r.log r.made v) id w
               record { setting_is = ok.setting_is; budget_is = ok.budget_is; rest = ok.rest; whole = ok.whole; foreign = ok.foreign; own_is = ok.own_is; kept_is = ok.kept_is; once = ok.once; made_so = ok.made_so; olds = ok.olds; chief = ok.chief; plain = ok.plain }
               (λ j v _ sit. r.seats j v sit);
-          knows = seats_set s.views (λ _ v. Knows reserved r.log (get_or (set s.words 0 ((n + 1) % 2 ^ 64)) 0 0) v v.stage) id w
+          knows = seats_set s.views (λ _ v. Knows reserved r.log (get_or (set s.words 0 ((n + 1) % 2 ^ 64)) 16 0) (get_or (set s.words 0 ((n + 1) % 2 ^ 64)) 0 0) v v.stage) id w
               (omega arith, omega arith, allowed)
-              (λ j v _ sit. knows_more reserved r.log n _ v v.stage (omega arith) (r.knows j v sit));
+              (λ j v _ sit. knows_more reserved r.log (get_or s.words 16 0) _ n _ v v.stage serves (omega arith) (r.knows j v sit));
           apart = pairs_set s.views Apart id w r.apart (λ j v other sit. let a = r.apart j id v me.0 sit sits other in let b = r.apart id j me.0 v sits sit (λ e. other (sym e)) in (
             record { number = a.number; ticket = λ t h k. fresh j v sit (subst (HoldsTicket v.stage) (sym k) h); baton = a.baton; gone = a.gone },
             record { number = b.number; ticket = λ t h k. fresh j v sit (subst (HoldsTicket v.stage) (sym h) k); baton = b.baton; gone = b.gone },
@@ -216,20 +227,19 @@ module _ {S C : Type 0} (setting : S → C) (journal : S → List Entry) (room :
         (refl, refl),
       )
 
-  pub look_keeps : (slots id : ℕ) (me : M) (t : ℕ) → IsLive me.0.setting → me.0.stage ≡ Waits t → me.1 ≡ [] → Allows Rule slots id me 16 (λ n. n) (IsLook setting journal room reserved (step slots 16 0 0 none) me)
-  look_keeps slots id me t live waits empty s ru deep at small =
+  pub look_keeps : (slots id : ℕ) (me : M) (t : ℕ) → IsLive me.0.setting → me.0.stage ≡ Waits t → me.0.due ≡ 1 → me.1 ≡ [] → Allows Rule slots id me 16 (λ n. n) (IsLook setting journal room reserved (step slots 16 0 0 none) me)
+  look_keeps slots id me t live waits one_due empty s ru deep at small =
       let r : Full s = in_full s ru in
       let n : ℕ = get_or s.words 16 0 in
       let sits : Sits s.views id me.0 = (at, live) in
       let ok = r.seats id me.0 sits in
       dite (ℕ_discrete n t)
       (λ hit.
-      let len : length r.log ≡ t = sym r.serving ∙ hit in
-      let free : NoneServed s.views = turn_free reserved s.views id me.0 r.log (get_or s.words 0 0) t sits waits len r.knows r.apart in
+      let free : NoneServed s.views = turn_free reserved s.views id me.0 r.log n (get_or s.words 0 0) t sits waits hit r.knows r.apart in
       let state = r.home free in
       let seen' : List Entry = me.0.known.seen ++ ok.rest in
       let w : V = record me.0 { known = record me.0.known { seen = seen' }; stage = Served t } in
-      let known = subst (Knows reserved r.log (get_or s.words 0 0) me.0) waits (r.knows id me.0 sits) in
+      let known = subst (Knows reserved r.log (get_or s.words 16 0) (get_or s.words 0 0) me.0) waits (r.knows id me.0 sits) in
       let less : (k : ℕ) → t ≡ k → HoldsTicket me.0.stage k = λ k h. subst (λ st. HoldsTicket st k) (sym waits) h in
       let held_one : tickets_of me.0.stage ≡ 1 = ap tickets_of waits in (
         w,
@@ -241,13 +251,14 @@ module _ {S C : Type 0} (setting : S → C) (journal : S → List Entry) (room :
           small = r.small;
           wide = r.wide;
           deep = length-set s.homes 0 none ∙ r.deep;
-          serving = r.serving;
+          placed = r.placed;
           held = let m = total_set held_of s.views id me.0 w sits live in let g = r.held in omega arith;
-          given = let m = total_set left_of s.views id me.0 w sits live in let g = r.given in omega arith;
+          given = let m = total_set left_of s.views id me.0 w sits live in let k = total_set due_of s.views id me.0 w sits live in let g = r.given in omega arith;
+          drawn = let m = total_set left_of s.views id me.0 w sits live in let g = r.drawn in omega arith;
           seats = seats_set s.views (λ _ v. Ok r.log r.made v) id w
               record { setting_is = ok.setting_is; budget_is = ok.budget_is; rest = []; whole = ok.whole ∙ sym (append-nil seen'); foreign = tt; own_is = ok.own_is; kept_is = ok.kept_is; once = ok.once; made_so = ok.made_so; olds = (starts_more me.0.known.seen ok.rest me.0.first ok.olds.0, starts_more me.0.known.seen ok.rest me.0.second ok.olds.1); chief = ok.chief; plain = ok.plain }
               (λ j v _ sit. r.seats j v sit);
-          knows = seats_set s.views (λ _ v. Knows reserved r.log (get_or s.words 0 0) v v.stage) id w (len, known.1, known.2, sym ok.whole) (λ j v _ sit. r.knows j v sit);
+          knows = seats_set s.views (λ _ v. Knows reserved r.log (get_or s.words 16 0) (get_or s.words 0 0) v v.stage) id w (hit, known.1, known.2, sym ok.whole) (λ j v _ sit. r.knows j v sit);
           apart = pairs_set s.views Apart id w r.apart (λ j v other sit. let a = r.apart j id v me.0 sit sits other in let b = r.apart id j me.0 v sits sit (λ e. other (sym e)) in (
             record { number = a.number; ticket = λ k h g. a.ticket k h (less k g); baton = a.baton; gone = a.gone },
             record { number = b.number; ticket = λ k h g. b.ticket k (less k h) g; baton = b.baton; gone = b.gone },
@@ -265,8 +276,7 @@ module _ {S C : Type 0} (setting : S → C) (journal : S → List Entry) (room :
                 view = refl;
                 foreign = ok.foreign;
                 own_is = ok.own_is ∙ ap (entries_of me.0.known.number) ok.whole;
-                place = sym len ∙ ap length ok.whole;
-                within = let l = known.1 in let g = r.given in let b = ok.budget_is in omega arith;
+                within = let l = ap length ok.whole in let k = total_one due_of s.views id me.0 sits in let g = r.given in let b = ok.budget_is in omega arith;
                 alone = λ first all. nothing_behind me.0.known.seen ok.rest (seen_whole s r id me.0 sits first all ∙ ok.whole);
                 state = state.0;
                 slot = refl;
@@ -312,7 +322,7 @@ module _ {S C : Type 0} (setting : S → C) (journal : S → List Entry) (room :
       }
 
   -- the same for the seat itself
-  own_seat : (log : List Entry) (made : ℕ) (me : V) → me.known.seen ≡ log → Ok log made me → Ok (log ++ (me.known.number, me.event) ∷ []) made (view_after_pass me)
+  own_seat : (log : List Entry) (made : ℕ) (me : V) → me.known.seen ≡ log → Ok log made me → Ok (log ++ (me.known.number, me.event) ∷ []) made (view_after_append me)
   own_seat log made me whole o =
       let e : Entry = (me.known.number, me.event) in
       let seen_is : me.known.seen ++ e ∷ [] ≡ log ++ e ∷ [] = ap (λ (l : List Entry). l ++ e ∷ []) whole in
@@ -331,76 +341,174 @@ module _ {S C : Type 0} (setting : S → C) (journal : S → List Entry) (room :
         plain = o.plain;
       }
 
+  pub renew_keeps : (slots id : ℕ) (me : M) (event t : ℕ) → IsLive me.0.setting → me.0.stage ≡ Served t → me.0.due ≡ 0 → 0 < me.0.known.left → (Reserves reserved me.0.setting event → IsTrue me.0.known.baton)
+      → Allows Rule slots id me 16 (λ n. n) (IsRenew event (step slots 16 0 0 none) me)
+  renew_keeps slots id me event t live served none_due some_left allowed s ru deep at small =
+      let r : Full s = in_full s ru in
+      let sits : Sits s.views id me.0 = (at, live) in
+      let ok = r.seats id me.0 sits in
+      let w : V = view_after_renew event me.0 in
+      let known = subst (Knows reserved r.log (get_or s.words 16 0) (get_or s.words 0 0) me.0) served (r.knows id me.0 sits) in
+      let turns = total_set left_of s.views id me.0 w sits live in
+      let dues = total_set due_of s.views id me.0 w sits live in
+      let one = total_one left_of s.views id me.0 sits in (
+        w,
+        keeps,
+        tt,
+        subst (λ (ws : List ℕ). Rule record { words = ws; homes = s.homes; views = set s.views id w }) (sym (set-get_or s.words 16 0)) (in_rule record { words = s.words; homes = s.homes; views = set s.views id w } record {
+          log = r.log;
+          made = r.made;
+          small = r.small;
+          wide = r.wide;
+          deep = r.deep;
+          placed = r.placed;
+          held = let m = total_set held_of s.views id me.0 w sits live in let h = r.held in omega arith;
+          given = let g = r.given in omega arith;
+          drawn = let g = r.drawn in omega arith;
+          seats = seats_set s.views (λ _ v. Ok r.log r.made v) id w
+              record { setting_is = ok.setting_is; budget_is = ok.budget_is; rest = ok.rest; whole = ok.whole; foreign = ok.foreign; own_is = ok.own_is; kept_is = ok.kept_is; once = ok.once; made_so = ok.made_so; olds = ok.olds; chief = ok.chief; plain = ok.plain }
+              (λ j v _ sit. r.seats j v sit);
+          knows = seats_set s.views (λ _ v. Knows reserved r.log (get_or s.words 16 0) (get_or s.words 0 0) v v.stage) id w
+              (subst (Knows reserved r.log (get_or s.words 16 0) (get_or s.words 0 0) w) (sym served) (known.0, known.1, allowed, known.3))
+              (λ j v _ sit. r.knows j v sit);
+          apart = pairs_set s.views Apart id w r.apart (λ j v other sit. let a = r.apart j id v me.0 sit sits other in let b = r.apart id j me.0 v sits sit (λ e. other (sym e)) in (
+            record { number = a.number; ticket = a.ticket; baton = a.baton; gone = a.gone },
+            record { number = b.number; ticket = b.ticket; baton = b.baton; gone = b.gone },
+          ));
+          born = r.born;
+          count = let m = total_set one_of s.views id me.0 w sits live in let k = total_set kept_count s.views id me.0 w sits live in let c = r.count in omega arith;
+          longest = longest_set r.log s.views id me.0 w sits live (λ h. h) r.longest;
+          out = seats_set s.views (λ _ v. IsServed v.stage → Out s.homes) id w (r.out id me.0 sits) (λ j v _ sit. r.out j v sit);
+          home = λ unserved. r.home (none_after s.views id me.0 w sits live (λ h. h) unserved);
+        }),
+        (refl, ok.own_is ∙ ap (entries_of me.0.known.number) (sym known.3), (let l = ap length known.3 in let g = r.given in let b = ok.budget_is in omega arith)),
+      )
+
+  pub append_keeps : (slots id : ℕ) (me : M) (t : ℕ) → IsLive me.0.setting → me.0.stage ≡ Served t → me.0.due ≡ 1
+      → Allows Rule slots id me 32 (λ n. (n + 1) % 2 ^ 64) (IsAppend (step slots 32 1 0 none) me)
+  append_keeps slots id me t live served one_due s ru deep at small =
+      let r : Full s = in_full s ru in
+      let n : ℕ = get_or s.words 32 0 in
+      let sits : Sits s.views id me.0 = (at, live) in
+      let ok = r.seats id me.0 sits in
+      let known = subst (Knows reserved r.log (get_or s.words 16 0) (get_or s.words 0 0) me.0) served (r.knows id me.0 sits) in
+      let e : Entry = (me.0.known.number, me.0.event) in
+      let log' : List Entry = r.log ++ e ∷ [] in
+      let w : V = view_after_append me.0 in
+      let seen_is : w.known.seen ≡ log' = ap (λ (l : List Entry). l ++ e ∷ []) known.3 in
+      let more : length log' ≡ length r.log + 1 = length-append r.log (e ∷ []) in
+      let one = total_one due_of s.views id me.0 sits in
+      let dues = total_set due_of s.views id me.0 w sits live in
+      let turns = total_set left_of s.views id me.0 w sits live in
+      let g = r.given in let d = r.drawn in let h = r.held in let b = r.small in let wide = r.wide in let placed : n ≡ length r.log = r.placed in
+      let next : (n + 1) % 2 ^ 64 ≡ n + 1 = omega arith in
+      let ws : List ℕ = set s.words 32 ((n + 1) % 2 ^ 64) in
+      let same0 : get_or ws 0 0 ≡ get_or s.words 0 0 = get_or-set_other s.words 32 0 ((n + 1) % 2 ^ 64) 0 (λ e. omega arith) in
+      let same16 : get_or ws 16 0 ≡ get_or s.words 16 0 = get_or-set_other s.words 32 16 ((n + 1) % 2 ^ 64) 0 (λ e. omega arith) in
+      let mine : HoldsTicket me.0.stage (get_or s.words 16 0) = subst (λ st. HoldsTicket st (get_or s.words 16 0)) (sym served) (sym known.0) in
+      let after : St = stepped s 32 ((n + 1) % 2 ^ 64) id me.1 w keeps in
+      let full : Full after = record {
+        log = log';
+        made = r.made;
+        small = r.small;
+        wide = length-set s.words 32 ((n + 1) % 2 ^ 64) ∙ r.wide;
+        deep = r.deep;
+        placed = get_or-set_same s.words 32 ((n + 1) % 2 ^ 64) 0 (omega arith) ∙ (next ∙ (omega arith));
+        held = let m = total_set held_of s.views id me.0 w sits live in omega arith;
+        given = omega arith;
+        drawn = omega arith;
+        seats = seats_set s.views (λ _ v. Ok log' r.made v) id w (own_seat r.log r.made me.0 known.3 ok)
+            (λ j v other sit. let o = r.seats j v sit in other_seat r.log r.made me.0.event me.0 v (ok.setting_is ∙ sym o.setting_is) known.2 (r.apart j id v me.0 sit sits other) o);
+        knows = seats_set s.views (λ _ v. Knows reserved log' (get_or ws 16 0) (get_or ws 0 0) v v.stage) id w
+            (subst (Knows reserved log' (get_or ws 16 0) (get_or ws 0 0) w) (sym served) (same16 ∙ known.0, (let l = known.1 in omega arith), known.2, seen_is))
+            (λ j v other sit. others_append reserved r.log log' (get_or s.words 16 0) _ (get_or s.words 0 0) _ v v.stage same16 same0 (λ h. (r.apart j id v me.0 sit sits other).ticket (get_or s.words 16 0) h mine) (r.knows j v sit));
+        apart = pairs_set s.views Apart id w r.apart (λ j v other sit. let a = r.apart j id v me.0 sit sits other in let b = r.apart id j me.0 v sits sit (λ e. other (sym e)) in (
+          record { number = a.number; ticket = a.ticket; baton = a.baton; gone = a.gone },
+          record { number = b.number; ticket = b.ticket; baton = b.baton; gone = b.gone },
+        ));
+        born = every_more (λ (e : Entry). e.0 ≤ r.made) r.log (e ∷ []) r.born (ok.made_so, tt);
+        count = let m = total_set one_of s.views id me.0 w sits live in let k = total_set kept_count s.views id me.0 w sits live in let c = r.count in omega arith;
+        longest = (id, w, (set_at s.views id me.0 w at, live), seen_is);
+        out = seats_set s.views (λ _ v. IsServed v.stage → Out s.homes) id w (r.out id me.0 sits) (λ j v _ sit. r.out j v sit);
+        home = λ unserved. absurd (unserved id w (set_at s.views id me.0 w at, live) (subst IsServed (sym served) tt));
+      } in (
+        w,
+        keeps,
+        tt,
+        in_rule after full,
+        (refl, placed ∙ ap length (sym known.3), λ first. settles after full id w (set_at s.views id me.0 w at, live) refl first),
+      )
+
   pub pass_keeps : (slots id : ℕ) (me : M) (t : ℕ) (x : S) → IsLive me.0.setting → me.0.stage ≡ Served t → me.1 ≡ (0, Some x) ∷ []
-      → IsAt setting journal room me.0.setting me.0.budget (me.0.known.seen ++ (me.0.known.number, me.0.event) ∷ []) x
+      → IsAt setting journal room me.0.setting me.0.budget me.0.known.seen x
       → Allows Rule slots id me 16 (λ n. (n + 1) % 2 ^ 64) (IsPass (step slots 16 1 0 none) me)
   pass_keeps slots id me t x live served has fits s ru deep at small =
       let r : Full s = in_full s ru in
       let n : ℕ = get_or s.words 16 0 in
       let sits : Sits s.views id me.0 = (at, live) in
       let ok = r.seats id me.0 sits in
-      let known = subst (Knows reserved r.log (get_or s.words 0 0) me.0) served (r.knows id me.0 sits) in
-      let e : Entry = (me.0.known.number, me.0.event) in
-      let log' : List Entry = r.log ++ e ∷ [] in
+      let known = subst (Knows reserved r.log n (get_or s.words 0 0) me.0) served (r.knows id me.0 sits) in
       let w : V = view_after_pass me.0 in
-      let seen_is : w.known.seen ≡ log' = ap (λ (l : List Entry). l ++ e ∷ []) known.3 in
-      let more : length log' ≡ length r.log + 1 = length-append r.log (e ∷ []) in
-      let len : length r.log ≡ t = known.0 in
-      let below : t < get_or s.words 0 0 = known.1 in
-      let g = r.given in let h = r.held in let b = r.small in let wide = r.wide in let serving : n ≡ length r.log = r.serving in
+      let below = known.1 in let turn = known.0 in
+      let g = r.given in let d = r.drawn in let h = r.held in let b = r.small in let wide = r.wide in
+      let turns = total_set left_of s.views id me.0 w sits live in
       let next : (n + 1) % 2 ^ 64 ≡ n + 1 = omega arith in
       let ws : List ℕ = set s.words 16 ((n + 1) % 2 ^ 64) in
-      let same : get_or ws 0 0 ≡ get_or s.words 0 0 = get_or-set_other s.words 16 0 ((n + 1) % 2 ^ 64) 0 (λ e. omega arith) in
-      let mine : HoldsTicket me.0.stage (length r.log) = subst (λ st. HoldsTicket st (length r.log)) (sym served) (sym len) in
+      let same0 : get_or ws 0 0 ≡ get_or s.words 0 0 = get_or-set_other s.words 16 0 ((n + 1) % 2 ^ 64) 0 (λ e. omega arith) in
+      let serves : get_or ws 16 0 ≡ n + 1 = get_or-set_same s.words 16 ((n + 1) % 2 ^ 64) 0 (omega arith) ∙ next in
+      let mine : HoldsTicket me.0.stage n = subst (λ st. HoldsTicket st n) (sym served) (sym turn) in
       let held_one : tickets_of me.0.stage ≡ 1 = ap tickets_of served in
       let after : St = stepped s 16 ((n + 1) % 2 ^ 64) id ((0, Some x) ∷ []) w gives in
       let full : Full after = record {
-        log = log';
+        log = r.log;
         made = r.made;
         small = r.small;
         wide = length-set s.words 16 ((n + 1) % 2 ^ 64) ∙ r.wide;
         deep = length-set s.homes 0 (some (Some x)) ∙ r.deep;
-        serving = get_or-set_same s.words 16 ((n + 1) % 2 ^ 64) 0 (omega arith) ∙ (next ∙ (omega arith));
+        placed = get_or-set_other s.words 16 32 ((n + 1) % 2 ^ 64) 0 (λ e. omega arith) ∙ r.placed;
         held = let m = total_set held_of s.views id me.0 w sits live in omega arith;
-        given = let m = total_set left_of s.views id me.0 w sits live in omega arith;
-        seats = seats_set s.views (λ _ v. Ok log' r.made v) id w (own_seat r.log r.made me.0 known.3 ok)
-            (λ j v other sit. let o = r.seats j v sit in other_seat r.log r.made me.0.event me.0 v (ok.setting_is ∙ sym o.setting_is) known.2 (r.apart j id v me.0 sit sits other) o);
-        knows = seats_set s.views (λ _ v. Knows reserved log' (get_or ws 0 0) v v.stage) id w tt
-            (λ j v other sit. subst (λ (k : ℕ). Knows reserved log' k v v.stage) (sym same) (others_pass reserved r.log log' (get_or s.words 0 0) v v.stage more (λ h. (r.apart j id v me.0 sit sits other).ticket (length r.log) h mine) (r.knows j v sit)));
+        given = let k = total_set due_of s.views id me.0 w sits live in omega arith;
+        drawn = omega arith;
+        seats = seats_set s.views (λ _ v. Ok r.log r.made v) id w
+            record { setting_is = ok.setting_is; budget_is = ok.budget_is; rest = ok.rest; whole = ok.whole; foreign = ok.foreign; own_is = ok.own_is; kept_is = ok.kept_is; once = ok.once; made_so = ok.made_so; olds = ok.olds; chief = ok.chief; plain = ok.plain }
+            (λ j v _ sit. r.seats j v sit);
+        knows = seats_set s.views (λ _ v. Knows reserved r.log (get_or ws 16 0) (get_or ws 0 0) v v.stage) id w tt
+            (λ j v other sit. others_pass reserved r.log n _ (get_or s.words 0 0) _ v v.stage serves same0 (λ h. (r.apart j id v me.0 sit sits other).ticket n h mine) (r.knows j v sit));
         apart = pairs_set s.views Apart id w r.apart (λ j v other sit. let a = r.apart j id v me.0 sit sits other in let b = r.apart id j me.0 v sits sit (λ e. other (sym e)) in (
           record { number = a.number; ticket = λ k h g. g; baton = a.baton; gone = a.gone },
           record { number = b.number; ticket = λ k h g. h; baton = b.baton; gone = b.gone },
         ));
-        born = every_more (λ (e : Entry). e.0 ≤ r.made) r.log (e ∷ []) r.born (ok.made_so, tt);
+        born = r.born;
         count = let m = total_set one_of s.views id me.0 w sits live in let k = total_set kept_count s.views id me.0 w sits live in let c = r.count in omega arith;
-        longest = (id, w, (set_at s.views id me.0 w at, live), seen_is);
+        longest = longest_set r.log s.views id me.0 w sits live (λ h. h) r.longest;
         out = seats_set s.views (λ _ v. IsServed v.stage → Out after.homes) id w (λ h. absurd h)
-            (λ j v other sit h. absurd ((r.apart j id v me.0 sit sits other).ticket (length r.log) (turn_known reserved r.log (get_or s.words 0 0) (length r.log) v v.stage refl (r.knows j v sit) h).0 mine));
+            (λ j v other sit h. absurd ((r.apart j id v me.0 sit sits other).ticket n (turn_known reserved r.log n (get_or s.words 0 0) v v.stage (r.knows j v sit) h).0 mine));
         home = λ _. (
           x,
           set_here s.homes 0 (some (Some x)) (let d = r.deep in omega arith),
-          record { setting_is = sym ok.setting_is ∙ fits.setting_is; journal_is = fits.journal_is ∙ seen_is; roomy = let f = fits.roomy in let bb = ok.budget_is in let l = ap length known.3 in omega (arith, length-append me.0.known.seen (e ∷ []), length-append r.log (e ∷ [])) },
+          record { setting_is = sym ok.setting_is ∙ fits.setting_is; journal_is = fits.journal_is ∙ known.3; roomy = let f = fits.roomy in let bb = ok.budget_is in let l = ap length known.3 in omega arith },
         );
       } in (
         w,
         gives,
         tt,
         subst (λ (c : List (ℕ × Option S)). Rule (stepped s 16 ((n + 1) % 2 ^ 64) id c w gives)) (sym has) (in_rule after full),
-        ((λ i. (w, rest (has i))), λ first. settles after full id w (set_at s.views id me.0 w at, live) refl first),
+        (λ i. (w, rest (has i))),
       )
 
-  pub open_keeps : (x : S) → setting x ≡ opening' → journal x ≡ [] → budget ≤ room x → budget < 2 ^ 32 → Rule (opening (replicate 17 0) (Some x ∷ []) (first_view opening' budget))
-  open_keeps x is empty roomy small = in_rule (opening (replicate 17 0) (Some x ∷ []) (first_view opening' budget)) record {
+  pub open_keeps : (x : S) → setting x ≡ opening' → journal x ≡ [] → budget ≤ room x → budget < 2 ^ 32 → Rule (opening (replicate 33 0) (Some x ∷ []) (first_view opening' budget))
+  open_keeps x is empty roomy small = in_rule (opening (replicate 33 0) (Some x ∷ []) (first_view opening' budget)) record {
     log = [];
     made = 0;
     small = small;
     wide = refl;
     deep = refl;
-    serving = refl;
+    placed = refl;
     held = refl;
     given = omega arith;
+    drawn = omega arith;
     seats = λ j v sit. subst (Ok [] 0) (only j v sit).1 record { setting_is = refl; budget_is = refl; rest = []; whole = refl; foreign = tt; own_is = refl; kept_is = tt; once = tt; made_so = omega arith; olds = (starts_same [], starts_same []); chief = λ _. refl; plain = λ _. refl };
-    knows = λ j v sit. subst (λ (v : V). Knows reserved [] 0 v v.stage) (only j v sit).1 tt;
+    knows = λ j v sit. subst (λ (v : V). Knows reserved [] 0 0 v v.stage) (only j v sit).1 tt;
     apart = λ i j v w a b other. absurd (other ((only i v a).0 ∙ sym (only j w b).0));
     born = tt;
     count = refl;
@@ -416,8 +524,8 @@ module _ {S C : Type 0} (setting : S → C) (journal : S → List Entry) (room :
       only zero v sit = (refl, some-injective first v sit.0)
       only (suc j) v sit = absurd (some-ne-none v (sym sit.0))
 
-  pub split_keeps : (id : ℕ) (v : V) (n : ℕ) (b : Bool) → IsLive v.setting → v.stage ≡ Idle → v.known.number ≡ 0 → n ≤ v.known.left → (IsTrue b → IsTrue v.known.baton) → Splits Rule id v (view_after_split n b v) (new_view n b v)
-  split_keeps id v n b live idle first within allowed s ru at =
+  pub split_keeps : (id : ℕ) (v : V) (n : ℕ) (b : Bool) → IsLive v.setting → v.stage ≡ Idle → v.due ≡ 0 → v.known.number ≡ 0 → n ≤ v.known.left → (IsTrue b → IsTrue v.known.baton) → Splits Rule id v (view_after_split n b v) (new_view n b v)
+  split_keeps id v n b live idle none_due first within allowed s ru at =
       let r : Full s = in_full s ru in
       let sits : Sits s.views id v = (at, live) in
       let ok = r.seats id v sits in
@@ -436,9 +544,10 @@ module _ {S C : Type 0} (setting : S → C) (journal : S → List Entry) (room :
         small = r.small;
         wide = r.wide;
         deep = r.deep;
-        serving = r.serving;
+        placed = r.placed;
         held = let m = total_set held_of s.views id v given sits live in let k = total_more held_of vs new live in let h = r.held in omega arith;
-        given = let m = total_set left_of s.views id v given sits live in let k = total_more left_of vs new live in let g = r.given in omega arith;
+        given = let m = total_set left_of s.views id v given sits live in let k = total_more left_of vs new live in let m' = total_set due_of s.views id v given sits live in let k' = total_more due_of vs new live in let g = r.given in omega arith;
+        drawn = let m = total_set left_of s.views id v given sits live in let k = total_more left_of vs new live in let g = r.drawn in omega arith;
         seats = seats_more vs (λ _ u. Ok r.log made' u) new
             (λ _. record {
               setting_is = ok.setting_is;
@@ -483,8 +592,8 @@ module _ {S C : Type 0} (setting : S → C) (journal : S → List Entry) (room :
               chief = λ z. absurd (differs (z ∙ sym first));
               plain = o.plain;
             }));
-        knows = seats_more vs (λ _ u. Knows reserved r.log (get_or s.words 0 0) u u.stage) new (λ _. tt)
-            (seats_set s.views (λ _ u. Knows reserved r.log (get_or s.words 0 0) u u.stage) id given (subst (Knows reserved r.log (get_or s.words 0 0) given) (sym idle) tt) (λ j u _ sit. r.knows j u sit));
+        knows = seats_more vs (λ _ u. Knows reserved r.log (get_or s.words 16 0) (get_or s.words 0 0) u u.stage) new (λ _. tt)
+            (seats_set s.views (λ _ u. Knows reserved r.log (get_or s.words 16 0) (get_or s.words 0 0) u u.stage) id given (subst (Knows reserved r.log (get_or s.words 16 0) (get_or s.words 0 0) given) (sym idle) tt) (λ j u _ sit. r.knows j u sit));
         apart = pairs_more vs Apart new
             (pairs_set s.views Apart id given r.apart (λ j u other sit. let a = r.apart j id u v sit sits other in let c = r.apart id j v u sits sit (λ e. other (sym e)) in let ab = a.baton in let cb = c.baton in (
               record { number = a.number; ticket = a.ticket; baton = λ h k. ab h (unless b v.known.baton k); gone = a.gone },
@@ -506,8 +615,8 @@ module _ {S C : Type 0} (setting : S → C) (journal : S → List Entry) (room :
         home = λ unserved. r.home (none_before s.views id v given sits (λ j u sit. unserved j u (at_longer vs (new ∷ []) j u sit.0, sit.1)) (λ served. subst IsServed idle served));
       }
 
-  pub join_keeps : (id : ℕ) (v : V) (other : ℕ) (w : V) → IsLive v.setting → v.stage ≡ Idle → v.known.number ≡ 0 → IsLive w.setting → w.stage ≡ Idle → Joins Rule id v other w (view_after_join v w) spent_view
-  join_keeps id v other w live idle first live' idle' s ru at apart there =
+  pub join_keeps : (id : ℕ) (v : V) (other : ℕ) (w : V) → IsLive v.setting → v.stage ≡ Idle → v.known.number ≡ 0 → IsLive w.setting → w.stage ≡ Idle → w.due ≡ 0 → Joins Rule id v other w (view_after_join v w) spent_view
+  join_keeps id v other w live idle first live' idle' none_due' s ru at apart there =
       let r : Full s = in_full s ru in
       let both : V = view_after_join v w in
       let mid : List V = set s.views id both in
@@ -530,9 +639,10 @@ module _ {S C : Type 0} (setting : S → C) (journal : S → List Entry) (room :
         small = r.small;
         wide = r.wide;
         deep = r.deep;
-        serving = r.serving;
+        placed = r.placed;
         held = let m = total_set held_of s.views id v both sits live in let k = total_spent held_of mid other w (there, live') in let h = r.held in omega arith;
-        given = let m = total_set left_of s.views id v both sits live in let k = total_spent left_of mid other w (there, live') in let g = r.given in omega arith;
+        given = let m = total_set left_of s.views id v both sits live in let k = total_spent left_of mid other w (there, live') in let m' = total_set due_of s.views id v both sits live in let k' = total_spent due_of mid other w (there, live') in let g = r.given in omega arith;
+        drawn = let m = total_set left_of s.views id v both sits live in let k = total_spent left_of mid other w (there, live') in let g = r.drawn in omega arith;
         seats = seats_spent mid (λ _ u. Ok r.log r.made u) other (λ j u _ sit. seats_set s.views (λ _ u. Ok r.log r.made u) id both
             record {
               setting_is = ok.setting_is;
@@ -553,7 +663,7 @@ module _ {S C : Type 0} (setting : S → C) (journal : S → List Entry) (room :
               plain = λ h. absurd (h first);
             }
             (λ i x _ e. r.seats i x e) j u sit);
-        knows = seats_spent mid (λ _ u. Knows reserved r.log (get_or s.words 0 0) u u.stage) other (λ j u _ sit. seats_set s.views (λ _ u. Knows reserved r.log (get_or s.words 0 0) u u.stage) id both (subst (Knows reserved r.log (get_or s.words 0 0) both) (sym idle) tt) (λ i x _ e. r.knows i x e) j u sit);
+        knows = seats_spent mid (λ _ u. Knows reserved r.log (get_or s.words 16 0) (get_or s.words 0 0) u u.stage) other (λ j u _ sit. seats_set s.views (λ _ u. Knows reserved r.log (get_or s.words 16 0) (get_or s.words 0 0) u u.stage) id both (subst (Knows reserved r.log (get_or s.words 16 0) (get_or s.words 0 0) both) (sym idle) tt) (λ i x _ e. r.knows i x e) j u sit);
         apart = pairs_spent mid Apart other (pairs_at s.views (λ i u j x. i ≢ other → j ≢ other → Apart u x) id both (λ i j u x a b far _ _. r.apart i j u x a b far)
             (λ j u far sit. let a = r.apart j id u v sit sits far in let c = r.apart id j v u sits sit (λ e. far (sym e)) in (
               (λ away _. let a' = r.apart j other u w sit sits' away in let p = a.baton in let q = a'.baton in record { number = a.number; ticket = a.ticket; baton = λ h k. ⊎_elim (p h) (q h) (either_true v.known.baton w.known.baton k); gone = a.gone }),
@@ -574,8 +684,8 @@ module _ {S C : Type 0} (setting : S → C) (journal : S → List Entry) (room :
             (λ away. unserved j u (sits_else mid other spent_view j u away (sits_else s.views id both j u far sit)) served)));
       }
 
-  pub meet_keeps : (slots id : ℕ) (me : M) → IsLive me.0.setting → me.0.stage ≡ Idle → me.0.known.number ≡ 0 → Allows Rule slots id me 0 (λ n. n) (IsMeet (step slots 0 0 0 none) me)
-  meet_keeps slots id me live idle first s ru deep at small =
+  pub meet_keeps : (slots id : ℕ) (me : M) → IsLive me.0.setting → me.0.stage ≡ Idle → me.0.due ≡ 0 → me.0.known.number ≡ 0 → Allows Rule slots id me 0 (λ n. n) (IsMeet (step slots 0 0 0 none) me)
+  meet_keeps slots id me live idle none_due first s ru deep at small =
       let r : Full s = in_full s ru in
       let sits : Sits s.views id me.0 = (at, live) in
       let ok = r.seats id me.0 sits in
@@ -589,13 +699,14 @@ module _ {S C : Type 0} (setting : S → C) (journal : S → List Entry) (room :
           small = r.small;
           wide = r.wide;
           deep = r.deep;
-          serving = r.serving;
+          placed = r.placed;
           held = let m = total_set held_of s.views id me.0 w sits live in let h = r.held in omega arith;
-          given = let m = total_set left_of s.views id me.0 w sits live in let g = r.given in omega arith;
+          given = let m = total_set left_of s.views id me.0 w sits live in let k = total_set due_of s.views id me.0 w sits live in let g = r.given in omega arith;
+          drawn = let m = total_set left_of s.views id me.0 w sits live in let g = r.drawn in omega arith;
           seats = seats_set s.views (λ _ v. Ok r.log r.made v) id w
               record { setting_is = ok.setting_is; budget_is = ok.budget_is; rest = ok.rest; whole = ok.whole; foreign = ok.foreign; own_is = ok.own_is; kept_is = ok.kept_is; once = ok.once; made_so = ok.made_so; olds = ((me.0.known.seen, refl), (me.0.known.seen, refl)); chief = ok.chief; plain = ok.plain }
               (λ j v _ sit. r.seats j v sit);
-          knows = seats_set s.views (λ _ v. Knows reserved r.log (get_or s.words 0 0) v v.stage) id w (same_knows r.log (get_or s.words 0 0) me.0 me.0.stage (r.knows id me.0 sits)) (λ j v _ sit. r.knows j v sit);
+          knows = seats_set s.views (λ _ v. Knows reserved r.log (get_or s.words 16 0) (get_or s.words 0 0) v v.stage) id w (same_knows r.log (get_or s.words 16 0) (get_or s.words 0 0) me.0 me.0.stage (r.knows id me.0 sits)) (λ j v _ sit. r.knows j v sit);
           apart = pairs_set s.views Apart id w r.apart (λ j v other sit. let a = r.apart j id v me.0 sit sits other in let b = r.apart id j me.0 v sits sit (λ e. other (sym e)) in (
             record { number = a.number; ticket = a.ticket; baton = a.baton; gone = a.gone },
             record { number = b.number; ticket = b.ticket; baton = b.baton; gone = b.gone },
@@ -606,18 +717,18 @@ module _ {S C : Type 0} (setting : S → C) (journal : S → List Entry) (room :
           out = seats_set s.views (λ _ v. IsServed v.stage → Out s.homes) id w (r.out id me.0 sits) (λ j v _ sit. r.out j v sit);
           home = λ unserved. r.home (none_after s.views id me.0 w sits live (λ h. h) unserved);
         }),
-        (refl, ok.olds.0, ok.olds.1, settles s r id me.0 sits idle first),
+        (refl, ok.olds.0, ok.olds.1, settles s r id me.0 sits none_due first),
       )
     where
-      same_knows : (log : List Entry) (next : ℕ) (v : V) (st : Stage) → Knows reserved log next v st → Knows reserved log next (view_after_meet v) st
-      same_knows log next v Idle k = tt
-      same_knows log next v (Waits u) k = k
-      same_knows log next v (Served u) k = k
+      same_knows : (log : List Entry) (now next : ℕ) (v : V) (st : Stage) → Knows reserved log now next v st → Knows reserved log now next (view_after_meet v) st
+      same_knows log now next v Idle k = tt
+      same_knows log now next v (Waits u) k = k
+      same_knows log now next v (Served u) k = k
 
   -- the slot of the closed table has the state
-  pub close_gives : (id : ℕ) (v : V) → IsLive v.setting → v.stage ≡ Idle → v.known.number ≡ 0 → HasJoinedAll v.known → (ws : List ℕ) (xs : List (Option S)) → Final (Seen Rule id v) ws xs
+  pub close_gives : (id : ℕ) (v : V) → IsLive v.setting → v.stage ≡ Idle → v.due ≡ 0 → v.known.number ≡ 0 → HasJoinedAll v.known → (ws : List ℕ) (xs : List (Option S)) → Final (Seen Rule id v) ws xs
       → (o : Option S) → get_elem? xs 0 ≡ some o → (x : S) × (o ≡ Some x) × IsEnd setting journal v x
-  close_gives id v live idle first all ws xs f o at =
+  close_gives id v live idle none_due first all ws xs f o at =
       let s = f.0 in let r : Full s = in_full s f.1.0 in
       let sits : Sits s.views id v = (f.1.1, live) in
       let state = r.home (λ j u sit served. dite (ℕ_discrete j id)
@@ -625,5 +736,5 @@ module _ {S C : Type 0} (setting : S → C) (journal : S → List Entry) (room :
       (λ other. alone s r id v sits first all j u sit other)) in (
         state.0,
         some-injective o (Some state.0) (sym at ∙ f.4 0 (Some state.0) state.1),
-        record { setting_is = (r.seats id v sits).setting_is ∙ state.2.setting_is; journal_is = state.2.journal_is ∙ sym (seen_whole s r id v sits first all); settled = settles s r id v sits idle first },
+        record { setting_is = (r.seats id v sits).setting_is ∙ state.2.setting_is; journal_is = state.2.journal_is ∙ sym (seen_whole s r id v sits first all); settled = settles s r id v sits none_due first },
       )

@@ -30,11 +30,11 @@ module _ {C : Type 0} where
     pub gone : Every (λ (k : JoinedSeat). k.number ≢ w.known.number) v.known.kept
 
 module _ {C : Type 0} (reserved : C → ℕ → Type 0) where
-  -- what a seat knows of its ticket, where the history is log and the next ticket is given
-  abbrev pub Knows : List Entry → ℕ → View C → Stage → Type 0
-  Knows log next v Idle = Unit {0}
-  Knows log next v (Waits u) = (length log ≤ u) × (u < next) × (Reserves reserved v.setting v.event → IsTrue v.known.baton)
-  Knows log next v (Served u) = (length log ≡ u) × (u < next) × (Reserves reserved v.setting v.event → IsTrue v.known.baton) × (v.known.seen ≡ log)
+  -- what a seat knows of its ticket, where the history is log, and the ticket whose turn it is and the next one are given
+  abbrev pub Knows : List Entry → ℕ → ℕ → View C → Stage → Type 0
+  Knows log now next v Idle = Unit {0}
+  Knows log now next v (Waits u) = (now ≤ u) × (u < next) × (Reserves reserved v.setting v.event → IsTrue v.known.baton)
+  Knows log now next v (Served u) = (now ≡ u) × (u < next) × (Reserves reserved v.setting v.event → IsTrue v.known.baton) × (v.known.seen ≡ log)
 
   -- a live seat
   pub record SeatOk (opening : C) (budget : ℕ) (log : List Entry) (made : ℕ) (v : View C) : Type 0 where
@@ -60,26 +60,26 @@ module _ {C : Type 0} (reserved : C → ℕ → Type 0) where
   )
 
   -- a ticket that a seat knows was given, and its turn has not passed
-  pub ticket_below : (log : List Entry) (next : ℕ) (v : View C) (st : Stage) (t : ℕ) → Knows log next v st → HoldsTicket st t → (length log ≤ t) × (t < next)
-  ticket_below log next v Idle t k h = absurd h
-  ticket_below log next v (Waits u) t k h = let a = k.0 in let b = k.1 in (omega arith, omega arith)
-  ticket_below log next v (Served u) t k h = let a = k.0 in let b = k.1 in (omega arith, omega arith)
+  pub ticket_below : (log : List Entry) (now next : ℕ) (v : View C) (st : Stage) (t : ℕ) → Knows log now next v st → HoldsTicket st t → (now ≤ t) × (t < next)
+  ticket_below log now next v Idle t k h = absurd h
+  ticket_below log now next v (Waits u) t k h = let a = k.0 in let b = k.1 in (omega arith, omega arith)
+  ticket_below log now next v (Served u) t k h = let a = k.0 in let b = k.1 in (omega arith, omega arith)
 
-  pub turn_known : (log : List Entry) (next now : ℕ) (v : View C) (st : Stage) → now ≡ length log → Knows log next v st → IsServed st → HoldsTicket st now × (v.known.seen ≡ log)
-  turn_known log next now v Idle is k h = absurd h
-  turn_known log next now v (Waits u) is k h = absurd h
-  turn_known log next now v (Served u) is k h = (sym k.0 ∙ sym is, k.3)
+  pub turn_known : (log : List Entry) (now next : ℕ) (v : View C) (st : Stage) → Knows log now next v st → IsServed st → HoldsTicket st now × (v.known.seen ≡ log)
+  turn_known log now next v Idle k h = absurd h
+  turn_known log now next v (Waits u) k h = absurd h
+  turn_known log now next v (Served u) k h = (sym k.0, k.3)
 
-  baton_known : (log : List Entry) (next : ℕ) (v : View C) (st : Stage) (t : ℕ) → Knows log next v st → HoldsTicket st t → Reserves reserved v.setting v.event → IsTrue v.known.baton
-  baton_known log next v Idle t k h = absurd h
-  baton_known log next v (Waits u) t k h = k.2
-  baton_known log next v (Served u) t k h = k.2
+  baton_known : (log : List Entry) (now next : ℕ) (v : View C) (st : Stage) (t : ℕ) → Knows log now next v st → HoldsTicket st t → Reserves reserved v.setting v.event → IsTrue v.known.baton
+  baton_known log now next v Idle t k h = absurd h
+  baton_known log now next v (Waits u) t k h = k.2
+  baton_known log now next v (Served u) t k h = k.2
 
-  knows_of : (log : List Entry) (next now : ℕ) (v : View C) (st : Stage) → now ≡ length log → ((t : ℕ) → HoldsTicket st t → (now ≤ t) × (t < next))
-      → (IsServed st → HoldsTicket st now × (v.known.seen ≡ log)) → ((t : ℕ) → HoldsTicket st t → Reserves reserved v.setting v.event → IsTrue v.known.baton) → Knows log next v st
-  knows_of log next now v Idle is between turn asked = tt
-  knows_of log next now v (Waits u) is between turn asked = let b = between u refl in let lo = b.0 in (omega arith, b.1, asked u refl)
-  knows_of log next now v (Served u) is between turn asked = let b = between u refl in let t = turn tt in (sym is ∙ sym t.0, b.1, asked u refl, t.1)
+  knows_of : (log : List Entry) (now next : ℕ) (v : View C) (st : Stage) → ((t : ℕ) → HoldsTicket st t → (now ≤ t) × (t < next))
+      → (IsServed st → HoldsTicket st now × (v.known.seen ≡ log)) → ((t : ℕ) → HoldsTicket st t → Reserves reserved v.setting v.event → IsTrue v.known.baton) → Knows log now next v st
+  knows_of log now next v Idle between turn asked = tt
+  knows_of log now next v (Waits u) between turn asked = let b = between u refl in (b.0, b.1, asked u refl)
+  knows_of log now next v (Served u) between turn asked = let b = between u refl in let t = turn tt in (sym t.0, b.1, asked u refl, t.1)
 
 module _ {S C : Type 0} (setting : S → C) (journal : S → List Entry) (room : S → ℕ) (reserved : C → ℕ → Type 0) (opening : C) (budget : ℕ) where
   -- the history, what each live seat knows of it, what holds of each two, and where the state is
@@ -87,13 +87,14 @@ module _ {S C : Type 0} (setting : S → C) (journal : S → List Entry) (room :
     pub log : List Entry
     pub made : ℕ
     pub small : budget < 2 ^ 32
-    pub wide : length s.words ≡ 17
+    pub wide : length s.words ≡ 33
     pub deep : length s.homes ≡ 1
-    pub serving : slice_index s.words 16 ≡ length log
-    pub held : length log + total (λ (v : View C). tickets_of v.stage) s.views ≡ slice_index s.words 0
-    pub given : slice_index s.words 0 + total (λ (v : View C). v.known.left) s.views ≡ budget
+    pub placed : slice_index s.words 32 ≡ length log
+    pub held : slice_index s.words 16 + total (λ (v : View C). tickets_of v.stage) s.views ≡ slice_index s.words 0
+    pub given : length log + total (λ (v : View C). v.due) s.views + total (λ (v : View C). v.known.left) s.views ≡ budget
+    pub drawn : slice_index s.words 0 + total (λ (v : View C). v.known.left) s.views ≤ budget
     pub seats : (j : ℕ) (v : View C) → Sits s.views j v → SeatOk reserved opening budget log made v
-    pub knows : (j : ℕ) (v : View C) → Sits s.views j v → Knows reserved log (slice_index s.words 0) v v.stage
+    pub knows : (j : ℕ) (v : View C) → Sits s.views j v → Knows reserved log (slice_index s.words 16) (slice_index s.words 0) v v.stage
     pub apart : Pairs Apart s.views
     pub born : Every (λ (e : Entry). e.0 ≤ made) log
     pub count : total (λ (v : View C). 1) s.views + total (λ (v : View C). length v.known.kept) s.views ≡ made + 1
@@ -139,11 +140,12 @@ module _ {S C : Type 0} (setting : S → C) (journal : S → List Entry) (room :
         small = r.small;
         wide = r.words;
         deep = r.slots;
-        serving = one.length_is;
-        held = let e = one.length_is in let h = cards.held in omega arith;
-        given = cards.budget_is;
+        placed = one.length_is;
+        held = cards.held;
+        given = let e = one.length_is in let h = cards.budget_is in omega arith;
+        drawn = cards.drawn;
         seats = seat_of s r;
-        knows = λ j v sit. knows_of reserved r.log (next_ticket s) (now_serving s) v v.stage one.length_is (cards.between j v sit) (r.slots_way.turn j v sit) (stick.asked j v sit);
+        knows = λ j v sit. knows_of reserved r.log (now_serving s) (next_ticket s) v v.stage (cards.between j v sit) (r.slots_way.turn j v sit) (stick.asked j v sit);
         apart = λ i j v w a b far. record { number = own.differ i j v w a b far; ticket = cards.one_each i j v w a b far; baton = stick.one i j v w a b far; gone = own.gone i j v w a b far };
         born = own.entries_made;
         count = r.how_many.count;
@@ -155,15 +157,15 @@ module _ {S C : Type 0} (setting : S → C) (journal : S → List Entry) (room :
   pub rule_of : (s : State (Option S) (View C)) → Facts s → TurnRule setting journal room reserved opening budget s
   rule_of s f =
       let back : (j : ℕ) (v : View C) (sit : Sits s.views j v) → (f.seats j v sit).rest ≡ unseen v.known.seen f.log = λ j v sit. let o = f.seats j v sit in sym (behind f.log v o.rest o.whole) in
-      let between : (j : ℕ) (v : View C) → Sits s.views j v → (t : ℕ) → HoldsTicket v.stage t → (now_serving s ≤ t) × (t < next_ticket s) = λ j v sit t h. let b = ticket_below reserved f.log (next_ticket s) v v.stage t (f.knows j v sit) h in let e = f.serving in let lo = b.0 in (omega arith, b.1) in
+      let between : (j : ℕ) (v : View C) → Sits s.views j v → (t : ℕ) → HoldsTicket v.stage t → (now_serving s ≤ t) × (t < next_ticket s) = λ j v sit t h. ticket_below reserved f.log (now_serving s) (next_ticket s) v v.stage t (f.knows j v sit) h in
       record {
         log = f.log;
         made = f.made;
         small = f.small;
         words = f.wide;
         slots = f.deep;
-        one_history = record { length_is = f.serving; longest = f.longest; begun = λ j v sit. let o = f.seats j v sit in (o.rest, o.whole) };
-        tickets = record { budget_is = f.given; held = (let e = f.serving in let h = f.held in omega arith); between = between; one_each = λ i j v w a b far. (f.apart i j v w a b far).ticket };
+        one_history = record { length_is = f.placed; longest = f.longest; begun = λ j v sit. let o = f.seats j v sit in (o.rest, o.whole) };
+        tickets = record { budget_is = (let e = f.placed in let g = f.given in omega arith); drawn = f.drawn; held = f.held; between = between; one_each = λ i j v w a b far. (f.apart i j v w a b far).ticket };
         own_entries = record {
           own = λ j v sit. let o = f.seats j v sit in record { entries = o.own_is; none_behind = subst (Every (λ (e : Entry). e.0 ≢ v.known.number)) (back j v sit) (every_map o.rest (λ e g. g.number_is) o.foreign) };
           kept = λ j v sit. let o = f.seats j v sit in every_both v.known.kept (λ k p none. record { entries = p.own_is; none_behind = subst (Every (λ (e : Entry). e.0 ≢ k.number)) (back j v sit) none }) o.kept_is
@@ -176,10 +178,10 @@ module _ {S C : Type 0} (setting : S → C) (journal : S → List Entry) (room :
           kept_made = λ j v sit. let o = f.seats j v sit in every_map v.known.kept (λ k p. p.made_so) o.kept_is;
           entries_made = f.born;
         };
-        slots_way = record { turn = λ j v sit. turn_known reserved f.log (next_ticket s) (now_serving s) v v.stage f.serving (f.knows j v sit); home = f.home; out = f.out; opened = λ j v sit. let o = f.seats j v sit in (o.setting_is, o.budget_is) };
+        slots_way = record { turn = λ j v sit. turn_known reserved f.log (now_serving s) (next_ticket s) v v.stage (f.knows j v sit); home = f.home; out = f.out; opened = λ j v sit. let o = f.seats j v sit in (o.setting_is, o.budget_is) };
         baton = record {
           one = λ i j v w a b far. (f.apart i j v w a b far).baton;
-          asked = λ j v sit t h. baton_known reserved f.log (next_ticket s) v v.stage t (f.knows j v sit) h;
+          asked = λ j v sit t h. baton_known reserved f.log (now_serving s) (next_ticket s) v v.stage t (f.knows j v sit) h;
           seen = λ j v sit on. let o = f.seats j v sit in subst (Every (λ (e : Entry). Reserves reserved v.setting e.1 → ⊥)) (back j v sit) (every_map o.rest (λ e g. let p = g.plain in p on) o.foreign);
         };
         how_many = record { count = f.count; counts = λ j v sit. (f.seats j v sit).chief; keeps = λ j v sit. (f.seats j v sit).plain };

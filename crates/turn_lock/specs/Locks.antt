@@ -1,21 +1,22 @@
 -- A lock and its seats as a caller knows them. Source: this exchange's own.
-use Rattle.std.specs.Prelude.{◌≡◌, ℕ, Option, Some}
+use Rattle.std.specs.Prelude.{◌≡◌, ℕ, Bool, Option, Some}
 use Rattle.atomic_table.specs.Seated.{TableId}
 use Rattle.seat_history.specs.declared.known.Known.{Known}
 use Rattle.turn_lock.specs.declared.board.View.{View}
 
--- a lock: which one it is, and the setting and the budget that it was opened with
+-- a lock: its identity, and the setting and the budget that it was opened with
 pub record Lock (C : Type 0) : Type 0 where
   pub id : TableId
   pub setting : C
   pub budget : ℕ
 
--- a seat between two calls: its lock, with setting and budget, and what it knows
+-- a seat between two calls: its lock, with setting and budget, what it knows, and whether its last step kept the turn
 pub record SeatAt (C : Type 0) : Type 0 where
   pub lock : TableId
   pub setting : Option C
   pub budget : ℕ
   pub known : Known
+  pub keeps : Bool
 
 module _ {C : Type 0} where
   -- the seat is one of this lock's, and knows its setting and its budget
@@ -24,6 +25,6 @@ module _ {C : Type 0} where
     pub setting_is : seat.setting ≡ Some lock.setting
     pub budget_is : seat.budget ≡ lock.budget
 
-  -- a seat with this view, except for what only a call in progress needs
-  abbrev pub seat_with : TableId → View C → SeatAt C
-  seat_with lock v = record { lock = lock; setting = v.setting; budget = v.budget; known = v.known }
+  -- a seat with this view, except for the fields that only a call in progress needs
+  abbrev pub seat_with : TableId → View C → Bool → SeatAt C
+  seat_with lock v keeps = record { lock = lock; setting = v.setting; budget = v.budget; known = v.known; keeps = keeps }

@@ -1,5 +1,5 @@
 -- The rule of the lock: what holds between any two moves. It has seven parts.
--- Source: this exchange's own. The two words are a ticket lock's: J. M. Mellor-Crummey and M. L. Scott, "Algorithms for
+-- Source: defined by this project. The two ticket words make a ticket lock: J. M. Mellor-Crummey and M. L. Scott, "Algorithms for
 -- scalable synchronization on shared-memory multiprocessors", ACM Transactions on Computer Systems 9 (1), 1991, section 2.2.
 use Rattle.std.specs.Prelude.{◌≡◌, ◌≢◌, ℕ, ◌+◌, ◌<◌, ◌≤◌, ◌^◌, IsTrue, List, length, Option, Some}
 use Rattle.std.specs.List.{AllByRecursion as Every}
@@ -10,19 +10,20 @@ use Rattle.seat_history.specs.declared.known.JoinedSeat.{JoinedSeat}
 use Rattle.seat_history.specs.Histories.{Entry, StartsWith, unseen}
 use Rattle.turn_lock.specs.declared.board.View.{View}
 use Rattle.turn_lock.specs.Entries.{Once, IsWhole}
-use Rattle.turn_lock.specs.Views.{HoldsTicket, IsServed, tickets_of, Under, Sits, Each, Pairs, total, NoneServed, next_ticket, now_serving}
+use Rattle.turn_lock.specs.Views.{HoldsTicket, IsServed, tickets_of, Under, Sits, Each, Pairs, total, NoneServed, next_place, next_ticket, now_serving}
 
 module _ {X C : Type 0} where
-  -- 1. One history. Some seat has seen all of it, what each seat has seen begins it, and `now_serving` is its length.
+  -- 1. One history. Some seat has seen all of it, each seat has seen a prefix of it, and `next_place` is its length.
   pub record OneHistory (log : List Entry) (s : State X (View C)) : Type 0 where
-    pub length_is : now_serving s ≡ length log
+    pub length_is : next_place s ≡ length log
     pub longest : (j : ℕ) × (v : View C) × Sits s.views j v × (v.known.seen ≡ log)
     pub begun : Each s.views (λ v. StartsWith log v.known.seen)
 
-  -- 2. Tickets. Those that were drawn and the turns left make up the budget. The tickets held are the numbers from `now_serving` up to `next_ticket`,
-  -- each held by one seat.
+  -- 2. Tickets. The entries, the due events and the steps left add up to the budget, and at most one ticket was drawn per step made. The held tickets are
+  -- the numbers from `now_serving` up to `next_ticket`, and one seat holds each.
   pub record Tickets (budget : ℕ) (s : State X (View C)) : Type 0 where
-    pub budget_is : next_ticket s + total (λ (v : View C). v.known.left) s.views ≡ budget
+    pub budget_is : next_place s + total (λ (v : View C). v.due) s.views + total (λ (v : View C). v.known.left) s.views ≡ budget
+    pub drawn : next_ticket s + total (λ (v : View C). v.known.left) s.views ≤ budget
     pub held : now_serving s + total (λ (v : View C). tickets_of v.stage) s.views ≡ next_ticket s
     pub between : Each s.views (λ v. (t : ℕ) → HoldsTicket v.stage t → (now_serving s ≤ t) × (t < next_ticket s))
     pub one_each : Pairs (λ v w. (t : ℕ) → HoldsTicket v.stage t → HoldsTicket w.stage t → ⊥) s.views
@@ -49,9 +50,9 @@ module _ {S C : Type 0} (setting : S → C) (journal : S → List Entry) (room :
     pub journal_is : journal x ≡ log
     pub roomy : budget ≤ room x + length log
 
-  -- 4. The slot's way. It is out with the one seat whose turn it is: that seat's ticket is `now_serving`, and the seat has seen the whole history.
-  -- Where it is no seat's turn, the slot is at home and holds the state, whose journal is the history; where a seat is served, it is not at home. Every
-  -- view has the setting and the budget of the opening, and no move changes these.
+  -- 4. The slot's way. If a seat is served, its ticket is `now_serving`, it has seen the whole history, and the slot is out with it, in a step and between
+  -- two steps of a kept turn. If no seat is served, the slot is at home and holds the state, whose journal is the history. Every view has the setting and
+  -- the budget of the opening, and no move changes these.
   pub record SlotsWay (opening : C) (budget : ℕ) (log : List Entry) (s : State (Option S) (View C)) : Type 0 where
     pub turn : Each s.views (λ v. IsServed v.stage → HoldsTicket v.stage (now_serving s) × (v.known.seen ≡ log))
     pub home : NoneServed s.views → (x : S) × (get_elem? s.homes 0 ≡ some (some (Some x))) × IsAt (Some opening) budget log x
@@ -87,7 +88,7 @@ module _ {S C : Type 0} (setting : S → C) (journal : S → List Entry) (room :
     pub log : List Entry
     pub made : ℕ
     pub small : budget < 2 ^ 32
-    pub words : length s.words ≡ 17
+    pub words : length s.words ≡ 33
     pub slots : length s.homes ≡ 1
     pub one_history : OneHistory log s
     pub tickets : Tickets budget s

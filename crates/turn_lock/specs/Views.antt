@@ -1,5 +1,5 @@
--- The views of the seats at a lock, one behind the other in the order in which the seats were made. A seat that was joined leaves a
--- spent view, which has no setting; what follows speaks of the live ones alone.
+-- The views of the seats at a lock, in the order in which the seats were made. A seat that was joined leaves a spent view, which has no
+-- setting. The definitions below speak only of live views.
 use Rattle.std.specs.Prelude.{◌≡◌, ◌≢◌, ℕ, ◌+◌, IsTrue, is_some, List, [], ◌∷◌, slice_index, Option, Some, None}
 use mathlib.Core.Option.{some}
 use lib.ListN.{get_elem?}
@@ -63,10 +63,14 @@ module _ {C : Type 0} where
   NoneServed views = (j : ℕ) (v : View C) → Sits views j v → IsServed v.stage → ⊥
 
 module _ {X V : Type 0} where
-  -- the word with the next ticket that is drawn
+  -- the word with the next ticket to be drawn
   abbrev pub next_ticket : State X V → ℕ
   next_ticket s = slice_index s.words 0
 
-  -- The word with the ticket whose turn it is. The words between the two are padding, so that they are not in one cache line.
+  -- The word with the served ticket. The words between these are padding, so that no two are in one cache line.
   abbrev pub now_serving : State X V → ℕ
   now_serving s = slice_index s.words 16
+
+  -- the word with the place of the next entry
+  abbrev pub next_place : State X V → ℕ
+  next_place s = slice_index s.words 32

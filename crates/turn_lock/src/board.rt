@@ -1,5 +1,5 @@
-//! What the seats of a lock know, and the rule of the table that they share.
-//! Word 0 is the next ticket that is drawn, word 16 the ticket whose turn it is, and slot 0 holds the state.
+//! The views of the seats of a lock, and the rule of the table that they share. Word 0 is the next ticket to be drawn,
+//! word 16 the served ticket, and word 32 the place of the next entry. Slot 0 holds the state.
 ghost use Rattle.std.specs.Prelude.{ℕ, Bool, false};
 
 use crate::stepper::Stepper;
@@ -8,32 +8,35 @@ use seat_history::Known;
 use std::marker::{Brand, PhantomData};
 use std::snapshot::Snapshot;
 
-/// Where a seat is in a call.
+/// The ticket of a seat.
 pub enum Stage {
+    /// The seat has no ticket.
     Idle,
-    /// It holds this ticket.
+    /// The seat waits for the turn of this ticket.
     Waits(u64),
-    /// The turn of its ticket has come.
+    /// The seat has the turn of this ticket, in a call or between two calls.
     Served(u64),
 }
 
-/// What the table keeps of a seat. No value of it is made.
+/// The view of a seat, which the table keeps. No value of it is made.
 pub struct View<C> {
-    /// None where the seat was joined.
+    /// `None` if the seat was joined.
     pub setting: Option<C>,
     pub budget: u64,
     /// What the seat knows.
     pub known: Known,
     pub stage: Stage,
-    /// The event of the ticket that the seat holds.
+    /// The event of the last step that began.
     pub event: u64,
+    /// 1 if that event is not yet in the history, otherwise 0.
+    pub due: u64,
     // A clause reads an array as a list, of any length.
-    /// Inside a call of `join`, the two histories that seat 0 and the other had seen.
+    /// In a call of `join`, the two histories that seat 0 and the other seat had seen.
     pub first: [(u32, u32); 0],
     pub second: [(u32, u32); 0],
 }
 
-/// What a lock is opened with.
+/// The values that a lock is opened with.
 pub struct Opening<S> {
     pub state: Snapshot<S>,
     pub budget: u64,
@@ -48,7 +51,7 @@ impl<S> Drop for Opening<S> {
     }
 }
 
-/// The rule of the lock, as `specs/Rule.antt` says it.
+/// The rule of the lock, defined in `specs/Rule.antt`.
 pub struct Turns<S> {
     marker: PhantomData<S>,
 }
@@ -65,7 +68,7 @@ impl<S: Stepper> TableRule<Option<S>, View<S::Setting>, Opening<S>> for Turns<S>
 /// A seat at the table. It has no bytes.
 pub type Token<S> = Seat<Option<S>, View<<S as Stepper>::Setting>>;
 
-/// What a split hands over. Each call names it.
+/// The steps and the baton that a new seat gets from a split. Each call names them.
 pub trait Gift {
     ghost turns: { ℕ };
 
@@ -78,7 +81,7 @@ impl Gift for Brand {
     ghost baton = { false };
 }
 
-/// The event that a ticket is drawn for. Each call names it.
+/// The event of the step that begins. Each call names it.
 pub trait Aim {
     ghost event: { ℕ };
 }

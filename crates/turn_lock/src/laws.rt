@@ -1,4 +1,4 @@
-//! What a ticket gives, between any two moves.
+//! Waiting for a turn, between any two moves.
 ghost use Rattle.std.specs.Prelude.{ℕ, Option};
 ghost use Rattle.atomic_table.specs.Table.{State};
 ghost use Rattle.turn_lock.specs.declared.board.View.{View};
@@ -7,8 +7,9 @@ ghost use Rattle.turn_lock.specs.Waiting.{FewComeBefore, KeepsPlace, SomebodyCan
 
 use crate::stepper::Stepper;
 
-/// Where tickets are held, one seat can go; no seat goes before one that drew earlier; and fewer go
-/// before a seat than there are seats. That the one who can go ever does is not promised.
+/// If tickets are held, one seat can go (`somebody`). No seat is served before one that drew earlier (`order`). Fewer
+/// turns come before a ticket than there are seats (`few`). The number of steps in a turn has no bound, and no clause
+/// guarantees that a seat passes its turn.
 pub fn law_of_waiting<S: Stepper>()
     ensures somebody { (c : S.Setting) (n : ℕ) (s : State (Option S) (View S.Setting))
         → TurnRule S.setting S.journal S.room S.reserved c n s → SomebodyCanGo s }

@@ -1,17 +1,15 @@
-//! A lock for a state that many threads step in turn, and that can say afterwards who did what, in
-//! which order: a ticket lock over a state that keeps a journal.
+//! A ticket lock over a state that many threads step in turn. The state keeps a journal of all steps.
 //!
-//! - Each step replies as the state does at the whole history before it, whoever made that history
+//! - The reply of each step is the reply of the state at the whole history before it, whichever seats made that history
 //!   (`reply`, `begins`, `place` of [`TurnLock::step`]).
-//! - A seat's own entries are those with its number (`own`), and the holder of the baton had seen
-//!   every reserved one (`reserved`).
-//! - What seat 0 knows adds up (`settled` of [`TurnLock::step`] and [`Seat::join`]).
-//! - The state comes out with the whole history as its journal (`journal` of [`TurnLock::close`]).
-//! - Somebody can always go, in the order of the tickets ([`law_of_waiting`]); that anybody ever goes
-//!   is not promised.
+//! - A seat can keep its turn for several steps. No other seat steps in between (`kept`).
+//! - The own entries of a seat are those with its number (`own`), and the holder of the baton had seen every reserved
+//!   entry (`reserved`).
+//! - The view of seat 0 accounts for the whole history (`settled` of [`TurnLock::step`] and [`Seat::join`]).
+//! - The journal of the state that [`TurnLock::close`] returns is the whole history (`journal`).
+//! - Some seat can always go, in the order of the tickets ([`law_of_waiting`]). No clause guarantees that it does.
 //!
-//! It uses `seat_history`, and the kit's `atomic_table`. The moves of each call are in
-//! `moves.rt`, and the rule that holds between any two in `specs/Rule.antt`.
+//! The module [`moves`] lists the moves of each call, and `specs/Rule.antt` the rule that holds between any two.
 #![tactic(auto)]
 
 pub mod board;

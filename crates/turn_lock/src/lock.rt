@@ -1,5 +1,5 @@
 //! A lock and its seats, as their callers have them.
-ghost use Rattle.std.specs.Prelude.{◌≡◌, ◌+◌, ◌<◌, ◌≤◌, ◌^◌, [], length, IfOk, IfErr, IsTrue};
+ghost use Rattle.std.specs.Prelude.{◌≡◌, ◌+◌, ◌<◌, ◌≤◌, ◌^◌, [], false, length, IfOk, IfErr, IsTrue};
 ghost use Rattle.seat_history.specs.Histories.{HasNone, StartsWith, before, entries_of, unseen};
 ghost use Rattle.seat_history.specs.Seats.{HasJoinedAll, Settled, after_join, after_split, after_step, first_seat, new_seat};
 ghost use Rattle.turn_lock.specs.Locks.{IsSeatOf};
@@ -11,7 +11,7 @@ use std::alloc::{AllocError, Global};
 use std::marker::Model;
 use std::sync::Wait;
 
-/// A state that many threads step in turn. Contracts see which lock it is, its setting and its budget.
+/// A state that many threads step in turn. Contracts see the identity of the lock, its setting and its budget.
 #[derive(Drop)]
 pub struct TurnLock<S: Stepper> {
     board: Board<S>,
@@ -29,7 +29,8 @@ impl<S: Stepper> Model for TurnLock<S> {
     } };
 }
 
-/// A thread's right to a number of steps. Contracts see of which lock it is, and what it knows.
+/// A thread's right to a number of steps. Contracts see the lock of the seat, what the seat knows, and whether it has
+/// kept the turn.
 #[derive(Drop)]
 pub struct Seat<S: Stepper> {
     token: Token<S>,
@@ -37,6 +38,7 @@ pub struct Seat<S: Stepper> {
     left: u32,
     baton: bool,
     made: u32,
+    keeps: bool,
 }
 
 impl<S: Stepper> Model for Seat<S> {
@@ -45,14 +47,14 @@ impl<S: Stepper> Model for Seat<S> {
 
     ghost Value = { SeatAt S.Setting };
 
-    ghost view = { λ s. seat_with s.token.table_id s.token.me.0 };
+    ghost view = { λ s. seat_with s.token.table_id s.token.me.0 s.keeps };
 
-    ghost invariant = { λ s. MatchesView s.token.me s.number s.left s.baton s.made };
+    ghost invariant = { λ s. MatchesView S.setting S.journal S.room s.token.me s.number s.left s.baton s.made s.keeps };
 }
 
 impl<S: Stepper> TurnLock<S> {
-    /// Opens a lock over a state whose journal is empty and has room for `budget` entries. Seat 0 gets
-    /// all turns and the baton. Where memory is short the state comes back.
+    /// Opens a lock over a state whose journal is empty and has capacity for `budget` entries. Seat 0 gets all steps and
+    /// the baton. Returns the state if an allocation fails.
     pub fn open(
         alloc: Global,
         state: S,
@@ -62,7 +64,7 @@ impl<S: Stepper> TurnLock<S> {
         requires room { budget ≤ S.room state }
         ensures lock { IfOk result (λ r. (r.0.setting ≡ S.setting state) × (r.0.budget ≡ budget)) }
         ensures of { IfOk result (λ r. IsSeatOf r.0 r.1) }
-        ensures seat { IfOk result (λ r. r.1.known ≡ first_seat budget) }
+        ensures seat { IfOk result (λ r. (r.1.known ≡ first_seat budget) × (r.1.keeps ≡ false)) }
         ensures refused { IfErr result (λ e. e.0 ≡ state) }
     {
         let (board, token) = Board::open(alloc, state, budget)?;
@@ -72,28 +74,34 @@ impl<S: Stepper> TurnLock<S> {
             left: budget,
             baton: true,
             made: 0,
+            keeps: false,
         };
         Ok((TurnLock { board }, seat))
     }
 
-    /// Steps the state by an event once the seat's turn has come, and answers the place of this step in
-    /// the history and the reply. Waits, and takes no memory. A reserved event asks for the baton.
+    /// Steps the state by an event in the turn of the seat, and returns the place of this step in the history and the
+    /// reply. Waits for the turn, unless the seat kept it. Does not allocate. A reserved event requires the baton.
     ///
-    /// What seat 0 knows adds up after its step, and where all other seats are joined nobody stepped
-    /// between its steps.
+    /// If `keep` is true, the seat keeps the turn and its next step does not wait. No other seat steps until this one
+    /// passes the turn, by a step with `keep` false, or by [`Seat::release`], [`Seat::split`], [`Seat::join`] or
+    /// [`close`](TurnLock::close). If `keep` is false, the step passes the turn.
+    ///
+    /// After a step of seat 0, its view accounts for the whole history (`settled`). If all other seats are joined, no other
+    /// seat has stepped in between (`alone`).
     pub fn step<R: Wait>(
         &self,
         rt: &R,
         seat: &mut Seat<S>,
         event: u32,
         tool: &mut S::Tool,
+        keep: bool,
     ) -> (u32, S::Reply)
         requires of { IsSeatOf self.now seat.old }
         requires turn { 0 < seat.old.known.left }
         requires baton { S.reserved self.now.setting event → IsTrue seat.old.known.baton }
         requires ready { S.ready self.now.setting event tool.old }
         ensures of { IsSeatOf self.now seat.new }
-        // One turn less, and its entry behind the history before it and among its own.
+        // The seat has one step less. Its entry is appended to the history and to its own entries.
         ensures seat { seat.new.known ≡ after_step (before result.0 seat.new.known.seen) event seat.old.known }
         ensures place { length seat.new.known.seen ≡ result.0 + 1 }
         ensures below { result.0 < self.now.budget }
@@ -105,16 +113,23 @@ impl<S: Stepper> TurnLock<S> {
             → HasNone (S.reserved self.now.setting) (unseen seat.old.known.seen (before result.0 seat.new.known.seen)) }
         ensures settled { seat.old.known.number ≡ 0 → Settled self.now.budget seat.new.known }
         ensures alone { seat.old.known.number ≡ 0 → HasJoinedAll seat.old.known → before result.0 seat.new.known.seen ≡ seat.old.known.seen }
+        // No other seat steps between two steps of one turn.
+        ensures kept { IsTrue seat.old.keeps → before result.0 seat.new.known.seen ≡ seat.old.known.seen }
+        ensures keeps { seat.new.keeps ≡ keep }
     {
         let (place, reply) = self
             .board
-            .step(rt, &mut seat.token, seat.number, event, tool);
+            .step(rt, &mut seat.token, seat.keeps, seat.number, event, tool);
         seat.left -= 1;
+        seat.keeps = true;
+        if !keep {
+            seat.release(self);
+        }
         (place as u32, reply)
     }
 
-    /// Ends the lock once seat 0 has joined all other seats, and hands the state out. Its journal is the
-    /// whole history, which is what seat 0 has seen.
+    /// Ends the lock once seat 0 has joined all other seats, and returns the state. Its journal is the whole history, all
+    /// of which seat 0 has seen. Passes the turn first, if the seat kept it.
     pub fn close(self, seat: Seat<S>) -> S
         requires of { IsSeatOf self seat }
         requires chief { seat.known.number ≡ 0 }
@@ -123,6 +138,8 @@ impl<S: Stepper> TurnLock<S> {
         ensures journal { S.journal result ≡ seat.known.seen }
         ensures settled { Settled self.budget seat.known }
     {
+        let mut seat = seat;
+        seat.release(&self);
         let TurnLock { board } = self;
         let Seat {
             token,
@@ -130,25 +147,32 @@ impl<S: Stepper> TurnLock<S> {
             left: _,
             baton: _,
             made: _,
+            keeps: _,
         } = seat;
         board.close(token)
     }
 }
 
 impl<S: Stepper> Seat<S> {
-    /// 0 for the seat of `open`, and for another one more than the number of seats that `split` had made
-    /// before it.
+    /// Returns 0 for the seat of `open`. Any other number is 1 more than the number of seats that `split` made before.
     pub fn number(&self) -> u32
         ensures { result ≡ self.now.known.number }
     {
         self.number
     }
 
-    /// The turns left.
+    /// The number of steps left.
     pub fn left(&self) -> u32
         ensures { result ≡ self.now.known.left }
     {
         self.left
+    }
+
+    /// Whether the seat has the turn, because its last step kept it.
+    pub fn has_turn(&self) -> bool
+        ensures { result ≡ self.now.keeps }
+    {
+        self.keeps
     }
 
     /// Whether this seat holds the baton.
@@ -158,7 +182,21 @@ impl<S: Stepper> Seat<S> {
         self.baton
     }
 
-    /// Makes a new seat, which gets `budget` of seat 0's turns, and the baton where `baton` is true.
+    /// Passes the turn, if the seat kept it.
+    pub fn release(&mut self, lock: &TurnLock<S>)
+        requires of { IsSeatOf lock.now self.old }
+        ensures of { IsSeatOf lock.now self.new }
+        ensures known { self.new.known ≡ self.old.known }
+        ensures free { self.new.keeps ≡ false }
+    {
+        if self.keeps {
+            lock.board.pass(&mut self.token);
+            self.keeps = false;
+        }
+    }
+
+    /// Makes a new seat, which gets `budget` steps of seat 0, and the baton if `baton` is true. Seat 0 passes the turn
+    /// first, if it kept it.
     pub fn split(&mut self, lock: &TurnLock<S>, budget: u32, baton: bool) -> Seat<S>
         requires of { IsSeatOf lock.now self.old }
         requires chief { self.old.known.number ≡ 0 }
@@ -168,7 +206,9 @@ impl<S: Stepper> Seat<S> {
         ensures of { IsSeatOf lock.now self.new × IsSeatOf lock.now result }
         ensures old { self.new.known ≡ after_split budget baton self.old.known }
         ensures new { result.known ≡ new_seat budget baton self.old.known }
+        ensures free { (self.new.keeps ≡ false) × (result.keeps ≡ false) }
     {
+        self.release(lock);
         let token = lock.board.split(&mut self.token, budget, baton);
         self.left -= budget;
         self.made += 1;
@@ -181,10 +221,11 @@ impl<S: Stepper> Seat<S> {
             left: budget,
             baton,
             made: 0,
+            keeps: false,
         }
     }
 
-    /// Seat 0 takes another seat in, with its turns, its baton and its entries.
+    /// Takes over another seat with its steps, its baton and its entries. Both seats pass the turn first, if they kept it.
     pub fn join(&mut self, lock: &TurnLock<S>, other: Seat<S>)
         requires of { IsSeatOf lock.now self.old × IsSeatOf lock.now other }
         requires chief { self.old.known.number ≡ 0 }
@@ -193,13 +234,18 @@ impl<S: Stepper> Seat<S> {
         ensures first { StartsWith self.new.known.seen self.old.known.seen }
         ensures second { StartsWith self.new.known.seen other.known.seen }
         ensures settled { Settled lock.now.budget self.new.known }
+        ensures free { self.new.keeps ≡ false }
     {
+        self.release(lock);
+        let mut other = other;
+        other.release(lock);
         let Seat {
             token,
             number: _,
             left,
             baton,
             made: _,
+            keeps: _,
         } = other;
         lock.board.join(&mut self.token, token);
         self.left += left;

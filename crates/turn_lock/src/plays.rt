@@ -1,5 +1,5 @@
-//! The moves, as the table asks for them: what each tells its seat, and how a view is cut in two and two are made one.
-ghost use Rattle.turn_lock.specs.Moves.{IsDraw, IsLook, IsPass, IsMeet, view_after_split, new_view, view_after_join, spent_view};
+//! The moves, in the form that the table requires: what the seat learns from each, and the views after a split and a join.
+ghost use Rattle.turn_lock.specs.Moves.{IsDraw, IsLook, IsMeet, IsPass, IsRenew, IsAppend, view_after_split, new_view, view_after_join, spent_view};
 
 use crate::board::{Aim, Gift, View};
 use crate::stepper::Stepper;
@@ -46,6 +46,22 @@ pub(crate) struct Look<S> {
 
 impl<S: Stepper> Play<Option<S>, View<S::Setting>> for Look<S> {
     ghost then = { IsLook S.setting S.journal S.room S.reserved };
+}
+
+pub(crate) struct Renew<S, E> {
+    marker: PhantomData<(S, E)>,
+}
+
+impl<S: Stepper, E: Aim> Play<Option<S>, View<S::Setting>> for Renew<S, E> {
+    ghost then = { IsRenew E.event };
+}
+
+pub(crate) struct Append<S> {
+    marker: PhantomData<S>,
+}
+
+impl<S: Stepper> Play<Option<S>, View<S::Setting>> for Append<S> {
+    ghost then = { IsAppend };
 }
 
 pub(crate) struct Pass<S> {

@@ -231,6 +231,14 @@ const IN_PARTS: [Step; 9] = [
     Message(0, "080200027B70028037"),
 ];
 
+// INFORMATION with two numbers: a non-locking shift hides the next element, a locking one all elements after it.
+const SHIFTED: [Step; 4] = [
+    Message(0, "080200010504038090A370028031"),
+    Message(0, "080200017B9E700280397002803070028039"),
+    Message(0, "080200017B96A170028031"),
+    Message(0, "080200017B9EA17002803170028039"),
+];
+
 // Callers who are cleared for what they dial: the SETUP, the INFORMATION, and what is sent. Line 1 is full,
 // and there is no port.
 const GIVEN_UP: [(&str, &str, &str); 9] = [
@@ -300,9 +308,9 @@ const UNEXPECTED: [Step; 4] = [
 ];
 
 // Worked examples on n bridge lines, without tones: their steps, and the last lines of the report. Clearing from both
-// sides at once, lenient reading, more digits awaited, a number in parts, unexpected messages, a full line, and a call to
-// a room with and without a port.
-const REPORTED: [(u8, &[Step], &str); 8] = [
+// sides at once, lenient reading, more digits awaited, a number in parts, digits and shifts, unexpected messages, a full
+// line, and a call to a room with and without a port.
+const REPORTED: [(u8, &[Step], &str); 9] = [
     (
         0,
         &CLEAR_COLLISION,
@@ -351,6 +359,14 @@ const REPORTED: [(u8, &[Step], &str); 8] = [
         7 message 0:080280020D1803A98382\n\
         8 message moved 0 0 0:0802800202 0:0802800207\n\
         9 message\n",
+    ),
+    (
+        0,
+        &SHIFTED,
+        "1 message 0:080280010D1803A98381\n\
+        2 message\n\
+        3 message\n\
+        4 message 0:0802800102 1:0802000105A104038090A31803A98381700480313031\n",
     ),
     (
         0,

@@ -23,8 +23,8 @@ struct Worked {
     timers: [u32; 5],
     steps: &'static [Step],
     wanted: &'static [&'static str],
-    /// When the one call ended, if there was one.
-    ended: Option<u32>,
+    /// When the last call ended, and with which cause.
+    ended: Option<(u32, u8)>,
 }
 
 const LONG: u32 = 999_999_999;
@@ -34,7 +34,7 @@ const SETUP: Step = Message(0, "080200010504038090A31803A98381700480313031");
 const OFFERED: &str =
     "1 message 0:08028001021803A98381 1:0802000105A104038090A31803A98381700480313031";
 
-const WORKED: [Worked; 6] = [
+const WORKED: [Worked; 11] = [
     Worked {
         timers: [LONG, 1, LONG, LONG, LONG],
         steps: &[SETUP, Frames(61)],
@@ -43,7 +43,7 @@ const WORKED: [Worked; 6] = [
             "32 frame 30 send 1:0802000105A104038090A31803A98381700480313031",
             "62 frame 60 send 1:080200015A080282E6 send 0:080280014508028292",
         ],
-        ended: Some(61),
+        ended: Some((61, 18)),
     },
     Worked {
         timers: [LONG, LONG, 1, 1, LONG],
@@ -70,7 +70,7 @@ const WORKED: [Worked; 6] = [
             "2 message",
             "63 frame 60 send 1:0802000145080282E6 send 0:080280014508028292",
         ],
-        ended: Some(61),
+        ended: Some((61, 18)),
     },
     Worked {
         timers: [30, LONG, LONG, LONG, LONG],
@@ -105,6 +105,133 @@ const WORKED: [Worked; 6] = [
         wanted: &[
             "2 message 0:08028001021803A98381 1:0802000105A104038090A31803A98381700480313031",
             "62 frame 60 send 1:0802000105A104038090A31803A98381700480313031",
+        ],
+        ended: None,
+    },
+    // RELEASE by T305, and again by T308, to a called user.
+    Worked {
+        timers: [LONG, LONG, 1, 1, LONG],
+        steps: &[
+            SETUP,
+            Message(0, "08020001450802809F"),
+            Message(0, "080200015A"),
+            Frames(90),
+            Message(1, "0802800175"),
+            Frames(1),
+            Message(1, "0802800175"),
+        ],
+        wanted: &[
+            OFFERED,
+            "2 message 0:080280014D 1:08020001450802829F",
+            "3 message",
+            "34 frame 30 send 1:080200014D0802829F",
+            "64 frame 60 send 1:080200014D0802829F",
+            "94 message 1:080200017D0802829E140113",
+            "96 message 1:080200017D0802829E140100",
+        ],
+        ended: Some((0, 31)),
+    },
+    // RELEASE without a cause, again.
+    Worked {
+        timers: [LONG, LONG, LONG, 30, LONG],
+        steps: &[
+            SETUP,
+            Message(0, "08020001450802809F"),
+            Message(1, "080280014D"),
+            Frames(91),
+            Message(0, "0802000175"),
+        ],
+        wanted: &[
+            OFFERED,
+            "2 message 0:080280014D 1:08020001450802829F",
+            "3 message 1:080200015A",
+            "34 frame 30 send 0:080280014D",
+            "95 message 0:080280017D0802829E140100",
+        ],
+        ended: Some((0, 31)),
+    },
+    // CALL PROCEEDING for the second SETUP: RELEASE is sent twice too.
+    Worked {
+        timers: [LONG, 1, 1, 1, 1],
+        steps: &[
+            SETUP,
+            Frames(31),
+            Message(1, "0802800102"),
+            Frames(30),
+            Message(0, "080200014D"),
+            Frames(89),
+            Message(1, "0802800175"),
+            Frames(1),
+            Message(1, "0802800175"),
+        ],
+        wanted: &[
+            OFFERED,
+            "32 frame 30 send 1:0802000105A104038090A31803A98381700480313031",
+            "33 message",
+            "63 frame 60 send 1:0802000145080282E6 send 0:080280014508028292",
+            "64 message 0:080280015A",
+            "94 frame 90 send 1:080200014D080282E6",
+            "124 frame 120 send 1:080200014D080282E6",
+            "154 message 1:080200017D0802829E140113",
+            "156 message 1:080200017D0802829E140100",
+        ],
+        ended: Some((61, 18)),
+    },
+    // RESTART while T303 runs for the second time, and the channel used again.
+    Worked {
+        timers: [LONG, 1, LONG, LONG, LONG],
+        steps: &[
+            SETUP,
+            Frames(60),
+            Message(1, "08020000461803A98381790180"),
+            Message(0, "080200014D"),
+            Message(0, "0802000205040288901803A98381700480313031"),
+            Frames(61),
+        ],
+        wanted: &[
+            OFFERED,
+            "32 frame 30 send 1:0802000105A104038090A31803A98381700480313031",
+            "62 message 0:0802800145080282A9 1:080280004E1803A98381790180",
+            "63 message 0:080280015A",
+            "64 message 0:08028002021803A98381 1:0802000105A1040288901803A98381700480313031",
+            "95 frame 90 send 1:0802000105A1040288901803A98381700480313031",
+            "125 frame 120 send 1:080200015A080282E6 send 0:080280024508028292",
+        ],
+        ended: Some((121, 18)),
+    },
+    // Channels 31, 1 and 2 of three lines, whose callers wait since frames 0, 1 and 3.
+    Worked {
+        timers: [29, LONG, LONG, LONG, LONG],
+        steps: &[
+            Message(0, "080200010504038090A31803A9839F70028031"),
+            Message(0, "080200020504038090A31803A9838170028031"),
+            Message(0, "080200030504038090A31803A9838270028031"),
+            Frames(1),
+            Message(1, "080200010504038090A31803A9839F70028031"),
+            Message(1, "080200020504038090A31803A9838170028031"),
+            Message(1, "080200030504038090A31803A9838270028031"),
+            Frames(2),
+            Message(2, "080200010504038090A31803A9839F70028031"),
+            Message(2, "080200020504038090A31803A9838170028031"),
+            Message(2, "080200030504038090A31803A9838270028031"),
+            Frames(89),
+        ],
+        wanted: &[
+            "1 message 0:080280010D1803A9839F",
+            "2 message 0:080280020D1803A98381",
+            "3 message 0:080280030D1803A98382",
+            "5 message 1:080280010D1803A9839F",
+            "6 message 1:080280020D1803A98381",
+            "7 message 1:080280030D1803A98382",
+            "10 message 2:080280010D1803A9839F",
+            "11 message 2:080280020D1803A98381",
+            "12 message 2:080280030D1803A98382",
+            "39 frame 29 send 0:08028001450802829C",
+            "40 frame 30 send 0:08028002450802829C send 1:08028002450802829C",
+            "41 frame 31 send 0:08028003450802829C send 1:08028003450802829C",
+            "69 frame 59 send 1:08028001450802829C send 2:08028001450802829C",
+            "70 frame 60 send 2:08028002450802829C",
+            "71 frame 61 send 2:08028003450802829C",
         ],
         ended: None,
     },
@@ -148,7 +275,7 @@ fn timers_of(frames: [u32; 5]) -> PlainTimers {
 
 fn run_of(alloc: Global, worked: &Worked) -> Result<PlainRun, Fail> {
     let tones = PlainTones::none(alloc);
-    let exchange = PlainExchange::new(alloc, 30, 2, 0, numbers(alloc)?, tones);
+    let exchange = PlainExchange::new(alloc, 30, 3, 0, numbers(alloc)?, tones);
     let mut run = PlainRun::new(alloc, exchange.with_timers(timers_of(worked.timers)));
     for step in worked.steps {
         take(alloc, &mut run, *step)?;
@@ -169,7 +296,7 @@ fn is_wanted(report: &str, wanted: &[&str]) -> bool {
 }
 
 // The record of the call between the first channels of lines 0 and 1.
-fn unanswered(to: u32) -> CallRecord {
+fn unanswered((to, cause): (u32, u8)) -> CallRecord {
     let place = 0;
     CallRecord {
         caller: Slot { line: 0, place },
@@ -177,11 +304,11 @@ fn unanswered(to: u32) -> CallRecord {
         answered: false,
         from: to,
         to,
-        cause: 18,
+        cause,
     }
 }
 
-// Whether the example is reported as it should be, with the record of its call.
+// Whether the example is reported as it should be, with the record of its last call.
 fn comes_out(alloc: Global, worked: &Worked) -> Result<bool, Fail> {
     let run = run_of(alloc, worked)?;
     Ok(

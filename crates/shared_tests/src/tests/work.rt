@@ -23,7 +23,8 @@ pub enum Outcome {
     Other,
 }
 
-fn answer_of(reply: &Reply) -> Outcome {
+/// What a reply says.
+pub fn answer_of(reply: &Reply) -> Outcome {
     match reply {
         Reply::Granted(there, back) => Outcome::Granted(*there, *back),
         Reply::Busy => Outcome::Busy,
@@ -42,8 +43,8 @@ pub fn kept_outcome(answer: &Answer) -> Outcome {
     }
 }
 
-// The event with this number, where there is one.
-fn event_numbered(trace: &Trace, event: u32) -> Option<&Event>
+/// The event with this number, where there is one.
+pub fn event_numbered(trace: &Trace, event: u32) -> Option<&Event>
     ensures known { IfSome result (λ e. IsEvent trace.now event) }
     ensures number { IfSome result (λ e. IsNumbered trace.now event e.now) }
 {
@@ -72,7 +73,7 @@ fn nail<B: Switchboard, R: Wait>(
     }
     if at_desk {
         let mut desk = Desk::new(Tool::Nothing);
-        let (place, response) = board.work(rt, seat, event, &mut desk);
+        let (place, response) = board.work(rt, seat, event, &mut desk, false);
         return Some((place, answer_of(&response.with(desk.out))));
     }
     let mut tool = Tool::Nothing;

@@ -1,10 +1,11 @@
-//! Two traces of `examples/` by control memories that are written by hand: an engine that never halves a
-//! stage plays what one does that may.
+//! Two traces of `examples/` by control memories that are written by hand. An engine plays the octets of their
+//! reports, and so do stages that are shared by halves.
 ghost use Rattle.std.specs.Prelude.{◌≡◌, ◌+◌, ◌≤◌, ◌<◌};
 ghost use Rattle.circuit_model.specs.declared.circuit.Kind.{Kind};
 ghost use Rattle.tone_rules.specs.Tables.{IsGiven};
 
 use super::engine::{Parts, parts_for};
+use super::halved_stages::{HalvedStages, carry_halved, halved_stages};
 use circuit_model::{IDLE, Slot};
 use control_memory::{Heard, Image};
 use frame_engine::{Carrier, Engine};
@@ -179,6 +180,15 @@ fn reported(trace: Trace, frame: u32) -> [[u8; 30]; 3] {
     }
 }
 
+// What the lines send in a frame.
+fn sent_by_all(trace: Trace, frame: u32) -> [[u8; 30]; 3] {
+    [
+        sent(trace, frame, 0),
+        sent(trace, frame, 1),
+        sent(trace, frame, 2),
+    ]
+}
+
 // Carries a frame, and tells whether the lines hear what the report has.
 fn hears_as_reported(
     rt: &(impl Threads + Sync),
@@ -200,12 +210,14 @@ fn hears_as_reported(
 {
     show(trace, image, frame);
     let mut out = [SILENT, SILENT, SILENT];
-    let input = [
-        Some(sent(trace, frame, 0)),
-        Some(sent(trace, frame, 1)),
-        Some(sent(trace, frame, 2)),
-    ];
-    engine.frame(rt, image, tones, &input, &mut out);
+    let [zero, one, two] = sent_by_all(trace, frame);
+    engine.frame(
+        rt,
+        image,
+        tones,
+        &[Some(zero), Some(one), Some(two)],
+        &mut out,
+    );
     out == reported(trace, frame)
 }
 
@@ -251,10 +263,52 @@ fn sounds_with(
 }
 
 #[test]
-fn traces_sound_as_reported_with_and_without_halves(rt: HostRuntime) -> Result<(), Fail> {
+fn traces_sound_as_reported_whatever_the_levels(rt: HostRuntime) -> Result<(), Fail> {
     for trace in [Trace::Rearrangement, Trace::LoudRoom] {
         assert!(rt; sounds_with(&rt, rt.alloc(), trace, 0)?);
         assert!(rt; sounds_with(&rt, rt.alloc(), trace, 3)?);
     }
+    Ok(())
+}
+
+// Whether stages of halves that have carried no frame send the octets of a trace's report.
+fn are_sent_as_reported(
+    rt: &(impl Threads + Sync),
+    stages: &mut HalvedStages,
+    image: &mut Image,
+    trace: Trace,
+) -> bool
+    requires image { (image.old.external ≡ 3) × (image.old.bridges ≡ 1) × (image.old.slots ≡ 30) }
+    requires lines { (stages.old.kept.external ≡ 3) × (stages.old.kept.bridges ≡ 1) }
+    requires slots { stages.old.kept.slots ≡ 30 }
+    requires memories { (stages.old.speech.lines ≡ 4) × (stages.old.read.lines ≡ 4) }
+    requires highway { (stages.old.highway.lines ≡ 4) × (stages.old.highway.slots ≡ 30) }
+    requires crossed { (stages.old.crossed.lines ≡ 4) × (stages.old.crossed.slots ≡ 30) }
+{
+    for frame in 0..6u32 {
+        show(trace, image, frame);
+        let out = carry_halved(rt, stages, image, &sent_by_all(trace, frame));
+        if out != reported(trace, frame) {
+            return false;
+        }
+    }
+    true
+}
+
+// Whether stages of halves send a trace as the report has it.
+fn sounds_by_halves(
+    rt: &(impl Threads + Sync),
+    alloc: Global,
+    trace: Trace,
+) -> Result<bool, AllocError> {
+    let mut stages = halved_stages(alloc)?;
+    let mut image = Image::new(alloc, 3, 1, 30)?;
+    Ok(are_sent_as_reported(rt, &mut stages, &mut image, trace))
+}
+
+#[test]
+fn traces_sound_as_reported_by_halves(rt: HostRuntime) -> Result<(), Fail> {
+    assert!(rt; sounds_by_halves(&rt, rt.alloc(), Trace::Rearrangement)?);
+    assert!(rt; sounds_by_halves(&rt, rt.alloc(), Trace::LoudRoom)?);
     Ok(())
 }

@@ -36,6 +36,7 @@ fn a_new_gate_has_not_passed(rt: HostRuntime) -> Result<(), Fail> {
     assert!(rt; !TestGate::new(7, 3).passed());
     make(&OpenGate, Call::BeforeTurn(7));
     assert!(rt; !OpenGate.apart() && TestGate::new(7, 3).apart());
+    assert!(rt; !OpenGate.may_hold() && TestGate::new(7, 3).may_hold());
     Ok(())
 }
 

@@ -2,7 +2,7 @@
 mod crew;
 mod sum;
 
-use crew::{crew, step_all};
+use crew::{crew, step_all, step_once};
 use std::alloc::Global;
 use std::sync::Wait;
 use std::test::Fail;
@@ -60,14 +60,15 @@ fn three_seats<R: Wait>(
     })
 }
 
-// The journal of n seats that step the events 1 to `count`, each in a thread of its own.
+// The journal of n seats that step the events 1 to `count`, each in its own thread and in turns of `turn` events.
 fn in_threads<R: Threads + Wait + Sync>(
     rt: &R,
     alloc: Global,
     seats: u32,
     count: u32,
+    turn: u32,
 ) -> Option<Vec<(u32, u32)>> {
-    if seats == 0 || seats > 100 || count > 100000 {
+    if seats == 0 || seats > 100 || count > 100000 || turn == 0 {
         return None;
     }
     let budget = seats * count;
@@ -77,7 +78,7 @@ fn in_threads<R: Threads + Wait + Sync>(
     let Ok((lock, zero)) = TurnLock::open(alloc, sum, budget) else {
         return None;
     };
-    let zero = crew(rt, &lock, zero, seats - 1, count);
+    let zero = crew(rt, &lock, zero, seats - 1, count, turn);
     Some(lock.close(zero).into_journal())
 }
 
@@ -98,6 +99,14 @@ fn has_all(journal: &[(u32, u32)], seats: u32, count: u32) -> bool {
         }
     }
     Some(journal.len()) == (seats as usize).checked_mul(count as usize)
+}
+
+// Whether no other seat steps within a turn: the seat changes only after the last event of a turn.
+fn has_whole_turns(journal: &[(u32, u32)], count: u32, turn: u32) -> bool {
+    let next = journal.iter().skip(1);
+    journal.iter().zip(next).all(|(one, next)| one.0 == next.0
+        || one.1 == count
+        || one.1.checked_rem(turn) == Some(0))
 }
 
 // Whether these steps are answered so, are in the journal in their order, and leave seat 0 n turns and the baton. None answered: a step
@@ -156,18 +165,75 @@ fn seats_step_in_turn(rt: HostRuntime) -> Result<(), Fail> {
     Ok(())
 }
 
-// Whether each of n seats steps all events in its own thread.
-fn all_step<R: Threads + Wait + Sync>(rt: &R, alloc: Global, seats: u32, count: u32) -> bool {
-    match in_threads(rt, alloc, seats, count) {
-        Some(journal) => has_all(&journal, seats, count),
+// The journal of seat 0 and another one. Each steps several events in one turn, and passes the turn by a split, a join
+// or the close. `None` if a seat lacks the turn after its steps, or has it after a split.
+fn in_long_turns<R: Wait>(rt: &R, alloc: Global) -> Option<Vec<(u32, u32)>> {
+    let Ok(sum) = Sum::new(alloc, 6) else {
+        return None;
+    };
+    let Ok((lock, mut zero)) = TurnLock::open(alloc, sum, 6) else {
+        return None;
+    };
+    step_once(rt, &lock, &mut zero, 1, true);
+    step_once(rt, &lock, &mut zero, 2, true);
+    let mut kept = zero.has_turn();
+    let share = zero.left().min(3);
+    let mut one = zero.split(&lock, share, false);
+    let passed = !zero.has_turn() && !one.has_turn();
+    step_once(rt, &lock, &mut one, 3, true);
+    step_once(rt, &lock, &mut one, 4, true);
+    step_once(rt, &lock, &mut one, 5, true);
+    kept = kept && one.has_turn();
+    zero.join(&lock, one);
+    step_once(rt, &lock, &mut zero, 6, true);
+    kept = kept && zero.has_turn();
+    let journal = lock.close(zero).into_journal();
+    if kept && passed { Some(journal) } else { None }
+}
+
+// Whether the seats keep and pass their turns, and the journal has all steps.
+fn keeps_turns<R: Wait>(rt: &R, alloc: Global) -> bool {
+    let wanted = [(0, 1), (0, 2), (1, 3), (1, 4), (1, 5), (0, 6)];
+    match in_long_turns(rt, alloc) {
+        Some(journal) => journal.as_slice() == wanted.as_slice(),
+        None => false,
+    }
+}
+
+#[test]
+fn a_seat_keeps_the_turn_until_it_passes_it(rt: HostRuntime) -> Result<(), Fail> {
+    assert!(rt; keeps_turns(&rt, rt.alloc()));
+    Ok(())
+}
+
+// Whether each of n seats steps all events in its own thread, in whole turns of `turn` events.
+fn all_step<R: Threads + Wait + Sync>(
+    rt: &R,
+    alloc: Global,
+    seats: u32,
+    count: u32,
+    turn: u32,
+) -> bool {
+    match in_threads(rt, alloc, seats, count, turn) {
+        Some(journal) => has_all(&journal, seats, count) && has_whole_turns(&journal, count, turn),
         None => false,
     }
 }
 
 #[test]
 fn threads_step_in_turn(rt: HostRuntime) -> Result<(), Fail> {
-    assert!(rt; all_step(&rt, rt.alloc(), 1, 10));
-    assert!(rt; all_step(&rt, rt.alloc(), 2, 100));
-    assert!(rt; all_step(&rt, rt.alloc(), 9, 20000));
+    assert!(rt; all_step(&rt, rt.alloc(), 1, 10, 1));
+    assert!(rt; all_step(&rt, rt.alloc(), 2, 100, 1));
+    assert!(rt; all_step(&rt, rt.alloc(), 9, 20000, 1));
+    Ok(())
+}
+
+// The last turn of a seat is shorter than the others, if `turn` does not divide the number of its events.
+#[test]
+fn threads_step_in_long_turns(rt: HostRuntime) -> Result<(), Fail> {
+    assert!(rt; all_step(&rt, rt.alloc(), 1, 10, 3));
+    assert!(rt; all_step(&rt, rt.alloc(), 2, 100, 1000));
+    assert!(rt; all_step(&rt, rt.alloc(), 9, 20000, 7));
+    assert!(rt; all_step(&rt, rt.alloc(), 9, 20000, 512));
     Ok(())
 }

@@ -11,7 +11,7 @@ use Rattle.call_processor.proofs.alone.run_alone.Goals as goal
 pub returns-in_err-grow-clause-works : goal.returns-in_err-grow-clause-works
 returns-in_err-grow-clause-works g c =
     let failed : is_ok c.from_residual.result ≡ false = search rules in
-    works_ended _ _ _ _ _ _ _ _ _ failed (works_none g.K.Keeper.holds _ _ (turns_of (g.B.Switchboard.board c.args.board.now)) _ _ _)
+    works_ended _ _ _ _ _ _ _ _ _ failed (works_none g.K.Keeper.holds _ _ (turns_of (g.B.Switchboard.board c.args.cx.now.board.now)) _ _ _)
 
 pub returns-in_err-grow-clause-in_order : goal.returns-in_err-grow-clause-in_order
 returns-in_err-grow-clause-in_order g c =
@@ -19,7 +19,7 @@ returns-in_err-grow-clause-in_order g c =
     in_order_ended _ _ _ _ _ failed (in_order_none _ _)
 
 pub numbers_of-first-requires-clause-sound : goal.numbers_of-first-requires-clause-sound
-numbers_of-first-requires-clause-sound g c = subst IsSound (sym c.requires.trace) ((g.met.B.Switchboard g.world.𝓛 g.world.𝓜 g.world.𝓡 ((λ s x. x), (λ x. x), (λ x. x), λ x. x)).sound_trace c.args.board.now c.args.seat.now c.requires.seated)
+numbers_of-first-requires-clause-sound g c = subst IsSound (sym c.requires.trace) ((g.met.B.Switchboard g.world.𝓛 g.world.𝓜 g.world.𝓡 ((λ s x. x), (λ x. x), (λ x. x), λ x. x)).sound_trace c.args.cx.now.board.now c.args.seat.now c.requires.seated)
 
 pub loop-event-init : goal.loop-event-init
 loop-event-init g c = record {
@@ -40,7 +40,7 @@ do_next-requires-clause-turn g c κs within =
 
 pub do_next-requires-clause-some : goal.do_next-requires-clause-some
 do_next-requires-clause-some g c κs within =
-    let sound : IsSound c.args.trace.now = subst IsSound (sym c.requires.trace) ((g.met.B.Switchboard g.world.𝓛 g.world.𝓜 g.world.𝓡 ((λ s x. x), (λ x. x), (λ x. x), λ x. x)).sound_trace c.args.board.now c.args.seat.now c.requires.seated) in
+    let sound : IsSound c.args.cx.now.trace.now = subst IsSound (sym c.requires.trace) ((g.met.B.Switchboard g.world.𝓛 g.world.𝓜 g.world.𝓡 ((λ s x. x), (λ x. x), (λ x. x), λ x. x)).sound_trace c.args.cx.now.board.now c.args.seat.now c.requires.seated) in
     let some = sound.processors.0 in
     omega (arith, some)
 
@@ -81,14 +81,14 @@ pub returns-clause-works : goal.returns-clause-works
 returns-clause-works g c =
     let first = c.numbers_of-first.result.0 in
     let over : c.loop-event.event ≡ c.numbers_of-first.result.1 = search rules in
-    let all : range_with_len first (c.loop-event.event - first) ≡ events_of_segment c.args.trace.now c.args.segment = ap (λ (n : ℕ). range_with_len first (n - first)) over ∙ sym c.numbers_of-first.ensures.all in
+    let all : range_with_len first (c.loop-event.event - first) ≡ events_of_segment c.args.cx.now.trace.now c.args.segment = ap (λ (n : ℕ). range_with_len first (n - first)) over ∙ sym c.numbers_of-first.ensures.all in
     works_whole _ _ _ _ _ _ _ _ _ (goes_same _ _ _ _ _ _ _ _ _ _ all c.loop-event.invariant.goes)
 
 pub returns-clause-in_order : goal.returns-clause-in_order
 returns-clause-in_order g c =
     let first = c.numbers_of-first.result.0 in
     let over : c.loop-event.event ≡ c.numbers_of-first.result.1 = search rules in
-    let all : range_with_len first (c.loop-event.event - first) ≡ events_of_segment c.args.trace.now c.args.segment = ap (λ (n : ℕ). range_with_len first (n - first)) over ∙ sym c.numbers_of-first.ensures.all in
+    let all : range_with_len first (c.loop-event.event - first) ≡ events_of_segment c.args.cx.now.trace.now c.args.segment = ap (λ (n : ℕ). range_with_len first (n - first)) over ∙ sym c.numbers_of-first.ensures.all in
     in_order_whole _ _ _ _ _ _ _ _ _ (goes_same _ _ _ _ _ _ _ _ _ _ all c.loop-event.invariant.goes)
 
 pub returns-clause-settled : goal.returns-clause-settled

@@ -10,10 +10,10 @@ use Rattle.call_processor.proofs.alone.run_alone.Given as goal
 
 abbrev pub invariant-loop-event : goal.invariant-loop-event
 invariant-loop-event g l = record {
-  seated : g.B.Switchboard.seated l.board l.seat;
-  goes : GoesOn g.K.Keeper.holds (g.B.Switchboard.board l.board) (HasOctets g.C.Carrier.plays (table_of l.trace.tones) (g.B.Switchboard.board l.board)) (turns_of (g.B.Switchboard.board l.board)) (range_with_len l.first (l.event - l.first)) (g.B.Switchboard.known l.fn.seat) l.fn.keeper l.keeper (g.B.Switchboard.known l.seat);
+  seated : g.B.Switchboard.seated l.cx.board.now l.seat;
+  goes : GoesOn g.K.Keeper.holds (g.B.Switchboard.board l.cx.board.now) (HasOctets g.C.Carrier.plays (table_of l.cx.trace.now.tones) (g.B.Switchboard.board l.cx.board.now)) (turns_of (g.B.Switchboard.board l.cx.board.now)) (range_with_len l.first (l.event - l.first)) (g.B.Switchboard.known l.fn.seat) l.fn.keeper l.keeper (g.B.Switchboard.known l.seat);
   from : l.first ≤ l.event;
   desk : l.workplace.desk.value.tool ≡ Nothing;
-  ready : IsReady g.C.Carrier.carries g.C.Carrier.next g.C.Carrier.sizes (g.B.Switchboard.board l.board) (g.B.Switchboard.known l.seat).seen l.engine l.tool;
-  lines : length l.workplace.octets.items ≡ (g.B.Switchboard.board l.board).trace.external;
+  ready : IsReady g.C.Carrier.carries g.C.Carrier.next g.C.Carrier.sizes (g.B.Switchboard.board l.cx.board.now) (g.B.Switchboard.known l.seat).seen l.machine.engine l.machine.desk.tool;
+  lines : length l.machine.octets.items ≡ (g.B.Switchboard.board l.cx.board.now).trace.external;
 }

@@ -12,23 +12,23 @@ use Rattle.call_processor.proofs.processing.do_event.Goals as goal
 pub returns-clause-kept : goal.returns-clause-kept
 returns-clause-kept g c =
     let K = g.B.Switchboard.known in
-    let board = g.B.Switchboard.board c.args.board.now in
+    let board = g.B.Switchboard.board c.args.cx.now.board.now in
     let place = c.work-place.result.0 in
     let history = before place (K c.work-place.new.seat).seen in
     let p : Placed = placed place c.args.event c.work-place.result.1 c.work-place.new.desk.out [] in
-    let last = c.work-place.ensures.place in
+    let last = c.work-place.ensures.done.place in
     let next : Next history c.args.event place (K c.args.seat.now) (K c.work-place.new.seat) = record {
-      seat = c.work-place.ensures.seat;
-      begins = c.work-place.ensures.begins;
+      seat = c.work-place.ensures.done.seat;
+      begins = c.work-place.ensures.done.begins;
       place_is = length-take-le place (K c.work-place.new.seat).seen (omega (arith, last));
       turn = c.requires.turn;
-      exact = c.work-place.ensures.own;
+      exact = c.work-place.ensures.done.own;
     } in
     on_ok c.keep.result (λ kept. record {
       answer = p;
       place = last;
       event_is = refl;
-      is = answer_next board history (K c.args.seat.now) (K c.work-place.new.seat) p (reply_of c.work-place.result.1 c.work-place.new.desk.out) next c.work-place.ensures.reply c.work-place.ensures.few refl;
+      is = answer_next board history (K c.args.seat.now) (K c.work-place.new.seat) p (reply_of c.work-place.result.1 c.work-place.new.desk.out) next c.work-place.ensures.done.reply c.work-place.ensures.done.few refl;
       said = refl;
       held = kept;
     }) c.keep.ensures.kept
@@ -36,5 +36,5 @@ returns-clause-kept g c =
 pub returns-clause-next : goal.returns-clause-next
 returns-clause-next g c = λ only.
     let K = g.B.Switchboard.known in
-    next_alone (turns_of (g.B.Switchboard.board c.args.board.now)) (before c.work-place.result.0 (K c.work-place.new.seat).seen) c.args.event (K c.args.seat.now) (K c.work-place.new.seat)
-    c.work-place.ensures.seat (c.work-place.ensures.alone only.0 only.1) (c.work-place.ensures.settled only.0)
+    next_alone (turns_of (g.B.Switchboard.board c.args.cx.now.board.now)) (before c.work-place.result.0 (K c.work-place.new.seat).seen) c.args.event (K c.args.seat.now) (K c.work-place.new.seat)
+    c.work-place.ensures.done.seat (c.work-place.ensures.done.alone only.0 only.1) (c.work-place.ensures.done.settled only.0)

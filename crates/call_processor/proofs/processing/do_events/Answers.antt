@@ -13,14 +13,14 @@ pub is_of_processor-requires-clause-event : goal.is_of_processor-requires-clause
 is_of_processor-requires-clause-event g c = c.numbers_of-first.ensures.events c.loop-event.event c.loop-event.invariant.from c.loop-event-test.true
 
 pub numbers_of-first-requires-clause-sound : goal.numbers_of-first-requires-clause-sound
-numbers_of-first-requires-clause-sound g c = subst IsSound (sym c.requires.may.trace_is) ((g.met.B.Switchboard g.world.𝓛 g.world.𝓜 g.world.𝓡 ((λ s x. x), (λ x. x), (λ x. x), λ x. x)).sound_trace c.args.board.now c.args.seat.now c.requires.seated)
+numbers_of-first-requires-clause-sound g c = subst IsSound (sym c.requires.may.trace_is) ((g.met.B.Switchboard g.world.𝓛 g.world.𝓜 g.world.𝓡 ((λ s x. x), (λ x. x), (λ x. x), λ x. x)).sound_trace c.args.cx.now.board.now c.args.seat.now c.requires.seated)
 
 pub loop-event-init : goal.loop-event-init
 loop-event-init g c =
     let empty : g.K.Keeper.holds c.clear.new.self [] = search rules in
     record {
       seated = c.requires.seated;
-      keeps = keeps_done _ _ _ _ _ _ _ _ (none_up_to c.args.trace.now (Processor c.args.processor) c.numbers_of-first.result.0) (keeps_none _ _ _ _ _ empty);
+      keeps = keeps_done _ _ _ _ _ _ _ _ (none_up_to c.args.cx.now.trace.now (Processor c.args.processor) c.numbers_of-first.result.0) (keeps_none _ _ _ _ _ empty);
       from = search rules;
       tool = c.requires.tool;
     }
@@ -28,13 +28,13 @@ loop-event-init g c =
 pub loop-event-preserved-then-not-is_of_processor : goal.loop-event-preserved-then-not-is_of_processor
 loop-event-preserved-then-not-is_of_processor g c =
     let W = Processor c.args.processor in
-    let off : is_its c.args.trace.now W c.loop-event.event ≡ false = search rules in
+    let off : is_its c.args.cx.now.trace.now W c.loop-event.event ≡ false = search rules in
     let first = c.numbers_of-first.result.0 in
     record {
       seated = c.loop-event.invariant.seated;
-      keeps = keeps_done g.K.Keeper.holds (g.B.Switchboard.board c.args.board.now) (λ w. has_no_octets) (up_to c.args.trace.now W first c.loop-event.event) (up_to c.args.trace.now W first (c.loop-event.event + 1))
+      keeps = keeps_done g.K.Keeper.holds (g.B.Switchboard.board c.args.cx.now.board.now) (λ w. has_no_octets) (up_to c.args.cx.now.trace.now W first c.loop-event.event) (up_to c.args.cx.now.trace.now W first (c.loop-event.event + 1))
           (g.B.Switchboard.known c.args.seat.now) (g.B.Switchboard.known c.loop-event.seat) c.loop-event.keeper
-          (sym (next_not c.args.trace.now W first c.loop-event.event c.loop-event.invariant.from off)) c.loop-event.invariant.keeps;
+          (sym (next_not c.args.cx.now.trace.now W first c.loop-event.event c.loop-event.invariant.from off)) c.loop-event.invariant.keeps;
       from = search rules;
       tool = c.loop-event.invariant.tool;
     }
@@ -42,12 +42,12 @@ loop-event-preserved-then-not-is_of_processor g c =
 pub returns-then-is_told-clause-works : goal.returns-then-is_told-clause-works
 returns-then-is_told-clause-works g c =
     let W = Processor c.args.processor in
-    let trace = c.args.trace.now in
+    let trace = c.args.cx.now.trace.now in
     let part = part_of trace c.args.segment W in
     let first = c.numbers_of-first.result.0 in
     let end = c.numbers_of-first.result.1 in
     let event = c.loop-event.event in
-    keeps_front g.K.Keeper.holds (g.B.Switchboard.board c.args.board.now) (λ w. has_no_octets) part (up_to trace W first event) (rest_from trace W event end)
+    keeps_front g.K.Keeper.holds (g.B.Switchboard.board c.args.cx.now.board.now) (λ w. has_no_octets) part (up_to trace W first event) (rest_from trace W event end)
     (g.B.Switchboard.known c.args.seat.now) (g.B.Switchboard.known c.loop-event.seat) c.loop-event.keeper
     (front_here trace W part first event end (c.numbers_of-first.ensures.parts W) c.loop-event.invariant.from c.loop-event-test.true) c.loop-event.invariant.keeps
 
@@ -64,13 +64,13 @@ do_event-requires-clause-known g c κs within =
 
 pub do_event-requires-clause-its : goal.do_event-requires-clause-its
 do_event-requires-clause-its g c κs within =
-    let its : is_its c.args.trace.now (Processor c.args.processor) c.loop-event.event ≡ true = search rules in
+    let its : is_its c.args.cx.now.trace.now (Processor c.args.processor) c.loop-event.event ≡ true = search rules in
     subst (λ (t : Trace). is_its t (Processor c.args.processor) c.loop-event.event ≡ true) c.requires.may.trace_is its
 
 pub do_event-requires-clause-turn : goal.do_event-requires-clause-turn
 do_event-requires-clause-turn g c κs within =
     let W = Processor c.args.processor in
-    let trace = c.args.trace.now in
+    let trace = c.args.cx.now.trace.now in
     let part = part_of trace c.args.segment W in
     let its : is_its trace W c.loop-event.event ≡ true = search rules in
     let first = c.numbers_of-first.result.0 in
@@ -82,9 +82,9 @@ do_event-requires-clause-turn g c κs within =
 pub returns-in_err-do_event-clause-works : goal.returns-in_err-do_event-clause-works
 returns-in_err-do_event-clause-works g c =
     let W = Processor c.args.processor in
-    let trace = c.args.trace.now in
+    let trace = c.args.cx.now.trace.now in
     let part = part_of trace c.args.segment W in
-    let board = g.B.Switchboard.board c.args.board.now in
+    let board = g.B.Switchboard.board c.args.cx.now.board.now in
     let its : is_its trace W c.loop-event.event ≡ true = search rules in
     let first = c.numbers_of-first.result.0 in
     let end = c.numbers_of-first.result.1 in
@@ -100,8 +100,8 @@ returns-in_err-do_event-clause-works g c =
 pub loop-event-preserved : goal.loop-event-preserved
 loop-event-preserved g c =
     let W = Processor c.args.processor in
-    let trace = c.args.trace.now in
-    let board = g.B.Switchboard.board c.args.board.now in
+    let trace = c.args.cx.now.trace.now in
+    let board = g.B.Switchboard.board c.args.cx.now.board.now in
     let its : is_its trace W c.loop-event.event ≡ true = search rules in
     let first = c.numbers_of-first.result.0 in
     let event = c.loop-event.event in
@@ -122,5 +122,5 @@ returns-clause-works g c =
     let W = Processor c.args.processor in
     let first = c.numbers_of-first.result.0 in
     let over : c.loop-event.event ≡ c.numbers_of-first.result.1 = search rules in
-    let all : up_to c.args.trace.now W first c.loop-event.event ≡ part_of c.args.trace.now c.args.segment W = ap (up_to c.args.trace.now W first) over ∙ sym (c.numbers_of-first.ensures.parts W) in
+    let all : up_to c.args.cx.now.trace.now W first c.loop-event.event ≡ part_of c.args.cx.now.trace.now c.args.segment W = ap (up_to c.args.cx.now.trace.now W first) over ∙ sym (c.numbers_of-first.ensures.parts W) in
     keeps_whole _ _ _ _ _ _ _ (keeps_done _ _ _ _ _ _ _ _ all c.loop-event.invariant.keeps)

@@ -24,6 +24,10 @@ pub returns-clause-proceeding : goal.returns-clause-proceeding
 unfolding elements_of elements_within outcome_of_lines slots_of
 returns-clause-proceeding c = refl
 
+pub returns-clause-two_records : goal.returns-clause-two_records
+unfolding elements_of elements_within outcome_of_lines slots_of
+returns-clause-two_records c = refl
+
 pub returns-clause-digits : goal.returns-clause-digits
 unfolding elements_of elements_within outcome_of_lines slots_of
 returns-clause-digits c = refl

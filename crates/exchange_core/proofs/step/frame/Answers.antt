@@ -23,11 +23,11 @@ pub expire-requires-clause-work : goal.expire-requires-clause-work
 expire-requires-clause-work g c =
     let s = c.requires.work.0 in
     let w = c.requires.work.1 in
-    let work = c.requires.work.5 in
-    (s, pass w [], c.requires.work.3, c.requires.work.4, passed s w [] _ _ _ _ work (c.boundary-number.ensures.world s.dimensions w [] work.holds))
+    let work = c.requires.work.4 in
+    (s, pass w [], c.requires.work.2, c.requires.work.3, passed s w [] _ _ _ _ work (c.boundary-number.ensures.world s.dimensions w [] work.holds))
 
 pub returns-clause-reply : goal.returns-clause-reply
-returns-clause-reply g c s w plan tones timers work input =
+returns-clause-reply g c s w tones timers work input =
     let order = passed s w input _ _ _ _ work (c.boundary-number.ensures.world s.dimensions w input work.holds) in
     let made = c.expire.ensures.makes s (pass w input) tones timers order in
     let recorded = c.expire.ensures.records s (pass w input) tones timers order in
@@ -37,7 +37,7 @@ returns-clause-reply g c s w plan tones timers work input =
     (λ i. An_answer.Frame c.boundary-number.result (made.sent i) (recorded i))
 
 pub returns-clause-world : goal.returns-clause-world
-returns-clause-world g c s w plan tones timers work input =
+returns-clause-world g c s w tones timers work input =
     let order = passed s w input _ _ _ _ work (c.boundary-number.ensures.world s.dimensions w input work.holds) in
     let made = c.expire.ensures.makes s (pass w input) tones timers order in
     subst (λ (n : ℕ). Holds s.dimensions c.expire.new.self.map c.expire.new.self.legs (outcome_of_lines s n (pass w input) s.dimensions.external).making.world)

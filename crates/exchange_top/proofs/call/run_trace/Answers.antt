@@ -1,9 +1,10 @@
-use Rattle.std.proofs.Common.{◌≡◌, rules, true, false}
+use Rattle.std.proofs.Common.{◌≡◌, refl, rules, true, false}
 use Rattle.fabric_map.specs.Map.{most_moves}
 use Rattle.strict_map.specs.Strict.{most_moves as most_strict_moves}
-use Rattle.exchange_top.specs.Commands.{No_memory_from, fabric_of}
+use Rattle.exchange_top.specs.declared.ending.Ending.TheVariants as ended
+use Rattle.exchange_top.specs.Commands.{fabric_of}
 use Rattle.exchange_top.specs.Outcomes.{Fabric}
-use Rattle.exchange_top.proofs.Endings.{runs_on}
+use Rattle.exchange_top.proofs.Endings.{runs_on, runs_so}
 use Rattle.exchange_top.proofs.Tellings.{none_beyond}
 use Rattle.exchange_top.proofs.Underway.{begun_none}
 use Rattle.exchange_top.proofs.call.run_trace.Goals as goal
@@ -13,19 +14,21 @@ returns-in-Ok-clause-runs g c =
     let e = c.in-Ok.ensures in
     let map : Fabric = record { slots = c.in-Ok.paths.slots; most_moves = most_strict_moves c.in-Ok.paths.lines } in
     let same : map ≡ fabric_of true c.args.trace.now = λ i. record { slots = e.slots i; most_moves = most_strict_moves (e.lines i) } in
-    runs_on _ _ true _ _ _ _ _ _ _ _ _ (search rules) same c.run_on.ensures.runs
+    runs_on _ _ true _ _ _ _ (search rules) same c.run_on.ensures.runs
 
 pub returns-in-Err-clause-runs : goal.returns-in-Err-clause-runs
-returns-in-Err-clause-runs g c = let e = c.without_events.ensures in No_memory_from e.status (begun_none _ _ _ _ _ _ _ e.none (none_beyond _ _ _ _))
+returns-in-Err-clause-runs g c =
+    let e = c.idle.ensures in
+    runs_so _ _ _ _ ended.OutOfMemory _ e.ending (begun_none _ _ _ _ _ _ _ _ _ _ _ e.none refl (none_beyond _ _ _ _) e.engine)
 
 pub returns-in-Ok-new-clause-runs : goal.returns-in-Ok-new-clause-runs
 returns-in-Ok-new-clause-runs g c =
     let e = c.in-Ok-new.ensures in
     let map : Fabric = record { slots = c.in-Ok-new.paths.slots; most_moves = most_moves c.in-Ok-new.paths.lines } in
     let same : map ≡ fabric_of false c.args.trace.now = λ i. record { slots = e.slots i; most_moves = most_moves (e.lines i) } in
-    runs_on _ _ false _ _ _ _ _ _ _ _ _ (search rules) same c.run_on-in-Ok-new.ensures.runs
+    runs_on _ _ false _ _ _ _ (search rules) same c.run_on-in-Ok-new.ensures.runs
 
 pub returns-in-Err-new-clause-runs : goal.returns-in-Err-new-clause-runs
 returns-in-Err-new-clause-runs g c =
-    let e = c.without_events-in-Err-new.ensures in
-    No_memory_from e.status (begun_none _ _ _ _ _ _ _ e.none (none_beyond _ _ _ _))
+    let e = c.idle-in-Err-new.ensures in
+    runs_so _ _ _ _ ended.OutOfMemory _ e.ending (begun_none _ _ _ _ _ _ _ _ _ _ _ e.none refl (none_beyond _ _ _ _) e.engine)

@@ -1,8 +1,13 @@
+use Rattle.std.proofs.Common.{subst}
 use Rattle.exchange_top.specs.Checking.{Said}
+use Rattle.exchange_top.specs.Refusals.{Says}
+use Rattle.exchange_top.specs.Streams.{stream}
 use Rattle.exchange_top.proofs.checking.check.Goals as goal
 
-pub returns-in-Ok-due-clause-ends : goal.returns-in-Ok-due-clause-ends
-returns-in-Ok-due-clause-ends g c =
+pub returns-in-Ok-found-clause-ends : goal.returns-in-Ok-found-clause-ends
+returns-in-Ok-found-clause-ends g c =
     let r = c.in-Ok.ensures in
-    Said c.in-Ok.bytes.items (record { front = r.front; whole = r.whole; few = r.most }) c.in-Ok-due.status c.in-Ok-due.line.items
-    (rw c.as_slice.ensures.value at c.in-Ok-due.ensures) (rw c.as_slice-in-Ok-due.ensures.value at c.say.ensures.answer)
+    let found = rw c.as_slice.ensures.value at c.in-Ok-found.ensures in
+    let said = rw c.as_slice-in-Ok-found.ensures.value at c.say.ensures.answer in
+    Said c.in-Ok.bytes.items (record { front = r.front; whole = r.whole; few = r.most }) c.in-Ok-found.ending found.0
+    (subst (λ line. Says c.in-Ok-found.ending line c.say.result (stream g.K.Sink.written g.K.Sink.faults c.args.sink.now c.say.new.sink)) found.1 said)

@@ -1,15 +1,18 @@
-use Rattle.std.proofs.Common.{◌++◌, length, ap, ◌∙◌}
+use Rattle.std.proofs.Common.{◌++◌, length, refl, ap, ◌∙◌}
 use Rattle.exchange_core.specs.Boards.{Board}
 use Rattle.exchange_core.specs.Working.{order_of}
-use Rattle.exchange_top.specs.Commands.{No_memory_from, RunsTo, parties}
-use Rattle.exchange_top.specs.Running.{engine_of, fabric_at, status_of}
+use Rattle.exchange_top.specs.declared.ending.Ending.TheVariants as ended
+use Rattle.exchange_top.specs.Outcomes.{Runs, parties}
+use Rattle.exchange_top.specs.Running.{ending_of, engine_of, fabric_at}
+use Rattle.exchange_top.proofs.Endings.{runs_so}
 use Rattle.exchange_top.proofs.Sums.{fits_order, moved}
 use Rattle.exchange_top.proofs.Tellings.{none_beyond}
-use Rattle.exchange_top.proofs.Underway.{begun_none, status_memory}
+use Rattle.exchange_top.proofs.Underway.{begun_none, ending_memory, no_engine_of}
 use Rattle.exchange_top.proofs.run.run.Goals as goal
 
 pub returns-in_err-board-clause-runs : goal.returns-in_err-board-clause-runs
-returns-in_err-board-clause-runs g c = No_memory_from (status_memory _ c.from_residual.ensures.1) (begun_none _ _ _ _ _ _ _ c.requires.empty (none_beyond _ _ _ _))
+returns-in_err-board-clause-runs g c = runs_so _ _ _ _ ended.OutOfMemory _ (ending_memory _ c.from_residual.ensures.1)
+    (begun_none _ _ _ _ _ _ _ _ _ _ _ c.requires.empty refl (none_beyond _ _ _ _) (no_engine_of _ _ c.from_residual.ensures.1))
 
 pub note_order-requires : goal.note_order-requires
 note_order-requires g c = record {
@@ -22,7 +25,8 @@ returns-clause-runs g c =
     let journal = c.journal-2.ensures ∙ c.close.ensures.journal in
     let order = c.note_order.ensures ∙ (λ i. c.requires.empty i ++ order_of (journal i)) in
     let done = c.report_segments-done in
-    moved (λ b o. RunsTo (parties g.C.Carrier.plays g.C.Carrier.sizes g.C.Carrier.carries (engine_of done.result)
-    (λ m. (goal.Meter-dyn g (m.vtable, m.value)).stands m.value) (λ m. (goal.Meter-dyn g (m.vtable, m.value)).text m.value) c.args.meters.now.items c.args.spare.now.items done.new.meters.items done.new.spare.items)
-    (fabric_at b) g.L.ListingKind.listing b.trace (status_of done.result) o g.K.Sink.written g.K.Sink.faults c.args.sink.now done.new.sink)
+    moved (λ b o. Runs (parties g.C.Carrier.plays g.C.Carrier.sizes g.C.Carrier.carries (engine_of done.result)
+    (λ m. (goal.Meter-dyn g (m.vtable, m.value)).stands m.value) (λ m. (goal.Meter-dyn g (m.vtable, m.value)).text m.value) c.args.metering.now.on.items c.args.metering.now.spare.items done.new.metering.on.items done.new.metering.spare.items
+    o g.K.Sink.written g.K.Sink.faults c.args.sink.now done.new.sink)
+    (fabric_at b) g.L.ListingKind.listing b.trace (ending_of done.result))
     _ _ _ _ c.in_ok-board.ensures.board order done.ensures.runs

@@ -1,4 +1,4 @@
-use Rattle.std.proofs.Common.{length, ap, ◌∙◌, arith, subst}
+use Rattle.std.proofs.Common.{length, ap, sym, ◌∙◌, arith, subst}
 use Rattle.call_processor.specs.Frames.{IsReady}
 use Rattle.segment_run.proofs.LoadLemmas.{turns_for}
 use Rattle.segment_run.proofs.OrderLemmas.{numbers_left, seen_done}
@@ -16,9 +16,9 @@ run_segment_with-requires-clause-may g c lifetimes outlive =
       trace_is = c.requires.trace;
       within = within;
       chief = c.requires.chief;
-      numbers = numbers_left c.args.trace.now c.args.segment _ c.requires.sound within c.requires.numbers;
-      turns = turns_for (g.B.Switchboard.board c.args.board.now) c.args.trace.now c.args.segment v c.requires.trace c.requires.sound within c.requires.chief
-          (seen_done c.args.trace.now c.args.segment v c.requires.sound (omega (arith, within)) c.requires.done);
+      numbers = numbers_left c.args.cx.now.trace.now c.args.segment _ c.requires.sound within c.requires.numbers;
+      turns = turns_for (g.B.Switchboard.board c.args.cx.now.board.now) c.args.cx.now.trace.now c.args.segment v c.requires.trace c.requires.sound within c.requires.chief
+          (seen_done c.args.cx.now.trace.now c.args.segment v c.requires.sound (omega (arith, within)) c.requires.done);
     }
 
 pub returns-in_err-done-clause-told_front : goal.returns-in_err-done-clause-told_front
@@ -26,7 +26,7 @@ returns-in_err-done-clause-told_front g c = on_err c.from_residual.result (none_
 
 pub run_segment_with-requires-clause-ready : goal.run_segment_with-requires-clause-ready
 run_segment_with-requires-clause-ready g c lifetimes outlive =
-    at_some (λ carried. IsReady g.C.Carrier.carries g.C.Carrier.next g.C.Carrier.sizes (g.B.Switchboard.board c.args.board.now) (g.B.Switchboard.known c.args.seat.now).seen carried.engine carried.tool) _ c.in-Some.before c.in-Some.ensures.value c.requires.ready
+    at_some (λ carried. IsReady g.C.Carrier.carries g.C.Carrier.next g.C.Carrier.sizes (g.B.Switchboard.board c.args.cx.now.board.now) (g.B.Switchboard.known c.args.seat.now).seen carried.machine.value.engine carried.machine.value.desk.tool) _ c.taken-machine.result (sym c.taken-machine.ensures) c.requires.ready
 
 pub records_behind-requires : goal.records_behind-requires
 records_behind-requires g c =

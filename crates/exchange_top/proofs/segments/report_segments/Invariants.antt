@@ -9,11 +9,11 @@ use Rattle.exchange_top.proofs.segments.report_segments.Given as goal
 
 abbrev pub invariant-loop-segment : goal.invariant-loop-segment
 invariant-loop-segment g l = record {
-  kept : AreOfAnswers g.L.ListingKind.listing l.lines;
-  seated : g.B.Switchboard.seated l.board l.seat;
-  underway : IsUnderway g.C.Carrier.plays g.L.ListingKind.listing (g.B.Switchboard.board l.board) (λ steps. steps_text (λ m. (goal.Meter-dyn g (m.vtable, m.value)).text m.value) steps (handed_in l.fn.meters.items l.fn.spare.items)) l.segment (g.B.Switchboard.known l.seat) (g.K.Sink.written l.fn.sink) (g.K.Sink.written l.sink) (text_of l.lines ++ l.said.items);
-  silent : l.said.items ≡ [];
-  ready : IsSomeAnd l.carried (λ c. IsReady g.C.Carrier.carries g.C.Carrier.next g.C.Carrier.sizes (g.B.Switchboard.board l.board) (g.B.Switchboard.known l.seat).seen c.engine c.tool);
+  kept : AreOfAnswers g.L.ListingKind.listing l.pending.lines;
+  seated : g.B.Switchboard.seated l.cx.board.now l.seat;
+  underway : IsUnderway g.C.Carrier.plays g.L.ListingKind.listing (g.B.Switchboard.board l.cx.board.now) (λ steps. steps_text (λ m. (goal.Meter-dyn g (m.vtable, m.value)).text m.value) steps (handed_in l.fn.metering.on.items l.fn.metering.spare.items)) l.segment (g.B.Switchboard.known l.seat) (g.K.Sink.written l.fn.sink) (g.K.Sink.written l.sink) (text_of l.pending.lines ++ l.pending.said.items) l.pending.said.items;
+  silent : l.pending.said.items ≡ [];
+  ready : IsSomeAnd l.carried (λ c. IsReady g.C.Carrier.carries g.C.Carrier.next g.C.Carrier.sizes (g.B.Switchboard.board l.cx.board.now) (g.B.Switchboard.known l.seat).seen c.machine.value.engine c.machine.value.desk.tool);
   steady : g.K.Sink.faults l.sink ≡ g.K.Sink.faults l.fn.sink;
-  on : AreOn (λ m. (goal.Meter-dyn g (m.vtable, m.value)).stands m.value) (λ m. (goal.Meter-dyn g (m.vtable, m.value)).text m.value) l.fn.meters.items l.fn.spare.items g.C.Carrier.plays g.L.ListingKind.listing (g.B.Switchboard.board l.board) l.segment (g.B.Switchboard.known l.seat) l.meters.items l.spare.items l.made;
+  on : AreOn (λ m. (goal.Meter-dyn g (m.vtable, m.value)).stands m.value) (λ m. (goal.Meter-dyn g (m.vtable, m.value)).text m.value) l.fn.metering.on.items l.fn.metering.spare.items g.C.Carrier.plays g.L.ListingKind.listing (g.B.Switchboard.board l.cx.board.now) l.segment (g.B.Switchboard.known l.seat) l.metering.on.items l.metering.spare.items l.made;
 }

@@ -17,7 +17,7 @@ use Rattle.run_verifier.proofs.replay.do_frame.Goals as goal
 pub frame-requires-clause-frame : goal.frame-requires-clause-frame
 frame-requires-clause-frame g c =
     let x = c.args.core.now in
-    let a = frame_asks (board_of x) x.journal c.args.event c.args.input.now c.work-response.new.tool c.in-Image.image c.requires.sound c.requires.frame c.in-Image.is c.work-response.ensures.shows c.work-response.ensures.tool in
+    let a = frame_asks (board_of x) x.journal c.args.event c.args.input.now c.work-response.new.desk.tool c.in-Image.image c.requires.sound c.requires.frame c.in-Image.is c.work-response.ensures.shows c.work-response.ensures.tool in
     a.shows.1.frame ∙ sym c.requires.ready.number
 
 pub frame-requires-clause-last : goal.frame-requires-clause-last
@@ -33,7 +33,7 @@ frame-requires-clause-input g c =
 pub frame-requires-clause-tones : goal.frame-requires-clause-tones
 frame-requires-clause-tones g c = λ at line place kind since sounds.
     let x = c.args.core.now in
-    let a = frame_asks (board_of x) x.journal c.args.event c.args.input.now c.work-response.new.tool c.in-Image.image c.requires.sound c.requires.frame c.in-Image.is c.work-response.ensures.shows c.work-response.ensures.tool in
+    let a = frame_asks (board_of x) x.journal c.args.event c.args.input.now c.work-response.new.desk.tool c.in-Image.image c.requires.sound c.requires.frame c.in-Image.is c.work-response.ensures.shows c.work-response.ensures.tool in
     rw c.requires.tones (sounds_given _ c.in-Image.image _ _ _ (made_at (board_of x) x.journal c.requires.sound).sounding a.shows at line place kind since sounds)
 
 pub returns-clause-ready : goal.returns-clause-ready
@@ -42,7 +42,7 @@ returns-clause-ready g c =
     let w = world_of x in
     let n = c.args.event in
     let input = c.args.input.now in
-    let a = frame_asks (board_of x) x.journal n input c.work-response.new.tool c.in-Image.image c.requires.sound c.requires.frame c.in-Image.is c.work-response.ensures.shows c.work-response.ensures.tool in
+    let a = frame_asks (board_of x) x.journal n input c.work-response.new.desk.tool c.in-Image.image c.requires.sound c.requires.frame c.in-Image.is c.work-response.ensures.shows c.work-response.ensures.tool in
     let more = c.frame.ensures.carries (boundary w) (next_frame (EngineCarries c.args.engine.now) c.in-Image.image (setting x).dimensions w a c.requires.ready.carried) in
     subst (λ (y : Working). IsReadyAt y c.frame.new.self (Image c.frame.new.image)) (sym {b = with_event x n} c.work-response.ensures.journal)
     (ready_after EngineCarries (λ (e : Stages). e.next) engine_sizes (board_of x) x.journal (with_event x n).journal 0 n input c.frame.new.self c.in-Image.image c.frame.new.image
@@ -59,7 +59,7 @@ returns-clause-played g c =
     let x = c.args.core.now in
     let w = world_of x in
     let image = c.in-Image.image in
-    let a = frame_asks (board_of x) x.journal c.args.event c.args.input.now c.work-response.new.tool image c.requires.sound c.requires.frame c.in-Image.is c.work-response.ensures.shows c.work-response.ensures.tool in
+    let a = frame_asks (board_of x) x.journal c.args.event c.args.input.now c.work-response.new.desk.tool image c.requires.sound c.requires.frame c.in-Image.is c.work-response.ensures.shows c.work-response.ensures.tool in
     let played = c.frame.ensures.plays (boundary w) (next_frame (EngineCarries c.args.engine.now) image (setting x).dimensions w a c.requires.ready.carried) in
     let size : length c.frame.new.out ≡ x.trace.external = search rules in
     let with_input = subst (λ (l : Input). PlaysOut image.external (hears (table_of c.args.tones.now) (w.inputs ++ l ∷ []) (w.held ++ w.holding.circuits ∷ []) image.frame) c.frame.new.out) c.as_slice.ensures played in

@@ -2,10 +2,12 @@ use Rattle.std.proofs.Common.{sym, subst}
 use Rattle.circuit_model.specs.FrameInput.{Input}
 use Rattle.circuit_model.specs.Hears.{hears}
 use Rattle.exchange_events.specs.declared.trace.Event.TheVariants.{Frame}
+use Rattle.exchange_core.specs.declared.tool.Tool.{Tool}
 use Rattle.exchange_core.specs.Working.{IsNumbered, world_of}
 use Rattle.tone_rules.specs.Tables.{table_of}
 use Rattle.call_processor.specs.Frames.{IsPlayed}
 use Rattle.call_processor.proofs.FrameLemmas.{one_input}
+use Rattle.run_verifier.specs.Replaying.{IsReadyAt}
 use Rattle.run_verifier.proofs.LineLemmas.{still_ready_at}
 use Rattle.run_verifier.proofs.replay.happen.Goals as goal
 
@@ -19,5 +21,6 @@ returns-in-Some-clause-played g c = λ input number.
 pub returns-in-None-clause-ready : goal.returns-in-None-clause-ready
 returns-in-None-clause-ready g c =
     let x = c.args.core.now in
-    still_ready_at x c.do_other.new.core c.args.event c.args.engine.now c.args.tool.now c.do_other.ensures.done
-    (λ input number. c.in-None.ensures input (rw c.requires.trace number)) c.requires.ready
+    subst (λ (t : Tool). IsReadyAt c.do_other.new.core c.args.engine.now t) (sym c.do_other.ensures.tool)
+    (still_ready_at x c.do_other.new.core c.args.event c.args.engine.now c.args.desk.now.tool c.do_other.ensures.done
+    (λ input number. c.in-None.ensures input (rw c.requires.trace number)) c.requires.ready)

@@ -8,5 +8,5 @@ pub returns-clause-line : goal.returns-clause-line
 returns-clause-line g c = λ e number.
     let x = c.args.core.now in
     let h = c.happen-response in
-    appended c.append_line.result c.append_line.new.out.items c.clear.new.self.items (response_line h.new.octets c.args.event h.result h.new.out) (line_due x c.args.event e) c.clear.ensures.items
-    (line_is x c.args.event h.new.octets h.ensures.played e (reply_of h.result h.new.out) number (h.ensures.reply e number)) c.append_line.ensures.line
+    appended c.append_line.result c.append_line.new.out.items c.clear.new.self.items (response_line h.new.octets c.args.event h.result h.new.desk.out) (line_due x c.args.event e) c.clear.ensures.items
+    (line_is x c.args.event h.new.octets h.ensures.played e (reply_of h.result h.new.desk.out) number (h.ensures.reply e number)) c.append_line.ensures.line

@@ -55,7 +55,7 @@ returns g c =
           line = strip_prefix_is Decides-eqb c.args.text.now c.as_slice.result.now (Some c.in-Some-strip_prefix.behind) c.in-Some-strip_prefix.ensures.cases
               ∙ ap (λ (l : List ℕ). l ++ c.in-Some-strip_prefix.behind.now) (c.as_slice.ensures.value ∙ c.in_ok-line_of.ensures.line e.0 e.1);
         },
-        underway_after x c.line_of.new.core n u c.line_of.new.engine c.line_of.new.tool c.line_of.new.octets c.line_of.ensures.done c.requires.underway.sound c.line_of.ensures.ready c.line_of.ensures.lines
+        underway_after x c.line_of.new.core n u c.line_of.new.engine c.line_of.new.desk.tool c.line_of.new.octets c.line_of.ensures.done c.requires.underway.sound c.line_of.ensures.ready c.line_of.ensures.lines
             (subst (λ (v : Trace). u.segment ≤ length v.segments) c.requires.trace c.pass.ensures.within)
             (subst (λ (v : Trace). AreTurns v u.segment u.end u.next (order_of x.journal ++ n ∷ [])) c.requires.trace (c.pass.ensures.turns (order_of x.journal) turns))
             (subst (λ (v : Trace). IsLeft v u.segment u.end u.next) c.requires.trace c.pass.ensures.left),

@@ -16,7 +16,7 @@ returns-in_default g c =
     let y = c.next_line.new in
     let text = c.loop-number.text.now in
     let inv = c.loop-number.invariant in
-    let stuck = MatchOption-at_none (IsStuck x text) (λ behind. GoesOn x y.core text behind.now × IsUnderway y.core y.turns y.engine y.tool y.octets) c.in_default.is c.in_ok-behind.ensures.next in
+    let stuck = MatchOption-at_none (IsStuck x text) (λ behind. GoesOn x y.core text behind.now × IsUnderway y.core y.turns y.engine y.desk.tool y.octets) c.in_default.is c.in_ok-behind.ensures.next in
     let count : length c.as_slice.result.now ≡ length x.trace.events = ap length c.as_slice.ensures ∙ ap (λ (t : Trace). length t.events) (c.requires.trace ∙ sym inv.trace) in
     let within : c.loop-number.number < length x.trace.events = omega (arith, count, c.loop-number-test.true) in
     record { right = carried x c.args.core.now c.args.report.now (Invalid (c.loop-number.number + 1)) inv.trace inv.slots (invalid_here x c.args.report.now text c.loop-number.number inv.underway.sound inv.read within stuck) }
@@ -27,7 +27,7 @@ loop-number-preserved g c =
     let y = c.next_line.new in
     let text = c.loop-number.text.now in
     let inv = c.loop-number.invariant in
-    let step = MatchOption-at_some (IsStuck x text) (λ behind. GoesOn x y.core text behind.now × IsUnderway y.core y.turns y.engine y.tool y.octets) c.in-Some.behind c.in-Some.is c.in_ok-behind.ensures.next in
+    let step = MatchOption-at_some (IsStuck x text) (λ behind. GoesOn x y.core text behind.now × IsUnderway y.core y.turns y.engine y.desk.tool y.octets) c.in-Some.behind c.in-Some.is c.in_ok-behind.ensures.next in
     record {
       trace = ap (λ (z : Working). z.trace) step.0.done ∙ inv.trace;
       slots = ap (λ (z : Working). z.slots) step.0.done ∙ inv.slots;

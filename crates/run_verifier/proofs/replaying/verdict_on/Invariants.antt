@@ -8,5 +8,5 @@ invariant-loop-number g l = record {
   trace : l.core.trace ≡ l.fn.core.trace;
   slots : l.core.slots ≡ l.fn.core.slots;
   read : HasRead l.core l.report l.text l.number;
-  underway : IsUnderway l.core l.turns l.engine l.tool l.octets;
+  underway : IsUnderway l.core l.turns l.engine l.desk.tool l.octets;
 }

@@ -9,7 +9,7 @@ on_err (Ok a) p = tt
 on_err (Err e) p = p
 
 pub numbers_of-first-requires-clause-sound : goal.numbers_of-first-requires-clause-sound
-numbers_of-first-requires-clause-sound g c = subst IsSound (sym c.requires.may.trace_is) ((g.met.B.Switchboard g.world.𝓛 g.world.𝓜 g.world.𝓡 ((λ s x. x), (λ x. x), (λ x. x), λ x. x)).sound_trace c.args.board.now c.args.seat.now c.requires.seated)
+numbers_of-first-requires-clause-sound g c = subst IsSound (sym c.requires.may.trace_is) ((g.met.B.Switchboard g.world.𝓛 g.world.𝓜 g.world.𝓡 ((λ s x. x), (λ x. x), (λ x. x), λ x. x)).sound_trace c.args.cx.now.board.now c.args.seat.now c.requires.seated)
 
 pub returns-in_err-merge_or_cut-clause-kept : goal.returns-in_err-merge_or_cut-clause-kept
 returns-in_err-merge_or_cut-clause-kept g c =
@@ -29,7 +29,7 @@ returns-clause-answered g c = λ kept held.
     let all = c.work_all-done.ensures.works.done whole in
     let first = c.numbers_of-first.result.0 in
     let end = c.numbers_of-first.result.1 in
-    let size : length (events_of_segment c.args.trace.now c.args.segment) ≡ end - first = ap length c.numbers_of-first.ensures.all ∙ long_range first (end - first) in
+    let size : length (events_of_segment c.args.cx.now.trace.now c.args.segment) ≡ end - first = ap length c.numbers_of-first.ensures.all ∙ long_range first (end - first) in
     let many = all.many in
     let merged = c.in_ok-merge_or_cut.ensures.merged kept all.parts held all.kept all.apart (omega (arith, many, size)) in
     record { answers = merged.answers; answered = all.answered merged.answers merged.merged; held = merged.held }

@@ -1,4 +1,4 @@
-use Rattle.std.proofs.Common.{rules, sym, subst, ◌++◌, ◌∷◌, [], List}
+use Rattle.std.proofs.Common.{rules, arith, ap, sym, subst, ◌++◌, ◌∷◌, [], List, length, length-append}
 use Rattle.std.specs.List.{All, AllZip}
 use denote.Exit.{no}
 use denote.Param.{param}
@@ -16,22 +16,35 @@ join-mine-requires-after_bounds g t c lifetimes outlive =
     let ps = c.pop.new.self.items in
     let next = c.in-Some.next in
     let items = c.in-Some.ensures.items in
-    let S : Job _ _ → Type 0 = λ j. g.B.Switchboard.seated c.args.board.now j.seat in
-    let M : Job _ _ → Type 0 = MayProcess g.B.Switchboard.known (g.B.Switchboard.board c.args.board.now) c.args.trace.now c.args.segment in
-    let seated_one : S next = all_last S ps next (subst (All S) items c.requires.seated.1) in
-    let seated_all : All S ps = all_front S ps next (subst (All S) items c.requires.seated.1) in
-    let may_one : M next = all_last M ps next (subst (All M) items c.requires.all_may) in
-    let may_all : All M ps = all_front M ps next (subst (All M) items c.requires.all_may) in
-    ((c.requires.seated.0, (c.requires.may.0, (c.requires.may.1, (param_send _ _ (arg_send _ no (param 2 g.row.K) (search rules)), param_send _ _ (arg_send _ no (param 4 g.row.B-Seat) (search rules)), search rules, search rules, param_sync _ _ (arg_sync _ no (param 3 g.row.R) (search rules)))))), (search rules, (search rules, (search rules, (search rules, (search rules, (search rules, (search rules, ((seated_one, seated_all), (may_one, (may_all, (search rules, search rules))))))))))))
+    let S : Job _ _ → Type 0 = λ j. g.B.Switchboard.seated c.args.cx.now.board.now j.seat in
+    let M : Job _ _ → Type 0 = MayProcess g.B.Switchboard.known (g.B.Switchboard.board c.args.cx.now.board.now) c.args.cx.now.trace.now c.args.segment in
+    let seated_one : S next = all_last S ps next (subst (All S) items c.requires.crew.seated) in
+    let seated_all : All S ps = all_front S ps next (subst (All S) items c.requires.crew.seated) in
+    let may_one : M next = all_last M ps next (subst (All M) items c.requires.crew.may) in
+    let may_all : All M ps = all_front M ps next (subst (All M) items c.requires.crew.may) in (
+      (c.requires.job, (param_send _ _ (arg_send _ no (param 2 g.row.K) (search rules)), param_send _ _ (arg_send _ no (param 4 g.row.B-Seat) (search rules)), search rules, search rules, param_sync _ _ (arg_sync _ no (param 3 g.row.R) (search rules)))),
+      (search rules, (search rules, (search rules, (search rules, (search rules, (search rules, (search rules, ((seated_one, may_one), (record { seated = seated_all; may = may_all; room = search rules; empty = search rules }, (search rules, search rules, search rules, search rules, search rules)))))))))),
+    )
 
-pub returns-clause-seated : goal.returns-clause-seated
-returns-clause-seated g t c =
-    let P : Finished _ _ → Type 0 = λ w. g.B.Switchboard.seated c.args.board.now w.seat in
-    subst (All P) (sym c.push_reserved-2.ensures.items) (All-push P c.join-mine.result.1.done.items c.join-mine.result.0 c.join-mine.ensures.second.1.0 c.join-mine.ensures.first.0)
-
-pub returns-clause-works : goal.returns-clause-works
-returns-clause-works g t c =
-    let R : Job _ _ → Finished _ _ → Type 0 = HasProcessed g.K.Keeper.holds g.B.Switchboard.known (g.B.Switchboard.board c.args.board.now) c.args.trace.now c.args.segment in
-    subst (AllZip R (c.args.crew.jobs.items ++ c.args.job ∷ [])) (sym c.push_reserved-2.ensures.items)
-    (subst (λ (js : List (Job _ _)). AllZip R (js ++ c.args.job ∷ []) (c.join-mine.result.1.done.items ++ c.join-mine.result.0 ∷ [])) (sym c.in-Some.ensures.items)
-    (zip_more R (c.pop.new.self.items ++ c.in-Some.next ∷ []) c.join-mine.result.1.done.items c.args.job c.join-mine.result.0 c.join-mine.ensures.second.1.1 c.join-mine.ensures.first.1))
+pub returns : goal.returns
+returns g t c =
+    let P : Finished _ _ → Type 0 = λ w. g.B.Switchboard.seated c.args.cx.now.board.now w.seat in
+    let R : Job _ _ → Finished _ _ → Type 0 = HasProcessed g.K.Keeper.holds g.B.Switchboard.known (g.B.Switchboard.board c.args.cx.now.board.now) c.args.cx.now.trace.now c.args.segment in
+    let mine = c.join-mine.result.0 in
+    let done = c.join-mine.result.1.done.items in
+    let rest = c.join-mine.ensures.second in
+    let items = c.push_reserved-2.ensures.items in
+    let long = ap length items in
+    let more = length-append done (mine ∷ []) in
+    let jobs = ap length c.in-Some.ensures.items in
+    let all = length-append c.args.crew.jobs.items (c.args.job ∷ []) in
+    let count = rest.through.count in
+    record {
+      done = record {
+        through = record { none = search rules; kept = search rules; room = search rules; count = omega (arith, long, more, jobs, all, count) };
+        seated = subst (All P) (sym items) (All-push P done mine rest.seated c.join-mine.ensures.first.0);
+        works = subst (AllZip R (c.args.crew.jobs.items ++ c.args.job ∷ [])) (sym items)
+            (subst (λ (js : List (Job _ _)). AllZip R (js ++ c.args.job ∷ []) (done ++ mine ∷ [])) (sym c.in-Some.ensures.items)
+            (zip_more R (c.pop.new.self.items ++ c.in-Some.next ∷ []) done c.args.job mine rest.works c.join-mine.ensures.first.1));
+      };
+    }

@@ -7,7 +7,7 @@ use Rattle.std.proofs.lemmas.List.Elements.{All-push}
 use Rattle.seat_history.specs.declared.known.Known.{Known}
 use Rattle.segment_run.specs.declared.dealing.Job.{Job}
 use Rattle.segment_run.proofs.DealLemmas.{Dealing, dealing_moved, enough, none_dealt, none_yet, one_dealt}
-use Rattle.segment_run.proofs.dealing.deal.Goals.{then-turns-gt0+in-Some, else-turns-gt0}
+use Rattle.segment_run.proofs.dealing.deal.Goals.{then-turns-gt0, else-turns-gt0}
 use Rattle.segment_run.proofs.dealing.deal.Goals as goal
 
 pub loop-worker-init : goal.loop-worker-init
@@ -54,8 +54,8 @@ loop-worker-preserved g c =
     let inv = c.loop-worker.invariant in
     let is = c.requires.loads i le in
     elim c.if-turns-gt0.branch [
-      | then-turns-gt0+in-Some w ↦
-          let j : Job _ _ = record { worker = i; seat = w.split-mine.result; workplace = w.in-Some.workplace } in
+      | then-turns-gt0 w ↦
+          let j : Job _ _ = record { worker = i; seat = w.split-mine.result; workplace = w.pop_workplace-workplace.result } in
           let h = enough number known trace segment v i js (K c.loop-worker.seat) le inv.dealing.turns inv.dealing.all c.requires.turns in
           let d : Dealing number known trace segment v (i + 1) (js ++ j ∷ []) (K w.split-mine.new.seat) =
           one_dealt number known trace segment v i (slice_index_or c.args.loads.now i 0) (nat_eq i c.from-processors.result) js j (K c.loop-worker.seat) (K w.split-mine.new.seat) le is refl (omega (arith, h, is)) (ap (nat_eq i) last)

@@ -36,7 +36,7 @@ loop-preserved g c =
     record {
       underway = λ kept parts held keep apart.
           run_more g.K.Keeper.holds kept parts c.loop.into c.hand_on.new.to n c.loop.counter c.in-Some.k c.in-Some.field-0-1 c.in-Some.below c.index_mut.result.now
-          (record { desk = c.index_mut.result.now.desk; octets = c.index_mut.result.now.octets; keeper = c.hand_on.new.self })
+          (record { desk = c.index_mut.result.now.desk; keeper = c.hand_on.new.self })
           (c.loop.invariant.underway kept parts held keep apart) next at c.in_ok-hand_on.ensures.handed;
       count = search rules;
       room = c.loop.invariant.room;

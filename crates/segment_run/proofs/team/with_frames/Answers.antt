@@ -12,32 +12,26 @@ join-requires-after_bounds g c lifetimes outlive =
     let ps = c.pop.new.self.items in
     let next = c.in-Some.next in
     let items = c.in-Some.ensures.items in
-    let S : Job _ _ → Type 0 = λ j. g.B.Switchboard.seated c.args.board.now j.seat in
-    let M : Job _ _ → Type 0 = MayProcess g.B.Switchboard.known (g.B.Switchboard.board c.args.board.now) c.args.trace.now c.args.segment in
-    let seated_one : S next = all_last S ps next (subst (All S) items c.requires.seated.1) in
-    let seated_all : All S ps = all_front S ps next (subst (All S) items c.requires.seated.1) in
-    let may_one : M next = all_last M ps next (subst (All M) items c.requires.all_may) in
-    let may_all : All M ps = all_front M ps next (subst (All M) items c.requires.all_may) in
+    let S : Job _ _ → Type 0 = λ j. g.B.Switchboard.seated c.args.cx.now.board.now j.seat in
+    let M : Job _ _ → Type 0 = MayProcess g.B.Switchboard.known (g.B.Switchboard.board c.args.cx.now.board.now) c.args.cx.now.trace.now c.args.segment in
+    let seated_one : S next = all_last S ps next (subst (All S) items c.requires.crew.seated) in
+    let seated_all : All S ps = all_front S ps next (subst (All S) items c.requires.crew.seated) in
+    let may_one : M next = all_last M ps next (subst (All M) items c.requires.crew.may) in
+    let may_all : All M ps = all_front M ps next (subst (All M) items c.requires.crew.may) in
     let bounds = c.type_bounds in (
       (
         param_sync _ _ (arg_sync _ no _ bounds.sync-R),
         (
-          c.requires.seated.0,
+          c.requires.seated,
           (
             c.requires.frames,
             (
-              c.requires.baton,
-              (
-                c.requires.ready,
-                (
-                  param_send _ _ (arg_send _ no _ bounds.send-C),
-                  param_send _ _ (arg_send _ no _ bounds.send-K),
-                  param_send _ _ (arg_send _ no _ bounds.send-B-Seat),
-                  param_sync _ _ (arg_sync _ no _ bounds.sync-B),
-                  param_sync _ _ (arg_sync _ no _ bounds.sync-G),
-                  param_sync _ _ (arg_sync _ no _ bounds.sync-R),
-                ),
-              ),
+              param_send _ _ (arg_send _ no _ bounds.send-C),
+              param_send _ _ (arg_send _ no _ bounds.send-K),
+              param_send _ _ (arg_send _ no _ bounds.send-B-Seat),
+              param_sync _ _ (arg_sync _ no _ bounds.sync-B),
+              param_sync _ _ (arg_sync _ no _ bounds.sync-G),
+              param_sync _ _ (arg_sync _ no _ bounds.sync-R),
             ),
           ),
         ),
@@ -45,24 +39,15 @@ join-requires-after_bounds g c lifetimes outlive =
       (
         param_sync _ _ (arg_sync _ no _ bounds.sync-R),
         (
-          (seated_one, seated_all),
+          (seated_one, may_one),
           (
-            may_one,
+            record { seated = seated_all; may = may_all; room = search rules; empty = c.requires.crew.empty },
             (
-              may_all,
-              (
-                search rules,
-                (
-                  c.requires.empty,
-                  (
-                    param_send _ _ (arg_send _ no _ bounds.send-K),
-                    param_send _ _ (arg_send _ no _ bounds.send-B-Seat),
-                    param_sync _ _ (arg_sync _ no _ bounds.sync-B),
-                    param_sync _ _ (arg_sync _ no _ bounds.sync-G),
-                    param_sync _ _ (arg_sync _ no _ bounds.sync-R),
-                  ),
-                ),
-              ),
+              param_send _ _ (arg_send _ no _ bounds.send-K),
+              param_send _ _ (arg_send _ no _ bounds.send-B-Seat),
+              param_sync _ _ (arg_sync _ no _ bounds.sync-B),
+              param_sync _ _ (arg_sync _ no _ bounds.sync-G),
+              param_sync _ _ (arg_sync _ no _ bounds.sync-R),
             ),
           ),
         ),

@@ -19,26 +19,26 @@ use Rattle.segment_run.proofs.working.work_all.Goals as goal
 
 pub deal-jobs-requires-clause-few : goal.deal-jobs-requires-clause-few
 deal-jobs-requires-clause-few g c lifetimes outlive =
-    let sound : IsSound c.args.trace.now = subst IsSound (sym c.requires.may.trace_is) ((g.met.B.Switchboard g.world.𝓛 g.world.𝓜 g.world.𝓡 ((λ s x. x), (λ x. x), (λ x. x), λ x. x)).sound_trace c.args.board.now c.args.seat.now c.requires.seated) in
+    let sound : IsSound c.args.cx.now.trace.now = subst IsSound (sym c.requires.may.trace_is) ((g.met.B.Switchboard g.world.𝓛 g.world.𝓜 g.world.𝓡 ((λ s x. x), (λ x. x), (λ x. x), λ x. x)).sound_trace c.args.cx.now.board.now c.args.seat.now c.requires.seated) in
     sound.processors.1
 
 pub deal-jobs-requires-clause-turns : goal.deal-jobs-requires-clause-turns
 deal-jobs-requires-clause-turns g c lifetimes outlive =
-    let sound : IsSound c.args.trace.now = subst IsSound (sym c.requires.may.trace_is) ((g.met.B.Switchboard g.world.𝓛 g.world.𝓜 g.world.𝓡 ((λ s x. x), (λ x. x), (λ x. x), λ x. x)).sound_trace c.args.board.now c.args.seat.now c.requires.seated) in
-    enough_turns c.args.trace.now c.args.segment (g.B.Switchboard.known c.args.seat.now).left sound c.requires.may.within c.requires.may.turns
+    let sound : IsSound c.args.cx.now.trace.now = subst IsSound (sym c.requires.may.trace_is) ((g.met.B.Switchboard g.world.𝓛 g.world.𝓜 g.world.𝓡 ((λ s x. x), (λ x. x), (λ x. x), λ x. x)).sound_trace c.args.cx.now.board.now c.args.seat.now c.requires.seated) in
+    enough_turns c.args.cx.now.trace.now c.args.segment (g.B.Switchboard.known c.args.seat.now).left sound c.requires.may.within c.requires.may.turns
 
 pub side_by_side-crew-requires-clause-ready : goal.side_by_side-crew-requires-clause-ready
 side_by_side-crew-requires-clause-ready g c lifetimes outlive =
     let K = g.B.Switchboard.known in
     let v = K c.args.seat.now in
-    let P : List Entry → Type 0 = λ seen. IsReady g.C.Carrier.carries g.C.Carrier.next g.C.Carrier.sizes (g.B.Switchboard.board c.args.board.now) seen c.args.engine c.args.tool in
-    each_at c.args.trace.now c.args.segment (λ (j : Job _ _). j.worker) (λ (j : Job _ _). K j.seat) v P (v.made + 1) 0 c.deal-jobs.result.items c.deal-jobs.ensures.dealt c.requires.ready
+    let P : List Entry → Type 0 = λ seen. IsReady g.C.Carrier.carries g.C.Carrier.next g.C.Carrier.sizes (g.B.Switchboard.board c.args.cx.now.board.now) seen c.args.machine.value.engine c.args.machine.value.desk.tool in
+    each_at c.args.cx.now.trace.now c.args.segment (λ (j : Job _ _). j.worker) (λ (j : Job _ _). K j.seat) v P (v.made + 1) 0 c.deal-jobs.result.items c.deal-jobs.ensures.dealt c.requires.ready
 
 pub returns-clause-works : goal.returns-clause-works
 returns-clause-works g c =
     let K = g.B.Switchboard.known in
-    let board = g.B.Switchboard.board c.args.board.now in
-    let trace = c.args.trace.now in
+    let board = g.B.Switchboard.board c.args.cx.now.board.now in
+    let trace = c.args.cx.now.trace.now in
     let plays = g.C.Carrier.plays in
     let tones = table_of trace.tones in
     let number : Job _ _ → ℕ = λ j. j.worker in
@@ -59,8 +59,8 @@ returns-clause-works g c =
     let workers = c.side_by_side-crew.result.crew.done.items in
     let z = c.side_by_side-crew.ensures.works in
     let us = pairs g.K.Keeper.holds board octets part known seat place done jobs workers z in
-    let sound : IsSound trace = subst IsSound (sym c.requires.may.trace_is) ((g.met.B.Switchboard g.world.𝓛 g.world.𝓜 g.world.𝓡 ((λ s x. x), (λ x. x), (λ x. x), λ x. x)).sound_trace c.args.board.now c.args.seat.now c.requires.seated) in
-    let r : Run board trace c.args.segment number known joined answers whole plays tones g.C.Carrier.carries g.C.Carrier.next sizes v dealt k jobs us c.args.engine c.side_by_side-crew.result.engine c.args.tool c.side_by_side-crew.result.tool = record {
+    let sound : IsSound trace = subst IsSound (sym c.requires.may.trace_is) ((g.met.B.Switchboard g.world.𝓛 g.world.𝓜 g.world.𝓡 ((λ s x. x), (λ x. x), (λ x. x), λ x. x)).sound_trace c.args.cx.now.board.now c.args.seat.now c.requires.seated) in
+    let r : Run board trace c.args.segment number known joined answers whole plays tones g.C.Carrier.carries g.C.Carrier.next sizes v dealt k jobs us c.args.machine.value.engine c.side_by_side-crew.result.machine.value.engine c.args.machine.value.desk.tool c.side_by_side-crew.result.machine.value.desk.tool = record {
       same = c.requires.may.trace_is;
       sound = sound;
       within = c.requires.may.within;
@@ -75,26 +75,26 @@ returns-clause-works g c =
       all = c.deal-jobs.ensures.all;
       works = pairs_work g.K.Keeper.holds board octets part known seat place done jobs workers z;
       octets = pairs_said g.K.Keeper.holds board octets part known seat place done jobs workers z;
-      readies = pairs_zip g.K.Keeper.holds board octets part known seat place done (λ j f. j.worker ≡ trace.processors → IsReady g.C.Carrier.carries g.C.Carrier.next sizes board (K f.seat).seen c.side_by_side-crew.result.engine c.side_by_side-crew.result.tool) jobs workers z c.side_by_side-crew.ensures.ready;
-      idles = c.side_by_side-crew.ensures.idle;
+      readies = pairs_zip g.K.Keeper.holds board octets part known seat place done (λ j f. j.worker ≡ trace.processors → IsReady g.C.Carrier.carries g.C.Carrier.next sizes board (K f.seat).seen c.side_by_side-crew.result.machine.value.engine c.side_by_side-crew.result.machine.value.desk.tool) jobs workers z c.side_by_side-crew.ensures.ready;
+      idles = λ none. let same = c.side_by_side-crew.ensures.idle none in (ap (λ m. m.value.engine) same, ap (λ m. m.value.desk.tool) same);
       joins = c.gather.ensures.seat ∙ ap (after_joins dealt) (sym (pairs_map g.K.Keeper.holds board octets part known seat place done seat jobs workers z));
       begins = c.gather.ensures.begins;
       fronts = pairs_all g.K.Keeper.holds board octets part known seat place done (λ f. StartsWith k.seen (K f.seat).seen) jobs workers z c.gather.ensures.fronts;
       settled = λ some. c.gather.ensures.settled (subst (λ (n : ℕ). 0 < n) (pairs_long g.K.Keeper.holds board octets part known seat place done jobs workers z) some);
     } in
     record {
-      chief = run_chief board trace c.args.segment number known joined answers whole plays tones g.C.Carrier.carries g.C.Carrier.next sizes v dealt k jobs us c.args.engine c.side_by_side-crew.result.engine c.args.tool c.side_by_side-crew.result.tool r;
-      ran = run_ran board trace c.args.segment number known joined answers whole plays tones g.C.Carrier.carries g.C.Carrier.next sizes v dealt k jobs us c.args.engine c.side_by_side-crew.result.engine c.args.tool c.side_by_side-crew.result.tool r;
+      chief = run_chief board trace c.args.segment number known joined answers whole plays tones g.C.Carrier.carries g.C.Carrier.next sizes v dealt k jobs us c.args.machine.value.engine c.side_by_side-crew.result.machine.value.engine c.args.machine.value.desk.tool c.side_by_side-crew.result.machine.value.desk.tool r;
+      ran = run_ran board trace c.args.segment number known joined answers whole plays tones g.C.Carrier.carries g.C.Carrier.next sizes v dealt k jobs us c.args.machine.value.engine c.side_by_side-crew.result.machine.value.engine c.args.machine.value.desk.tool c.side_by_side-crew.result.machine.value.desk.tool r;
       done = λ all.
           let all_done : All (λ (u : (Finished _ _) × List Placed). IsTrue (whole u)) us = pairs_all g.K.Keeper.holds board octets part known seat place done (λ f. IsTrue f.whole) jobs workers z (subst (All (λ (f : Finished _ _). IsTrue f.whole)) c.as_slice.ensures.value (c.all_whole-whole.ensures.0 all)) in
           record {
-            whole = run_whole board trace c.args.segment number known joined answers whole plays tones g.C.Carrier.carries g.C.Carrier.next sizes v dealt k jobs us c.args.engine c.side_by_side-crew.result.engine c.args.tool c.side_by_side-crew.result.tool r all_done;
-            long = run_long board trace c.args.segment number known joined answers whole plays tones g.C.Carrier.carries g.C.Carrier.next sizes v dealt k jobs us c.args.engine c.side_by_side-crew.result.engine c.args.tool c.side_by_side-crew.result.tool r all_done;
-            ready = run_ready board trace c.args.segment number known joined answers whole plays tones g.C.Carrier.carries g.C.Carrier.next sizes v dealt k jobs us c.args.engine c.side_by_side-crew.result.engine c.args.tool c.side_by_side-crew.result.tool r;
+            whole = run_whole board trace c.args.segment number known joined answers whole plays tones g.C.Carrier.carries g.C.Carrier.next sizes v dealt k jobs us c.args.machine.value.engine c.side_by_side-crew.result.machine.value.engine c.args.machine.value.desk.tool c.side_by_side-crew.result.machine.value.desk.tool r all_done;
+            long = run_long board trace c.args.segment number known joined answers whole plays tones g.C.Carrier.carries g.C.Carrier.next sizes v dealt k jobs us c.args.machine.value.engine c.side_by_side-crew.result.machine.value.engine c.args.machine.value.desk.tool c.side_by_side-crew.result.machine.value.desk.tool r all_done;
+            ready = run_ready board trace c.args.segment number known joined answers whole plays tones g.C.Carrier.carries g.C.Carrier.next sizes v dealt k jobs us c.args.machine.value.engine c.side_by_side-crew.result.machine.value.engine c.args.machine.value.desk.tool c.side_by_side-crew.result.machine.value.desk.tool r;
             parts = reverse (map answers us);
             kept = subst (λ (l : List (Workplace _)). Keep g.K.Keeper.holds l (reverse (map answers us))) (sym c.gather.ensures.workplaces) (pairs_keep g.K.Keeper.holds board octets part known seat place done jobs workers z);
-            apart = run_apart board trace c.args.segment number known joined answers whole plays tones g.C.Carrier.carries g.C.Carrier.next sizes v dealt k jobs us c.args.engine c.side_by_side-crew.result.engine c.args.tool c.side_by_side-crew.result.tool r all_done;
-            many = run_many board trace c.args.segment number known joined answers whole plays tones g.C.Carrier.carries g.C.Carrier.next sizes v dealt k jobs us c.args.engine c.side_by_side-crew.result.engine c.args.tool c.side_by_side-crew.result.tool r all_done;
-            answered = run_answered board trace c.args.segment number known joined answers whole plays tones g.C.Carrier.carries g.C.Carrier.next sizes v dealt k jobs us c.args.engine c.side_by_side-crew.result.engine c.args.tool c.side_by_side-crew.result.tool r all_done;
+            apart = run_apart board trace c.args.segment number known joined answers whole plays tones g.C.Carrier.carries g.C.Carrier.next sizes v dealt k jobs us c.args.machine.value.engine c.side_by_side-crew.result.machine.value.engine c.args.machine.value.desk.tool c.side_by_side-crew.result.machine.value.desk.tool r all_done;
+            many = run_many board trace c.args.segment number known joined answers whole plays tones g.C.Carrier.carries g.C.Carrier.next sizes v dealt k jobs us c.args.machine.value.engine c.side_by_side-crew.result.machine.value.engine c.args.machine.value.desk.tool c.side_by_side-crew.result.machine.value.desk.tool r all_done;
+            answered = run_answered board trace c.args.segment number known joined answers whole plays tones g.C.Carrier.carries g.C.Carrier.next sizes v dealt k jobs us c.args.machine.value.engine c.side_by_side-crew.result.machine.value.engine c.args.machine.value.desk.tool c.side_by_side-crew.result.machine.value.desk.tool r all_done;
           };
     }

@@ -5,10 +5,10 @@ ghost use Rattle.frame_buffer.specs.Highways.{SameHighwaySize};
 ghost use Rattle.control_memory.specs.Image.{lines_of};
 
 use super::{Parts, parts_for};
-use circuit_model::{PLACES, Slot};
+use circuit_model::{IDLE, PLACES, Slot};
 use control_memory::Image;
 use frame_buffer::{Crossed, FrameBuffer, Highway};
-use space_stage::{cross, cross_by_halves, cross_shared};
+use space_stage::{cross, cross_by_halves, cross_part, cross_shared};
 use std::alloc::{AllocError, Global};
 use std::test::Fail;
 use std::thread::Threads;
@@ -167,5 +167,41 @@ fn shared_stages_carry_what_plain_ones_do(rt: HostRuntime) -> Result<(), Fail> {
     assert!(rt; carry_alike(&rt, rt.alloc(), 2)?);
     assert!(rt; carry_alike(&rt, rt.alloc(), 5)?);
     assert!(rt; carry_alike(&rt, rt.alloc(), 34)?);
+    Ok(())
+}
+
+// Whether each line gets by itself what it gets by one call for all lines.
+fn gets_alike(highway: &Highway, image: &Image, crossed: &Crossed) -> bool
+    requires lines { highway.now.lines ≡ lines_of image.now }
+    requires slots { (highway.now.slots ≡ 59) × (image.now.slots ≡ 59) }
+    requires size { SameHighwaySize highway.now crossed.now }
+{
+    for line in 0..highway.lines() {
+        let mut row = [IDLE; 59];
+        cross_part(highway, image, 59, line, &mut row);
+        if crossed.row(line) != row.as_slice() {
+            return false;
+        }
+    }
+    true
+}
+
+// Whether each of n lines gets by itself what it gets with the others.
+fn cross_alike(alloc: Global, lines: u8) -> Result<bool, AllocError>
+    requires lines { (1 ≤ lines) × (lines ≤ 34) }
+{
+    let mut parts = parts_for(alloc, lines, 59)?;
+    connect_all(&mut parts.image, lines);
+    fill(parts.buffer.filled());
+    parts.buffer.swap();
+    incoming(&parts.buffer, &parts.image, &mut parts.highway);
+    cross(&parts.highway, &parts.image, &mut parts.crossed);
+    Ok(gets_alike(&parts.highway, &parts.image, &parts.crossed))
+}
+
+#[test]
+fn a_line_crosses_alone_as_with_others(rt: HostRuntime) -> Result<(), Fail> {
+    assert!(rt; cross_alike(rt.alloc(), 1)?);
+    assert!(rt; cross_alike(rt.alloc(), 34)?);
     Ok(())
 }

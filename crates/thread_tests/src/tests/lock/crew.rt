@@ -1,5 +1,5 @@
-//! Seats at work, one after the other and in threads of their own.
-ghost use Rattle.std.specs.Prelude.{◌≡◌, ◌<◌, ◌+◌, ◌^◌, length};
+//! Seats at work, in one thread and in a thread each.
+ghost use Rattle.std.specs.Prelude.{◌≡◌, ◌<◌, ◌+◌, ◌^◌, length, false};
 ghost use Rattle.std.specs.Thread.{IsSync};
 ghost use Rattle.turn_lock.specs.Locks.{IsSeatOf};
 
@@ -8,12 +8,13 @@ use std::sync::Wait;
 use std::thread::{Threads, join};
 use turn_lock::{Seat, TurnLock};
 
-/// One step, where the seat has a turn left and may step the event.
+/// Steps an event, and keeps the turn if `keep` is true. `None` if the seat has no step left or may not step the event.
 pub fn step_once<R: Wait>(
     rt: &R,
     lock: &TurnLock<Sum>,
     seat: &mut Seat<Sum>,
     event: u32,
+    keep: bool,
 ) -> Option<(u32, u64)>
     requires of { IsSeatOf lock.now seat.old }
     ensures of { IsSeatOf lock.now seat.new }
@@ -24,7 +25,7 @@ pub fn step_once<R: Wait>(
         return None;
     }
     let mut tool = 0;
-    Some(lock.step(rt, seat, event, &mut tool))
+    Some(lock.step(rt, seat, event, &mut tool, keep))
 }
 
 /// Steps of three seats in this order, each a seat's number and an event. Whether the place and the sum of each are these;
@@ -51,46 +52,56 @@ pub fn step_all<R: Wait>(
     let mut same = true;
     for &(number, event) in steps {
         let answer = match number {
-            0 => step_once(rt, lock, zero, event),
-            1 => step_once(rt, lock, one, event),
-            _ => step_once(rt, lock, two, event),
+            0 => step_once(rt, lock, zero, event, false),
+            1 => step_once(rt, lock, one, event, false),
+            _ => step_once(rt, lock, two, event, false),
         };
         same = left.next() == Some(&answer?) && same;
     }
     Some(same && left.next().is_none())
 }
 
-/// Steps the events 1 to `count`.
-pub fn steps<R: Wait>(rt: &R, lock: &TurnLock<Sum>, mut seat: Seat<Sum>, count: u32) -> Seat<Sum>
+/// Steps the events 1 to `count`, each `turn` of them in one turn.
+pub fn steps<R: Wait>(
+    rt: &R,
+    lock: &TurnLock<Sum>,
+    mut seat: Seat<Sum>,
+    count: u32,
+    turn: u32,
+) -> Seat<Sum>
     requires of { IsSeatOf lock.now seat }
-    requires few { count < 1000000 }
+    requires few { (count < 1000000) × (0 < turn) }
     ensures of { IsSeatOf lock.now result }
+    ensures free { result.keeps ≡ false }
     ensures number { result.known.number ≡ seat.known.number }
     ensures seats { (result.known.made ≡ seat.known.made) × (length result.known.kept ≡ length seat.known.kept) }
 {
     for i in 0..count {
-        step_once(rt, lock, &mut seat, i + 1);
+        step_once(rt, lock, &mut seat, i + 1, (i + 1) % turn != 0);
     }
+    seat.release(lock);
     seat
 }
 
-/// n seats beside seat 0 step the events 1 to `count`, each in a thread of its own, and are joined.
+/// Seat 0 and `more` others step the events 1 to `count`, each in its own thread and in turns of `turn` events. Seat 0
+/// joins the others.
 pub fn crew<R: Threads + Wait + Sync>(
     rt: &R,
     lock: &TurnLock<Sum>,
     mut seat: Seat<Sum>,
     more: u32,
     count: u32,
+    turn: u32,
 ) -> Seat<Sum>
     requires of { IsSeatOf lock.now seat }
     requires chief { seat.known.number ≡ 0 }
-    requires few { (count < 1000000) × (seat.known.made + more < 2 ^ 32) }
+    requires few { (count < 1000000) × (0 < turn) × (seat.known.made + more < 2 ^ 32) }
     ensures of { IsSeatOf lock.now result }
     ensures chief { result.known.number ≡ 0 }
     ensures seats { (result.known.made ≡ seat.known.made + more) × (length result.known.kept ≡ length seat.known.kept + more) }
 {
     if more == 0 {
-        return steps(rt, lock, seat, count);
+        return steps(rt, lock, seat, count, turn);
     }
     let share = count.min(seat.left());
     let other = seat.split(lock, share, false);
@@ -99,20 +110,20 @@ pub fn crew<R: Threads + Wait + Sync>(
         rt,
         move || -> Seat<Sum>
             requires of { IsSeatOf lock.now other }
-            requires few { count < 1000000 }
+            requires few { (count < 1000000) × (0 < turn) }
             ensures { IsSeatOf lock.entry.now result }
-        { steps(rt, lock, other, count) },
+        { steps(rt, lock, other, count, turn) },
         move || -> Seat<Sum>
             requires threads { IsSync R.row }
             requires of { IsSeatOf lock.now seat }
             requires chief { seat.known.number ≡ 0 }
-            requires few { count < 1000000 }
+            requires few { (count < 1000000) × (0 < turn) }
             requires seats { seat.known.made + next < 2 ^ 32 }
             ensures of { IsSeatOf lock.entry.now result }
             ensures chief { result.known.number ≡ 0 }
             ensures made { result.known.made ≡ seat.known.made + next }
             ensures kept { length result.known.kept ≡ length seat.known.kept + next }
-        { crew(rt, lock, seat, next, count) },
+        { crew(rt, lock, seat, next, count, turn) },
     );
     seat.join(lock, other);
     seat

@@ -1,4 +1,4 @@
-use Rattle.std.proofs.Common.{◌≡◌, ℕ, ◌<◌, ◌++◌, ◌∷◌, [], List, length, refl, sym, ◌∙◌, ap, subst}
+use Rattle.std.proofs.Common.{arith, ◌≡◌, ℕ, ◌<◌, ◌++◌, ◌∷◌, [], List, length, refl, sym, ◌∙◌, ap, subst}
 use Rattle.exchange_events.specs.declared.trace.Event.{Event}
 use Rattle.exchange_events.specs.Responses.{reply_of}
 use Rattle.exchange_events.specs.Sizes.{Dimensions}
@@ -13,7 +13,7 @@ pub happen-response-requires-clause-work : goal.happen-response-requires-clause-
 happen-response-requires-clause-work g c =
     let e = c.event-event_done.result.now in
     let f = facts _ c.args.self.now _ _ _ c.args.event e c.self.view_is c.self.invariant c.requires.known c.event-event_done.ensures in
-    let tools = subst (λ (x : Working). (e : Event) → IsNumbered x.trace c.args.event e → IsToolFor (setting x).dimensions e c.args.tool.now) (sym c.self.view_is) c.requires.tool in
+    let tools = subst (λ (x : Working). (e : Event) → IsNumbered x.trace c.args.event e → IsToolFor (setting x).dimensions e c.args.desk.now.tool) (sym c.self.view_is) c.requires.tool in
     (_, _, refl, refl, refl, f.at, tools e f.number)
 
 pub happen-response-requires-clause-fits : goal.happen-response-requires-clause-fits
@@ -26,11 +26,12 @@ pub happen-response-requires-clause-ahead : goal.happen-response-requires-clause
 happen-response-requires-clause-ahead g c =
     let e = c.event-event_done.result.now in
     let f = facts _ c.args.self.now _ _ _ c.args.event e c.self.view_is c.self.invariant c.requires.known c.event-event_done.ensures in
-    read_of _ c.args.self.now c.args.event e c.args.ahead c.self.view_is f.number c.requires.ahead
+    read_of _ c.args.self.now c.args.event e c.args.desk.now.ahead c.self.view_is f.number c.requires.ahead
 
 pub happen-response-requires-clause-room : goal.happen-response-requires-clause-room
 happen-response-requires-clause-room g c =
-    next_few _ _ _ _ c.self.invariant (subst (λ (x : Working). length x.journal < length x.trace.events) (sym c.self.view_is) c.requires.room)
+    let few = next_few _ _ _ _ c.self.invariant (subst (λ (x : Working). length x.journal < length x.trace.events) (sym c.self.view_is) c.requires.room) in
+    omega (arith, few)
 
 pub invariant_of-self : goal.invariant_of-self
 invariant_of-self g c =
@@ -52,7 +53,7 @@ pub returns-clause-reply : goal.returns-clause-reply
 returns-clause-reply g c =
     let e = c.event-event_done.result.now in
     let f = facts _ c.args.self.now _ _ _ c.args.event e c.self.view_is c.self.invariant c.requires.known c.event-event_done.ensures in
-    of_each _ c.args.self.now c.args.event e (λ (x : Working) (e : Event). reply_of c.happen-response.result c.happen-response.new.out ≡ reply (setting x) (world_of x) e) c.self.view_is f.number
+    of_each _ c.args.self.now c.args.event e (λ (x : Working) (e : Event). reply_of c.happen-response.result c.happen-response.new.desk.out ≡ reply (setting x) (world_of x) e) c.self.view_is f.number
     (c.happen-response.ensures.reply _ _ refl refl refl f.at)
 
 pub returns-clause-world : goal.returns-clause-world
@@ -72,19 +73,19 @@ pub returns-clause-shows : goal.returns-clause-shows
 returns-clause-shows g c =
     let e = c.event-event_done.result.now in
     let f = facts _ c.args.self.now _ _ _ c.args.event e c.self.view_is c.self.invariant c.requires.known c.event-event_done.ensures in
-    of_each _ c.args.self.now c.args.event e (λ (x : Working) (e : Event). ShowsWorld (world_of x) e c.happen-response.new.tool) c.self.view_is f.number
+    of_each _ c.args.self.now c.args.event e (λ (x : Working) (e : Event). ShowsWorld (world_of x) e c.happen-response.new.desk.tool) c.self.view_is f.number
     (c.happen-response.ensures.shows _ _ f.at.holds)
 
 pub returns-clause-tool : goal.returns-clause-tool
 returns-clause-tool g c =
     let e = c.event-event_done.result.now in
     let f = facts _ c.args.self.now _ _ _ c.args.event e c.self.view_is c.self.invariant c.requires.known c.event-event_done.ensures in
-    let tools = subst (λ (x : Working). (e : Event) → IsNumbered x.trace c.args.event e → IsToolFor (setting x).dimensions e c.args.tool.now) (sym c.self.view_is) c.requires.tool in
-    of_each _ c.args.self.now c.args.event e (λ (x : Working) (e : Event). IsToolFor (setting x).dimensions e c.happen-response.new.tool) c.self.view_is f.number
+    let tools = subst (λ (x : Working). (e : Event) → IsNumbered x.trace c.args.event e → IsToolFor (setting x).dimensions e c.args.desk.now.tool) (sym c.self.view_is) c.requires.tool in
+    of_each _ c.args.self.now c.args.event e (λ (x : Working) (e : Event). IsToolFor (setting x).dimensions e c.happen-response.new.desk.tool) c.self.view_is f.number
     (c.happen-response.ensures.tool _ (tools e f.number))
 
 pub returns-clause-laid : goal.returns-clause-laid
-returns-clause-laid g c = is_laid _ _ _ _ (invariant_of-self g c) c.next_frame-next.ensures.laid
+returns-clause-laid g c = is_laid _ _ _ _ (invariant_of-self g c) c.show_laid.ensures
 
 pub returns-clause-joins : goal.returns-clause-joins
 returns-clause-joins g c = joins_its _ _ _ _ (invariant_of-self g c)

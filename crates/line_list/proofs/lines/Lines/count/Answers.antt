@@ -4,5 +4,5 @@ use Rattle.line_list.proofs.lines.Lines.count.Goals as goal
 
 pub returns : goal.returns
 returns c =
-    let long = left_count c.self.inside.text.items c.self.inside.records.items c.self.inside.marks.items c.self.inside.handed c.self.invariant in
+    let long = left_count c.self.inside.buffers.text.items c.self.inside.buffers.records.items c.self.inside.buffers.marks.items c.self.inside.handed c.self.invariant in
     rw (← c.self.view_is) (grind (arith, long))

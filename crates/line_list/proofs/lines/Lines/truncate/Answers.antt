@@ -8,15 +8,15 @@ returns-then-count-left c = rw (← c.self.view_is) (kept_all _ _ _ _ c.self.inv
 pub behind-end-requires-clause-octets : goal.behind-end-requires-clause-octets
 behind-end-requires-clause-octets c =
     let most = run_octets _ _ _ _ c.self.invariant _ c.marks_left-left.ensures c.args.count in
-    let ok = c.self.inside.text.ok in
-    let small = c.self.inside.text.small in
+    let ok = c.self.inside.buffers.text.ok in
+    let small = c.self.inside.buffers.text.small in
     omega (arith, most, ok.0, ok.1, small)
 
 pub behind-end-requires-clause-records : goal.behind-end-requires-clause-records
 behind-end-requires-clause-records c =
     let most = run_records _ _ _ _ c.self.invariant _ c.marks_left-left.ensures c.args.count in
-    let ok = c.self.inside.records.ok in
-    let small = c.self.inside.records.small in
+    let ok = c.self.inside.buffers.records.ok in
+    let small = c.self.inside.buffers.records.small in
     omega (arith, most, ok.0, ok.1, small)
 
 pub invariant_of-self : goal.invariant_of-self

@@ -1,4 +1,4 @@
-use Rattle.std.proofs.Common.{refl, subst}
+use Rattle.std.proofs.Common.{subst}
 use Rattle.exchange_events.specs.Responses.{reply_of}
 use Rattle.exchange_core.specs.Working.{Working}
 use Rattle.shared_exchange.specs.Sharing.{Answers, board_of}
@@ -7,7 +7,7 @@ use Rattle.shared_exchange.proofs.stepper.ExchangeStepper.step.Goals as goal
 pub returns-clause-answers : goal.returns-clause-answers
 returns-clause-answers g c =
     let done = c.work.ensures in (
-      subst (λ (m : Working). Answers (board_of m) m.journal c.args.event (reply_of c.work.result c.work.new.out) c.work.new.tool) c.deref_mut.ensures.value
+      subst (λ (m : Working). Answers (board_of m) m.journal c.args.event (reply_of c.work.result c.work.new.desk.out) c.work.new.desk.tool) c.deref_mut.ensures.value
           record { reply = done.reply; few = done.few; shows = done.shows; tool_is = done.tool },
-      refl,
+      done.ahead,
     )

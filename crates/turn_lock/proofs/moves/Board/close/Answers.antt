@@ -22,8 +22,8 @@ free-requires g c = λ k within.
     ap (λ (filled : List Bool). get_or filled k false) c.take-state.ensures.others.1 ∙ emptied (slots_filled c.close_with-closed.result.slots) k _ one within
 
 pub unreachable-requires : goal.unreachable-requires
-unreachable-requires g c = let free = c.requires.chief.0 in let x = close_gives _ _ _ _ _ _ _ _ free.live free.stage c.requires.chief.1 c.requires.all _ _ c.close_with-closed.ensures.values.2 _ c.in-None.ensures.value in cc x.1
+unreachable-requires g c = let free = c.requires.chief.0 in let x = close_gives _ _ _ _ _ _ _ _ free.live free.stage free.none_due c.requires.chief.1 c.requires.all _ _ c.close_with-closed.ensures.values.2 _ c.in-None.ensures.value in cc x.1
 
 pub returns : goal.returns
-returns g c = let free = c.requires.chief.0 in let x = close_gives _ _ _ _ _ _ _ _ free.live free.stage c.requires.chief.1 c.requires.all _ _ c.close_with-closed.ensures.values.2 _ c.in-Some.ensures.value in
+returns g c = let free = c.requires.chief.0 in let x = close_gives _ _ _ _ _ _ _ _ free.live free.stage free.none_due c.requires.chief.1 c.requires.all _ _ c.close_with-closed.ensures.values.2 _ c.in-Some.ensures.value in
     record { state = subst (IsEnd g.S.Stepper.setting g.S.Stepper.journal c.args.seat.me.0) (sym (ap (state_in x.0) x.1)) x.2 }

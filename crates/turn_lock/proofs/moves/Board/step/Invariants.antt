@@ -1,4 +1,4 @@
 use Rattle.turn_lock.proofs.moves.Board.step.Given as goal
 
-abbrev pub ghosts-draw_for : goal.ghosts-draw_for
-ghosts-draw_for g a = record { event = a.event }
+abbrev pub ghosts-begin : goal.ghosts-begin
+ghosts-begin g a = record { event = a.event }

@@ -5,7 +5,7 @@ use Rattle.turn_lock.proofs.MoveLemmas.{look_keeps}
 use Rattle.turn_lock.proofs.moves.Board.wait.Goals as goal
 
 pub load-serving-requires : goal.load-serving-requires
-load-serving-requires g c = let inv = c.loop.invariant in (search rules, search rules, look_keeps _ _ _ _ _ _ _ _ _ c.args.ticket (subst (λ m. IsLive m.0.setting) (sym inv.1) c.requires.ticket.0) (search rules) (search rules))
+load-serving-requires g c = let inv = c.loop.invariant in (search rules, search rules, look_keeps _ _ _ _ _ _ _ _ _ c.args.ticket (subst (λ m. IsLive m.0.setting) (sym inv.1) c.requires.ticket.0) (search rules) (search rules) (search rules))
 
 pub returns-then-serving-ticket-clause-gets : goal.returns-then-serving-ticket-clause-gets
 returns-then-serving-ticket-clause-gets g c =

@@ -1,0 +1,29 @@
+ghost use Rattle.std.specs.Prelude.{◌≡◌};
+
+use exchange_core::{Desk, Tool};
+use std::alloc::Global;
+
+/// The equipment that frames are processed with. `C` is the type of its engine.
+#[derive(Drop)]
+pub struct Machine<C> {
+    /// The engine, which carries the frames of the history.
+    pub engine: C,
+    /// The desk of the frames, with the control memory of the next frame.
+    pub desk: Desk,
+    /// The octets that each external line is sent in a frame.
+    pub octets: Vec<[u8; 30]>,
+}
+
+impl<C> Machine<C> {
+    /// A machine with this engine and this control memory. It allocates nothing.
+    pub fn new(alloc: Global, engine: C, tool: Tool) -> Machine<C>
+        ensures engine { result.engine ≡ engine }
+        ensures tool { result.desk.tool ≡ tool }
+    {
+        Machine {
+            engine,
+            desk: Desk::new(tool),
+            octets: Vec::new(alloc),
+        }
+    }
+}

@@ -1,0 +1,440 @@
+-- A frame has a record for each call that ends in it, and no other, and they come by line.
+use Rattle.std.proofs.Common.{◌≡◌, ℕ, zero, suc, ◌*◌, ◌<◌, ◌≤◌, true, false, ◌⊎◌, inl, inr, List, [], ◌∷◌, ◌++◌, length, Option, Some, None, refl, sym, ◌∙◌, ap, subst, arith, append-nil, length-set}
+use Rattle.std.specs.Prelude.{All, Contains, is_some, option_map, option_and_then, ◌==◌}
+use Rattle.std.specs.List.{cons_option}
+use Rattle.std.proofs.lemmas.Grind.{common_steps}
+use Rattle.std.proofs.lemmas.List.Elements.{All-nil, All-cons, All-append, All-weaker}
+use Rattle.circuit_model.specs.declared.channel.Slot.{Slot}
+use Rattle.circuit_model.specs.FrameInput.{Input}
+use Rattle.circuit_model.specs.Extent.{IsExternal}
+use Rattle.circuit_model.proofs.Age.{none_in_nil}
+use Rattle.circuit_model.proofs.Slots.{true_or_false}
+use Rattle.control_memory.specs.Layout.{number_of}
+use Rattle.number_plan.specs.declared.plan.Number.{Number}
+use Rattle.q931_codec.specs.CallStates.{active}
+use Rattle.q931_codec.specs.Causes.{invalid_number_format, no_user_responding, recovery_on_timer_expiry}
+use Rattle.call_timers.specs.declared.expiry.Expiry.{Expiry}
+use Rattle.call_timers.specs.declared.expiry.Expiry.TheVariants as expiry
+use Rattle.call_states.specs.Acts.{is_among}
+use Rattle.call_states.specs.declared.leg.Held.{Held}
+use Rattle.call_states.specs.declared.leg.Leg.{Leg}
+use Rattle.call_states.specs.declared.leg.Peer.{Peer}
+use Rattle.call_states.specs.declared.leg.Peer.TheVariants as peer
+use Rattle.call_states.specs.declared.leg.Side.{Side}
+use Rattle.call_states.specs.declared.leg.Side.TheVariants.{Caller, Called}
+use Rattle.tone_rules.specs.declared.tones.Tones.{Tones}
+use Rattle.exchange_events.specs.declared.record.CallRecord.{CallRecord}
+use Rattle.exchange_events.specs.declared.record.Party.{Party}
+use Rattle.exchange_events.specs.declared.record.Party.TheVariants as party
+use Rattle.exchange_events.specs.Sizes.{Setting, Dimensions}
+use Rattle.call_profile.specs.Acts.{in_disconnect_indication, in_release_request, peer_of, with_peer, clear_with}
+use Rattle.call_profile.specs.CallRecords.{before_clearing, is_calling, party_of, record_of, records}
+use Rattle.call_profile.specs.EndedCalls.{caller_in, record_calling, record_of_expiry}
+use Rattle.call_profile.specs.Expiring.{timed_state, send_again, clear_peer, on_expiry, due_of, expire_slot, slot_looked_at, outcome_on_line, outcome_of_lines, outcome_of_frame}
+use Rattle.call_profile.specs.ExpiryBounds.{RunsOut, EitherRunsOut, without_timers}
+use Rattle.call_profile.specs.ExpiryRecords.{IsFrameRecord, IsInFrame, IsLineBefore, ComeByLine}
+use Rattle.call_profile.specs.LegStanding.{CallsStand, HasPeer, IsInCall}
+use Rattle.call_profile.specs.Legs.{Legs, leg_at, held_at, kept_at, with_entry, resent_from}
+use Rattle.call_profile.specs.Operations as op
+use Rattle.call_profile.specs.Operations.{Operation, Making, begun, making_after, making_after_all}
+use Rattle.call_profile.specs.Recorded.{HasEnded}
+use Rattle.call_profile.specs.Restarts.{MessageOutcome}
+use Rattle.call_profile.specs.World.{World, pass}
+use Rattle.call_profile.proofs.BesideLemmas.{entry_here, entry_else, same_or_apart}
+use Rattle.call_profile.proofs.ClearingLemmas.{Kept, held_there}
+use Rattle.call_profile.proofs.CommandLemmas.{pass_kept}
+use Rattle.call_profile.proofs.ExpiredRecordLemmas.{no_caller, slot_told}
+use Rattle.call_profile.proofs.ExpiringLemmas.{at_slot, lines_kept, lines_none, lines_more, place_within, slot_may}
+use Rattle.call_profile.proofs.ExpiryChangeLemmas.{Changed, changed_by, neither_runs_out, none_else_changes}
+use Rattle.call_profile.proofs.ExpirySinceLemmas.{next_by}
+use Rattle.call_profile.proofs.ExpiryStateLemmas.{due_state}
+use Rattle.call_profile.proofs.Permitted.{IsPermitted, ArePermitted}
+use Rattle.call_profile.proofs.RecordedCallLemmas.{calling_record, record_cause}
+use Rattle.call_profile.proofs.RecordedMessageLemmas.{AreOfEnded, of_records, both_of_ended}
+use Rattle.call_profile.proofs.RecordOrderLemmas.{calling_is, pairs_snoc, record_parties}
+
+-- ---- a slot's leg calls no more, or is as it was
+
+module _ (d : Dimensions) (tones : Tones) (plan : List Number) (before : Legs) (z : Slot) (in_z : IsExternal d.external z) where
+  abbrev Became : Legs → Type 0
+  Became legs = (leg_at legs z ≡ leg_at before z) ⊎ (is_calling (leg_at legs z) ≡ false)
+
+  -- no leg that is put calls
+  abbrev Hushes : Operation → Type 0
+  Hushes (op.Clear x) = Unit {0}
+  Hushes (op.Pair x y) = Unit {0}
+  Hushes (op.Seat x room) = Unit {0}
+  Hushes (op.Sound x kind) = Unit {0}
+  Hushes (op.Put x leg) = is_calling (Some leg) ≡ false
+  Hushes (op.Wait x leg p) = is_calling (Some leg) ≡ false
+  Hushes (op.Expect x leg message) = is_calling (Some leg) ≡ false
+  Hushes (op.Repeat h octets) = is_calling (Some h.leg) ≡ false
+  Hushes (op.Remove x) = Unit {0}
+  Hushes (op.Send line message) = Unit {0}
+
+  abbrev HushesAll : List Operation → Type 0
+  HushesAll [] = Unit {0}
+  HushesAll (o ∷ os) = Hushes o × HushesAll os
+
+  -- with the size of the table
+  abbrev Sized : Legs → Type 0
+  Sized legs = (length legs.held ≡ 30 * d.external) × Became legs
+
+  entered : (legs : Legs) (x : Slot) (o : Option Leg) → IsExternal d.external x → is_calling o ≡ false → Sized legs → Sized (with_entry legs x o)
+  entered legs x o in_x silent so_far = (
+    length-set legs.held (number_of x) o ∙ so_far.0,
+    elim (same_or_apart z x) [
+      | inl same ↦ inr (ap (λ (y : Slot). is_calling (leg_at (with_entry legs x o) y)) same ∙ ap is_calling (entry_here d.external legs x o so_far.0 in_x) ∙ silent)
+      | inr apart ↦
+          let else = entry_else d.external legs x z o in_x in_z apart in
+          elim so_far.1 [
+            | inl stays ↦ inl (else ∙ stays)
+            | inr hushed ↦ inr (ap is_calling else ∙ hushed)
+          ]
+    ],
+  )
+
+  performed : (m : Making) (o : Operation) → IsPermitted d tones plan m o → Hushes o → Sized m.world.legs → Sized (making_after d m o).world.legs
+  performed m (op.Clear x) may hushes so_far = so_far
+  performed m (op.Pair x y) may hushes so_far = so_far
+  performed m (op.Seat x room) may hushes so_far = so_far
+  performed m (op.Sound x kind) may hushes so_far = so_far
+  performed m (op.Put x leg) may hushes so_far = entered m.world.legs x (Some (begun m.world leg)) may.0 hushes so_far
+  performed m (op.Wait x leg p) may hushes so_far = entered m.world.legs x (Some (begun m.world leg)) may.0 hushes so_far
+  performed m (op.Expect x leg message) may hushes so_far = entered m.world.legs x (Some (begun m.world leg)) may.0 hushes so_far
+  performed m (op.Repeat h octets) may hushes so_far = entered m.world.legs h.slot (Some (resent_from m.world.holding.next h.leg)) may.0 hushes so_far
+  performed m (op.Remove x) may hushes so_far = entered m.world.legs x None may refl so_far
+  performed m (op.Send line message) may hushes so_far = so_far
+
+  performed_all : (m : Making) (os : List Operation) → ArePermitted d tones plan m os → HushesAll os → Sized m.world.legs → Sized (making_after_all d m os).world.legs
+  performed_all m [] may hushes so_far = so_far
+  performed_all m (o ∷ os) may hushes so_far = performed_all (making_after d m o) os may.1 hushes.1 (performed m o may.0 hushes.0 so_far)
+
+  both_hush : (os ps : List Operation) → HushesAll os → HushesAll ps → HushesAll (os ++ ps)
+  both_hush [] ps one other = other
+  both_hush (o ∷ os) ps one other = (one.0, both_hush os ps one.1 other)
+
+  -- ---- an expiry
+
+  cleared_hush : (cause : ℕ) (k : Held) → HushesAll (clear_with tones cause k)
+  cleared_hush cause k = (tt, (no_caller (in_disconnect_indication cause k.leg) refl, (tt, (tt, tt))))
+
+  peer_hush : (o : Option Held) → HushesAll (with_peer o (clear_with tones no_user_responding))
+  peer_hush None = tt
+  peer_hush (Some k) = cleared_hush no_user_responding k
+
+  again_hush : (h : Held) (o : Option (List ℕ)) → is_calling (Some h.leg) ≡ false → HushesAll (send_again h o)
+  again_hush h None silent = tt
+  again_hush h (Some octets) silent = (silent, tt)
+
+  timed_silent : (e : Expiry) → is_among before_clearing (timed_state e) ≡ false
+  timed_silent expiry.Digits = refl
+  timed_silent expiry.SetupAgain = refl
+  timed_silent expiry.SetupOver = refl
+  timed_silent expiry.Proceeding = refl
+  timed_silent expiry.Disconnect = refl
+  timed_silent expiry.ReleaseAgain = refl
+  timed_silent expiry.ReleaseOver = refl
+
+  expiry_hush : (legs : Legs) (h : Held) (e : Expiry) → is_calling (Some h.leg) ≡ false → HushesAll (on_expiry tones legs h e)
+  expiry_hush legs h expiry.Digits silent = cleared_hush invalid_number_format h
+  expiry_hush legs h expiry.SetupAgain silent = again_hush h (kept_at legs h.slot) silent
+  expiry_hush legs h expiry.SetupOver silent = (tt, (tt, (tt, peer_hush (peer_of legs h.leg.peer))))
+  expiry_hush legs h expiry.Proceeding silent = both_hush (clear_with tones recovery_on_timer_expiry h) (clear_peer tones legs h) (cleared_hush recovery_on_timer_expiry h) (peer_hush (peer_of legs h.leg.peer))
+  expiry_hush legs h expiry.Disconnect silent = (no_caller (in_release_request h.leg) refl, tt)
+  expiry_hush legs h expiry.ReleaseAgain silent = again_hush h (kept_at legs h.slot) silent
+  expiry_hush legs h expiry.ReleaseOver silent = (tt, (tt, tt))
+
+-- a leg whose timer runs out calls nobody
+due_silent : (s : Setting) (frame : ℕ) (leg : Leg) (o : Option Expiry) → due_of s.timers frame leg ≡ o → (e : Expiry) → o ≡ Some e → is_calling (Some leg) ≡ false
+due_silent s frame leg o is e found =
+    let state = due_state leg.state leg.resent leg.since frame s.timers e (is ∙ found) in
+    no_caller leg (ap (is_among before_clearing) state ∙ each e)
+  where
+    each : (e : Expiry) → is_among before_clearing (timed_state e) ≡ false
+    each expiry.Digits = refl
+    each expiry.SetupAgain = refl
+    each expiry.SetupOver = refl
+    each expiry.Proceeding = refl
+    each expiry.Disconnect = refl
+    each expiry.ReleaseAgain = refl
+    each expiry.ReleaseOver = refl
+
+-- ---- the record of a line
+
+module _ (external : ℕ) (tones : Tones) (u : World) (x : Slot) (leg : Leg) (c : CallRecord) where
+  abbrev held : Held
+  held = record { slot = x; leg = leg }
+
+  of_called : (p : Peer) → leg.peer ≡ p → HasPeer external u.legs x leg p → leg.side ≡ Called → option_and_then (record_calling u no_user_responding) (peer_of u.legs p) ≡ Some c → c.called ≡ party.Line x
+  of_called peer.Alone is has side e = absurd (cc e)
+  of_called (peer.Leg y) is has side e =
+      let other = has.1.0 in
+      let caller : Held = record { slot = y; leg = other } in
+      let record_is = calling_is u no_user_responding caller c (rw (held_there u.legs y other has.1.1) at e) in
+      let who = record_parties u no_user_responding caller c record_is in
+      let call : IsInCall Called x leg y other = subst (λ (s : Side). IsInCall s x leg y other) side has.1.2 in
+      let both : Some (party.Line x) ≡ Some c.called = sym (ap party_of call.there) ∙ who.1 in
+      cc
+  of_called (peer.Room room) is has side e = absurd (cc e)
+
+  of_caller : is_calling (Some leg) ≡ false → record_calling u no_user_responding held ≡ Some c → c.called ≡ party.Line x
+  of_caller silent e = let wrong : None ≡ Some c = rw silent at e in absurd cc
+
+  of_side : (side : Side) → leg.side ≡ side → is_calling (Some leg) ≡ false → HasPeer external u.legs x leg leg.peer
+      → option_and_then (record_calling u no_user_responding) (caller_in side held (peer_of u.legs leg.peer)) ≡ Some c → c.called ≡ party.Line x
+  of_side Caller is silent has e = of_caller silent e
+  of_side Called is silent has e = of_called leg.peer refl has is e
+
+  of_expiry : (e : Expiry) → is_calling (Some leg) ≡ false → HasPeer external u.legs x leg leg.peer → record_of_expiry u held e ≡ Some c → c.called ≡ party.Line x
+  of_expiry expiry.Digits silent has is = absurd (cc is)
+  of_expiry expiry.SetupAgain silent has is = absurd (cc is)
+  of_expiry expiry.SetupOver silent has is = of_side leg.side refl silent has is
+  of_expiry expiry.Proceeding silent has is = of_side leg.side refl silent has is
+  of_expiry expiry.Disconnect silent has is = absurd (cc is)
+  of_expiry expiry.ReleaseAgain silent has is = absurd (cc is)
+  of_expiry expiry.ReleaseOver silent has is = absurd (cc is)
+
+-- what is recorded at a slot that is looked at
+abbrev one_at : Setting → ℕ → World → Slot → Option CallRecord
+one_at s frame u x = option_and_then (λ h. option_and_then (record_of_expiry u h) (due_of s.timers frame h.leg)) (held_at u.legs x)
+
+module _ (s : Setting) (frame : ℕ) (u : World) (kept : Kept s.dimensions s.tones u) (x : Slot) (in_x : IsExternal s.dimensions.external x) (c : CallRecord) where
+  of_due : (leg : Leg) (o : Option Expiry) → leg_at u.legs x ≡ Some leg → due_of s.timers frame leg ≡ o
+      → option_and_then (record_of_expiry u (record { slot = x; leg = leg })) o ≡ Some c → c.called ≡ party.Line x
+  of_due leg None at is e = absurd (cc e)
+  of_due leg (Some f) at is e =
+      of_expiry s.dimensions.external s.tones u x leg c f (due_silent s frame leg (Some f) is f refl) (kept.1.each x leg in_x at).peer e
+
+  of_leg : (o : Option Leg) → leg_at u.legs x ≡ o
+      → option_and_then (λ (h : Held). option_and_then (record_of_expiry u h) (due_of s.timers frame h.leg)) (option_map (λ (leg : Leg). let h : Held = record { slot = x; leg = leg } in h) o) ≡ Some c → c.called ≡ party.Line x
+  of_leg None at e = absurd (cc e)
+  of_leg (Some leg) at e = of_due leg (due_of s.timers frame leg) at refl e
+
+  called_here : one_at s frame u x ≡ Some c → c.called ≡ party.Line x
+  called_here e = of_leg (leg_at u.legs x) refl e
+
+-- ---- the order
+
+-- the called slot of each record is on a line below n
+abbrev IsCalledBelow : ℕ → CallRecord → Type 0
+IsCalledBelow n c = (y : Slot) × (c.called ≡ party.Line y) × (y.line < n)
+
+record ComeBelow (n : ℕ) (told : List CallRecord) : Type 0 where
+  rising : ComeByLine told
+  below : All (IsCalledBelow n) told
+
+one_line : (x y : Slot) → party.Line x ≡ party.Line y → x.line ≡ y.line
+one_line x y e = let same : x ≡ y = cc in ap (λ (z : Slot). z.line) same
+
+module _ (n : ℕ) (told : List CallRecord) (so_far : ComeBelow n told) (x : Slot) (on : x.line ≡ n) where
+  comes_before : (one later : CallRecord) → IsCalledBelow n one → later.called ≡ party.Line x → IsLineBefore one later
+  comes_before one later below at y z first second =
+      let low = one_line y below.0 (sym first ∙ below.1) in
+      let high = one_line z x (sym second ∙ at) in
+      let less = below.2 in
+      omega (arith, low, high, less, on)
+
+  one_below : (c : CallRecord) → IsCalledBelow n c → IsCalledBelow (suc n) c
+  one_below c is = let less = is.2 in (is.0, is.1, omega (arith, less))
+
+  then_rising : (o : Option CallRecord) → ((c : CallRecord) → o ≡ Some c → c.called ≡ party.Line x) → ComeByLine (told ++ cons_option o [])
+  then_rising None at = subst ComeByLine (sym (append-nil told)) so_far.rising
+  then_rising (Some c) at =
+      pairs_snoc IsLineBefore told c so_far.rising
+      (All-weaker (IsCalledBelow n) (λ one. IsLineBefore one c) (λ one below. comes_before one c below (at c refl)) told so_far.below)
+
+  here_below : (o : Option CallRecord) → ((c : CallRecord) → o ≡ Some c → c.called ≡ party.Line x) → All (IsCalledBelow (suc n)) (cons_option o [])
+  here_below None at = All-nil (IsCalledBelow (suc n))
+  here_below (Some c) at = All-cons (IsCalledBelow (suc n)) c [] (x, at c refl, omega (arith, on)) (All-nil (IsCalledBelow (suc n)))
+
+  then_below : (o : Option CallRecord) → ((c : CallRecord) → o ≡ Some c → c.called ≡ party.Line x) → ComeBelow (suc n) (told ++ cons_option o [])
+  then_below o at = record {
+    rising = then_rising o at;
+    below = All-append (IsCalledBelow (suc n)) told (cons_option o []) (All-weaker (IsCalledBelow n) (IsCalledBelow (suc n)) one_below told so_far.below) (here_below o at);
+  }
+
+none_come : ComeBelow 0 []
+none_come = record { rising = λ i j d lt within. absurd (omega (arith, lt, within)); below = All-nil (IsCalledBelow 0) }
+
+-- ---- the record of a call that was not answered
+
+early : (w : World) (cause : ℕ) (h : Held) → (h.leg.state == active) ≡ false
+    → record_of w cause h ≡ option_map (λ (called : Party). let c : CallRecord = record { caller = h.slot; called = called; answered = false; from = w.holding.next; to = w.holding.next; cause = cause } in c) (party_of h.leg.peer)
+early w cause h e = rw e refl
+
+early_same : (u w : World) (cause : ℕ) (h : Held) → (h.leg.state == active) ≡ false → u.holding.next ≡ w.holding.next → record_of u cause h ≡ record_of w cause h
+early_same u w cause h e next =
+    early u cause h e
+    ∙ ap (λ (n : ℕ). option_map (λ (called : Party). let c : CallRecord = record { caller = h.slot; called = called; answered = false; from = n; to = n; cause = cause } in c) (party_of h.leg.peer)) next
+    ∙ sym (early w cause h e)
+
+no_timer_but : (state : ℕ) → is_among without_timers state ≡ false → (state == active) ≡ false
+no_timer_but state e = grind (arith, common_steps, e)
+
+-- ---- line by line
+
+module _ (s : Setting) (frame : ℕ) (w : World) (kept : Kept s.dimensions s.tones w) (later : frame < w.holding.next)
+    (untimed : (x : Slot) (leg : Leg) → IsExternal s.dimensions.external x → leg_at w.legs x ≡ Some leg → is_among without_timers leg.state ≡ true → EitherRunsOut s.timers frame w.legs x → ⊥) where
+  abbrev external : ℕ
+  external = s.dimensions.external
+
+  -- the world once the lines below n were looked at, and what was recorded
+  record So_far (n : ℕ) (a : MessageOutcome) : Type 0 where
+    legs : (x : Slot) (leg : Leg) → IsExternal external x → leg_at a.making.world.legs x ≡ Some leg → is_calling (Some leg) ≡ true → leg_at w.legs x ≡ Some leg
+    recorded : AreOfEnded external w a.making.world no_user_responding a.recorded
+    order : ComeBelow n a.recorded
+
+  first : So_far 0 (outcome_of_lines s frame w 0)
+  first = subst (So_far 0) (sym (lines_none s frame w)) (record {
+    legs = λ x leg in_x at calls. at;
+    recorded = record {
+      ends = λ c inside. absurd (none_in_nil c inside);
+      recorded = λ h c ended e. let wrong : true ≡ false = sym ended.calls ∙ sym (ap is_calling ended.at) ∙ ended.stops in absurd cc;
+    };
+    order = none_come;
+  })
+
+  module _ (n : ℕ) (small : suc n ≤ external) (so_far : So_far n (outcome_of_lines s frame w n)) where
+    abbrev a : MessageOutcome
+    a = outcome_of_lines s frame w n
+
+    abbrev u : World
+    u = a.making.world
+
+    abbrev x : Slot
+    x = slot_looked_at frame n
+
+    abbrev os : List Operation
+    os = expire_slot s frame u.legs x
+
+    abbrev v : World
+    v = (making_after_all s.dimensions a.making os).world
+
+    fewer : n ≤ external
+    fewer = omega (arith, small)
+
+    in_x : IsExternal external x
+    in_x = place_within external frame n (omega (arith, small))
+
+    now_kept : Kept s.dimensions s.tones u
+    now_kept = lines_kept s frame w kept n fewer
+
+    became : (z : Slot) (in_z : IsExternal external z) → Became s.dimensions s.tones s.plan u.legs z in_z v.legs
+    became z in_z = (performed_all s.dimensions s.tones s.plan u.legs z in_z a.making os (slot_may s frame a.making x now_kept in_x s.plan) hushes (now_kept.1.count, inl refl)).1
+      where
+        hushes : HushesAll s.dimensions s.tones s.plan u.legs z in_z os
+        hushes = at_slot s frame u.legs x (HushesAll s.dimensions s.tones s.plan u.legs z in_z) tt
+            (λ leg e at is. expiry_hush s.dimensions s.tones s.plan u.legs z in_z u.legs (record { slot = x; leg = leg }) e (due_silent s frame leg (Some e) is e refl))
+
+    silent : (z : Slot) → IsExternal external z → is_calling (leg_at u.legs z) ≡ false → is_calling (leg_at v.legs z) ≡ false
+    silent z in_z quiet = elim (became z in_z) [
+      | inl stays ↦ ap is_calling stays ∙ quiet
+      | inr hushed ↦ hushed
+    ]
+
+    calls_still : (z : Slot) (leg : Leg) → IsExternal external z → leg_at v.legs z ≡ Some leg → is_calling (Some leg) ≡ true → leg_at u.legs z ≡ Some leg
+    calls_still z leg in_z at calls = elim (became z in_z) [
+      | inl stays ↦ sym stays ∙ at
+      | inr hushed ↦ let wrong : false ≡ true = sym hushed ∙ ap is_calling at ∙ calls in absurd cc
+    ]
+
+    -- a call that ends here was not answered
+    not_active : (h : Held) → HasEnded external u v h → (h.leg.state == active) ≡ false
+    not_active h ended = elim (true_or_false (is_among without_timers h.leg.state)) [
+      | inl among ↦ absurd (stays among (changed_by s frame w kept later h.slot ended.within (suc n) small))
+      | inr timed ↦ no_timer_but h.leg.state timed
+    ]
+      where
+        at_first : leg_at w.legs h.slot ≡ Some h.leg
+        at_first = so_far.legs h.slot h.leg ended.within ended.at ended.calls
+
+        now : leg_at (outcome_of_lines s frame w (suc n)).making.world.legs h.slot ≡ leg_at v.legs h.slot
+        now = ap (λ (b : MessageOutcome). leg_at b.making.world.legs h.slot) (lines_more s frame w n)
+
+        stays : is_among without_timers h.leg.state ≡ true → Changed s frame w.holding.next w.legs later h.slot ended.within (outcome_of_lines s frame w (suc n)).making.world.legs → ⊥
+        stays among (inl same) = let wrong : false ≡ true = sym ended.stops ∙ ap is_calling (sym now ∙ same ∙ at_first) ∙ ended.calls in cc
+        stays among (inr out) = untimed h.slot h.leg ended.within at_first among out
+
+    same_record : (h : Held) → HasEnded external u v h → record_of u no_user_responding h ≡ record_of w no_user_responding h
+    same_record h ended = early_same u w no_user_responding h (not_active h ended) (next_by s frame w kept h.slot ended.within n fewer)
+
+    told_here : records u v no_user_responding ≡ cons_option (one_at s frame u x) []
+    told_here = slot_told s frame a.making x now_kept in_x
+
+    step : So_far (suc n) (outcome_on_line s frame n a)
+    step = record {
+      legs = λ z leg in_z at calls. so_far.legs z leg in_z (calls_still z leg in_z at calls) calls;
+      recorded = both_of_ended external w u v no_user_responding so_far.legs same_record silent a.recorded (records u v no_user_responding) so_far.recorded
+          (of_records external u v no_user_responding now_kept.1.count);
+      order = subst (λ (told : List CallRecord). ComeBelow (suc n) (a.recorded ++ told)) (sym told_here)
+          (then_below n a.recorded so_far.order x refl (one_at s frame u x) (λ c e. called_here s frame u now_kept x in_x c e));
+    }
+
+  all_so_far : (n : ℕ) → n ≤ external → So_far n (outcome_of_lines s frame w n)
+  all_so_far zero small = first
+  all_so_far (suc n) small = subst (So_far (suc n)) (sym (lines_more s frame w n)) (step n small (all_so_far n (omega (arith, small))))
+
+-- ---- a frame
+
+module _ (s : Setting) (w : World) (input : Input) (stands : CallsStand s w) where
+  abbrev passed : World
+  passed = pass w input
+
+  abbrev afterwards : World
+  afterwards = (outcome_of_frame s w input).making.world
+
+  whole : So_far s w.holding.next passed (pass_kept s w stands.circuits stands.legs input) (omega arith)
+      (λ x leg in_x at among out. neither_runs_out s w stands x in_x w.holding.next leg at among out) s.dimensions.external (outcome_of_frame s w input)
+  whole = all_so_far s w.holding.next passed (pass_kept s w stands.circuits stands.legs input) (omega arith)
+      (λ x leg in_x at among out. neither_runs_out s w stands x in_x w.holding.next leg at among out) s.dimensions.external (omega arith)
+
+  -- a leg that calls has no timer
+  calls_untimed : (leg : Leg) (o : Option Expiry) → due_of s.timers w.holding.next leg ≡ o → is_calling (Some leg) ≡ true → o ≡ None
+  calls_untimed leg None is calls = refl
+  calls_untimed leg (Some e) is calls = let wrong : false ≡ true = sym (due_silent s w.holding.next leg (Some e) is e refl) ∙ calls in absurd cc
+
+  -- the timer that ran out is the one of the called leg
+  module _ (h : Held) (c : CallRecord) (ended : HasEnded s.dimensions.external w afterwards h) (is : record_of passed no_user_responding h ≡ Some c) where
+    abbrev Due : Type 0
+    Due = (y : Slot) × (leg : Leg) × (c.called ≡ party.Line y) × RunsOut s.timers w.holding.next w.legs y leg
+
+    due_by : EitherRunsOut s.timers w.holding.next w.legs h.slot → Due
+    due_by (leg, at, which) =
+        let both : Some leg ≡ Some h.leg = sym at ∙ ended.at in
+        let same : leg ≡ h.leg = cc in
+        elim which [
+          | inl own ↦
+              let none = calls_untimed leg (due_of s.timers w.holding.next leg) refl (subst (λ (l : Leg). is_calling (Some l) ≡ true) (sym same) ended.calls) in
+              let some = own.due in
+              absurd (let wrong : false ≡ true = sym (ap is_some none) ∙ some in cc)
+          | inr other ↦
+              let who = record_parties passed no_user_responding h c is in
+              let names : Some (party.Line other.0) ≡ Some c.called = sym (ap party_of (sym (ap (λ (l : Leg). l.peer) same) ∙ other.2)) ∙ who.1 in
+              let called : c.called ≡ party.Line other.0 = cc in
+              (other.0, other.1, called, other.3)
+        ]
+
+    due : Due
+    due = elim (none_else_changes s w input stands h.slot ended.within) [
+      | inl stays ↦ let wrong : false ≡ true = sym ended.stops ∙ ap is_calling (stays ∙ ended.at) ∙ ended.calls in absurd cc
+      | inr out ↦ due_by out
+    ]
+
+    is_frame_record : IsFrameRecord s w input h c
+    is_frame_record = record { ended = ended; is = is; cause = record_cause passed no_user_responding h c is; due = due }
+
+  pub frame_record_is : (c : CallRecord) → Contains (outcome_of_frame s w input).recorded c → (h : Held) × IsFrameRecord s w input h c
+  frame_record_is c inside =
+      let e = whole.recorded.ends c inside in
+      let ended : HasEnded s.dimensions.external w afterwards e.0 = record { within = e.1.within; at = e.1.at; calls = e.1.calls; stops = e.1.stops } in
+      (e.0, is_frame_record e.0 c ended e.2)
+
+  pub frame_ended_is_recorded : (h : Held) → HasEnded s.dimensions.external w afterwards h → IsInFrame s w input h
+  frame_ended_is_recorded h ended =
+      let found = calling_record s.dimensions.external passed no_user_responding h (stands.legs.each h.slot h.leg ended.within ended.at).peer ended.calls in
+      let over : HasEnded s.dimensions.external passed afterwards h = record { within = ended.within; at = ended.at; calls = ended.calls; stops = ended.stops } in
+      (found.0, is_frame_record h found.0 ended found.1, whole.recorded.recorded h found.0 over found.1)
+
+  pub frame_comes_by_line : ComeByLine (outcome_of_frame s w input).recorded
+  frame_comes_by_line = whole.order.rising
