@@ -1,4 +1,4 @@
-"""A-law of ITU-T G.711 (11/88), table 1a: the octet of a sample, by the decision values."""
+"""A-law of ITU-T G.711 (11/88), table 1a: the octet of a sample, and the value of an octet, by the decision values."""
 
 from bisect import bisect_right
 from itertools import accumulate
@@ -19,3 +19,11 @@ def octet_of(sample):
     """The octet on the line of a sample of 16 bits: its sign, 0 being positive, and its magnitude's interval."""
     interval = INTERVALS[min(abs(sample) // STEPS, len(INTERVALS) - 1)]
     return (interval | (POSITIVE if sample >= 0 else 0)) ^ EVEN_BITS
+
+
+def value_of(octet):
+    """The value of an octet, from -4032 to 4032: the middle of its interval, with its sign."""
+    character = octet ^ EVEN_BITS
+    interval = character & ~POSITIVE
+    middle = (DECISION_VALUES[interval] + DECISION_VALUES[interval + 1]) // 2
+    return middle if character & POSITIVE else -middle

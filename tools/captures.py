@@ -1,19 +1,23 @@
-"""Capture files of libpcap, and the messages of ITU-T Q.931 over LAPD in them."""
+"""Capture files of libpcap, in its two formats, and the messages of ITU-T Q.931 over LAPD in them."""
 
 from __future__ import annotations
 
 import struct
 from dataclasses import dataclass
+from fractions import Fraction
 from pathlib import Path
 
-from reading import Refused, watched
+from commands import Refused, watched
 
-MAGIC = 0xA1B2C3D4  # of a capture with microseconds, in the order of octets that its writer uses
+MAGIC = 0xA1B2C3D4  # of a pcap file with microseconds, in the order of octets that its writer uses
 NANOSECONDS = 0xA1B23C4D  # of one with nanoseconds
-NEXT_GENERATION = 0x0A0D0D0A  # of pcapng, another format
 VERSION = (2, 4)
 LONGEST_PACKET = 65_535
 FILE_HEADER, PACKET_HEADER = 24, 16
+
+SECTION, INTERFACE, SIMPLE_PACKET, PACKET = 0x0A0D0D0A, 1, 3, 6  # the blocks of a pcapng file
+SECTION_MAGIC = 0x1A2B3C4D
+TIME_RESOLUTION = 9  # the option of an interface
 
 LINUX_LAPD = 177  # the link type: 16 octets in front of a LAPD frame without its check sequence
 LAPD = 203  # the link type without them
@@ -29,10 +33,20 @@ I_FRAME_HEADER = 4  # two octets of address and two of control (ITU-T Q.921, 3.2
 
 
 @dataclass(frozen=True)
+class Packet:
+    """A packet of a capture."""
+
+    time: Fraction | None  # in seconds
+    link: int
+    octets: bytes
+
+
+@dataclass(frozen=True)
 class Signal:
     """A message of a capture."""
 
     packet: int  # counted from 1
+    time: Fraction | None  # in seconds
     terminal: int  # the TEI of its endpoint
     is_from_user: bool
     octets: bytes
@@ -41,59 +55,139 @@ class Signal:
 def read_capture(path):
     """The messages of signalling in a capture: the information of each I frame of SAPI 0, in order."""
     content = Path(path).read_bytes()
-    order = byte_order(path, content)
-    if len(content) < FILE_HEADER:
-        raise Refused(f"{path} is no capture: its header is cut short")
-    (link,) = struct.unpack_from(order + "I", content, FILE_HEADER - 4)
-    link &= 0xFFFF  # the upper bits tell of check sequences
-    if link not in (LINUX_LAPD, LAPD):
-        raise Refused(f"{path} has link type {link}, and neither LINUX_LAPD ({LINUX_LAPD}) nor LAPD ({LAPD})")
-    packets = list(read_packets(path, content, order))
+    for order in "<>":
+        magic = struct.unpack_from(order + "I", content)[0] if len(content) >= 4 else None
+        if magic in (MAGIC, NANOSECONDS):
+            packets = list(read_packets(path, content, order, 10**6 if magic == MAGIC else 10**9))
+            break
+        if magic == SECTION:
+            packets = list(read_blocks(path, content))
+            break
+    else:
+        raise Refused(f"{path} is no capture")
     signals = []
     for number, packet in enumerate(watched(packets, path), start=1):
-        signal = read_signal(path, number, packet, link)
+        signal = read_signal(path, number, packet)
         if signal is not None:
             signals.append(signal)
     return signals
 
 
-def byte_order(path, content):
-    """How the numbers of a capture's headers are read, by its first four octets."""
-    for order in "<>":
-        magic = struct.unpack_from(order + "I", content)[0] if len(content) >= 4 else None
-        if magic in (MAGIC, NANOSECONDS):
-            return order
-        if magic == NEXT_GENERATION:
-            raise Refused(f"{path} is a capture of the format pcapng: save it as pcap")
-    raise Refused(f"{path} is no capture")
+def link_type(path, link):
+    """The link type of a capture, which has to be one of LAPD."""
+    link &= 0xFFFF  # the upper bits tell of check sequences
+    if link not in (LINUX_LAPD, LAPD):
+        raise Refused(f"{path} has link type {link}, and neither LINUX_LAPD ({LINUX_LAPD}) nor LAPD ({LAPD})")
+    return link
 
 
-def read_packets(path, content, order):
-    """The octets of each packet."""
+def whole_packet(path, number, octets, whole):
+    """The octets of a packet, none of which the capture left out."""
+    if len(octets) < whole:
+        raise Refused(f"{path} has {len(octets)} of the {whole} octets of packet {number}")
+    return octets
+
+
+# ---- pcap
+
+
+def read_packets(path, content, order, ticks):
+    """The packets of a pcap file, whose times count this number of ticks a second."""
+    if len(content) < FILE_HEADER:
+        raise Refused(f"{path} is no capture: its header is cut short")
+    (link,) = struct.unpack_from(order + "I", content, FILE_HEADER - 4)
+    link = link_type(path, link)
     at, number = FILE_HEADER, 0
     while at < len(content):
         number += 1
         if at + PACKET_HEADER > len(content):
             raise Refused(f"{path} ends within the header of packet {number}")
-        length, whole = struct.unpack_from(order + "II", content, at + 8)
+        seconds, rest, length, whole = struct.unpack_from(order + "IIII", content, at)
         at += PACKET_HEADER
         if at + length > len(content):
             raise Refused(f"{path} ends within packet {number}")
-        if length < whole:
-            raise Refused(f"{path} has {length} of the {whole} octets of packet {number}")
-        yield content[at : at + length]
+        octets = whole_packet(path, number, content[at : at + length], whole)
+        yield Packet(seconds + Fraction(rest, ticks), link, octets)
         at += length
 
 
-def read_signal(path, number, packet, link):
+# ---- pcapng
+
+
+def read_blocks(path, content):
+    """The packets of a pcapng file, in enhanced and in simple packet blocks of every section."""
+    at, number, order = 0, 0, "<"
+    interfaces = []  # of the section: the link type of each, and the ticks of a second
+    while at < len(content):
+        if content[at : at + 4] == struct.pack(">I", SECTION):  # reads the same in either order
+            order = section_order(path, content, at)
+            interfaces = []
+        kind, body = read_block(path, content, at, order)
+        if kind == INTERFACE:
+            interfaces.append(read_interface(path, body, order))
+        elif kind in (PACKET, SIMPLE_PACKET):
+            number += 1
+            yield read_block_packet(path, number, kind, body, order, interfaces)
+        at += len(body) + 12
+
+
+def section_order(path, content, at):
+    """The order of octets of the section that begins here."""
+    for order in "<>":
+        if content[at + 8 : at + 12] == struct.pack(order + "I", SECTION_MAGIC):
+            return order
+    raise Refused(f"{path} is no capture: a section has no order of octets")
+
+
+def read_block(path, content, at, order):
+    """The kind of the block that begins here, and what is between its two lengths."""
+    kind, length = struct.unpack_from(order + "II", content, at) if at + 8 <= len(content) else (0, 0)
+    if length < 12 or length % 4 or at + length > len(content):
+        raise Refused(f"{path} is cut short or damaged at octet {at}")
+    return kind, content[at + 8 : at + length - 4]
+
+
+def read_interface(path, body, order):
+    """The link type of an interface, and how many ticks a second has: microseconds, if no option says otherwise."""
+    link = struct.unpack_from(order + "H", body.ljust(8, b"\0"))[0]
+    at, ticks = 8, 10**6
+    while at + 4 <= len(body):
+        code, length = struct.unpack_from(order + "HH", body, at)
+        if code == TIME_RESOLUTION and length == 1:
+            exponent = body[at + 4] & 0x7F
+            ticks = 2**exponent if body[at + 4] & 0x80 else 10**exponent
+        at += 4 + length + -length % 4
+    return link_type(path, link), ticks
+
+
+def read_block_packet(path, number, kind, body, order, interfaces):
+    """The packet of a block; a simple one is of the first interface, and has no time."""
+    interface, time, start, length = 0, None, 4, 0
+    if kind == PACKET and len(body) >= 20:
+        interface, high, low, length, whole = struct.unpack_from(order + "IIIII", body)
+        time, start = high << 32 | low, 20
+    elif kind == SIMPLE_PACKET and len(body) >= 4:
+        (whole,) = struct.unpack_from(order + "I", body)
+        length = min(whole, len(body) - start)
+    if start + length > len(body) or interface >= len(interfaces):
+        raise Refused(f"{path} has a damaged packet {number}")
+    link, ticks = interfaces[interface]
+    octets = whole_packet(path, number, body[start : start + length], whole)
+    return Packet(None if time is None else Fraction(time, ticks), link, octets)
+
+
+# ---- LAPD
+
+
+def read_signal(path, number, packet):
     """The message in a packet; None where it is no I frame of signalling."""
-    header = PSEUDO_HEADER if link == LINUX_LAPD else 0
-    frame = packet[header:]
-    if len(packet) < header or len(frame) < 3:
+    header = PSEUDO_HEADER if packet.link == LINUX_LAPD else 0
+    frame = packet.octets[header:]
+    if len(frame) < 3:
         raise Refused(f"{path} has a packet {number} that is too short for a frame of LAPD")
     sapi, is_from_network = frame[0] >> 2, bool(frame[0] & 2)  # C/R of a command is 1 from the network
     if sapi != 0 or frame[2] & 1:
         return None
     if len(frame) < I_FRAME_HEADER:
         raise Refused(f"{path} has a packet {number} that is too short for an I frame")
-    return Signal(number, frame[1] >> 1, not is_from_network, frame[I_FRAME_HEADER:])
+    return Signal(number, packet.time, frame[1] >> 1, not is_from_network, frame[I_FRAME_HEADER:])

@@ -1,13 +1,15 @@
 """The endpoints on the lines of an exchange: their calls, and what each answers of its own accord.
 
 An endpoint acknowledges CONNECT, answers DISCONNECT by RELEASE and RELEASE by RELEASE COMPLETE. Where
-DISCONNECT says that there is a tone in band, it listens until its user hangs up.
+DISCONNECT says that there is a tone in band, it listens until its user hangs up. The endpoint of a line that has
+fallen silent gets all messages and sends none.
 """
 
 from __future__ import annotations
 
 from dataclasses import dataclass
 
+from commands import Refused
 from q931 import (
     ALERTING,
     CALL_PROCEEDING,
@@ -33,7 +35,6 @@ from q931 import (
     sending_complete,
     written,
 )
-from reading import Refused
 
 # The states of a leg, as its user sees it.
 CALLS = "calls"  # the caller, before CONNECT
@@ -69,10 +70,28 @@ class Endpoints:
 
     def __init__(self):
         self.legs = []
+        self.silent = set()  # the lines whose endpoints send nothing
+
+    def fall_silent(self, line):
+        if line in self.silent:
+            raise Refused(f"line {line} is silent already")
+        self.silent.add(line)
+
+    def recover(self, line):
+        if line not in self.silent:
+            raise Refused(f"line {line} has not fallen silent")
+        self.silent.remove(line)
+
+    def place(self, where):
+        """The line and the channel, or None, that send something."""
+        line, channel = where if isinstance(where, tuple) else (where, None)
+        if line in self.silent:
+            raise Refused(f"line {line} has fallen silent: line {line} recovers")
+        return line, channel
 
     def find(self, where, states, what):
         """The leg on a line, or on a slot, that is in one of these states."""
-        line, channel = where if isinstance(where, tuple) else (where, None)
+        line, channel = self.place(where)
         at_hand = [
             leg
             for leg in self.legs
@@ -89,7 +108,7 @@ class Endpoints:
     # ---- what a user asks for
 
     def call(self, where, digits=None, caller=None, exclusive=True):
-        line, channel = where if isinstance(where, tuple) else (where, None)
+        line, channel = self.place(where)
         used = {leg.reference for leg in self.legs if leg.line == line and leg.is_own}
         leg = Leg(line, min(set(range(1, len(used) + 2)) - used), True, CALLS, channel)
         self.legs.append(leg)
@@ -134,7 +153,7 @@ class Endpoints:
         return leg.message(STATUS_ENQUIRY)
 
     def restart(self, where):
-        line, channel = where if isinstance(where, tuple) else (where, None)
+        line, channel = self.place(where)
         self.legs = [leg for leg in self.legs if leg.line != line or channel not in (None, leg.channel)]
         elements = [] if channel is None else [channel_identification(channel)]
         return written(0, 0, RESTART, *elements, restart_indicator(whole_line=channel is None))
@@ -150,8 +169,15 @@ class Endpoints:
         """What the endpoint on a line answers to a message of the exchange; None where it is nothing."""
         message = read_message(octets)
         leg = self._named(line, message)
-        if leg is None and message.kind == SETUP:
+        if message.kind == SETUP and (leg is None or leg.state != IS_CALLED):
+            if leg is not None:  # the exchange has given it up, and uses its reference again
+                self.legs.remove(leg)
             self.legs.append(Leg(line, message.reference, False, IS_CALLED, message.channel[0]))
+            return None
+        if leg is not None and line in self.silent:
+            if message.kind == RELEASE_COMPLETE:
+                self.legs.remove(leg)
+            return None
         return None if leg is None else self._take(leg, message)
 
     def _named(self, line, message):

@@ -4,13 +4,15 @@ What its messages say of a call: a SETUP that CALL PROCEEDING or SETUP ACKNOWLED
 begins a leg on the caller's line, and the SETUP that goes out for it begins the other, at once or
 after INFORMATION with the rest of the number. A leg ends with RELEASE, RELEASE COMPLETE or a STATUS
 of the null state from its user, with RELEASE COMPLETE to it, by RESTART, or without a word, in the frame in
-which T308 runs out after RELEASE was sent to it twice.
+which T308 runs out after RELEASE was sent to it twice. The two slots of a call are connected from CONNECT on until
+its clearing begins.
 """
 
 from __future__ import annotations
 
 from dataclasses import dataclass, field, replace
 
+from commands import Refused
 from q931 import (
     CALL_PROCEEDING,
     CONNECT,
@@ -25,7 +27,21 @@ from q931 import (
     Message,
     read_message,
 )
-from reading import PLACES, Arrival, Frame, Free, Nail, Refused, Seat, Slot, place_of_channel
+from reading import PLACES, Arrival, Frame, Free, Nail, Seat, Slot, place_of_channel
+
+
+@dataclass(frozen=True)
+class Use:
+    """What has a slot, a nail, a seat or a call, and with which slot or room it is connected."""
+
+    call: int | None = None
+    partner: Slot | None = None
+    room: int | None = None
+
+    def __str__(self):
+        if self.partner is not None:
+            return f"with {self.partner}"
+        return f"call {self.call}" if self.room is None else f"in room {self.room}"
 
 
 @dataclass(eq=False)
@@ -72,30 +88,66 @@ class Call:
 class Run:
     """The calls of a run so far, and the slots that are taken."""
 
-    def __init__(self, timers):
-        self.timers = timers
+    def __init__(self, trace):
+        self.timers = trace.timers
+        self.numbers = trace.numbers
         self.calls = []
         self.on_no_call = []
         self.frames = 0
-        self.taken = set()
-        self._partner = {}
+        self.uses = {}  # by slot, if it is taken
+        self.joined = []  # in the last event: pairs of a slot, the first of a connection, and its use
+        self.left = []  # in the last event: the slots that lost their connection
         self._legs = {}  # by line, who chose the reference, and its value
 
     def take(self, event, reply):
+        self.joined, self.left = [], []
         if isinstance(event, Frame):
             self._frame(reply)
         elif isinstance(event, Arrival):
             self._message(event, reply)
         elif isinstance(event, Nail) and reply.word == "granted":
-            self._partner[event.first] = event.second
-            self._partner[event.second] = event.first
-            self.taken |= {event.first, event.second}
+            self._join(event.first, Use(partner=event.second))
         elif isinstance(event, Seat) and reply.word == "seated":
-            self.taken.add(event.slot)
+            self._join(event.slot, Use(room=event.room))
         elif isinstance(event, Free) and reply.word == "freed":
-            other = self._partner.pop(event.slot, event.slot)
-            self._partner.pop(other, None)
-            self.taken -= {event.slot, other}
+            for slot in (event.slot, self.uses[event.slot].partner):
+                self._leave(slot)
+                self.uses.pop(slot, None)
+
+    def room(self, call):
+        """The room of a call that reached none of the lines; None where its digits lead to none."""
+        for digits, (kind, number) in self.numbers.items():
+            if call.digits is not None and call.digits.startswith(digits) and kind == "room":
+                return number
+        return None
+
+    def _join(self, slot, use):
+        """A slot is connected with its partner, or sits in its room."""
+        self.joined.append((slot, use))
+        self.uses[slot] = use
+        if use.partner is not None:
+            self.uses[use.partner] = replace(use, partner=slot)
+
+    def _leave(self, slot):
+        """A slot that is connected with a slot or a room is so no more, and its call, if it has one, still has it."""
+        use = self.uses.get(slot)
+        if use is not None and (use.partner, use.room) != (None, None):
+            self.left.append(slot)
+            self.uses[slot] = Use(call=use.call)
+
+    def _answer(self, call, frame):
+        call.answered = frame
+        if call.called is not None:
+            self._join(call.caller.slot, Use(call.number, partner=call.called.slot))
+        else:
+            self._join(call.caller.slot, Use(call.number, room=self.room(call)))
+
+    def _clear(self, call, frame, cause):
+        """The clearing of a call begins, and its connection ends."""
+        if call.cleared is None:
+            call.cleared = frame, cause
+            for leg in filter(None, (call.caller, call.called)):
+                self._leave(leg.slot)
 
     def _frame(self, reply):
         """A frame ends the legs whose users were sent RELEASE twice and have waited, and sends what is due of others."""
@@ -118,8 +170,8 @@ class Run:
         call = leg.call
         call.rows.append(replace(row, leg=leg))
         leg.note(row)
-        if message.kind in (DISCONNECT, RELEASE_COMPLETE) and call.cleared is None:
-            call.cleared = row.frame, 28 if leg.dials else 18
+        if message.kind in (DISCONNECT, RELEASE_COMPLETE):
+            self._clear(call, row.frame, 28 if leg.dials else 18)
         if message.kind == DISCONNECT:
             leg.dials = False
         elif message.kind == RELEASE_COMPLETE:
@@ -152,7 +204,7 @@ class Run:
             elif message.kind == RELEASE_COMPLETE:
                 call.refused = message.cause
             elif message.kind == CONNECT:
-                call.answered = row.frame
+                self._answer(call, row.frame)
         self._note(call, row, call.caller, sent)
 
     def _on_call(self, leg, row, sent):
@@ -161,10 +213,9 @@ class Run:
             self._information(leg, row, sent)
         self._note(call, row, leg, sent)
         if any(message.kind == CONNECT for _, message in sent):
-            call.answered = row.frame
+            self._answer(call, row.frame)
         if ends_leg(row.message) or row.message.kind == DISCONNECT:
-            if call.cleared is None:
-                call.cleared = row.frame, clearing_cause(row.message)
+            self._clear(call, row.frame, clearing_cause(row.message))
         if ends_leg(row.message):
             self._end(key(row.line, row.message, 0))
 
@@ -177,7 +228,7 @@ class Run:
             if message.kind == SETUP:
                 call.called = self._begin(call, row, line, message)
             elif message.kind == DISCONNECT:
-                call.cleared = row.frame, message.cause
+                self._clear(call, row.frame, message.cause)
         leg.dials = not sent
 
     def _restart(self, row, sent):
@@ -198,8 +249,7 @@ class Run:
             ]
             leg = next(leg for _, leg in ended if leg.call is call)
             self._note(call, row, leg, own)
-            if call.cleared is None:
-                call.cleared = row.frame, 41
+            self._clear(call, row.frame, 41)
         for name, _ in ended:
             self._end(name)
         if not calls:
@@ -214,11 +264,13 @@ class Run:
             raise never_sent(row.event)
         leg = Leg(call, Slot(line, message.channel[0]), message.kind == SETUP_ACKNOWLEDGE)
         self._legs[key(line, message, 1)] = leg
-        self.taken.add(leg.slot)
+        self.uses[leg.slot] = Use(call.number)
         return leg
 
     def _end(self, name):
-        self.taken.discard(self._legs.pop(name).slot)
+        slot = self._legs.pop(name).slot
+        self._leave(slot)
+        self.uses.pop(slot, None)
 
     def _note(self, call, row, leg, sent):
         call.rows.append(replace(row, leg=leg))

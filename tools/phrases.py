@@ -8,7 +8,8 @@ from __future__ import annotations
 
 import re
 
-from reading import NUMERAL, USUAL_TIMERS, Refused, place_of_channel
+from commands import Refused
+from reading import NUMERAL, USUAL_TIMERS, place_of_channel
 
 CAPITALS = re.compile(r"[A-Z]+")
 SPELLINGS = {

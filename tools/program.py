@@ -1,25 +1,62 @@
-"""A trace that is being written, and the program that says what is answered to it."""
+"""A trace that is being written, and the program, proved or not, that runs it."""
 
 import os
+import shutil
 import subprocess
+import tempfile
+import time
 from pathlib import Path
 
-from reading import MOST_BYTES, MOST_EVENTS, Refused, reply
+from commands import Refused, say
+from reading import METER, MOST_BYTES, MOST_EVENTS, reply
 
 TOP = Path(__file__).resolve().parent.parent
-PROGRAM = TOP / "crates" / "tst" / "out" / "tst"
+PROGRAM = TOP / "crates" / "tst" / "out" / "tst"  # proved
+UNPROVED = TOP / "tools" / "out" / "tst"
 TEXT = ("utf-8", "surrogateescape")  # how octets of scripts and comments are read and written: none is lost
 
 
 def program_at(path=None):
-    """The program to run: the built one where no other is named."""
-    program = PROGRAM if path is None else Path(path)
-    if os.access(program, os.X_OK) and program.is_file():
-        return program.resolve()
-    if path is None:
-        place = PROGRAM.relative_to(TOP)
-        raise Refused(f"{place} is not built: `(cd crates/tst && rt run -- run <stdin)` proves and builds it")
-    raise Refused(f"{path} is no program")
+    """The program to run: the one that is named, or the proved one, or else the unproved one, which is built once."""
+    if path is not None and not is_program(Path(path)):
+        raise Refused(f"{path} is no program")
+    if path is None and not is_program(PROGRAM) and not is_fresh(UNPROVED):
+        build_unproved()
+    return next(found for found in (path and Path(path).resolve(), PROGRAM, UNPROVED) if found and is_program(found))
+
+
+def is_program(path):
+    return path.is_file() and os.access(path, os.X_OK)
+
+
+def is_fresh(path):
+    """Whether a program is there that is newer than each source of it."""
+    if not is_program(path):
+        return False
+    built = path.stat().st_mtime
+    return all(source.stat().st_mtime < built for source in (TOP / "crates").glob("*/src/**/*.rt"))
+
+
+def build_unproved():
+    """Keeps the program that `rt try` builds without a proof, which `rt` removes when it ends."""
+    place = PROGRAM.relative_to(TOP)
+    if shutil.which("rt") is None:
+        raise Refused(f"{place} is not built, and the commands of the Rattle kit are not on the path")
+    say(f"{place} is not built: `rt try` builds an unproved program, which takes a minute or two")
+    UNPROVED.parent.mkdir(exist_ok=True)
+    UNPROVED.unlink(missing_ok=True)
+    with tempfile.TemporaryDirectory(dir=UNPROVED.parent) as folder:
+        words = ["rt", "try", "--", "gen", "1", "2000"]  # a run that is long enough for the program to be found
+        streams = dict.fromkeys(("stdin", "stdout", "stderr"), subprocess.DEVNULL)
+        build = subprocess.Popen(words, cwd=PROGRAM.parent.parent, env={**os.environ, "TMPDIR": folder}, **streams)
+        while build.poll() is None:
+            for found in Path(folder).glob("**/program"):
+                if not UNPROVED.exists():
+                    os.link(found, UNPROVED)
+            time.sleep(0.05)
+    if build.returncode or not is_program(UNPROVED):
+        UNPROVED.unlink(missing_ok=True)
+        raise Refused(f"`rt try` built no program: `(cd {PROGRAM.parent.parent.relative_to(TOP)} && rt run -- run <stdin)` proves and builds one")
 
 
 def replies_of(program, trace, first):
@@ -29,10 +66,10 @@ def replies_of(program, trace, first):
     if done.returncode != 0:
         said = f": {lines[0][:80]}" if lines else ""
         raise Refused(f"{program} ended with status {done.returncode}{said}")
-    replies = [reply(line) for line in lines[first:]]
+    replies = [reply(line) for line in lines if not METER.fullmatch(line)]
     if None in replies:
         raise Refused(f"{program} printed what is no report")
-    return replies
+    return replies[first:]
 
 
 class Trace:
@@ -55,12 +92,16 @@ class Trace:
         self.asked.append(text)
 
     def event(self, text, asked=None):
-        if self.events == MOST_EVENTS:
-            raise Refused(f"the trace has more than {MOST_EVENTS} events")
+        self.check_room(1)
         self.events += 1
         self.has_messages |= text.startswith("M")
         self.add(text)
         self.asked.append(text if asked is None else asked)
+
+    def check_room(self, count):
+        """Refuses as many more events where the trace would have too many."""
+        if self.events + count > MOST_EVENTS:
+            raise Refused(f"the trace has more than {MOST_EVENTS} events")
 
     def segment(self):
         self.header("sync")
@@ -70,6 +111,10 @@ class Trace:
         if self.bytes > MOST_BYTES:
             raise Refused(f"the trace has more than {MOST_BYTES} bytes")
         self.lines.append(line)
+
+    def pass_over(self):
+        """Leaves out what the exchange sends for the events so far."""
+        self.answered = self.events
 
     def sent(self):
         """What the exchange sends for the events that were added last: pairs of a line and octets."""

@@ -144,6 +144,7 @@ class Message:
     reference: int
     kind: int
     elements: dict  # code to contents, the first of each code
+    octets: bytes = b""
 
     @property
     def name(self):
@@ -190,7 +191,7 @@ def read_message(octets):
     if len(octets) < 5 or octets[0] != 0x08 or octets[1] != 0x02:
         return None
     reference = octets[2] << 8 | octets[3]
-    return Message(reference >> 15, reference & 0x7FFF, octets[4], read_elements(octets[5:]))
+    return Message(reference >> 15, reference & 0x7FFF, octets[4], read_elements(octets[5:]), octets)
 
 
 def read_elements(octets):

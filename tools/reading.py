@@ -1,25 +1,25 @@
 """Reads traces and reports, as docs/FORMATS.md says they are written.
 
-`read_trace` and `read_report` refuse what is none with `Refused`, whose text is one line. `command`
-is the frame of each tool: it answers `--help` with the usage, wrong words with the usage and status 2,
-and a file that cannot be taken with that line and status 1. `watched` says how far a tool is.
+`read_trace` and `read_report` refuse what is none with `Refused`, whose text is one line.
 """
 
 from __future__ import annotations
 
 import re
-import sys
-import time
 from dataclasses import dataclass
 from pathlib import Path
+
+from commands import Refused, say, watched
 
 IDLE = 0xD5
 PLACES = 30
 FRAMES_PER_SECOND = 8000
 
+ROOMS = 64
+
 MOST_BYTES = 67_108_864
 MOST_EVENTS = 65_535
-MOST_CHANGES = 65535
+MOST_CHANGES = 65_535
 MOST_NUMBERS = 256
 MOST_MESSAGE_DIGITS = 520
 FRAME_DIGITS = 2 * PLACES
@@ -29,16 +29,13 @@ MOST_TONE_DIGITS = 16_000
 USUAL_TIMERS = {"T302": 120_000, "T303": 32_000, "T305": 240_000, "T308": 32_000, "T310": 80_000}
 
 
-class Refused(Exception):
-    """A file is no trace or no report; the text says where and why."""
-
-
-class WrongWords(Exception):
-    """The words of a command are none of its own."""
-
-
 class Fault(Exception):
-    """The first check that fails in a line of a trace, by its word."""
+    """The first check that fails in a line of a trace: its reason, what is wrong, and in which word, 0 being the first."""
+
+    def __init__(self, reason, said, word=0):
+        super().__init__(reason)
+        self.said = said
+        self.word = word
 
 
 def place_of_channel(channel):
@@ -125,19 +122,22 @@ def numeral(word):
     return int(word) if NUMERAL.fullmatch(word) else None
 
 
-def below(word, bound, reason):
+def below(word, bound, fault):
     value = numeral(word)
     if value is None or value >= bound:
-        raise Fault(reason)
+        raise fault
     return value
 
 
-def hexadecimal(word, least, most):
-    """The octets of a word with n digits."""
-    if not re.fullmatch(r"(?:[0-9A-Fa-f]{2})*", word):
-        raise Fault("hex")
+def hexadecimal(word, least, most, at):
+    """The octets of the word at a place, with n digits."""
+    if re.search("[^0-9A-Fa-f]", word):
+        raise Fault("hex", "octets are hexadecimal digits, 0 to 9 and A to F", at)
+    if len(word) % 2:
+        raise Fault("hex", f"an octet has two digits, and there are {len(word)}", at)
     if not least <= len(word) <= most:
-        raise Fault("length")
+        wanted = f"{least}" if least == most else f"{least} to {most}"
+        raise Fault("length", f"there are {len(word)} digits, and {wanted} may be", at)
     return bytes.fromhex(word)
 
 
@@ -151,6 +151,7 @@ class TraceReader:
         self.timers = {}
         self.events = []
         self.changes = []
+        self.segments = 0
         self.kinds = {
             "number": (self.number, range(3, 4)),
             "tone": (self.tone, range(2, 3)),
@@ -170,122 +171,150 @@ class TraceReader:
             self.sizes = header(line)
             return
         if not all(" " <= octet <= "~" for octet in line):
-            raise Fault("word")
+            raise Fault("word", "there is an octet that is no printable character of ASCII", None)
         first, *words = line.split()
         if first not in self.kinds:
-            raise Fault("word")
+            raise Fault("word", f'no line begins with "{first}"')
         if first in ("number", "tone", "timer") and self.events:
-            raise Fault("word")
+            raise Fault("word", f"a line `{first}` comes before the first event")
         act, counts = self.kinds[first]
         if len(words) not in counts:
-            raise Fault("word")
+            few = len(words) < counts.start
+            said = f"`{first}` has {counts.start} to {counts.stop - 1} words after it".replace(" 0 to 0 ", " no ")
+            raise Fault("word", f"too {'few' if few else 'many'} words: {said}", len(words) if few else counts.stop)
         event = act(*words)
         if event is not None:
             if len(self.events) == MOST_EVENTS:
-                raise Fault("limit")
+                raise Fault("limit", f"a trace has at most {MOST_EVENTS} events")
             self.events.append(event)
 
-    def line(self, word):
-        return below(word, self.sizes[0], "slot")
+    def line(self, word, at):
+        lines = self.sizes[0]
+        return below(word, lines, Fault("slot", f"the exchange has lines 0 to {lines - 1}", at))
 
-    def slot(self, word):
+    def slot(self, word, at):
         line, slash, channel = word.partition("/")
         number = numeral(channel)
         if not slash or number is None or place_of_channel(number) is None:
-            raise Fault("slot")
-        return Slot(self.line(line), number)
+            raise Fault("slot", "a slot is a line, / and a channel, 1 to 15 or 17 to 31", at)
+        return Slot(self.line(line, at), number)
 
     def number(self, digits, kind, target):
         if not DIGITS.fullmatch(digits):
-            raise Fault("number")
+            raise Fault("number", "a number has 1 to 20 digits 0 to 9", 1)
         if kind == "line":
-            leads_to = self.line(target)
+            leads_to = self.line(target, 3)
         elif kind == "room":
-            leads_to = below(target, 64, "number")
+            leads_to = room(target, 3)
         else:
-            raise Fault("word")
-        if any(digits.startswith(held) or held.startswith(digits) for held in self.numbers):
-            raise Fault("prefix")
+            raise Fault("word", "a number leads to a `line` or a `room`", 2)
+        for held in self.numbers:
+            if digits.startswith(held) or held.startswith(digits):
+                raise Fault("prefix", f"number {digits} equals, begins or continues number {held}", 1)
         if len(self.numbers) == MOST_NUMBERS:
-            raise Fault("limit")
+            raise Fault("limit", f"a trace has at most {MOST_NUMBERS} numbers")
         self.numbers[digits] = (kind, leads_to)
 
     def tone(self, kind, octets):
-        if kind not in ("ringback", "busy") or kind in self.tones:
-            raise Fault("word")
-        self.tones[kind] = hexadecimal(octets, 2, MOST_TONE_DIGITS)
+        if kind not in ("ringback", "busy"):
+            raise Fault("word", "a tone is `ringback` or `busy`", 1)
+        if kind in self.tones:
+            raise Fault("word", f"the tone `{kind}` is given already", 1)
+        self.tones[kind] = hexadecimal(octets, 2, MOST_TONE_DIGITS, 2)
 
     def timer(self, name, frames):
-        if name not in USUAL_TIMERS or name in self.timers:
-            raise Fault("word")
+        if name not in USUAL_TIMERS:
+            raise Fault("word", f"a timer is {', '.join(USUAL_TIMERS)}", 1)
+        if name in self.timers:
+            raise Fault("word", f"the timer {name} is given already", 1)
         self.timers[name] = numeral(frames)
         if not self.timers[name]:
-            raise Fault("number")
+            raise Fault("number", "a timer runs for 1 to 999,999,999 frames", 2)
 
     def nail(self, first, second):
-        nail = Nail(self.slot(first), self.slot(second))
+        nail = Nail(self.slot(first, 1), self.slot(second, 2))
         if nail.first == nail.second:
-            raise Fault("slot")
+            raise Fault("slot", "a slot is nailed to another one", 2)
         return nail
 
-    def seat(self, slot, room):
-        return Seat(self.slot(slot), below(room, 64, "number"))
+    def seat(self, slot, number):
+        return Seat(self.slot(slot, 1), room(number, 2))
 
     def free(self, slot):
-        return Free(self.slot(slot))
+        return Free(self.slot(slot, 1))
 
     def message(self, line, octets=""):
-        return Arrival(self.line(line), hexadecimal(octets, 0, MOST_MESSAGE_DIGITS))
+        return Arrival(self.line(line, 1), hexadecimal(octets, 0, MOST_MESSAGE_DIGITS, 2))
 
     def frame(self, *parts):
         octets = {}
-        for part in parts:
+        for at, part in enumerate(parts, start=1):
             word, colon, digits = part.partition(":")
             if not colon:
-                raise Fault("slot")
-            line = self.line(word)
+                raise Fault("slot", "a line of a frame is its number, : and 60 digits", at)
+            line = self.line(word, at)
             if line in octets:
-                raise Fault("slot")
-            octets[line] = hexadecimal(digits, FRAME_DIGITS, FRAME_DIGITS)
+                raise Fault("slot", f"line {line} is in this frame already", at)
+            octets[line] = hexadecimal(digits, FRAME_DIGITS, FRAME_DIGITS, at)
         return Frame(octets)
 
     def sync(self):
-        return None
+        self.segments += 1
 
     def change(self):
         if len(self.changes) == MOST_CHANGES:
-            raise Fault("limit")
+            raise Fault("limit", f"a trace has at most {MOST_CHANGES} changes")
         self.changes.append(len(self.events))
+
+
+def room(word, at):
+    return below(word, ROOMS, Fault("number", f"rooms are 0 to {ROOMS - 1}", at))
 
 
 def header(line):
     """The sizes in the header: external lines, bridge lines, call processors."""
     words = [word for word in line.split(" ") if word]
-    if len(words) == 5 and words[:2] == ["exchange", "1"]:
-        external, bridges, processors = map(numeral, words[2:])
-        if external in range(1, 33) and bridges in range(3) and processors in range(1, 9):
-            return external, bridges, processors
-    raise Fault("header")
+    if words[:2] != ["exchange", "1"] or len(words) != 5:
+        raise Fault("header", "the first line is `exchange 1 LINES BRIDGES PROCESSORS`")
+    bounds = (("external lines", 1, 32), ("bridge lines", 0, 2), ("call processors", 1, 8))
+    for at, (word, (what, least, most)) in enumerate(zip(words[2:], bounds), start=2):
+        if numeral(word) not in range(least, most + 1):
+            raise Fault("header", f"an exchange has {least} to {most} {what}", at)
+    return tuple(map(int, words[2:]))
 
 
-def read_trace(path):
-    """The trace in a file."""
+def lines_of(path):
+    """The lines of a text, each octet as a character."""
     content = Path(path).read_bytes()
     if len(content) > MOST_BYTES:
         raise Refused(f"{path} is no trace: line 0, limit")
     lines = content.decode("latin-1").split("\n")
     if lines[-1] == "":
         lines.pop()
-    reader = TraceReader()
-    for number, line in enumerate(watched(lines, path), start=1):
+    return lines
+
+
+def take_lines(reader, lines):
+    """Has a reader take the lines of a trace. Where one fails, its number from 1, and the fault."""
+    number = 0
+    for number, line in enumerate(lines, start=1):
         if line.startswith("#") or not line.strip(" "):
             continue
         try:
             reader.take(line)
         except Fault as fault:
-            raise Refused(f"{path} is no trace: line {number}, {fault}") from None
+            return number, fault
     if reader.sizes is None:
-        raise Refused(f"{path} is no trace: line {len(lines) + 1}, header")
+        return number + 1, Fault("header", "no line says the sizes of the exchange")
+    return None
+
+
+def read_trace(path):
+    """The trace in a file."""
+    reader = TraceReader()
+    refusal = take_lines(reader, watched(lines_of(path), path))
+    if refusal:
+        raise Refused("{} is no trace: line {}, {}".format(path, *refusal))
     timers = USUAL_TIMERS | reader.timers
     return Trace(*reader.sizes, reader.numbers, timers, tuple(reader.events), tuple(reader.changes))
 
@@ -349,7 +378,7 @@ def read_report(path, changed=False):
             frames += 1
         replies.append(answer)
     if passed:
-        print(f"{path}: {passed} lines of meters passed over", file=sys.stderr)
+        say(f"{path}: {passed} lines of meters passed over")
     return tuple(replies)
 
 
@@ -383,41 +412,3 @@ def read_run(trace_path, report_path):
     if len(steps) != len(trace.events):
         raise Refused(f"{report_path} is not the report of {trace_path}: it has too few lines")
     return trace, steps
-
-
-# ---- commands
-
-
-def watched(items, what):
-    """The same items; where they take long, a line on standard error each second says how many were taken."""
-    name, said = Path(sys.argv[0]).name, time.monotonic()
-    for number, item in enumerate(items):
-        if time.monotonic() - said >= 1:
-            said = time.monotonic()
-            print(f"{name}: {what}: {number} of {len(items)}", file=sys.stderr, flush=True)
-        yield item
-
-
-def command(usage, work):
-    """Runs a tool on the words of its command, and ends with its status."""
-    name = Path(sys.argv[0]).name
-    if sys.argv[1:] == ["--help"]:
-        print(usage)
-        sys.exit(0)
-    try:
-        output = work(*sys.argv[1:])
-    except WrongWords:
-        print(usage, file=sys.stderr)
-        sys.exit(2)
-    except Refused as refusal:
-        print(f"{name}: {refusal}", file=sys.stderr)
-        sys.exit(1)
-    except OSError as error:
-        print(f"{name}: {error.filename} cannot be read: {error.strerror}", file=sys.stderr)
-        sys.exit(1)
-    try:
-        sys.stdout.buffer.write(output if isinstance(output, bytes) else output.encode())
-        sys.stdout.flush()
-    except BrokenPipeError:
-        sys.stderr.close()
-        sys.exit(1)

@@ -6,7 +6,8 @@ import sys
 from pathlib import Path
 
 from alaw import octet_of
-from reading import FRAMES_PER_SECOND, Refused
+from commands import Refused
+from reading import FRAMES_PER_SECOND
 
 LINEAR = 1  # the format tags
 A_LAW = 6

@@ -1,0 +1,88 @@
+"""The frame of each tool: its arguments, what it writes, and how it ends.
+
+`command` runs a tool. It prints the usage for `--help`, the usage and status 2 for wrong arguments, and one line
+and status 1 for a file that cannot be read, an output that cannot be written, or an interrupt. `watched` shows
+on standard error how far a tool is, each second.
+"""
+
+from __future__ import annotations
+
+import errno
+import os
+import sys
+import time
+from pathlib import Path
+
+NAME = Path(sys.argv[0]).name
+
+
+class Refused(Exception):
+    """A tool cannot do its work; the text says in one line why."""
+
+
+class WrongWords(Exception):
+    """The arguments of a command are none of its own."""
+
+
+def command(usage, work):
+    """Runs a tool on its arguments, and ends with its status. What `work` returns is the tool's output."""
+    try:
+        words = sys.argv[1:]
+        write_output(f"{usage}\n" if words == ["--help"] else work(*words))
+        status = 0
+    except WrongWords:
+        say(usage)
+        status = 2
+    except Refused as refusal:
+        status = fail(refusal)
+    except OSError as error:
+        status = fail(f"{error.filename or 'a file'} cannot be read: {error.strerror}")
+    except MemoryError:
+        status = fail("there is not enough memory")
+    except KeyboardInterrupt:
+        status = fail("interrupted")
+    sys.exit(status)
+
+
+def fail(reason):
+    """Says why a tool ends, and returns the status."""
+    say(f"{NAME}: {reason}")
+    return 1
+
+
+def say(text):
+    """Writes a line to standard error, if that takes it."""
+    try:
+        os.write(2, f"{text}\n".encode(errors="backslashreplace"))
+    except OSError:
+        pass
+
+
+def write_output(output):
+    """Writes a text or octets to standard output, without a buffer, so that nothing is left to fail afterwards."""
+    left = memoryview(output if isinstance(output, bytes) else output.encode())
+    try:
+        if sys.stdout is None:  # it was closed, and another file may have its number
+            raise OSError(errno.EBADF, os.strerror(errno.EBADF))
+        while left:
+            left = left[os.write(1, left) :]
+    except OSError as error:
+        raise Refused(f"standard output cannot be written: {error.strerror}") from None
+
+
+def write_file(path, content):
+    """Writes a file that a tool makes."""
+    try:
+        Path(path).write_bytes(content)
+    except OSError as error:
+        raise Refused(f"{path} cannot be written: {error.strerror}") from None
+
+
+def watched(items, what):
+    """Yields the items. Where they take long, a line on standard error each second says how many were taken."""
+    said = time.monotonic()
+    for number, item in enumerate(items):
+        if time.monotonic() - said >= 1:
+            said = time.monotonic()
+            say(f"{NAME}: {what}: {number} of {len(items)}")
+        yield item

@@ -1,0 +1,102 @@
+"""The paths of a run through the fabric, and the internal slots that they take.
+
+A report says how many paths were moved for a connection, and not which. They follow from its rule: a path takes the
+lowest internal slot that is free on its incoming and on its outgoing line. Where there is none, the paths of the
+shorter of two chains of Paull's matrix exchange two slots. `Fabric.take` compares the numbers with the report's.
+"""
+
+from __future__ import annotations
+
+from dataclasses import dataclass
+
+from reading import PLACES, place_of_channel
+
+SLOTS, STRICT_SLOTS = 30, 59  # internal slots of a line
+
+
+@dataclass(frozen=True)
+class Path:
+    """A one-way path between two ends, each a line and a place; bridge lines come after the external ones."""
+
+    source: tuple
+    target: tuple
+    room: int | None = None  # if one of the ends is a port, the room of its member
+
+
+class Fabric:
+    """The live paths, by their internal slot on their incoming line, and on their outgoing line."""
+
+    def __init__(self, trace, slots=SLOTS):
+        self.external = trace.external
+        self.slots = slots
+        self.incoming = [{} for _ in range(trace.external + trace.bridges)]
+        self.outgoing = [{} for _ in self.incoming]
+        self.free_ports = {(trace.external + at // PLACES, at % PLACES) for at in range(trace.bridges * PLACES)}
+        self.far = {}  # by slot, the other end of its two paths
+
+    def take(self, run):
+        """Follows the last event of a run. Returns how many paths were moved there and back; None without a connection."""
+        moved = None
+        for slot in run.left:
+            self._leave(slot)
+        for slot, use in run.joined:
+            near = end_of(slot)
+            far = min(self.free_ports) if use.partner is None else end_of(use.partner)
+            self.free_ports.discard(far)
+            self.far[slot] = far
+            moved = self._connect(Path(near, far, use.room)), self._connect(Path(far, near, use.room))
+        return moved
+
+    def _leave(self, slot):
+        """A slot's two paths are undone; its partner has the same ones, and leaves with it."""
+        if slot not in self.far:
+            return
+        near, far = end_of(slot), self.far.pop(slot)
+        for source, target in ((near, far), (far, near)):
+            lines = self.incoming[source[0]], self.outgoing[target[0]]
+            (number,) = [at for at, path in lines[0].items() if path.source == source]
+            for line in lines:
+                del line[number]
+        if far[0] >= self.external:
+            self.free_ports.add(far)
+
+    def _connect(self, path):
+        """Lays a path, and returns how many others were moved for it."""
+        row, column = self.incoming[path.source[0]], self.outgoing[path.target[0]]
+        number = next((at for at in range(self.slots) if at not in row and at not in column), None)
+        moves = []
+        if number is None:
+            a, b = lowest_free(row), lowest_free(column)
+            moves, other = self._chain(column, a, b), self._chain(row, b, a)
+            number = a
+            if len(other) < len(moves):
+                moves, number = other, b
+            self._exchange(moves, a, b)
+        row[number] = column[number] = path
+        return len(moves)
+
+    def _chain(self, line, a, b):
+        """The paths of the chain that begins with the one in slot a of a line, each with its slot: in a and b by turns."""
+        chain = []
+        while a in line:
+            path = line[a]
+            chain.append((path, a))
+            ends = self.incoming[path.source[0]], self.outgoing[path.target[0]]
+            line = ends[1] if ends[0] is line else ends[0]
+            a, b = b, a
+        return chain
+
+    def _exchange(self, moves, a, b):
+        for path, number in moves:
+            del self.incoming[path.source[0]][number], self.outgoing[path.target[0]][number]
+        for path, number in moves:
+            self.incoming[path.source[0]][a + b - number] = path
+            self.outgoing[path.target[0]][a + b - number] = path
+
+
+def end_of(slot):
+    return slot.line, place_of_channel(slot.channel)
+
+
+def lowest_free(line):
+    return next(at for at in range(len(line) + 1) if at not in line)
