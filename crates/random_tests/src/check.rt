@@ -15,11 +15,11 @@ use std::thread::Threads;
 use test_exchange::{CallRecord, Party, PlainEvent, PlainRun};
 use test_traffic::{Script, Setting as CallSetting, is_lawful, of_event};
 
-// More than a report takes.
+// More than a report of a short trace takes.
 const ROOM: usize = 400_000;
 
 // More than the calls of a trace.
-const CALLS: u32 = 1000;
+const CALLS: u32 = 4000;
 
 /// What a plain program is set up with.
 pub trait Setting {
@@ -101,8 +101,12 @@ struct Heard {
     left: Vec<u8>,
 }
 
-/// A gate that holds nobody up, and asks for threads.
-pub struct Apart;
+/// A gate that holds no thread, and asks for threads.
+#[derive(Clone, Copy)]
+pub struct Apart {
+    /// Whether it says that it may hold one, so that each turn has one event.
+    pub may_hold: bool,
+}
 
 impl Gate for Apart {
     fn before_turn(&self, _worker: u32, _event: u32) {}
@@ -112,6 +116,10 @@ impl Gate for Apart {
     fn before_crossing(&self, _frame: u32) {}
 
     fn after_crossing(&self, _frame: u32) {}
+
+    fn may_hold(&self) -> bool {
+        self.may_hold
+    }
 }
 
 /// Runs a trace through the exchange at a gate, on a strict fabric or on the other. What is said of the
@@ -173,14 +181,14 @@ fn compared<S: Setting>(
     let Some(order) = order_of(alloc, parted.events.as_str())? else {
         return Ok(None);
     };
-    let (posts, order) = (script.posts.as_slice(), order.as_slice());
-    if !is_lawful(posts, order) {
+    let order = order.as_slice();
+    if !is_lawful(script.posts.as_slice(), order) {
         return Ok(None);
     }
     let events = script.events.as_slice();
     let plain = setting.program(alloc, strict)?;
     if is_said_by(alloc, plain, events, order, changing, parted, left)? {
-        Ok(Some(Taken::of(alloc, posts, order, changing.counts())?))
+        Ok(Some(Taken::of(alloc, script, order, changing.counts())?))
     } else {
         Ok(None)
     }
@@ -261,9 +269,11 @@ struct Ends {
 }
 
 impl Ends {
-    // The words that ask for a run, the trace to read, and room for its report.
+    // The words that ask for a run, the trace to read, and room for its report: a report has less than four octets for
+    // each of a long trace.
     fn of(alloc: Global, trace: &str, strict: bool) -> Result<Ends, AllocError> {
-        let sink = MemSink::new(alloc, ROOM, 4096, Vec::new(alloc))?;
+        let room = ROOM.max(trace.len().saturating_mul(4));
+        let sink = MemSink::new(alloc, room, 4096, Vec::new(alloc))?;
         let input = Vec::from_slice(alloc, trace.as_bytes())?;
         Ok(Ends {
             words: words_of(alloc, strict)?,

@@ -19,10 +19,11 @@ pub struct Orders {
 }
 
 impl Orders {
-    /// Counts a trace whose reports were the wanted ones in the orders that they have: in threads, and as
-    /// the program decides. Not where a segment of too few events is out of the order of the file.
-    pub fn add(&mut self, script: &Script, in_threads: Taken, decided: Taken) {
-        if !decided.keeps_file_order {
+    /// Counts a trace whose reports were the wanted ones in the orders that they have: in threads by turns of one event,
+    /// as the program decides, and in threads that keep their turns. It doesn't count one whose segments of too few
+    /// events are out of the order of the file, or in which another worker has an event within a turn that was kept.
+    pub fn add(&mut self, script: &Script, in_threads: Taken, decided: Taken, kept: Taken) {
+        if !decided.keeps_file_order || !kept.keeps_turns {
             return;
         }
         self.traces = self.traces.saturating_add(1);

@@ -19,6 +19,9 @@ pub struct Trial {
     pub octets: u32,
 }
 
+/// How many events a long trace has: enough for threads in one segment of four call processors.
+pub const LONG_EVENTS: u32 = 7000;
+
 /// Draws a trace of a kind, for one to eight call processors.
 pub fn drawn(alloc: Global, random: &mut Random, kind: Kind) -> Result<Trial, AllocError> {
     let external = 1 + random.below(8);
@@ -35,6 +38,21 @@ pub fn drawn(alloc: Global, random: &mut Random, kind: Kind) -> Result<Trial, Al
     for _ in 0..events {
         let event = draw_event(alloc, random, kind, &draft.yardstick)?;
         draft.take(alloc, event, random.once_in(pace))?;
+    }
+    Ok(draft.drawn(lines))
+}
+
+/// Draws a long trace of a kind: one segment of [`LONG_EVENTS`] events, for four call processors.
+pub fn drawn_long(alloc: Global, random: &mut Random, kind: Kind) -> Result<Trial, AllocError> {
+    let lines = Lines {
+        kind,
+        external: 4,
+        bridges: 2,
+    };
+    let mut draft = Draft::new(alloc, lines, 4)?;
+    for _ in 0..LONG_EVENTS {
+        let event = draw_event(alloc, random, kind, &draft.yardstick)?;
+        draft.take(alloc, event, false)?;
     }
     Ok(draft.drawn(lines))
 }

@@ -4,10 +4,12 @@
 //! `random_tests TRACES` draws that many traces of nails, whose octets are compared with the octets of
 //! a delay line; that many with seats too, compared with the definitions' own program; and that
 //! many of calls, tones and timers, compared with a plain program of calls. They are for one to eight call
-//! processors, and their segments are of any length. Up to four meters are handed in and up to four spare
+//! processors, and their segments are of any length. Behind them comes one long trace of each kind, whose one segment
+//! has enough events for threads. Up to four meters are handed in and up to four spare
 //! ones, which are changed between segments: their lines in the report, and what is left of them, have to
-//! be what plain meters say of the calls that the plain program saw end. Each trace is run three times: all segments in
-//! threads, as the program decides, where small ones have to come in the order of the file, and in threads
+//! be what plain meters say of the calls that the plain program saw end. Each trace is run four times: all segments in
+//! threads by turns of one event, as the program decides, where small ones have to come in the order of the file, in
+//! threads that keep their turns, within which no other worker may have an event, and in threads
 //! on a strict fabric, where each number of moved paths has to be 0. The order of each report has to hold
 //! every event once and be a lawful one, and the plain program takes the events in that order, from
 //! nothing.
@@ -22,7 +24,7 @@
 //! where that is none. It is proved safe; what it compares is tested, not proved.
 //!
 //! It uses `ex_io`, `circuit_model`, `frame_buffer`, `plain_model`, `test_exchange`,
-//! `test_traffic`, `frame_engine`, `meters`, `gate`, `segment_run`, `run_verifier` and `exchange_top`.
+//! `test_traffic`, `frame_engine`, `meters`, `gate`, `call_processor`, `segment_run`, `run_verifier` and `exchange_top`.
 #![tactic(auto)]
 
 mod changes;
@@ -38,7 +40,7 @@ mod yardstick;
 use changes::ChangeCounts;
 use check::{Apart, Setting, agreed};
 use counts::{CallCounts, Counts, Moves, Orders, Tones};
-use draw::drawn;
+use draw::{LONG_EVENTS, Trial, drawn, drawn_long};
 use gate::OpenGate;
 use std::alloc::{AllocError, Global};
 use std::process::ExitCode;
@@ -46,7 +48,7 @@ use std::sync::Wait;
 use std::thread::Threads;
 use std::{env, io};
 use test_exchange::Chains;
-use test_traffic::{LONGEST_TONE, Random, Script, draw_traffic};
+use test_traffic::{Drawn, LONGEST_TONE, Random, Script, draw_long_traffic, draw_traffic};
 use verdicts::Verdicts;
 use yardstick::Kind;
 
@@ -55,8 +57,11 @@ const SEED: u64 = 1976;
 /// How many events a trace of calls has.
 const EVENTS: u32 = 250;
 
-/// Runs a trace in threads in any case, as the program decides, and in threads on a strict fabric, and
-/// counts it where each report is the plain program's. Whether they are.
+/// Runs a trace in threads by turns of one event, as the program decides, in threads that keep their turns, and in
+/// threads on a strict fabric. It counts the trace if each report is the plain program's. Whether they are.
+///
+/// A long trace is never run by turns of one event: each is a hand-over between threads, which takes long on a machine that
+/// has other work.
 ///
 /// No run leaves more than what is said of its order, so that there is nothing to drop where memory runs
 /// out in the next.
@@ -67,30 +72,33 @@ fn run_each_way<S: Setting, R: Threads + Wait + Sync>(
     setting: &S,
     orders: &mut Orders,
 ) -> Result<bool, AllocError> {
-    let Some(in_threads) = agreed(rt, alloc, script, setting, false, &Apart)? else {
+    let is_short = script.events.len() < LONG_EVENTS as usize;
+    let (mixed, keeping) = (Apart { may_hold: is_short }, Apart { may_hold: false });
+    let Some(in_threads) = agreed(rt, alloc, script, setting, false, &mixed)? else {
         return Ok(false);
     };
     let Some(decided) = agreed(rt, alloc, script, setting, false, &OpenGate)? else {
         return Ok(false);
     };
-    if agreed(rt, alloc, script, setting, true, &Apart)?.is_none() {
+    let Some(kept) = agreed(rt, alloc, script, setting, false, &keeping)? else {
+        return Ok(false);
+    };
+    if agreed(rt, alloc, script, setting, true, &mixed)?.is_none() {
         return Ok(false);
     }
-    orders.add(script, in_threads, decided);
+    orders.add(script, in_threads, decided, kept);
     Ok(true)
 }
 
-/// Draws a trace of a kind, counts it and runs it. Whether all reports were the wanted ones.
+/// Counts a trace and runs it. Whether all reports were the wanted ones.
 fn run_one<R: Threads + Wait + Sync>(
     rt: &R,
     alloc: Global,
-    random: &mut Random,
-    kind: Kind,
+    trial: &Trial,
     counts: &mut Counts,
     orders: &mut Orders,
 ) -> Result<bool, AllocError> {
-    let trial = drawn(alloc, random, kind)?;
-    counts.add(&trial);
+    counts.add(trial);
     run_each_way(rt, alloc, &trial.script, &trial.lines, orders)
 }
 
@@ -108,10 +116,10 @@ fn run<R: Print + Eprint + Threads + Wait + Sync>(
     run_all(rt, alloc, kind, traces, &mut counts, &mut orders)?;
     print_orders(rt, name, other, orders)?;
     print_counts(rt, name, counts)?;
-    Ok(orders.is_whole(traces))
+    Ok(orders.is_whole(traces.saturating_add(1)))
 }
 
-/// Runs n traces of a kind, and prints which of them have reports that are not the wanted ones.
+/// Runs n traces of a kind and a long one, and prints which of them have reports that are not the wanted ones.
 fn run_all<R: Print + Threads + Wait + Sync>(
     rt: &R,
     alloc: Global,
@@ -121,29 +129,29 @@ fn run_all<R: Print + Threads + Wait + Sync>(
     orders: &mut Orders,
 ) -> io::Result<()> {
     let mut random = Random::new(SEED);
+    let (name, _) = names_of(kind);
     for number in 1..=traces {
-        if !run_one(rt, alloc, &mut random, kind, counts, orders)? {
-            let (name, _) = names_of(kind);
+        let trial = drawn(alloc, &mut random, kind)?;
+        if !run_one(rt, alloc, &trial, counts, orders)? {
             println!(rt; "{name}: trace {number} differs")?;
         }
+    }
+    let trial = drawn_long(alloc, &mut random, kind)?;
+    if !run_one(rt, alloc, &trial, counts, orders)? {
+        println!(rt; "{name}: the long trace differs")?;
     }
     Ok(())
 }
 
-/// Draws a trace of calls, counts it and runs it. Whether all reports were the plain program's.
+/// Counts a trace of calls and runs it. Whether all reports were the plain program's.
 fn run_one_of_calls<R: Threads + Wait + Sync>(
     rt: &R,
     alloc: Global,
-    random: &mut Random,
+    drawn: &Drawn,
     counts: &mut CallCounts,
     orders: &mut Orders,
-    verdicts: &mut Verdicts,
 ) -> Result<bool, AllocError> {
-    let drawn = draw_traffic(alloc, random, EVENTS)?;
-    counts.add(&drawn);
-    if !verdicts.add(rt, alloc, &drawn.script, &drawn.setting)? {
-        return Ok(false);
-    }
+    counts.add(drawn);
     run_each_way(rt, alloc, &drawn.script, &drawn.setting, orders)
 }
 
@@ -160,10 +168,11 @@ fn run_calls<R: Print + Eprint + Threads + Wait + Sync>(
     run_all_of_calls(rt, alloc, traces, &mut counts, &mut orders, &mut verdicts)?;
     print_orders(rt, "calls", "plain program", orders)?;
     print_calls(rt, &counts, &verdicts)?;
-    Ok(orders.is_whole(traces) && counts.is_whole() && verdicts.is_whole())
+    Ok(orders.is_whole(traces.saturating_add(1)) && counts.is_whole() && verdicts.is_whole())
 }
 
-/// Runs n traces of calls, and prints which of them have reports that are not the plain program's.
+/// Runs n traces of calls and a long one, and prints which of them have reports that are not the plain program's. The
+/// verifier is given changed reports of the n.
 fn run_all_of_calls<R: Print + Threads + Wait + Sync>(
     rt: &R,
     alloc: Global,
@@ -174,9 +183,16 @@ fn run_all_of_calls<R: Print + Threads + Wait + Sync>(
 ) -> io::Result<()> {
     let mut random = Random::new(SEED);
     for number in 1..=traces {
-        if !run_one_of_calls(rt, alloc, &mut random, counts, orders, verdicts)? {
+        let drawn = draw_traffic(alloc, &mut random, EVENTS)?;
+        if !verdicts.add(rt, alloc, &drawn.script, &drawn.setting)?
+            || !run_one_of_calls(rt, alloc, &drawn, counts, orders)?
+        {
             println!(rt; "calls: trace {number} differs")?;
         }
+    }
+    let drawn = draw_long_traffic(alloc, &mut random, LONG_EVENTS)?;
+    if !run_one_of_calls(rt, alloc, &drawn, counts, orders)? {
+        println!(rt; "calls: the long trace differs")?;
     }
     Ok(())
 }

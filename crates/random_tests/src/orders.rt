@@ -1,8 +1,10 @@
 use crate::changes::ChangeCounts;
+use call_processor::MAX_TURN_EVENTS;
 use segment_run::FEWEST_BESIDE;
 use std::alloc::{AllocError, Global};
 use std::cmp::{max, min};
-use test_traffic::{MOST_WORKERS, Post, of_event};
+use test_exchange::PlainEvent;
+use test_traffic::{MOST_WORKERS, Post, Script, of_event};
 
 /// What is said of the order that a run took its events in, and of its changes of meters.
 #[derive(Clone, Copy)]
@@ -11,6 +13,9 @@ pub struct Taken {
     pub is_file_order: bool,
     /// Whether each segment of too few events for threads has its events in the order of the file.
     pub keeps_file_order: bool,
+    /// Whether each call processor has its events of a segment in turns of [`MAX_TURN_EVENTS`] consecutive ones, the
+    /// last turn with the rest.
+    pub keeps_turns: bool,
     /// How many such segments there are.
     pub alone: u32,
     /// How many others there are.
@@ -23,16 +28,18 @@ impl Taken {
     /// What is said of a lawful order of these events, with these changes.
     pub fn of(
         alloc: Global,
-        posts: &[Post],
+        script: &Script,
         order: &[u32],
         changes: ChangeCounts,
     ) -> Result<Taken, AllocError> {
+        let posts = script.posts.as_slice();
         let few = few_beside(alloc, posts)?;
         let alone = u32::try_from(few.iter().filter(|few| **few).count()).unwrap_or(u32::MAX);
         let segments = u32::try_from(few.len()).unwrap_or(u32::MAX);
         Ok(Taken {
             is_file_order: is_file_order(order),
             keeps_file_order: keeps_file_order(posts, few.as_slice(), order),
+            keeps_turns: keeps_turns(script, order),
             alone,
             apart: segments.saturating_sub(alone),
             changes,
@@ -101,6 +108,32 @@ fn is_within(posts: &[Post], few: &[bool], one: u32, next: u32) -> bool {
         return false;
     };
     one.segment == next.segment && few.get(one.segment as usize).map_or(false, |few| *few)
+}
+
+// Whether no other worker has an event within a turn of a call processor. Each turn of the frame worker has one event.
+fn keeps_turns(script: &Script, order: &[u32]) -> bool {
+    let (posts, events) = (script.posts.as_slice(), script.events.as_slice());
+    let mut segment = 0;
+    let mut latest = None;
+    let mut done = [0u32; MOST_WORKERS];
+    for number in order {
+        let (Some(post), Some(event)) = (of_event(posts, *number), of_event(events, *number)) else {
+            return false;
+        };
+        if post.segment != segment {
+            (segment, latest, done) = (post.segment, None, [0; MOST_WORKERS]);
+        }
+        let Some(count) = done.get_mut(usize::from(post.worker)) else {
+            return false;
+        };
+        let begins = *count % MAX_TURN_EVENTS == 0 || matches!(event, PlainEvent::Frame(_));
+        if !begins && latest != Some(post.worker) {
+            return false;
+        }
+        *count = count.saturating_add(1);
+        latest = Some(post.worker);
+    }
+    true
 }
 
 // Whether an order is the file's.

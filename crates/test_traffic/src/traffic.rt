@@ -109,12 +109,16 @@ fn append_tone(text: &mut String, name: &str, octets: &[u8]) -> Result<(), Alloc
     text.push_str("\n")
 }
 
-// A timer: mostly of a few frames, else of the usual number or of the most that a trace can give.
+// A timer: mostly of a few frames, otherwise of the usual number, of the most that a trace can give, or of nearly one or
+// two rounds of the places of a line.
 fn draw_timer(random: &mut Random, usual: u32) -> u32 {
-    match random.below(8) {
+    let near = 1 + u32::from(random.below(3));
+    match random.below(10) {
         0 => usual,
         1 => 999_999_999,
-        _ => 1 + u32::from(random.below(3)),
+        2 => 28 + near,
+        3 => 58 + near,
+        _ => near,
     }
 }
 
@@ -176,6 +180,7 @@ pub struct Setting {
 }
 
 impl Setting {
+    // For one to eight external lines.
     fn draw(alloc: Global, random: &mut Random) -> Result<Setting, AllocError> {
         let external = match random.below(6) {
             0 => 1,
@@ -184,6 +189,11 @@ impl Setting {
             3 => 8,
             _ => 4,
         };
+        Setting::draw_for(alloc, random, external)
+    }
+
+    // For n external lines.
+    fn draw_for(alloc: Global, random: &mut Random, external: u8) -> Result<Setting, AllocError> {
         Ok(Setting {
             external,
             bridges: random.below(3),
@@ -260,6 +270,24 @@ pub fn draw_traffic(alloc: Global, random: &mut Random, events: u32) -> Result<D
     for number in 0..events {
         let event = draft.next_event(alloc, random, &mut pauses, crowd, number)?;
         draft.take(alloc, event, random.once_in(pace))?;
+    }
+    Ok(draft.drawn(setting))
+}
+
+/// Draws a trace of n events in one segment, for four call processors and as many lines, as [`draw_traffic`] draws a
+/// trace without runs of frames.
+pub fn draw_long_traffic(
+    alloc: Global,
+    random: &mut Random,
+    events: u32,
+) -> Result<Drawn, AllocError> {
+    let setting = Setting::draw_for(alloc, random, 4)?;
+    let mut pauses = Pauses { times: 0, left: 0 };
+    let crowd = Crowd::draw(random, &pauses);
+    let mut draft = Draft::new(alloc, &setting, 4)?;
+    for number in 0..events {
+        let event = draft.next_event(alloc, random, &mut pauses, crowd, number)?;
+        draft.take(alloc, event, false)?;
     }
     Ok(draft.drawn(setting))
 }
