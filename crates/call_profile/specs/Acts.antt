@@ -1,5 +1,5 @@
--- What each act does with the leg that a message is for, and with its peer. Which message is sent when is this exchange's own profile of
--- basic call control (ITU-T Q.931 (05/98), 5.1 to 5.3).
+-- What each act does with the leg that a message is for, and with its peer. Which message is sent when is this
+-- exchange's own profile of basic call control (ITU-T Q.931 (05/98), 5.1 to 5.3).
 use Rattle.std.specs.Prelude.{ℕ, List, [], ◌∷◌, Option, Some, None, is_some}
 use Rattle.circuit_model.specs.declared.circuit.Kind.{Kind}
 use Rattle.q931_codec.specs.declared.kind.MessageKind.{MessageKind}
@@ -28,7 +28,8 @@ disconnect leg cause = record (message_to leg kind.Disconnect) { cause = Some ca
 abbrev pub send_to : Held → OutgoingMessage → Operation
 send_to h message = Send h.slot.line message
 
--- the same message, with a progress indicator exactly where the slot of its user gets a tone: there is something to be heard
+-- the same message, with a progress indicator if and only if the slot of its user gets a tone: there is something to be
+-- heard
 abbrev pub with_progress : Option Kind → OutgoingMessage → OutgoingMessage
 with_progress tone message = record message { progress = is_some tone }
 
@@ -50,7 +51,7 @@ tone_of tones leg = tone_given tones leg.state leg.cause
 
 -- ---- the peer
 
--- the other leg of the call, where there is one, and what is done with it
+-- the other leg of the call, if there is one, and what is done with it
 abbrev pub peer_of : Legs → Peer → Option Held
 peer_of legs peer.Alone = None
 peer_of legs (peer.Leg y) = held_at legs y

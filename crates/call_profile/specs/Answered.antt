@@ -1,4 +1,4 @@
--- An answered call. Source: this exchange's own.
+-- An answered call. Source: this project.
 use Rattle.std.specs.Prelude.{◌≡◌, ◌<◌, ℕ, List, Contains}
 use Rattle.circuit_model.specs.declared.channel.Slot.{Slot}
 use Rattle.circuit_model.specs.declared.circuit.Circuit.TheVariants.{Pair}
@@ -16,7 +16,8 @@ use Rattle.exchange_events.specs.declared.reply.Reply.TheVariants.{Granted}
 use Rattle.exchange_events.specs.Sizes.{Setting}
 use Rattle.call_profile.specs.World.{World}
 
--- once the caller's slot is cleared it and the called slot can be connected, and afterwards they are, both ways, since the next frame
+-- once the caller's slot is cleared it and the called slot can be connected, and afterwards they are, both ways, since
+-- the next frame
 pub record AreConnected (bridges : ℕ) (before afterwards : World) (caller called : Slot) : Type 0 where
   pub allowed : IsAllowed bridges (after before.holding (Clear caller)) (Connect caller called)
   pub there : Contains afterwards.holding.circuits (Pair caller called before.holding.next)

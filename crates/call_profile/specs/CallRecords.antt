@@ -1,4 +1,4 @@
--- What is recorded of calls once their clearing has begun. Source: this exchange's own.
+-- What is recorded of calls once their clearing has begun. Source: this project.
 use Rattle.std.specs.Prelude.{ℕ, ◌==◌, ◌&&◌, not, Bool, false, List, [], ◌∷◌, length, filter_map, Option, Some, None, option_map, option_and_then, if◌then◌else◌}
 use Rattle.std.specs.List.{range_with_len}
 use Rattle.circuit_model.specs.declared.channel.Slot.{Slot}
@@ -37,7 +37,7 @@ abbrev pub since_heard : ℕ → Option Circuit → ℕ
 since_heard next None = next
 since_heard next (Some c) = since_of c
 
--- the first frame of the conversation, where there was one
+-- the first frame of the conversation, if there was one
 abbrev pub conversation_begin : World → Held → ℕ
 conversation_begin w h = if h.leg.state == active then since_heard w.holding.next (heard_by w.holding.circuits h.slot) else w.holding.next
 
@@ -63,7 +63,7 @@ record_at before after cause x = if is_ended before after x then option_and_then
 abbrev pub records : World → World → ℕ → List CallRecord
 records before after cause = filter_map (λ n. record_at before after cause (slot_numbered n)) (range_with_len 0 (length before.legs.held))
 
--- none where no cause is given
+-- none if no cause is given
 abbrev pub records_by : World → World → Option ℕ → List CallRecord
 records_by before after None = []
 records_by before after (Some cause) = records before after cause

@@ -1,4 +1,5 @@
--- What a message makes of the world, from its octets to the octets that are sent and the calls that are recorded. Source: this exchange's own.
+-- What a message makes of the world, from its octets to the octets that are sent and the calls that are recorded.
+-- Source: this project.
 use Rattle.std.specs.Prelude.{ℕ, ◌==◌, ◌&&◌, not, Bool, true, false, List, [], ◌∷◌, Option, Some, None, Ok, Err, Result, if◌then◌else◌}
 use Rattle.q931_codec.specs.declared.kind.MessageKind.{MessageKind}
 use Rattle.q931_codec.specs.declared.kind.MessageKind.TheVariants as kind
@@ -25,8 +26,8 @@ use Rattle.call_profile.specs.World.{World}
 
 -- ---- what is asked for
 
--- what the user of a line has sent: a message for a leg, a SETUP that asks for a call, a message on the call reference of no call, a RESTART
--- that is taken, or something that is not answered
+-- what the user of a line has sent: a message for a leg, a SETUP that asks for a call, a message on the call reference
+-- of no call, a RESTART that is taken, or something that is not answered
 pub data Request : Type 0 where
   For_leg : (held : Held) (message : Message) → Request
   New_call : (setup : Message) → Request
@@ -74,7 +75,7 @@ making_by s w c = making_after_all s.dimensions (making_at w) c.operations
 abbrev pub outcome_by : Setting → World → Course → MessageOutcome
 outcome_by s w c = let m = making_by s w c in record { making = m; recorded = records_by w m.world c.cause }
 
--- the answer to a message, where there is one
+-- the answer to a message, if there is one
 abbrev pub answer_back : ℕ → Option OutgoingMessage → List Operation
 answer_back line None = []
 answer_back line (Some message) = Send line message ∷ []
@@ -95,7 +96,8 @@ outcome_of_octets s w line octets = outcome_for s w line (request_of w.legs line
 
 -- ---- the answer
 
--- what is answered to a message: what is sent, in order; how many live paths were moved, where a connection or a seat was made; and the records
+-- what is answered to a message: what is sent, in order; how many live paths were moved, where a connection or a seat
+-- was made; and the records
 pub record MessageAnswer : Type 0 where
   pub sends : List Signal
   pub moved : Option (ℕ × ℕ)

@@ -1,4 +1,4 @@
--- The calls that end in a run: what meters note. Source: this exchange's own.
+-- The calls that end in a run: what meters note. Source: this project.
 use Rattle.std.specs.Prelude.{ℕ, List, [], ◌∷◌, ◌++◌}
 use Rattle.exchange_events.specs.declared.answer.Kept.{Kept}
 use Rattle.exchange_events.specs.declared.answer.Kept.TheVariants as k

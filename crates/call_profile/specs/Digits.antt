@@ -1,5 +1,5 @@
--- More digits of a number that is dialled in parts: what is dialled by then, the checks in their order, and what is done. Source: ITU-T Q.931
--- (05/98), 5.1.3; which check comes first is this exchange's own profile.
+-- More digits of a number that is dialled in parts: what is dialled by then, the checks in their order, and what is
+-- done. Source: ITU-T Q.931 (05/98), 5.1.3; which check comes first is this exchange's own profile.
 use Rattle.std.specs.Prelude.{◌≡◌, ℕ, ◌||◌, Bool, true, false, List, [], ◌∷◌, ◌++◌, length, drop, nat_lt, is_none, Option, Some, None}
 use Rattle.circuit_model.specs.declared.channel.Slot.{Slot}
 use Rattle.q931_codec.specs.declared.message.Message.{Message}
@@ -18,8 +18,8 @@ use Rattle.call_profile.specs.World.{World, is_full}
 
 -- ---- what is dialled by then
 
--- the octets that a called party number adds to those so far: all of its own where there are none, else those after the first, which says again
--- what kind of number it is
+-- the octets that a called party number adds to those so far: all of its own if there are none, else those after the
+-- first, which says again what kind of number it is
 abbrev pub octets_added : List ℕ → Option (List ℕ) → List ℕ
 octets_added called None = []
 octets_added [] (Some contents) = contents

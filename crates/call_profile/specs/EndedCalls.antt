@@ -1,4 +1,4 @@
--- The record of the call of a leg that begins to be cleared. Source: this exchange's own.
+-- The record of the call of a leg that begins to be cleared. Source: this project.
 use Rattle.std.specs.Prelude.{ℕ, List, [], Option, Some, None, option_and_then, if◌then◌else◌}
 use Rattle.std.specs.List.{cons_option}
 use Rattle.circuit_model.specs.declared.channel.Slot.{Slot}

@@ -1,5 +1,6 @@
--- What the expiry of a leg's timer makes, and the turn of a frame: ITU-T Q.931 (05/98), 9.1, table 9-1, with 5.1.3 (T302), 5.2.5.4 (T303,
--- T310) and 5.3 (T305, T308). When a leg is looked at, and what becomes of the rest of its call, is this exchange's own profile.
+-- What the expiry of a leg's timer makes, and the turn of a frame: ITU-T Q.931 (05/98), 9.1, table 9-1, with 5.1.3
+-- (T302), 5.2.5.4 (T303, T310) and 5.3 (T305, T308). When a leg is looked at, and what becomes of the rest of its call,
+-- is this exchange's own profile.
 use Rattle.std.specs.Prelude.{ℕ, zero, suc, ◌%◌, List, [], ◌∷◌, ◌++◌, Option, Some, None}
 use Rattle.circuit_model.specs.declared.channel.Slot.{Slot}
 use Rattle.circuit_model.specs.FrameInput.{Input}
@@ -91,7 +92,7 @@ expire_slot s frame legs x = expire_leg s frame legs (held_at legs x)
 
 -- ---- a frame's turn
 
--- each frame looks at the legs of one place, so that each leg is looked at in every thirtieth frame
+-- each frame looks at the legs of one place, so that each leg is looked at in every 30th frame
 abbrev pub slot_looked_at : ℕ → ℕ → Slot
 slot_looked_at frame line = record { line = line; place = frame % 30 }
 

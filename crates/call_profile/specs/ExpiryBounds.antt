@@ -1,4 +1,4 @@
--- How much a frame's turn may send and record, and what it leaves as it was. Source: this exchange's own.
+-- How much a frame's turn may send and record, and what it leaves as it was. Source: this project.
 use Rattle.std.specs.Prelude.{◌≡◌, ℕ, ◌*◌, ◌≤◌, ◌%◌, Bool, true, false, List, [], ◌∷◌, length, ◌⊎◌, Some, is_some, IfSome}
 use Rattle.std.specs.List.{filter}
 use Rattle.circuit_model.specs.declared.channel.Slot.{Slot}

@@ -1,4 +1,4 @@
--- The records of a frame, in which calls end because a timer runs out. Source: this exchange's own.
+-- The records of a frame, in which calls end because a timer runs out. Source: this project.
 use Rattle.std.specs.Prelude.{◌≡◌, ◌<◌, List, AllPairs, Contains, Some}
 use Rattle.circuit_model.specs.declared.channel.Slot.{Slot}
 use Rattle.circuit_model.specs.FrameInput.{Input}

@@ -1,4 +1,4 @@
--- Fabrics: what an exchange does without its paths. Source: this exchange's own.
+-- Fabrics: what an exchange does without its paths. Source: this project.
 use Rattle.std.specs.Prelude.{ℕ, List, [], option_map}
 use Rattle.circuit_model.specs.declared.channel.Slot.{Slot}
 use Rattle.circuit_model.specs.declared.circuit.Kind.{Kind}

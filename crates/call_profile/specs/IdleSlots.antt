@@ -1,4 +1,4 @@
--- Which slots are idle. Source: this exchange's own.
+-- Which slots are idle. Source: this project.
 use Rattle.std.specs.Prelude.{ℕ, ◌&&◌, not, Bool, is_none, Option, find}
 use Rattle.circuit_model.specs.declared.channel.Slot.{Slot}
 use Rattle.circuit_model.specs.Circuits.{is_idle, same_slot}

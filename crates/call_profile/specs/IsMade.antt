@@ -1,4 +1,4 @@
--- How a world comes about. Source: this exchange's own.
+-- How a world comes about. Source: this project.
 use Rattle.std.specs.Prelude.{◌≡◌, List, [], ◌∷◌, length, All}
 use Rattle.circuit_model.specs.declared.circuit.Circuit.{Circuit}
 use Rattle.circuit_model.specs.declared.circuit.Circuit.TheVariants.{Pair, Member, Tone}
@@ -21,8 +21,8 @@ HasOctets tones (Pair from to since) = Unit {0}
 HasOctets tones (Member room at since) = Unit {0}
 HasOctets tones (Tone kind to since) = IsGiven tones kind
 
--- a list of allowed commands and boundaries, which name slots of external lines alone, made the circuits and the ports of the world and of
--- each frame so far; and each tone that exists has octets
+-- a list of allowed commands and boundaries, which name slots of external lines alone, made the circuits and the ports
+-- of the world and of each frame so far; and each tone that exists has octets
 pub record IsMade (d : Dimensions) (tones : Tones) (w : World) : Type 0 where
   pub commands : List Command
   pub within : AreWithin d.external commands

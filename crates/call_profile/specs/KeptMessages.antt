@@ -1,5 +1,5 @@
--- From which frame on a leg waits in its state, and the message that is kept to be sent to its user again (ITU-T Q.931 (05/98), 9.1: T303 for
--- SETUP, T308 for RELEASE). Which messages are sent again is this exchange's own profile.
+-- From which frame on a leg waits in its state, and the message that is kept to be sent to its user again (ITU-T Q.931
+-- (05/98), 9.1: T303 for SETUP, T308 for RELEASE). Which messages are sent again is this exchange's own profile.
 use Rattle.std.specs.Prelude.{◌≡◌, ℕ, ◌*◌, ◌≤◌, true, false, List, [], ◌∷◌, length, Option, Some, None, IfSome}
 use Rattle.circuit_model.specs.declared.channel.Slot.{Slot}
 use Rattle.circuit_model.specs.Extent.{IsExternal}
@@ -37,7 +37,7 @@ pub record IsKept (leg : Leg) (octets : List ℕ) : Type 0 where
   pub encoded : octets ≡ encoding message
   pub awaited : IsAwaited leg message
 
--- a message is kept at a slot exactly where its leg is in such a state
+-- a message is kept at a slot if and only if its leg is in such a state
 abbrev pub MayKeep : Option Leg → Option (List ℕ) → Type 0
 MayKeep None None = Unit {0}
 MayKeep None (Some octets) = ⊥

@@ -1,4 +1,4 @@
--- What the exchange does with calls, one operation after another. Source: this exchange's own.
+-- What the exchange does with calls, one operation after another. Source: this project.
 use Rattle.std.specs.Prelude.{ℕ, List, [], ◌∷◌, ◌++◌, Option, Some, None, option_map}
 use Rattle.circuit_model.specs.declared.channel.Slot.{Slot}
 use Rattle.circuit_model.specs.declared.circuit.Kind.{Kind}
@@ -24,7 +24,8 @@ pub data Operation : Type 0 where
   Seat : (x : Slot) (room : ℕ) → Operation
   -- the slot gets this tone, if there is one
   Sound : (x : Slot) (kind : Option Kind) → Operation
-  -- the slot is held by this leg from the next frame on, in place of any other, and no number is pending there and no message kept
+  -- the slot is held by this leg from the next frame on, in place of any other, and no number is pending there and no
+  -- message kept
   Put : (x : Slot) (leg : Leg) → Operation
   -- the same, and its number is pending
   Wait : (x : Slot) (leg : Leg) (pending : Pending) → Operation
@@ -37,7 +38,8 @@ pub data Operation : Type 0 where
   -- a message goes to the user of a line
   Send : (line : ℕ) (message : OutgoingMessage) → Operation
 
--- a world in the making: the world, what was sent so far, and how many live paths were moved where a connection or a seat was made
+-- a world in the making: the world, what was sent so far, and how many live paths were moved where a connection or a
+-- seat was made
 pub record Making : Type 0 where
   pub world : World
   pub sends : List Signal

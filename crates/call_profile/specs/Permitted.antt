@@ -1,4 +1,4 @@
--- What a seat asks of the world. Source: this exchange's own.
+-- What a seat asks of the world. Source: this project.
 use Rattle.std.specs.Prelude.{◌≡◌, ◌*◌, ◌<◌, true, count_by}
 use Rattle.circuit_model.specs.declared.channel.Slot.{Slot}
 use Rattle.circuit_model.specs.Circuits.{is_idle, is_member}

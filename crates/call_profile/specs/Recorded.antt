@@ -1,4 +1,4 @@
--- The calls that a message ends, by the legs before and after it. Source: this exchange's own.
+-- The calls that a message ends, by the legs before and after it. Source: this project.
 use Rattle.std.specs.Prelude.{◌≡◌, ℕ, ◌<◌, nat_lt, true, false, List, AllPairs, Contains, Option, Some, None, if◌then◌else◌}
 use Rattle.circuit_model.specs.Extent.{IsExternal}
 use Rattle.q931_codec.specs.Causes.{temporary_failure}
@@ -55,7 +55,7 @@ IsRecorded s w line octets h = (told : CallRecord) × IsRecordOf s w line octets
 abbrev pub RestartsNothing : World → ℕ → List ℕ → Type 0
 RestartsNothing w line octets = (r : Restart) → ¬ (request_of w.legs line octets ≡ Restarts r)
 
--- the place of a party's slot where a RESTART on a line restarts it; beyond all places where it does not
+-- the place of a party's slot where a RESTART on a line restarts it; beyond all places if it does not
 abbrev pub restarted_place : Restart → ℕ → Party → ℕ
 restarted_place r line (party.Line x) = if restarts_slot r line x then x.place else 30
 restarted_place r line (party.Room room) = 30

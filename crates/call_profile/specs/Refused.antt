@@ -1,4 +1,4 @@
--- What is refused, by the answer. Source: this exchange's own.
+-- What is refused, by the answer. Source: this project.
 use Rattle.std.specs.Prelude.{◌≡◌, ℕ, ◌*◌, ◌<◌, Bool, true, false, List, [], ◌∷◌, Some, None}
 use Rattle.circuit_model.specs.declared.channel.Slot.{Slot}
 use Rattle.circuit_model.specs.Ports.{Ports, owner_of}
@@ -18,7 +18,7 @@ refuses NoPort = true
 refuses NotNailed = true
 refuses _ = false
 
--- each of the thirty ports of n bridge lines has a member
+-- each of the 30 ports of n bridge lines has a member
 abbrev pub AllAreTaken : ℕ → Ports → Type 0
 AllAreTaken bridges ports = (k : ℕ) → k < 30 * bridges → (x : Slot) × (owner_of ports k ≡ Some x)
 

@@ -23,7 +23,8 @@ pub record IsRestart (s : Setting) (w : World) (line : ℕ) (octets : List ℕ) 
   pub line_exists : line < s.dimensions.external
   pub restarts : request_of w.legs line octets ≡ Restarts r
 
--- a leg at a slot that isn't restarted: where the other leg of its call was at one that is, it is cleared with cause 41, temporary failure
+-- a leg at a slot that isn't restarted: where the other leg of its call was at one that is, it is cleared with cause
+-- 41, temporary failure
 abbrev pub left_with : Restart → ℕ → World → Leg → Peer → Leg
 left_with r line w leg peer.Alone = leg
 left_with r line w leg (peer.Leg y) = if restarts_slot r line y then begun w (in_disconnect_indication temporary_failure leg) else leg

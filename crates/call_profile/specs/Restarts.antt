@@ -1,4 +1,5 @@
--- What a RESTART makes: slot by slot. Source: ITU-T Q.931 (05/98), 5.5; what becomes of the calls is this exchange's own profile.
+-- What a RESTART makes: slot by slot. Source: ITU-T Q.931 (05/98), 5.5; what becomes of the calls is this exchange's
+-- own profile.
 use Rattle.std.specs.Prelude.{ℕ, zero, suc, ◌==◌, ◌&&◌, Bool, List, [], ◌++◌, Option, Some, None, if◌then◌else◌}
 use Rattle.circuit_model.specs.declared.channel.Slot.{Slot}
 use Rattle.q931_codec.specs.Causes.{temporary_failure}
@@ -20,7 +21,8 @@ use Rattle.call_profile.specs.World.{World}
 abbrev pub restarts_slot : Restart → ℕ → Slot → Bool
 restarts_slot r line x = (x.line == line) && is_restarted r x.place
 
--- the other leg of a call is gone too where its slot is restarted as well, and its user is sent nothing; else it is cleared
+-- the other leg of a call is gone too where its slot is restarted as well, and its user is sent nothing; else it is
+-- cleared
 abbrev pub restart_peer : Tones → Restart → ℕ → Held → List Operation
 restart_peer tones r line other = if restarts_slot r line other.slot then remove_leg other else clear_with tones temporary_failure other
 

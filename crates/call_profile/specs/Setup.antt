@@ -1,5 +1,5 @@
--- SETUP: the checks in their order, and what is chosen. Which check comes first, and what is chosen, is this exchange's own profile of ITU-T
--- Q.931 (05/98), 5.1 and 5.2.
+-- SETUP: the checks in their order, and what is chosen. Which check comes first, and what is chosen, is this exchange's
+-- own profile of ITU-T Q.931 (05/98), 5.1 and 5.2.
 use Rattle.std.specs.Prelude.{ℕ, ◌&&◌, Bool, true, false, List, [], ◌∷◌, ◌++◌, Option, Some, None, is_none, not, option_map, option_and_then, unwrap_or, if◌then◌else◌}
 use Rattle.std.specs.Option.{option_or}
 use Rattle.circuit_model.specs.declared.channel.Slot.{Slot}
@@ -73,7 +73,7 @@ slot_asked line (Some Invalid) = None
 abbrev pub if_idle : World → Slot → Option Slot
 if_idle w x = if idle w x then Some x else None
 
--- the caller's slot is the named one where it is idle, else the line's lowest idle slot
+-- the caller's slot is the named one if it is idle, else the line's lowest idle slot
 abbrev pub caller_slot : World → ℕ → Option ChannelIdentification → Option Slot
 caller_slot w line channel = option_or (option_and_then (if_idle w) (slot_asked line channel)) (lowest_idle w line)
 
@@ -123,7 +123,7 @@ abbrev pub is_incomplete : Found → Bool
 is_incomplete More = true
 is_incomplete _ = false
 
--- what the plan knows of the number; one that isn't complete is refused where nothing more of it comes
+-- what the plan knows of the number; one that isn't complete is refused if nothing more of it comes
 abbrev pub number_checks : Found → Bool → List Check
 number_checks target complete =
     (is_unknown target, unallocated_number)
@@ -172,7 +172,8 @@ first_cause ((fails, cause) ∷ others) = if fails then Some cause else first_ca
 abbrev pub refusal : Setting → World → ℕ → Message → Option ℕ
 refusal s w line m = first_cause (checks s w line m)
 
--- ---- what an accepted call makes. A caller learns its channel in the first answer to its SETUP (5.1.2, 5.1.3), and in no later one
+-- ---- what an accepted call makes. A caller learns its channel in the first answer to its SETUP (5.1.2, 5.1.3), and in
+-- no later one
 
 -- a leg of a new call, before it holds a slot
 abbrev pub caller_leg : ℕ → ℕ → Peer → Leg

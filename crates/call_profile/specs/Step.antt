@@ -1,4 +1,4 @@
--- The exchange as a machine: what each event makes of the world, and what it is answered. Source: this exchange's own.
+-- The exchange as a machine: what each event makes of the world, and what it is answered. Source: this project.
 use Rattle.std.specs.Prelude.{ℕ, ◌≤◌, ◌&&◌, not, Bool, List, [], ◌∷◌, filter_map, IfSome, if◌then◌else◌}
 use Rattle.circuit_model.specs.declared.channel.Slot.{Slot}
 use Rattle.circuit_model.specs.Holding.{Connect, Seat as Take_seat, Clear}
@@ -15,7 +15,7 @@ use Rattle.exchange_events.specs.Sizes.{Setting, Dimensions}
 use Rattle.call_profile.specs.Restarts.{MessageOutcome}
 use Rattle.call_profile.specs.World.{World, obey, is_full, nail_reply, seat_reply}
 
--- two slots can be nailed together where both are idle; one can be seated where it is idle and a port is free
+-- two slots can be nailed together where both are idle; one can be seated if it is idle and a port is free
 abbrev pub may_nail : World → Slot → Slot → Bool
 may_nail w x y = idle w x && idle w y
 
@@ -41,7 +41,7 @@ reply s w (Free x) = if is_nailed w x then Freed else NotNailed
 reply s w (Message line octets) = message_reply (answer_to s w line octets)
 reply s w (Frame input) = frame_reply w.holding.next (outcome_of_frame s w input)
 
--- what an event makes of the world; where it is refused, nothing
+-- what an event makes of the world; if it is refused, nothing
 abbrev pub next : Setting → World → Event → World
 next s w (Nail x y) = if may_nail w x y then obey s.dimensions w (Connect x y) else w
 next s w (Seat x room) = if may_seat s.dimensions w x then obey s.dimensions w (Take_seat x room) else w

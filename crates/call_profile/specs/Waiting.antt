@@ -1,4 +1,5 @@
--- Numbers that are dialled in parts (overlap sending). Source: ITU-T Q.931 (05/98), 5.1.3; the rest is this exchange's own.
+-- Numbers that are dialled in parts (overlap sending). Source: ITU-T Q.931 (05/98), 5.1.3; the rest is this exchange's
+-- own.
 use Rattle.std.specs.Prelude.{◌≡◌, ◌≢◌, ℕ, ◌*◌, List, length, Option, Some, None, option_map}
 use Rattle.circuit_model.specs.declared.channel.Slot.{Slot}
 use Rattle.circuit_model.specs.Circuits.{heard_by}
@@ -17,7 +18,8 @@ use Rattle.call_profile.specs.Legs.{Legs, leg_at, pending_at}
 use Rattle.call_profile.specs.World.{World}
 use Rattle.exchange_events.specs.Sizes.{Setting}
 
--- a leg in overlap sending: a caller's, alone; the digits that were dialled so far are the beginning of a number, and not the whole of one
+-- a leg in overlap sending: a caller's, alone; the digits that were dialled so far are the beginning of a number, and
+-- not the whole of one
 pub record IsWaiting (plan : List Number) (leg : Leg) (p : Pending) : Type 0 where
   pub state : leg.state ≡ overlap_sending
   pub calls : leg.side ≡ Caller
@@ -25,7 +27,7 @@ pub record IsWaiting (plan : List Number) (leg : Leg) (p : Pending) : Type 0 whe
   pub dialled : option_map (found_for plan) (dialled_digits p.called) ≡ Some More
   pub fits : FitsElements p
 
--- a number is pending at a slot exactly where its leg is in overlap sending
+-- a number is pending at a slot if and only if its leg is in overlap sending
 abbrev pub MayWait : List Number → Option Leg → Option Pending → Type 0
 MayWait plan None None = Unit {0}
 MayWait plan None (Some p) = ⊥

@@ -1,4 +1,4 @@
--- Worked calls, on which the definitions are evaluated. Source: this exchange's own.
+-- Worked calls, on which the definitions are evaluated. Source: this project.
 use Rattle.std.specs.Prelude.{ℕ, ◌+◌, ◌*◌, true, false, List, [], ◌∷◌, ◌++◌, map, replicate, Some, None}
 use Rattle.std.specs.List.{range_with_len}
 use Rattle.circuit_model.specs.declared.channel.Slot.{Slot}
@@ -50,8 +50,8 @@ at line place = record { line = line; place = place }
 abbrev pub to : ℕ → List ℕ → Signal
 to line octets = record { line = line; octets = octets }
 
--- a message whose answer is these messages alone; one that has connected two slots, or seated one, and moved no path; and one that has
--- ended a call
+-- a message whose answer is these messages alone; one that has connected two slots, or seated one, and moved no path;
+-- and one that has ended a call
 abbrev pub sends_reply : List Signal → Reply
 sends_reply sends = Sent_reply sends None []
 
@@ -65,7 +65,8 @@ records_reply sends told = Sent_reply sends None (told ∷ [])
 abbrev pub quiet_frame : Event
 quiet_frame = Frame (None ∷ None ∷ [])
 
--- line 0 calls number 101, which is line 1's; the called user is alerted and answers, three frames pass, and the caller clears
+-- line 0 calls number 101, which is line 1's; the called user is alerted and answers, three frames pass, and the caller
+-- clears
 abbrev pub whole_call : List Event
 whole_call =
     Message 0 (0x08 ∷ 0x02 ∷ 0x00 ∷ 0x01 ∷ 0x05 ∷ 0x04 ∷ 0x03 ∷ 0x80 ∷ 0x90 ∷ 0xA3 ∷ 0x18 ∷ 0x03 ∷ 0xA9 ∷ 0x83 ∷ 0x81 ∷ 0x70 ∷ 0x04 ∷ 0x80 ∷ 0x31 ∷ 0x30 ∷ 0x31 ∷ [])
@@ -94,7 +95,8 @@ whole_call_answered =
     ∷ sends_reply []
     ∷ []
 
--- the channel that is asked for is nailed: a call that asks for it alone is refused, one that prefers it gets another; and a number that the plan doesn't know
+-- the channel that is asked for is nailed: a call that asks for it alone is refused, one that prefers it gets another;
+-- and a number that the plan doesn't know
 abbrev pub refused_or_moved : List Event
 refused_or_moved =
     Nail (at 0 0) (at 1 0)
@@ -136,8 +138,8 @@ clear_collision_answered =
     ∷ sends_reply (to 0 (0x08 ∷ 0x02 ∷ 0x80 ∷ 0x01 ∷ 0x7D ∷ 0x08 ∷ 0x02 ∷ 0x82 ∷ 0x9E ∷ 0x14 ∷ 0x01 ∷ 0x00 ∷ []) ∷ [])
     ∷ []
 
--- on a call reference of no call: STATUS ENQUIRY, RELEASE from the called side, RELEASE COMPLETE, and a SETUP from the called side; and on the
--- global call reference STATUS ENQUIRY
+-- on a call reference of no call: STATUS ENQUIRY, RELEASE from the called side, RELEASE COMPLETE, and a SETUP from the
+-- called side; and on the global call reference STATUS ENQUIRY
 abbrev pub without_call : List Event
 without_call =
     Message 0 (0x08 ∷ 0x02 ∷ 0x00 ∷ 0x01 ∷ 0x75 ∷ [])
@@ -190,11 +192,12 @@ call_to_room_answered =
     connected (to 0 (0x08 ∷ 0x02 ∷ 0x80 ∷ 0x01 ∷ 0x02 ∷ 0x18 ∷ 0x03 ∷ 0xA9 ∷ 0x83 ∷ 0x81 ∷ []) ∷ to 0 (0x08 ∷ 0x02 ∷ 0x80 ∷ 0x01 ∷ 0x07 ∷ []) ∷ [])
     ∷ []
 
--- the same where there is no bridge line, and so no port
+-- the same if there is no bridge line, and so no port
 abbrev pub no_port_answered : List Reply
 no_port_answered = sends_reply (to 0 (0x08 ∷ 0x02 ∷ 0x80 ∷ 0x01 ∷ 0x5A ∷ 0x08 ∷ 0x02 ∷ 0x82 ∷ 0xAA ∷ []) ∷ []) ∷ []
 
--- messages that the caller's state doesn't expect, a type that is unknown, and a SETUP on a call reference that is in use
+-- messages that the caller's state doesn't expect, a type that is unknown, and a SETUP on a call reference that is in
+-- use
 abbrev pub unexpected : List Event
 unexpected =
     Message 0 (0x08 ∷ 0x02 ∷ 0x00 ∷ 0x01 ∷ 0x05 ∷ 0x04 ∷ 0x03 ∷ 0x80 ∷ 0x90 ∷ 0xA3 ∷ 0x18 ∷ 0x03 ∷ 0xA9 ∷ 0x83 ∷ 0x81 ∷ 0x70 ∷ 0x04 ∷ 0x80 ∷ 0x31 ∷ 0x30 ∷ 0x31 ∷ [])
@@ -211,7 +214,7 @@ unexpected_answered =
     ∷ sends_reply []
     ∷ []
 
--- the thirty slots of line 1 are connected among themselves, and line 0 calls it
+-- the 30 slots of line 1 are connected among themselves, and line 0 calls it
 abbrev pub line_full : List Event
 line_full =
     map (λ k. Nail (at 1 (2 * k)) (at 1 (2 * k + 1))) (range_with_len 0 15)
@@ -221,7 +224,8 @@ line_full =
 abbrev pub line_full_answered : List Reply
 line_full_answered = replicate 15 (Granted 0 0) ++ sends_reply (to 0 (0x08 ∷ 0x02 ∷ 0x80 ∷ 0x01 ∷ 0x5A ∷ 0x08 ∷ 0x02 ∷ 0x82 ∷ 0xA2 ∷ []) ∷ []) ∷ []
 
--- line 1 restarts its interface while line 0's user calls it: the caller is cleared with cause 41; and a line on which no leg is restarts one channel
+-- line 1 restarts its interface while line 0's user calls it: the caller is cleared with cause 41; and a line on which
+-- no leg is restarts one channel
 abbrev pub restart_of_called : List Event
 restart_of_called =
     Message 0 (0x08 ∷ 0x02 ∷ 0x00 ∷ 0x01 ∷ 0x05 ∷ 0x04 ∷ 0x03 ∷ 0x80 ∷ 0x90 ∷ 0xA3 ∷ 0x18 ∷ 0x03 ∷ 0xA9 ∷ 0x83 ∷ 0x81 ∷ 0x70 ∷ 0x04 ∷ 0x80 ∷ 0x31 ∷ 0x30 ∷ 0x31 ∷ [])

@@ -1,4 +1,5 @@
--- Worked expiries of timers, on which the definitions are evaluated. Source: this exchange's own; the octets are from ITU-T Q.931 (05/98), section 4.
+-- Worked expiries of timers, on which the definitions are evaluated. Source: this project; the octets are from ITU-T
+-- Q.931 (05/98), section 4.
 use Rattle.std.specs.Prelude.{ℕ, false, List, [], ◌∷◌, ◌++◌}
 use Rattle.number_plan.specs.declared.target.Target.TheVariants as target
 use Rattle.exchange_events.specs.declared.record.CallRecord.{CallRecord}
@@ -74,7 +75,8 @@ proceeds =
 abbrev pub proceeding_over : Reply
 proceeding_over = ended_in 30 (to 1 (0x08 ∷ 0x02 ∷ 0x00 ∷ 0x01 ∷ 0x45 ∷ 0x08 ∷ 0x02 ∷ 0x82 ∷ 0xE6 ∷ []) ∷ to 0 (0x08 ∷ 0x02 ∷ 0x80 ∷ 0x01 ∷ 0x45 ∷ 0x08 ∷ 0x02 ∷ 0x82 ∷ 0x92 ∷ []) ∷ []) (unanswered 31)
 
--- the user of each line calls the other line on channel 2, so that both called legs are at place 0, and both called users proceed
+-- the user of each line calls the other line on channel 2, so that both called legs are at place 0, and both called
+-- users proceed
 abbrev pub both_proceed : List Event
 both_proceed =
     Message 0 (0x08 ∷ 0x02 ∷ 0x00 ∷ 0x01 ∷ 0x05 ∷ 0x04 ∷ 0x03 ∷ 0x80 ∷ 0x90 ∷ 0xA3 ∷ 0x18 ∷ 0x03 ∷ 0xA9 ∷ 0x83 ∷ 0x82 ∷ 0x70 ∷ 0x04 ∷ 0x80 ∷ 0x31 ∷ 0x30 ∷ 0x31 ∷ [])

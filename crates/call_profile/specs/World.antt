@@ -1,4 +1,5 @@
--- What the exchange holds, and what commands make of it. Source: this exchange's own; the paths join the layout by Paull's rule.
+-- What the exchange holds, and what commands make of it. Source: this project; the paths join the layout by Paull's
+-- rule.
 use Rattle.std.specs.Prelude.{ℕ, ◌+◌, ◌*◌, ◌==◌, Bool, List, [], ◌∷◌, ◌++◌, count_by, replicate, Option, Some, None}
 use Rattle.circuit_model.specs.declared.channel.Slot.{Slot}
 use Rattle.circuit_model.specs.declared.circuit.Circuit.{Circuit}
@@ -17,8 +18,8 @@ use Rattle.exchange_events.specs.declared.reply.Reply.TheVariants.{Granted, Seat
 abbrev pub exchange_lines : Dimensions → ℕ
 exchange_lines d = d.external + d.bridges
 
--- what the exchange holds: the live circuits, the legs of the calls, the member of each conference port and the layout of the paths;
--- and of each frame so far its input, and the circuits and ports at its boundary
+-- what the exchange holds: the live circuits, the legs of the calls, the member of each conference port and the layout
+-- of the paths; and of each frame so far its input, and the circuits and ports at its boundary
 pub record World : Type 0 where
   pub holding : Holding
   pub legs : Legs
@@ -52,8 +53,8 @@ abbrev pub with_port : Dimensions → Layout → Slot → Option Slot → Layout
 with_port d layout x None = layout
 with_port d layout x (Some port) = both_ways d layout x port
 
--- what a command makes of the layout: a connection needs a path each way, a seat one to its member's port and one back; what is cleared
--- takes its paths along
+-- what a command makes of the layout: a connection needs a path each way, a seat one to its member's port and one back;
+-- what is cleared takes its paths along
 abbrev pub layout_after : Dimensions → World → Command → Layout
 layout_after d w (Connect x y) = both_ways d w.layout x y
 layout_after d w (Take_seat x room) = with_port d w.layout x (port_of d.external (ports_with x w.ports) x)
@@ -77,7 +78,8 @@ pass w input = record w {
 abbrev pub is_full : Dimensions → World → Bool
 is_full d w = count_by is_member w.holding.circuits == 30 * d.bridges
 
--- the answer to a connection of x with y, or to a seat at a port: how many live paths were moved for the path there, and for the one back
+-- the answer to a connection of x with y, or to a seat at a port: how many live paths were moved for the path there,
+-- and for the one back
 abbrev pub nail_reply : Dimensions → Layout → Slot → Slot → Reply
 nail_reply d layout x y = Granted (moved layout (one_way d layout x y)) (moved (one_way d layout x y) (both_ways d layout x y))
 

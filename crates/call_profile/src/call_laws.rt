@@ -1,4 +1,4 @@
-//! Laws of calls, and worked calls.
+//! Theorems on calls, and worked calls.
 ghost use Rattle.std.specs.Prelude.{◌≡◌, ◌≢◌, [], ℕ, List, All, None, Some, is_some};
 ghost use Rattle.circuit_model.specs.declared.channel.Slot.{Slot};
 ghost use Rattle.q931_codec.specs.Outgoing.{encoding};

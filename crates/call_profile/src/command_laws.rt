@@ -1,4 +1,4 @@
-//! Laws of the commands of a trace.
+//! Theorems on the commands of a trace.
 ghost use Rattle.std.specs.Prelude.{◌≡◌, ◌↔◌, ℕ, true, Contains};
 ghost use Rattle.circuit_model.specs.declared.channel.Slot.{Slot};
 ghost use Rattle.exchange_events.specs.declared.reply.Reply.TheVariants.{NoPort};
@@ -12,9 +12,9 @@ ghost use Rattle.call_profile.specs.Refused.{refuses, AllAreTaken};
 ghost use Rattle.call_profile.specs.Step.{reply, next};
 ghost use Rattle.call_profile.specs.World.{World, is_full};
 
-/// A command that is answered by a refusal makes nothing of the world: no slot, no leg and no path is
-/// another afterwards. For lack of a port a seat is refused exactly where the slot is idle and there are
-/// as many members as ports, which is where each port has a member, in every world that events make.
+/// A command that is answered by a refusal makes nothing of the world: no slot, no leg and no path is another
+/// afterwards. For lack of a port a seat is refused if and only if the slot is idle and there are as many members as
+/// ports, which is where each port has a member, in every world that events make.
 pub fn law_of_refusals()
     ensures world { (s : Setting) (w : World) (e : Event) → refuses (reply s w e) ≡ true → next s w e ≡ w }
     ensures no_port { (s : Setting) (w : World) (x : Slot) (room : ℕ)

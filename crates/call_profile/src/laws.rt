@@ -1,4 +1,4 @@
-//! Laws of the worlds that events make, and of their frames.
+//! Theorems on the worlds that events make, and of their frames.
 ghost use Rattle.std.specs.Prelude.{◌≡◌, ℕ, ◌<◌, ◌++◌, All, List, length, map};
 ghost use Rattle.circuit_model.specs.declared.channel.Slot.{Slot};
 ghost use Rattle.circuit_model.specs.declared.circuit.Circuit.{Circuit};

@@ -1,4 +1,4 @@
-//! Laws of legs: their call references, what their users get, and what becomes of them.
+//! Theorems on legs: their call references, what their users get, and what becomes of them.
 ghost use Rattle.std.specs.Prelude.{◌≡◌, ◌<◌, ◌≤◌, ℕ, List, length, Contains, Some};
 ghost use Rattle.circuit_model.specs.declared.channel.Slot.{Slot};
 ghost use Rattle.circuit_model.specs.Extent.{IsExternal};
@@ -57,10 +57,10 @@ pub fn law_of_restarts()
         → UnheldStay s.dimensions.external w (after_message s w line octets) }
 {}
 
-/// An answer has the record of a call exactly where a caller's leg left states 3, 4 and 10 by the message,
-/// with the cause that the message gives. That is every such leg, so none of them is without the other
-/// party of its call. The records of a RESTART come by the place of the first restarted leg of their call,
-/// each once; any other message has one record at the most.
+/// An answer has the record of a call if and only if a caller's leg left states 3, 4 and 10 by the message, with the
+/// cause that the message gives. That is every such leg, so none of them is without the other party of its call. The
+/// records of a RESTART come by the place of the first restarted leg of their call, each once; any other message has
+/// one record at the most.
 pub fn law_of_records()
     ensures told { (s : Setting) (w : World) (line : ℕ) (octets : List ℕ) → Arrive s w line octets → (told : CallRecord)
         → Contains (answer_to s w line octets).records told → (h : Held) × IsRecordOf s w line octets h told }

@@ -8,7 +8,7 @@ use circuit_model::Circuit;
 use exchange_events::Party;
 use q931_codec::states::{ACTIVE, CALL_DELIVERED, OUTGOING_CALL_PROCEEDING};
 
-/// Whether a leg is a caller's, of a call whose clearing hasn't begun.
+/// Returns whether a leg is a caller's, of a call whose clearing hasn't begun.
 pub fn is_calling(leg: &Leg) -> bool
     ensures { result ≡ is_calling (Some leg.now) }
 {
@@ -30,7 +30,7 @@ pub fn party_of(peer: Peer) -> Option<Party>
     }
 }
 
-/// The first frame that a circuit exists in.
+/// Returns the first frame that a circuit exists in.
 pub fn since_of(circuit: Circuit) -> u32
     ensures { result ≡ since_of circuit }
 {

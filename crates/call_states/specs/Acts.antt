@@ -1,5 +1,5 @@
--- The call table: which act a message asks of a leg of a call. Which message answers which is this exchange's own profile
--- of basic call control (ITU-T Q.931 (05/98), 5.1 to 5.3, 5.8.4, 5.8.10 and 5.8.11).
+-- The call table: which act a message asks of a leg of a call. Which message answers which is this exchange's own
+-- profile of basic call control (ITU-T Q.931 (05/98), 5.1 to 5.3, 5.8.4, 5.8.10 and 5.8.11).
 use Rattle.std.specs.Prelude.{ℕ, Bool, false, ◌==◌, ◌||◌, List, [], ◌∷◌, Option, Some, None, unwrap_or, if◌then◌else◌}
 use Rattle.q931_elements.specs.InformationElement.{InformationElement}
 use Rattle.q931_codec.specs.declared.kind.MessageKind.{MessageKind}
@@ -55,7 +55,7 @@ act_of state (kind.Unknown octet) cause tells_null = act.Unexpected
 
 -- ---- what the table reads of a message
 
--- the cause of a message; normal call clearing where none is readable
+-- the cause of a message; normal call clearing if none is readable
 abbrev pub clearing_cause : List InformationElement → ℕ
 clearing_cause elements = unwrap_or (cause_in elements) normal_call_clearing
 

@@ -27,7 +27,7 @@ pub enum Act {
     ReleaseComplete(u8),
 }
 
-/// The cause that an act has: the acts that clear a call have one, no other does.
+/// Returns the cause that an act has: the acts that clear a call have one, no other does.
 pub fn cause_of_act(act: Act) -> Option<u8>
     ensures { result ≡ cause_of_act act }
 {

@@ -13,8 +13,7 @@ pub fn law_of_passed_causes()
     ensures { (state : ℕ) (m : Message) → IfSome (cause_of_act (act_on state m)) (λ cause. cause < 128) }
 {}
 
-/// The channels that a channel identification can name are those that have a place among the thirty of
-/// their line.
+/// The channels that a channel identification can name are those that have a place among the 30 of their line.
 pub fn law_of_channels()
     ensures { (channel : ℕ) → is_bearer_channel channel ≡ is_some (place_of channel) }
 {}

@@ -15,8 +15,8 @@ impl Side {
     ghost use Rattle.std.specs.Prelude.{◌≡◌};
     ghost use Rattle.call_states.specs.Status.{flag_to};
 
-    /// The call reference flag of messages to a leg of this side (Q.931, 4.3): true towards the side that
-    /// chose the call reference value.
+    /// Returns the call reference flag of messages to a leg of this side (Q.931, 4.3): true towards the side that chose
+    /// the call reference value.
     pub fn flag(self) -> bool
         ensures { result ≡ flag_to self }
     {

@@ -42,7 +42,7 @@ impl<const MOST: usize> Contents<MOST> {
         }
     }
 
-    /// The octets in the order in which they were received.
+    /// Returns the octets in the order in which they were received.
     pub fn as_slice(&self) -> &[u8]
         ensures octets { result.now ≡ self.now }
         ensures few { length result.now ≤ MOST }

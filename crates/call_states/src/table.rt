@@ -12,8 +12,8 @@ use q931_codec::states::{
 };
 use q931_codec::{Message, MessageKind};
 
-/// What a message asks of a leg, by the call table. A message without a readable cause counts as one
-/// with cause 16, normal call clearing.
+/// Returns what a message asks of a leg, by the call table. A message without a readable cause counts as one with cause
+/// 16, normal call clearing.
 pub fn on_message(leg: &Leg, message: &Message) -> Act
     ensures { result ≡ act_on leg.now.state message.now }
 {

@@ -1,13 +1,13 @@
--- The timers of calls at the network side of an interface: which one runs in a state, and what its expiry asks for (ITU-T Q.931 (05/98),
--- 9.1, table 9-1). Time is counted in frames; a second expiry of T303 and T308 ends the leg.
+-- The timers of calls at the network side of an interface: which one runs in a state, and what its expiry asks for
+-- (ITU-T Q.931 (05/98), 9.1, table 9-1). Time is counted in frames; a second expiry of T303 and T308 ends the leg.
 use Rattle.std.specs.Prelude.{ℕ, ◌+◌, ◌==◌, nat_le, Bool, Option, Some, None, option_and_then, if◌then◌else◌}
 use Rattle.q931_codec.specs.CallStates.{overlap_sending, call_present, incoming_call_proceeding, disconnect_indication, release_request}
 use Rattle.call_timers.specs.declared.expiry.Expiry.{Expiry}
 use Rattle.call_timers.specs.declared.expiry.Expiry.TheVariants as expiry
 use Rattle.call_timers.specs.declared.timers.Timers.{Timers}
 
--- what the expiry of a state's timer asks for, where the state has one; in two states that goes by whether what was sent was sent again
--- already
+-- what the expiry of a state's timer asks for, where the state has one; in two states that goes by whether what was
+-- sent was sent again already
 abbrev pub expiry_in : ℕ → Bool → Option Expiry
 expiry_in state resent =
     if state == overlap_sending then Some expiry.Digits

@@ -27,9 +27,9 @@ pub enum Expiry {
     ReleaseOver,
 }
 
-/// What is due in this frame of a leg in this call state (Q.931, 4.5.7), which has waited since that frame,
-/// and whose SETUP or RELEASE was sent again or not: `Some` exactly where the state has a timer that has
-/// run out, be it in this frame or before it.
+/// Returns what is due in this frame of a leg in this call state (Q.931, 4.5.7), which has waited since that frame, and
+/// whose SETUP or RELEASE was sent again or not: `Some` if and only if the state has a timer that has run out, be it in
+/// this frame or before it.
 pub fn due(state: u8, resent: bool, since: u32, frame: u32, timers: &Timers) -> Option<Expiry>
     ensures { result ≡ due state resent since frame timers.now }
 {
@@ -42,8 +42,8 @@ pub fn due(state: u8, resent: bool, since: u32, frame: u32, timers: &Timers) -> 
     }
 }
 
-/// A frame before which nothing is due of such a leg: the one in which its timer runs out. Where that is none below
-/// 2^32, or the state has no timer, the last number there is.
+/// Returns a frame before which nothing is due of such a leg: the one in which its timer runs out. Where that is none
+/// below 2^32, or the state has no timer, the last number there is.
 pub fn first_due(state: u8, resent: bool, since: u32, timers: &Timers) -> u32
     ensures { (frame : ℕ) → frame < result → due state resent since frame timers.now ≡ None }
 {
@@ -53,7 +53,7 @@ pub fn first_due(state: u8, resent: bool, since: u32, timers: &Timers) -> u32
     }
 }
 
-// What the expiry of the state's timer asks for, where it has one.
+// What the expiry of the state's timer asks for, if it has one.
 fn expiry_in(state: u8, resent: bool) -> Option<Expiry>
     ensures { result ≡ expiry_in state resent }
 {

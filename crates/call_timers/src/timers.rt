@@ -20,7 +20,7 @@ pub struct Timers {
 }
 
 impl Timers {
-    /// The usual timers: 15 seconds, 4, 30, 4 and 10, which are values of table 9-1, in frames.
+    /// Returns the usual timers: 15 seconds, 4, 30, 4 and 10, which are values of table 9-1, in frames.
     pub fn usual() -> Timers
         ensures { result ≡ usual }
     {

@@ -1,4 +1,4 @@
--- What a map of circuits keeps, and the holding that it represents. Source: this exchange's own.
+-- What a map of circuits keeps, and the holding that it represents. Source: this project.
 use Rattle.std.specs.Prelude.{◌≡◌, ◌≢◌, ℕ, ◌+◌, ◌*◌, ◌<◌, ◌≤◌, ◌&&◌, nat_lt, Bool, true, false, List, length, count_by, Option, Some, None, is_some, slice_index_or, option_and_then, if◌then◌else◌}
 use Rattle.circuit_model.specs.declared.channel.Slot.{Slot}
 use Rattle.circuit_model.specs.declared.circuit.Circuit.{Circuit}
@@ -15,7 +15,8 @@ use Rattle.control_memory.specs.Connecting.{connect, moved}
 use Rattle.control_memory.specs.Image.{EachSlot, port_entry}
 use Rattle.control_memory.specs.Shown.{JoinsCircuits, served_by, heard_as, partner, seated_as, without_both}
 
--- for each external slot, line by line, the circuit by which it hears; the member of each conference port; and the layout of the paths
+-- for each external slot, line by line, the circuit by which it hears; the member of each conference port; and the
+-- layout of the paths
 pub record Connections : Type 0 where
   pub external : ℕ
   pub bridges : ℕ
@@ -53,8 +54,8 @@ hears_in external heard x = if nat_lt x.line external && nat_lt x.place 30 then 
 abbrev pub hears_at : Connections → Slot → Option Circuit
 hears_at m x = hears_in m.external m.heard x
 
--- the circuit by which a slot hears after a command, from those before it: who is given a circuit hears by that one, and nobody hears any
--- more by a circuit that names a cleared slot
+-- the circuit by which a slot hears after a command, from those before it: who is given a circuit hears by that one,
+-- and nobody hears any more by a circuit that names a cleared slot
 abbrev pub hears_after : Connections → Command → Slot → Option Circuit
 hears_after m (Connect x y) z = if same_slot z x then Some (Pair y x m.next) else if same_slot z y then Some (Pair x y m.next) else hears_at m z
 hears_after m (Seat x room) z = if same_slot z x then Some (Member room x m.next) else hears_at m z
@@ -68,8 +69,8 @@ seats x (Pair from to since) = false
 seats x (Member room at since) = same_slot x at
 seats x (Tone kind to since) = false
 
--- the connections belong to a valid holding and its ports: each slot hears by its circuit, each member has one port and nobody else
--- has any, and the paths are those that the circuits need
+-- the connections belong to a valid holding and its ports: each slot hears by its circuit, each member has one port and
+-- nobody else has any, and the paths are those that the circuits need
 pub record Represents (m : Connections) (h : Holding) (ports : Ports) : Type 0 where
   pub next : m.next ≡ h.next
   pub valid : Valid m.bridges h
@@ -87,7 +88,8 @@ IsLaid m = Legal (map_lines m) m.slots m.layout
 abbrev pub Obeys : Connections → Connections → Command → Type 0
 Obeys m n command = (h : Holding) (ports : Ports) → Represents m h ports → Represents n (after h command) (ports_after ports command)
 
--- the circuit that a slot serves: an external slot the one by which it hears, a conference port the one that its member hears by
+-- the circuit that a slot serves: an external slot the one by which it hears, a conference port the one that its member
+-- hears by
 abbrev pub served_in : ℕ → List (Option Circuit) → Ports → Slot → Option Circuit
 served_in external heard ports at = option_and_then (hears_in external heard) (served_by external ports at)
 
@@ -99,7 +101,8 @@ room_in external heard ports at = if nat_lt at.line external then None else seat
 abbrev pub entry_at : {X : Type 0} → X → List X → Slot → X
 entry_at missing entries at = slice_index_or entries (number_of at) missing
 
--- what is kept for the next control memory is what each slot hears by the circuit that it serves, and the room that it shows
+-- what is kept for the next control memory is what each slot hears by the circuit that it serves, and the room that it
+-- shows
 pub record IsShown (external bridges : ℕ) (heard : List (Option Circuit)) (ports : Ports) (hearing : List Heard) (sitting : List (Option (ℕ × ℕ))) : Type 0 where
   pub hearers : length hearing ≡ 30 * (external + bridges)
   pub sitters : length sitting ≡ 30 * bridges
@@ -110,8 +113,8 @@ pub record IsShown (external bridges : ℕ) (heard : List (Option Circuit)) (por
 abbrev pub AreRoomed : (Slot → Option Circuit) → List (Option Owner) → Type 0
 AreRoomed hears owners = (k : ℕ) (owner : Owner) → slice_index_or owners k None ≡ Some owner → (since : ℕ) × (hears owner.member ≡ Some (Member owner.room owner.member since))
 
--- how large the parts are, that they belong to some holding, which room each port is owned for, and that what is kept for the next control
--- memory is what they show
+-- how large the parts are, that they belong to some holding, which room each port is owned for, and that what is kept
+-- for the next control memory is what they show
 pub record IsSound (m : Connections) (lines first_line bridge_lines : ℕ) (owners : List (Option Owner)) (hearing : List Heard) (sitting : List (Option (ℕ × ℕ))) : Type 0 where
   pub few : map_lines m ≤ 34
   pub width : lines ≡ map_lines m

@@ -53,7 +53,7 @@ impl<P: PathMap> Model for CircuitMap<P> {
 }
 
 impl<P: PathMap + Drop> CircuitMap<P> {
-    /// No circuit over a map of paths that has none yet, for the given numbers of external and bridge lines.
+    /// Returns no circuit over a map of paths that has none yet, for the given numbers of external and bridge lines.
     /// `AllocError` where memory is lacking.
     pub fn new(
         alloc: Global,
@@ -86,7 +86,7 @@ impl<P: PathMap + Drop> CircuitMap<P> {
 }
 
 impl<P: PathMap> CircuitMap<P> {
-    /// The number of the next frame.
+    /// Returns the number of the next frame.
     pub fn next_frame(&self) -> u32
         ensures number { result ≡ self.now.next }
         ensures laid { IsLaid self.now }
@@ -94,7 +94,7 @@ impl<P: PathMap> CircuitMap<P> {
         self.next
     }
 
-    /// Whether no circuit names an external slot.
+    /// Returns whether no circuit names an external slot.
     pub fn idle(&self, at: Slot) -> bool
         requires external { IsExternal self.now at }
         ensures silent { result ≡ is_none (hears_at self.now at) }
@@ -103,8 +103,8 @@ impl<P: PathMap> CircuitMap<P> {
         self.hears(at).is_none()
     }
 
-    /// The circuit by which an external slot hears: the direction of a connection that ends there,
-    /// its seat in a conference room, or its tone. `None` exactly where it is idle.
+    /// Returns the circuit by which an external slot hears: the direction of a connection that ends there, its seat in
+    /// a conference room, or its tone. `None` if and only if it is idle.
     pub fn hears(&self, at: Slot) -> Option<Circuit>
         requires external { IsExternal self.now at }
         ensures circuit { result ≡ hears_at self.now at }
@@ -114,7 +114,7 @@ impl<P: PathMap> CircuitMap<P> {
         self.heard[at.number()]
     }
 
-    /// Whether every conference port is taken: there are as many members as ports.
+    /// Returns whether every conference port is taken: there are as many members as ports.
     pub fn is_full(&self) -> bool
         ensures { (h : Holding) (ports : Members) → Represents self.now h ports → result ≡ (count_by is_member h.circuits == 30 * self.now.bridges) }
     {
@@ -179,8 +179,8 @@ impl<P: PathMap> CircuitMap<P> {
     /// Seats an idle slot in a conference room, at the lowest free port: connects the member to the
     /// port, and then the port to the member.
     ///
-    /// Answers how many live paths each of the two connects moved. `NoPort` exactly where there are
-    /// as many members as ports; then nothing changes.
+    /// Answers how many live paths each of the two connects moved. `NoPort` if and only if there are as many members as
+    /// ports; then nothing changes.
     pub fn seat(&mut self, x: Slot, room: u8) -> Result<(u32, u32), NoPort>
         requires external { IsExternal self.old x }
         requires idle { hears_at self.old x ≡ None }

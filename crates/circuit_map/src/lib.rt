@@ -3,8 +3,8 @@
 //!
 //! - [`CircuitMap`]'s `pair`, `seat`, `tone` and `clear` make of the holding what the definitions
 //!   say (`holds`); each says by which circuit every slot hears afterwards (`hears`).
-//! - `pair` and `seat` return how many live paths were moved each way (`moves`, `few`). A seat is
-//!   refused exactly where every port is taken (`full`), and then nothing changes (`refused`).
+//! - `pair` and `seat` return how many live paths were moved each way (`moves`, `few`). A seat is refused if and only
+//!   if every port is taken (`full`), and then nothing changes (`refused`).
 //! - `boundary` writes a control memory that shows the circuits, by a legal layout (`shows`).
 //!
 //! It uses `circuit_model`, `control_memory` and `conference_ports`.

@@ -1,5 +1,6 @@
--- The restart procedure: what a RESTART asks for, and the message that acknowledges it (ITU-T Q.931 (05/98), 5.5, 3.4.1 and 3.4.2). Which
--- RESTART is taken is this exchange's own profile: one channel or all of the line, and others are ignored.
+-- The restart procedure: what a RESTART asks for, and the message that acknowledges it (ITU-T Q.931 (05/98), 5.5, 3.4.1
+-- and 3.4.2). Which RESTART is taken is this exchange's own profile: one channel or all of the line, and others are
+-- ignored.
 use Rattle.std.specs.Prelude.{ℕ, ◌<◌, ◌==◌, ◌&&◌, ◌||◌, not, Bool, true, false, Option, Some, None, option_map, option_and_then, if◌then◌else◌}
 use Rattle.circuit_model.specs.Channels.{place_of, channel_at}
 use Rattle.q931_codec.specs.declared.contents.ChannelIdentification.{ChannelIdentification}
@@ -44,7 +45,7 @@ is_restart _ = false
 abbrev pub begins_restart : Message → Bool
 begins_restart m = is_restart m.kind && not m.flag && m.reference == global_call_reference
 
--- what a message asks to be restarted; nothing where it is no RESTART that is taken
+-- what a message asks to be restarted; nothing if it is no RESTART that is taken
 abbrev pub restart_asked : Message → Option Restart
 restart_asked m = if begins_restart m then option_and_then (restart_of_class m) (restart_in m.elements) else None
 
@@ -54,7 +55,7 @@ abbrev pub is_restarted : Restart → ℕ → Bool
 is_restarted (Channel restarted) place = place == restarted
 is_restarted (Interface class) place = true
 
--- the channel that is restarted has one of the thirty places of a line
+-- the channel that is restarted has one of the 30 places of a line
 abbrev pub IsOnLine : Restart → Type 0
 IsOnLine (Channel place) = place < 30
 IsOnLine (Interface class) = Unit {0}

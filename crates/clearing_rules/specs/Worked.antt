@@ -1,4 +1,4 @@
--- The definitions from octets to octets, and worked messages. Source: this exchange's own.
+-- The definitions from octets to octets, and worked messages. Source: this project.
 use Rattle.std.specs.Prelude.{ℕ, List, [], ◌∷◌, Option, None, option_map, Result, Ok, Err}
 use Rattle.q931_codec.specs.declared.message.Message.{Message}
 use Rattle.q931_codec.specs.declared.message.Discard.{Discard}
@@ -12,7 +12,7 @@ abbrev pub answer_to_read : Result Message Discard → Option (List ℕ)
 answer_to_read (Ok m) = option_map encoding (answer_without_call m)
 answer_to_read (Err why) = None
 
--- the octets that answer these where they are on no call, if any do
+-- the octets that answer these if they are on no call, if any do
 abbrev pub answer_to_octets : List ℕ → Option (List ℕ)
 answer_to_octets octets = answer_to_read (reading octets)
 
@@ -89,7 +89,8 @@ restart_17 = 0x08 ∷ 0x02 ∷ 0x00 ∷ 0x00 ∷ 0x46 ∷ 0x18 ∷ 0x03 ∷ 0xA9
 abbrev pub restart_31 : List ℕ
 restart_31 = 0x08 ∷ 0x02 ∷ 0x00 ∷ 0x00 ∷ 0x46 ∷ 0x18 ∷ 0x03 ∷ 0xA1 ∷ 0x83 ∷ 0x9F ∷ 0x79 ∷ 0x01 ∷ 0x80 ∷ []
 
--- and those that are not: of any channel, of channel 16, without an indicator, from the side that did not choose the call reference; and no RESTART
+-- and those that are not: of any channel, of channel 16, without an indicator, from the side that did not choose the
+-- call reference; and no RESTART
 abbrev pub restart_any : List ℕ
 restart_any = 0x08 ∷ 0x02 ∷ 0x00 ∷ 0x00 ∷ 0x46 ∷ 0x18 ∷ 0x01 ∷ 0xA3 ∷ 0x79 ∷ 0x01 ∷ 0x80 ∷ []
 

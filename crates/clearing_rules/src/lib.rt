@@ -3,8 +3,8 @@
 //! The rules are definitions in `specs/`, this exchange's own profile of sections 5.5 and 5.8.3.
 //!
 //! - [`unknown_reference`] returns what answers a message on a call reference that names no leg.
-//! - [`restart`] returns what a message asks to be restarted, and `None` exactly where it is no
-//!   RESTART that is taken (`asked`); [`acknowledgement`] returns the RESTART ACKNOWLEDGE.
+//! - [`restart`] returns what a message asks to be restarted, and `None` if and only if it is no RESTART that is taken
+//!   (`asked`); [`acknowledgement`] returns the RESTART ACKNOWLEDGE.
 //! - Every such answer can be written ([`law_of_answers`]).
 //!
 //! Nothing here allocates.

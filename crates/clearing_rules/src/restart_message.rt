@@ -12,7 +12,7 @@ use q931_codec::{ChannelIdentification, Message, MessageKind, Outgoing};
 /// The call reference value that means all calls of an interface (Q.931, 4.3).
 pub const GLOBAL_CALL_REFERENCE: u16 = 0;
 
-/// What a message asks to be restarted (Q.931, 5.5). `None` for every message that is not a RESTART on the
+/// Returns what a message asks to be restarted (Q.931, 5.5). `None` for every message that is not a RESTART on the
 /// global call reference with flag 0, and for a RESTART
 ///
 /// - without a restart indicator, or with one that is none of 80, 86 and 87;
@@ -35,7 +35,7 @@ pub fn restart(message: &Message) -> Option<Restart>
     }
 }
 
-/// The RESTART ACKNOWLEDGE (Q.931, 3.4.2) for what was restarted: on the global call reference with flag 1,
+/// Returns the RESTART ACKNOWLEDGE (Q.931, 3.4.2) for what was restarted: on the global call reference with flag 1,
 /// with the restart indicator that was received, and the channel where one channel was restarted.
 ///
 /// The place of that channel is below 30, as it is in what [`restart`] gives.

@@ -15,7 +15,7 @@ impl Restart {
     ghost use Rattle.std.specs.Prelude.{◌≡◌};
     ghost use Rattle.clearing_rules.specs.Restarting.{is_restarted};
 
-    /// Whether the bearer channel at this place of the line is restarted.
+    /// Returns whether the bearer channel at this place of the line is restarted.
     pub fn concerns(self, place: u8) -> bool
         ensures { result ≡ is_restarted self place }
     {

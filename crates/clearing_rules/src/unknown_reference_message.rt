@@ -10,9 +10,9 @@ use q931_codec::causes::{INVALID_CALL_REFERENCE, RESPONSE_TO_STATUS_ENQUIRY};
 use q931_codec::states::NULL;
 use q931_codec::{Message, MessageKind, Outgoing};
 
-/// What answers a message on a call reference that names no leg of its line (Q.931, 5.8.3.2). On the global
-/// call reference that is nothing, whatever the message: what a RESTART asks for there
-/// [`restart`](crate::restart) tells. On every other one:
+/// Returns what answers a message on a call reference that names no leg of its line (Q.931, 5.8.3.2). On the global
+/// call reference that is nothing, whatever the message: what a RESTART asks for there [`restart`](crate::restart)
+/// tells. On every other one:
 ///
 /// - STATUS ENQUIRY: a STATUS with cause 30 and state 0, null;
 /// - SETUP, RELEASE COMPLETE, STATUS: nothing. A SETUP with flag 0 asks for a call instead, which is

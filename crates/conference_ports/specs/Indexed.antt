@@ -9,7 +9,8 @@ use Rattle.conference_ports.specs.declared.owner.Owner.{Owner}
 abbrev pub index_of : Slot → ℕ
 index_of at = 30 * at.line + at.place
 
--- the index names each member's port, no port for every other external slot, and each owner is an external slot with that port alone
+-- the index names each member's port, no port for every other external slot, and each owner is an external slot with
+-- that port alone
 pub record IsIndexed (external lines : ℕ) (owners : List (Option Owner)) (ports : List (Option ℕ)) : Type 0 where
   pub few : external + lines ≤ 34
   pub owned : length owners ≡ 30 * lines

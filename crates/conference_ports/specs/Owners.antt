@@ -1,10 +1,11 @@
--- Who has which port of the conference bridges. Source: this exchange's own.
+-- Who has which port of the conference bridges. Source: this project.
 use Rattle.std.specs.Prelude.{ℕ, ◌+◌, ◌-◌, ◌*◌, ◌<◌, ◌≤◌, List, [], ◌∷◌, map, Option, Some, None, if◌then◌else◌}
 use Rattle.circuit_model.specs.declared.channel.Slot.{Slot}
 use Rattle.circuit_model.specs.Ports.{Ports, has}
 use Rattle.conference_ports.specs.declared.owner.Owner.{Owner}
 
--- the ports of n bridge lines, which are numbered behind the external lines: for each port, by line and then by place, its owner
+-- the ports of n bridge lines, which are numbered behind the external lines: for each port, by line and then by place,
+-- its owner
 pub record Bridges : Type 0 where
   pub external : ℕ
   pub lines : ℕ

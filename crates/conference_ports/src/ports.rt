@@ -36,8 +36,8 @@ impl Model for Ports {
 }
 
 impl Ports {
-    /// All ports free: thirty on each of n bridge lines, which are numbered from
-    /// `first_line` on, behind the external lines.
+    /// Returns all ports free: 30 on each of n bridge lines, which are numbered from `first_line` on, behind the
+    /// external lines.
     pub fn new(alloc: Global, first_line: u8, lines: u8) -> Result<Ports, AllocError>
         requires { first_line + lines ≤ 34 }
         ensures external { IfOk result (λ p. p.external ≡ first_line) }
@@ -52,8 +52,8 @@ impl Ports {
         })
     }
 
-    /// Gives the member the lowest free port by line, then place. `None` exactly where every port
-    /// is taken; then nothing changes.
+    /// Gives the member the lowest free port by line, then place. `None` if and only if every port is taken; then
+    /// nothing changes.
     pub fn take(&mut self, room: u8, member: Slot) -> Option<Slot>
         requires external { IsMemberSlot self.old member }
         requires portless { port_of_member self.old.external (members self.old.owners) member ≡ None }
@@ -70,7 +70,7 @@ impl Ports {
         Some(port_at(self.external, port))
     }
 
-    /// Whether every port is taken.
+    /// Returns whether every port is taken.
     pub fn is_full(&self) -> bool
         ensures { result ≡ is_none (position is_none self.now.owners) }
     {
@@ -92,7 +92,7 @@ impl Ports {
         }
     }
 
-    /// The member's port. `None` exactly where the member has none.
+    /// Returns the member's port. `None` if and only if the member has none.
     pub fn port_of(&self, member: Slot) -> Option<Slot>
         requires { IsMemberSlot self.now member }
         ensures { result ≡ port_of_member self.now.external (members self.now.owners) member }
@@ -101,7 +101,7 @@ impl Ports {
         Some(port_at(self.external, usize::from(port)))
     }
 
-    /// The port's room and member. `None` exactly where the port is free.
+    /// Returns the port's room and member. `None` if and only if the port is free.
     pub fn room_of(&self, port: Slot) -> Option<(u8, Slot)>
         requires { IsPortSlot self.now port }
         ensures { result ≡ option_map (λ owner. (owner.room, owner.member)) (slice_index_or self.now.owners (port_number self.now.external port) None) }

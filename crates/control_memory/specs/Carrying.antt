@@ -1,16 +1,16 @@
--- What a time-space-time fabric does to the octets of one frame. Source: this exchange's own.
+-- What a time-space-time fabric does to the octets of one frame. Source: this project.
 use Rattle.std.specs.Prelude.{◌≡◌, ℕ, ◌<◌, Option, Some, None}
 use Rattle.circuit_model.specs.declared.channel.Slot.{Slot}
 use Rattle.circuit_model.specs.FrameInput.{idle_octet}
 use Rattle.control_memory.specs.Layout.{Path, Layout, Legal, path_out, path_to}
 use Rattle.control_memory.specs.Tables.{HasTables}
 
--- the octet of the place, line or slot that a control table names, and the idle octet where it names none
+-- the octet of the place, line or slot that a control table names, and the idle octet if it names none
 abbrev pub fetched : Option ℕ → (ℕ → ℕ) → ℕ
 fetched None octet = idle_octet
 fetched (Some n) octet = octet n
 
--- the octet of the inlet of a path, and the idle octet where there is no path
+-- the octet of the inlet of a path, and the idle octet if there is no path
 abbrev pub from_inlet : Option Path → (Slot → ℕ) → ℕ
 from_inlet None octet = idle_octet
 from_inlet (Some p) octet = octet p.from
@@ -42,7 +42,8 @@ pub record Wiring : Type 0 where
   pub legal : Legal lines slots layout
   pub tables : HasTables lines slots layout places crossed read
 
--- what the outgoing lines get by the table `crossed` of what the incoming lines send by `places` is what the layout brings them
+-- what the outgoing lines get by the table `crossed` of what the incoming lines send by `places` is what the layout
+-- brings them
 abbrev pub BringsAcross : Wiring → Type 0
 BringsAcross w = (octet : Slot → ℕ) (highway : ℕ → ℕ → ℕ) → SendsBy w.lines w.slots w.places octet highway
     → HoldsCrossing w.lines w.slots w.layout octet (λ line slot. fetched (w.crossed line slot) (λ from. highway from slot))

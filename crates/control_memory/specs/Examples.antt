@@ -10,7 +10,7 @@ at line place = record { line = line; place = place }
 abbrev pub bare : ℕ → Layout
 bare lines = replicate (30 * lines) None
 
--- both ways between two slots, on thirty internal slots
+-- both ways between two slots, on 30 internal slots
 abbrev pub nailed : ℕ → Layout → Slot → Slot → Layout
 nailed lines layout x y = connect lines 30 (connect lines 30 layout x y) y x
 
@@ -23,8 +23,8 @@ abbrev pub both_halves : ℕ → Layout
 both_halves zero = halves 15
 both_halves (suc p) = nailed 3 (both_halves p) (at 1 p) (at 2 (p + 15))
 
--- Three lines and two internal slots, no slot common to incoming line 0 and an outgoing line. To outgoing line 0 the incoming line's chain
--- has one path and the outgoing line's three
+-- Three lines and two internal slots, no slot common to incoming line 0 and an outgoing line. To outgoing line 0 the
+-- incoming line's chain has one path and the outgoing line's three
 abbrev pub row_shorter : Layout
 row_shorter = with_path (with_path (with_path (with_path (bare 3) (at 1 0) (at 0 0) 0) (at 1 1) (at 1 0) 1) (at 2 0) (at 1 1) 0) (at 0 0) (at 2 0) 1
 

@@ -1,4 +1,4 @@
--- Rows of what slots hear, and which of them may hear something. Source: this exchange's own.
+-- Rows of what slots hear, and which of them may hear something. Source: this project.
 use Rattle.std.specs.Prelude.{◌≡◌, ℕ, ◌+◌, ◌*◌, ◌%◌, ◌<◌, List, length, slice_index_or}
 use Rattle.std.specs.Int.{bit_at}
 use Rattle.control_memory.specs.declared.heard.Heard.{Heard}
@@ -16,7 +16,8 @@ HearAlike bit marks lines one other = (line place : ℕ) → line < lines → pl
 abbrev pub IsSilent : List Heard → ℕ → Type 0
 IsSilent heard line = (place : ℕ) → place < 30 → heard_on heard line place ≡ Silent
 
--- thirty places to each of n lines; and a word of marks, a bit for each line by its number modulo 64, without which the line is silent
+-- 30 places to each of n lines; and a word of marks, a bit for each line by its number modulo 64, without which the
+-- line is silent
 pub record AreHeardOn (lines : ℕ) (heard : List Heard) (marks : ℕ) : Type 0 where
   pub size : length heard ≡ 30 * lines
   pub silent : (line : ℕ) → line < lines → bit_at marks (line % 64) ≡ 0 → IsSilent heard line

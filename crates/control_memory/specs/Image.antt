@@ -1,4 +1,4 @@
--- The control memory of one frame. Source: this exchange's own.
+-- The control memory of one frame. Source: this project.
 use Rattle.std.specs.Prelude.{◌≡◌, ℕ, ◌+◌, ◌-◌, ◌*◌, ◌<◌, nat_lt, List, Option, None, slice_index_or, if◌then◌else◌}
 use Rattle.circuit_model.specs.declared.channel.Slot.{Slot}
 use Rattle.circuit_model.specs.Dimensions.{Dimensions}
@@ -7,8 +7,8 @@ use Rattle.control_memory.specs.declared.heard.Heard.TheVariants.{Silent}
 use Rattle.control_memory.specs.Layout.{Layout, number_of}
 use Rattle.control_memory.specs.Tables.{Table, HasSize, entry_in, HasTables, HasNoPaths}
 
--- the tables of a frame's three stages, what each slot hears, and who sits in each conference port: line after line. The conference ports are
--- the places of the bridge lines
+-- the tables of a frame's three stages, what each slot hears, and who sits in each conference port: line after line.
+-- The conference ports are the places of the bridge lines
 pub record Control : Type 0 where
   pub frame : ℕ
   pub external : ℕ
@@ -46,7 +46,7 @@ IsCleared m = HasNoPaths (lines_of m) m.slots (sent m) (received m) (read m)
 abbrev pub heard_at : Control → Slot → Heard
 heard_at m at = slice_index_or m.heard (number_of at) Silent
 
--- the number of a conference port among all ports: bridge lines come behind the external ones, and have thirty ports each
+-- the number of a conference port among all ports: bridge lines come behind the external ones, and have 30 ports each
 abbrev pub port_number : ℕ → Slot → ℕ
 port_number external port = 30 * (port.line - external) + port.place
 
@@ -85,8 +85,8 @@ pub record IsQuiet (m : Control) : Type 0 where
   pub heard : EachSlot (lines_of m) (λ at. heard_at m at ≡ Silent)
   pub rooms : EachSlot (lines_of m) (λ at. room_at m at ≡ None)
 
--- how large the parts of a control memory are: each table has a row for every line, and its numbers are places, lines and internal slots;
--- there is a listener for every place of every line, and a port for every place of the bridge lines
+-- how large the parts of a control memory are: each table has a row for every line, and its numbers are places, lines
+-- and internal slots; there is a listener for every place of every line, and a port for every place of the bridge lines
 pub record IsSized (external bridges slots : ℕ) (places crossed read_slots : Table) (heard rooms : ℕ) : Type 0 where
   pub incoming : HasSize places (external + bridges) slots 30
   pub space : HasSize crossed (external + bridges) slots (external + bridges)

@@ -1,4 +1,4 @@
--- The paths of a fabric, with the control tables that carry them out. Source: this exchange's own.
+-- The paths of a fabric, with the control tables that carry them out. Source: this project.
 use Rattle.std.specs.Prelude.{ℕ, ◌≤◌}
 use Rattle.control_memory.specs.declared.ends.Ends.{Ends}
 use Rattle.control_memory.specs.Layout.{Path, Layout, Legal}

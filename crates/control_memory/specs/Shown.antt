@@ -1,4 +1,4 @@
--- What the control memory of a frame shows of the circuits and conference ports at its boundary. Source: this exchange's own.
+-- What the control memory of a frame shows of the circuits and conference ports at its boundary. Source: this project.
 use Rattle.std.specs.Prelude.{◌≡◌, ℕ, nat_lt, ◌↔◌, List, [], ◌∷◌, Contains, Option, Some, None, slice_index_or, option_and_then, if◌then◌else◌}
 use Rattle.circuit_model.specs.declared.channel.Slot.{Slot}
 use Rattle.circuit_model.specs.declared.circuit.Circuit.{Circuit}
@@ -30,7 +30,8 @@ IsNeeded external circuits ports x y = (c : Circuit) × Contains circuits c × C
 abbrev pub JoinsCircuits : ℕ → ℕ → Layout → List Circuit → Ports → Type 0
 JoinsCircuits lines external layout circuits ports = (x y : Slot) → IsSlot lines x → Joins layout x y ↔ IsNeeded external circuits ports x y
 
--- the slot at the other end of the paths that belong to the circuit by which a slot hears: whom it hears, or its conference port
+-- the slot at the other end of the paths that belong to the circuit by which a slot hears: whom it hears, or its
+-- conference port
 abbrev pub partner : ℕ → Ports → Option Circuit → Option Slot
 partner external ports None = None
 partner external ports (Some (Pair from to since)) = Some from

@@ -1,5 +1,5 @@
--- The control tables of a time-space-time fabric: which place, line or slot an octet is fetched from. Source: this exchange's own; each
--- stage of a digital switch has its control memory.
+-- The control tables of a time-space-time fabric: which place, line or slot an octet is fetched from. Source: this
+-- project; each stage of a digital switch has its control memory.
 use Rattle.std.specs.Prelude.{◌≡◌, ◌≢◌, ℕ, ◌+◌, ◌*◌, ◌%◌, ◌<◌, ◌&&◌, ◌==◌, List, Option, Some, None, IfSome, length, slice_index, slice_index_or, if◌then◌else◌}
 use Rattle.std.specs.Int.{bit_at}
 use Rattle.control_memory.specs.Layout.{Layout, place_sent, line_received, slot_read}
@@ -61,14 +61,15 @@ pub record AreBare (lines slots : ℕ) (incoming space outgoing : Table) : Type 
 abbrev pub number_in : ℕ → Option ℕ
 number_in byte = if byte == 255 then None else Some byte
 
--- the bytes of a table with n rows and m columns: one for each entry, and each number is below the limit; and a word of marks, a bit for each
--- row by its number modulo 64, without which the row has no number
+-- the bytes of a table with n rows and m columns: one for each entry, and each number is below the limit; and a word of
+-- marks, a bit for each row by its number modulo 64, without which the row has no number
 pub record AreBytesOf (rows columns limit : ℕ) (bytes : List ℕ) (marks : ℕ) : Type 0 where
   pub size : length bytes ≡ rows * columns
   pub below : (i : ℕ) → i < length bytes → slice_index bytes i ≢ 255 → slice_index bytes i < limit
   pub bare : (row column : ℕ) → row < rows → column < columns → bit_at marks (row % 64) ≡ 0 → slice_index bytes (row * columns + column) ≡ 255
 
--- the bytes of one row of n columns: each is the number that the table has there, below the limit, or 255 where it has none
+-- the bytes of one row of n columns: each is the number that the table has there, below the limit, or 255 if it has
+-- none
 pub record IsRow (columns limit : ℕ) (numbers : ℕ → Option ℕ) (bytes : List ℕ) : Type 0 where
   pub width : length bytes ≡ columns
   pub entries : (column : ℕ) → column < columns → number_in (slice_index bytes column) ≡ numbers column

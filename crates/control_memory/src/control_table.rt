@@ -51,7 +51,7 @@ pub(crate) fn bare_tables(
 }
 
 impl ControlTable {
-    /// A table of n rows and m columns for numbers below `limit`, without any.
+    /// Returns a table of n rows and m columns for numbers below `limit`, without any.
     pub fn new(alloc: Global, rows: u8, columns: u8, limit: u8) -> Result<ControlTable, AllocError>
         ensures size { IfOk result (λ t. HasSize t rows columns limit) }
         ensures empty { IfOk result (λ t. Agree rows columns (entry t) nothing) }
@@ -66,7 +66,7 @@ impl ControlTable {
         })
     }
 
-    /// The number in a column of a row, if there is one.
+    /// Returns the number in a column of a row, if there is one.
     pub fn get(&self, row: u8, column: u8) -> Option<u8>
         requires row { row < self.now.rows }
         requires column { column < self.now.columns }
@@ -79,7 +79,7 @@ impl ControlTable {
         }
     }
 
-    /// The bytes of a row, one for each column: its number, or 255 where it has none.
+    /// Returns the bytes of a row, one for each column: its number, or 255 if it has none.
     pub fn row(&self, row: u8) -> &[u8]
         requires { row < self.now.rows }
         ensures { IsRow self.now.columns self.now.limit (entry self.now row) result.now }
@@ -89,8 +89,8 @@ impl ControlTable {
         &self.bytes[start..start + columns]
     }
 
-    /// Whether a row is known to have no number. It is not known of a row whose numbers were all
-    /// taken out one by one.
+    /// Returns whether a row is known to have no number. It is not known of a row whose numbers were all taken out one
+    /// by one.
     pub fn is_bare(&self, row: u8) -> bool
         requires { row < self.now.rows }
         ensures { result ≡ true → (column : ℕ) → column < self.now.columns → entry self.now row column ≡ None }

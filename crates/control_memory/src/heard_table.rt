@@ -10,8 +10,8 @@ use circuit_model::{PLACES, Slot};
 use std::alloc::{AllocError, Global};
 use std::marker::Model;
 
-/// What each slot of some lines hears: a row of thirty words for each line. Contracts see the list of it,
-/// by the slot's number.
+/// What each slot of some lines hears: a row of 30 words for each line. Contracts see the list of it, by the slot's
+/// number.
 ///
 /// Beside the rows is a word of marks of the lines that may hear something, so that a line that
 /// hears nothing costs nothing.
@@ -49,7 +49,7 @@ impl HeardTable {
         })
     }
 
-    /// What a slot hears.
+    /// Returns what a slot hears.
     pub fn get(&self, at: Slot) -> Heard
         requires { number_of at < length self.now }
         ensures { result ≡ slice_index_or self.now (number_of at) Heard.Silent }
@@ -57,7 +57,7 @@ impl HeardTable {
         self.words[at.number()].heard()
     }
 
-    /// What each place of a line hears.
+    /// Returns what each place of a line hears.
     pub fn row(&self, line: u8) -> &[HeardWord]
         requires { 30 * line + 30 ≤ length self.now }
         ensures size { length result.now ≡ 30 }

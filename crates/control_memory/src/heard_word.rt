@@ -43,7 +43,7 @@ impl Clone for HeardWord {
 }
 
 impl HeardWord {
-    /// The word of what a slot hears.
+    /// Returns the word of what a slot hears.
     pub fn of(heard: Heard) -> HeardWord
         ensures { result ≡ heard }
     {
@@ -71,7 +71,7 @@ impl HeardWord {
         }
     }
 
-    /// What the slot hears.
+    /// Returns what the slot hears.
     pub fn heard(&self) -> Heard
         ensures { result ≡ self.now }
     {
@@ -94,7 +94,7 @@ impl HeardWord {
         }
     }
 
-    /// Whether it is a path that has existed since before a frame.
+    /// Returns whether it is a path that has existed since before a frame.
     pub fn is_path_before(&self, frame: u32) -> bool
         ensures { result ≡ is_path_before frame self.now }
     {

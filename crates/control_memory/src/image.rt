@@ -54,7 +54,7 @@ impl Model for Image {
 }
 
 impl Image {
-    /// The control memory of frame 0 for the given numbers of external lines, bridge lines and internal slots:
+    /// Returns the control memory of frame 0 for the given numbers of external lines, bridge lines and internal slots:
     /// no path, every slot silent, and every port free.
     pub fn new(alloc: Global, external: u8, bridges: u8, slots: u8) -> Result<Image, AllocError>
         requires lines { 1 ≤ external + bridges × (external + bridges ≤ 34) }
@@ -84,35 +84,35 @@ impl Image {
         })
     }
 
-    /// The number of the frame.
+    /// Returns the number of the frame.
     pub fn frame(&self) -> u32
         ensures { result ≡ self.now.frame }
     {
         self.frame
     }
 
-    /// How many external lines it has.
+    /// Returns the number of external lines.
     pub fn external(&self) -> u8
         ensures { result ≡ self.now.external }
     {
         self.external
     }
 
-    /// How many bridge lines it has, which come behind the external ones.
+    /// Returns how many bridge lines it has, which come behind the external ones.
     pub fn bridges(&self) -> u8
         ensures { result ≡ self.now.bridges }
     {
         self.bridges
     }
 
-    /// How many internal slots a frame of a line has.
+    /// Returns how many internal slots a frame of a line has.
     pub fn slots(&self) -> u8
         ensures { result ≡ self.now.slots }
     {
         self.slots
     }
 
-    /// The place that an incoming line sends in an internal slot, if any.
+    /// Returns the place that an incoming line sends in an internal slot, if any.
     pub fn incoming(&self, line: u8, slot: u8) -> Option<u8>
         requires line { line < lines_of self.now }
         requires slot { slot < self.now.slots }
@@ -122,7 +122,7 @@ impl Image {
         self.incoming.get(line, slot)
     }
 
-    /// The incoming line whose octet an outgoing line gets in an internal slot, if any.
+    /// Returns the incoming line whose octet an outgoing line gets in an internal slot, if any.
     pub fn space(&self, line: u8, slot: u8) -> Option<u8>
         requires line { line < lines_of self.now }
         requires slot { slot < self.now.slots }
@@ -132,7 +132,7 @@ impl Image {
         self.space.get(line, slot)
     }
 
-    /// The internal slot that a place of an outgoing line reads, if any.
+    /// Returns the internal slot that a place of an outgoing line reads, if any.
     pub fn outgoing(&self, line: u8, place: u8) -> Option<u8>
         requires line { line < lines_of self.now }
         requires place { place < 30 }
@@ -142,8 +142,8 @@ impl Image {
         self.outgoing.get(line, place)
     }
 
-    /// The row of the incoming table of a line, by internal slot: the place that the line sends, or
-    /// 255 where it sends none.
+    /// Returns the row of the incoming table of a line, by internal slot: the place that the line sends, or 255 if it
+    /// sends none.
     pub fn incoming_row(&self, line: u8) -> &[u8]
         requires { line < lines_of self.now }
         ensures { IsRow self.now.slots 30 (sent self.now line) result.now }
@@ -151,8 +151,8 @@ impl Image {
         self.incoming.row(line)
     }
 
-    /// The row of the space table of an outgoing line, by internal slot: the incoming line whose
-    /// octet it gets, or 255 where it gets none.
+    /// Returns the row of the space table of an outgoing line, by internal slot: the incoming line whose octet it gets,
+    /// or 255 where it gets none.
     pub fn space_row(&self, line: u8) -> &[u8]
         requires { line < lines_of self.now }
         ensures { IsRow self.now.slots (lines_of self.now) (received self.now line) result.now }
@@ -160,8 +160,8 @@ impl Image {
         self.space.row(line)
     }
 
-    /// The row of the outgoing table of a line, by place: the internal slot that the place reads,
-    /// or 255 where it reads none.
+    /// Returns the row of the outgoing table of a line, by place: the internal slot that the place reads, or 255 where
+    /// it reads none.
     pub fn outgoing_row(&self, line: u8) -> &[u8]
         requires { line < lines_of self.now }
         ensures { IsRow 30 self.now.slots (read self.now line) result.now }
@@ -169,8 +169,8 @@ impl Image {
         self.outgoing.row(line)
     }
 
-    /// Whether an incoming line is known to send no place. It is not known of a line whose entries
-    /// were taken out one by one.
+    /// Returns whether an incoming line is known to send no place. It is not known of a line whose entries were taken
+    /// out one by one.
     pub fn sends_nothing(&self, line: u8) -> bool
         requires { line < lines_of self.now }
         ensures { result ≡ true → (slot : ℕ) → slot < self.now.slots → sent self.now line slot ≡ None }
@@ -178,7 +178,7 @@ impl Image {
         self.incoming.is_bare(line)
     }
 
-    /// Whether an outgoing line is known to get no octet, as `sends_nothing` tells.
+    /// Returns whether an outgoing line is known to get no octet, as `sends_nothing` tells.
     pub fn gets_nothing(&self, line: u8) -> bool
         requires { line < lines_of self.now }
         ensures { result ≡ true → (slot : ℕ) → slot < self.now.slots → received self.now line slot ≡ None }
@@ -186,7 +186,7 @@ impl Image {
         self.space.is_bare(line)
     }
 
-    /// Whether an outgoing line is known to have no place that reads a slot, as `sends_nothing` tells.
+    /// Returns whether an outgoing line is known to have no place that reads a slot, as `sends_nothing` tells.
     pub fn reads_nothing(&self, line: u8) -> bool
         requires { line < lines_of self.now }
         ensures { result ≡ true → (place : ℕ) → place < 30 → read self.now line place ≡ None }
@@ -194,7 +194,7 @@ impl Image {
         self.outgoing.is_bare(line)
     }
 
-    /// What a slot hears.
+    /// Returns what a slot hears.
     pub fn heard(&self, at: Slot) -> Heard
         requires line { at.line < lines_of self.now }
         requires place { at.place < 30 }
@@ -203,7 +203,7 @@ impl Image {
         self.heard.get(at)
     }
 
-    /// What each place of a line hears.
+    /// Returns what each place of a line hears.
     pub fn heard_row(&self, line: u8) -> &[HeardWord]
         requires { line < lines_of self.now }
         ensures size { length result.now ≡ 30 }
@@ -212,8 +212,7 @@ impl Image {
         self.heard.row(line)
     }
 
-    /// Whether a line is known to hear nothing. It is not known of a line that was silenced slot by
-    /// slot.
+    /// Returns whether a line is known to hear nothing. It is not known of a line that was silenced slot by slot.
     pub fn hears_nothing(&self, line: u8) -> bool
         requires { line < lines_of self.now }
         ensures { result ≡ true → (place : ℕ) → place < 30 → heard_at self.now (record { line = line; place = place }) ≡ Heard.Silent }
@@ -221,8 +220,8 @@ impl Image {
         self.heard.is_silent(line)
     }
 
-    /// The room of the member that sits in a conference port, and the frame since which it sits
-    /// there; none where the port is free, and none for an external slot.
+    /// Returns the room of the member that sits in a conference port, and the frame since which it sits there; none
+    /// where the port is free, and none for an external slot.
     pub fn room(&self, port: Slot) -> Option<(u8, u32)>
         requires line { port.line < lines_of self.now }
         requires place { port.place < 30 }
@@ -234,8 +233,8 @@ impl Image {
         self.rooms[port_index(self.external, port)]
     }
 
-    /// The room of the member that sits in each conference port, and the frame since which it sits
-    /// there; none where the port is free. It has the places of the bridge lines, line after line.
+    /// Returns the room of the member that sits in each conference port, and the frame since which it sits there; none
+    /// where the port is free. It has the places of the bridge lines, line after line.
     pub fn seats(&self) -> &[Option<(u8, u32)>]
         ensures size { length result.now ≡ 30 * self.now.bridges }
         ensures seats { result.now ≡ self.now.rooms }
@@ -360,8 +359,8 @@ impl Image {
     }
 }
 
-/// The number of a conference port among all ports: thirty to a bridge line, and the bridge lines
-/// come behind n external ones. A table with an entry for each port has it there.
+/// Returns the number of a conference port among all ports: 30 to a bridge line, and the bridge lines come behind n
+/// external ones. A table with an entry for each port has it there.
 pub fn port_index(external: u8, port: Slot) -> usize
     requires { external ≤ port.line }
     ensures { result ≡ port_number external port }

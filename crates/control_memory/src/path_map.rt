@@ -24,13 +24,13 @@ pub trait PathMap {
     /// The layout of its paths.
     ghost layout: { Self → Layout };
 
-    /// Whether no path begins at the inlet.
+    /// Returns whether no path begins at the inlet.
     fn inlet_free(&self, at: Slot) -> bool
         requires { IsSlot (width self.now) at }
         ensures free { result ≡ is_none (hop_of (layout self.now) at) }
         ensures legal { Legal (width self.now) (depth self.now) (layout self.now) };
 
-    /// Whether no path ends at the outlet.
+    /// Returns whether no path ends at the outlet.
     fn outlet_free(&self, at: Slot) -> bool
         requires { IsSlot (width self.now) at }
         ensures free { result ≡ is_none (path_to (layout self.now) at) }
@@ -64,13 +64,13 @@ pub trait PathMap {
         ensures bound { bound self.new ≡ bound self.old }
         ensures legal { Legal (width self.new) (depth self.new) (layout self.new) };
 
-    /// The internal slot of the path that begins at an inlet. `None` exactly where the inlet is free.
+    /// Returns the internal slot of the path that begins at an inlet. `None` if and only if the inlet is free.
     fn slot_of(&self, from: Slot) -> Option<u8>
         requires { IsSlot (width self.now) from }
         ensures slot { result ≡ option_map (λ (hop : Hop). hop.slot) (hop_of (layout self.now) from) }
         ensures legal { Legal (width self.now) (depth self.now) (layout self.now) };
 
-    /// How many internal slots there are.
+    /// Returns the number of internal slots.
     fn slots(&self) -> u8
         ensures slots { result ≡ depth self.now }
         ensures legal { Legal (width self.now) (depth self.now) (layout self.now) };

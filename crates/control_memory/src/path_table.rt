@@ -38,7 +38,7 @@ impl Model for PathTable {
 }
 
 impl PathTable {
-    /// No path on n lines and m internal slots.
+    /// Returns no path on n lines and m internal slots.
     pub fn new(alloc: Global, lines: u8, slots: u8) -> Result<PathTable, AllocError>
         requires lines { lines ≤ 34 }
         ensures lines { IfOk result (λ t. t.lines ≡ lines) }
@@ -91,7 +91,7 @@ impl PathTable {
         self.outgoing.unset(hop.to.line, hop.to.place);
     }
 
-    /// How many internal slots it has.
+    /// Returns the number of internal slots.
     pub fn slots(&self) -> u8
         ensures slots { result ≡ self.now.slots }
         ensures legal { Legal self.now.lines self.now.slots self.now.layout }
@@ -99,7 +99,7 @@ impl PathTable {
         self.slots
     }
 
-    /// Where the path of an inlet goes, and in which internal slot; `None` where it is free.
+    /// Where the path of an inlet goes, and in which internal slot; `None` if it is free.
     pub fn hop(&self, from: Slot) -> Option<Hop>
         requires { IsSlot self.now.lines from }
         ensures hop { result ≡ hop_of self.now.layout from }
@@ -108,7 +108,7 @@ impl PathTable {
         self.hops[from.number()]
     }
 
-    /// The internal slot of the path that ends at an outlet; `None` where it is free.
+    /// Returns the internal slot of the path that ends at an outlet; `None` if it is free.
     pub fn read(&self, to: Slot) -> Option<u8>
         requires { IsSlot self.now.lines to }
         ensures slot { result ≡ slot_read self.now.layout to }

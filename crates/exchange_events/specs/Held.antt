@@ -1,4 +1,4 @@
--- Where the octets of a message are. Source: this exchange's own.
+-- Where the octets of a message are. Source: this project.
 use Rattle.std.specs.Prelude.{ℕ, List}
 use Rattle.exchange_events.specs.declared.octets.Held.{Held}
 use Rattle.exchange_events.specs.declared.octets.Held.TheVariants.{Few, Many}

@@ -1,4 +1,4 @@
--- What is kept of a reply until it is reported. Source: this exchange's own.
+-- What is kept of a reply until it is reported. Source: this project.
 use Rattle.exchange_events.specs.declared.answer.Kept.{Kept}
 use Rattle.exchange_events.specs.declared.answer.Kept.TheVariants as k
 use Rattle.exchange_events.specs.declared.reply.Reply.{Reply}

@@ -1,4 +1,4 @@
--- How much one step does at the most. Source: this exchange's own.
+-- How much one step does at the most. Source: this project.
 use Rattle.std.specs.Prelude.{ℕ}
 
 abbrev pub most_sends : ℕ

@@ -1,4 +1,4 @@
--- The orders in which the events of a trace may happen. Source: this exchange's own.
+-- The orders in which the events of a trace may happen. Source: this project.
 use Rattle.std.specs.Prelude.{◌≡◌, ◌≢◌, ℕ, zero, suc, ◌%◌, ◌<◌, ◌≤◌, ◌⊎◌, List, length, take, nat_lt, count_by, slice_get, slice_index, All, AllPairs, Contains, EachIndex, Option, Some, None}
 use Rattle.std.specs.List.{range_with_len}
 use Rattle.exchange_events.specs.declared.trace.Event.{Event}
@@ -10,8 +10,8 @@ pub data Worker : Type 0 where
   Processor : ℕ → Worker
   Frame_worker : Worker
 
--- the call processors share the lines in turn; a nail belongs to the line of its first slot, a seat and a free to the line of their
--- slot, a message to its user's line
+-- the call processors share the lines in turn; a nail belongs to the line of its first slot, a seat and a free to the
+-- line of their slot, a message to its user's line
 abbrev pub worker_of : ℕ → Event → Worker
 worker_of processors (Nail x y) = Processor (x.line % processors)
 worker_of processors (Seat x room) = Processor (x.line % processors)
@@ -36,7 +36,8 @@ pub record SameWorker (trace : Trace) (m n : ℕ) : Type 0 where
   pub is_second : event_at trace.events n ≡ Some second
   pub same : worker_of trace.processors first ≡ worker_of trace.processors second
 
--- event m has to happen before event n: it is of an earlier segment, or its worker comes to it first in the same segment
+-- event m has to happen before event n: it is of an earlier segment, or its worker comes to it first in the same
+-- segment
 abbrev pub Precedes : Trace → ℕ → ℕ → Type 0
 Precedes trace m n =
     (segment_of trace.segments m < segment_of trace.segments n)

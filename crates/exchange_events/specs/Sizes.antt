@@ -1,4 +1,4 @@
--- What an exchange is built with. Source: this exchange's own.
+-- What an exchange is built with. Source: this project.
 use Rattle.std.specs.Prelude.{List}
 use Rattle.number_plan.specs.declared.plan.Number.{Number}
 use Rattle.tone_rules.specs.declared.tones.Tones.{Tones}

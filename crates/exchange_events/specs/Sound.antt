@@ -1,4 +1,4 @@
--- What every trace keeps to. Source: this exchange's own.
+-- What every trace keeps to. Source: this project.
 use Rattle.std.specs.Prelude.{◌≡◌, ◌≢◌, ℕ, ◌<◌, ◌≤◌, nat_lt, Bool, true, IsTrue, ◌==◌, List, [], ◌∷◌, length, All, AllPairs}
 use Rattle.std.specs.List.{list_any}
 use Rattle.circuit_model.specs.declared.channel.Slot.{Slot}
@@ -35,7 +35,7 @@ is_reached external (target.Room room) = true
 abbrev pub IsPlanned : Setting → Type 0
 IsPlanned s = IsTrue (all_targets (is_reached s.dimensions.external) s.plan)
 
--- the last of these numbers, 0 where there is none
+-- the last of these numbers, 0 if there is none
 abbrev pub last_of : List ℕ → ℕ
 last_of [] = 0
 last_of (n ∷ []) = n
@@ -66,8 +66,9 @@ setting_of slots trace = record {
   timers = trace.timers;
 }
 
--- an exchange of 1 to 32 external and at most 2 bridge lines and of 1 to 8 call processors; the lines of its plan exist; its events are not too
--- many, each is one of as many external lines, and each is in a segment; its meters change between segments
+-- an exchange of 1 to 32 external and at most 2 bridge lines and of 1 to 8 call processors; the lines of its plan
+-- exist; its events are not too many, each is one of as many external lines, and each is in a segment; its meters
+-- change between segments
 pub record IsSound (trace : Trace) : Type 0 where
   pub some : 1 ≤ trace.external
   pub few : trace.external ≤ 32

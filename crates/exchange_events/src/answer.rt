@@ -16,7 +16,7 @@ pub type SignalList = ListOf<Signal>;
 /// Records of calls, in order. Contracts see their list.
 pub type RecordList = ListOf<CallRecord>;
 
-/// The octets of a frame: for each external line thirty, in order of place. Contracts see their list.
+/// The octets of a frame: for each external line 30, in order of place. Contracts see their list.
 pub type Rows = ListOf<[u8; 30]>;
 
 /// A [`Reply`] with its lists on the heap, each no longer than it need be, so that replies can be kept.
@@ -60,9 +60,8 @@ pub struct Answer {
 }
 
 impl Answer {
-    /// Keeps what an event was answered: its number, the reply, and what each external line sends
-    /// where it is a frame. A reply without messages and records, of an event without octets, takes
-    /// no memory.
+    /// Keeps what an event was answered: its number, the reply, and what each external line sends if it is a frame. A
+    /// reply without messages and records, of an event without octets, takes no memory.
     ///
     /// # Errors
     ///

@@ -1,4 +1,4 @@
-//! Laws of the orders of events.
+//! Theorems on the orders of events.
 ghost use Rattle.std.specs.Prelude.{ℕ, ◌≤◌, length};
 ghost use Rattle.exchange_events.specs.declared.trace.Trace.{Trace};
 ghost use Rattle.exchange_events.specs.Orders.{IsLawful, IsLawfulPrefix, file_order};

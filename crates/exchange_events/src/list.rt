@@ -18,7 +18,7 @@ impl<T> Model for ListOf<T> {
 }
 
 impl<T> ListOf<T> {
-    /// A list of these items.
+    /// Returns a list of these items.
     pub fn of(items: Vec<T>) -> ListOf<T>
         ensures { result ≡ items.items }
     {

@@ -4,8 +4,8 @@ ghost use Rattle.std.specs.Prelude.{◌≡◌, ◌≤◌, length};
 use arrayvec::ArrayVec;
 use std::marker::Model;
 
-/// How many octets a message has at most that takes no memory of its own. Most messages that clear a
-/// call or answer one have fewer. Source: this exchange's own.
+/// How many octets a message has at most that takes no memory of its own. Most messages that clear a call or answer one
+/// have fewer. Source: this project.
 pub const FEW_OCTETS: usize = 16;
 
 /// The octets of a message from the user of a line. Contracts see their list.
@@ -54,7 +54,7 @@ impl Octets {
         }
     }
 
-    /// The octets in order.
+    /// Returns the octets in order.
     pub fn as_slice(&self) -> &[u8]
         ensures { result.now ≡ self.now }
     {

@@ -59,7 +59,7 @@ pub enum Response {
 }
 
 impl Response {
-    /// The reply, with what is in the outbox.
+    /// Returns the reply, with what is in the outbox.
     pub fn with(self, out: Outbox) -> Reply
         ensures { result ≡ reply_of self out }
     {

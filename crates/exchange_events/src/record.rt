@@ -6,7 +6,7 @@ use arrayvec::ArrayVec;
 use circuit_model::Slot;
 use std::marker::Model;
 
-/// How many calls a step ends at most. Source: this exchange's own.
+/// How many calls a step ends at most. Source: this project.
 pub const MOST_RECORDS: usize = 64;
 
 /// Whom a caller was connected with, or was to be.
@@ -64,7 +64,7 @@ impl Model for Records {
 }
 
 impl Records {
-    /// No records.
+    /// Returns no records.
     pub fn new() -> Records
         ensures { result ≡ [] }
     {
@@ -80,7 +80,7 @@ impl Records {
         Records { items }
     }
 
-    /// The records in order.
+    /// Returns the records in order.
     pub fn as_slice(&self) -> &[CallRecord]
         ensures { result.now ≡ self.now }
     {

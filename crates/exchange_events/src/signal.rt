@@ -6,7 +6,7 @@ use arrayvec::ArrayVec;
 use q931_elements::LONGEST_MESSAGE;
 use std::marker::Model;
 
-/// How many messages a step sends at most. Source: this exchange's own.
+/// How many messages a step sends at most. Source: this project.
 pub const MOST_SENDS: usize = 64;
 
 /// The octets of a message that is sent. Contracts see their list.
@@ -31,14 +31,14 @@ impl Encoded {
         Encoded { octets: items }
     }
 
-    /// The octets in the order in which they are sent.
+    /// Returns the octets in the order in which they are sent.
     pub fn as_slice(&self) -> &[u8]
         ensures { result.now ≡ self.now }
     {
         self.octets.as_slice()
     }
 
-    /// The same octets once more. It takes no memory.
+    /// Returns the same octets once more. It takes no memory.
     pub fn copy(&self) -> Encoded
         ensures { result ≡ self.now }
     {
@@ -94,7 +94,7 @@ impl Model for Signals {
 }
 
 impl Signals {
-    /// No messages.
+    /// Returns no messages.
     pub fn new() -> Signals
         ensures { result ≡ [] }
     {
@@ -112,7 +112,7 @@ impl Signals {
         Signals { items, count }
     }
 
-    /// The messages in the order in which they are sent.
+    /// Returns the messages in the order in which they are sent.
     pub fn as_slice(&self) -> &[Signal]
         ensures { result.now ≡ self.now }
     {

@@ -9,8 +9,8 @@ use circuit_model::Slot;
 use number_plan::Plan;
 use tone_rules::Tones;
 
-/// What arrives in one frame: for each external line its thirty octets in order of place, or
-/// nothing where the line is idle. Contracts see it as that list.
+/// What arrives in one frame: for each external line its 30 octets in order of place, or nothing where the line is
+/// idle. Contracts see it as that list.
 pub type Input = ListOf<Option<[u8; 30]>>;
 
 /// One event of a trace.
@@ -62,7 +62,7 @@ pub struct Trace {
 }
 
 impl Trace {
-    /// The event with this number, counted from 1.
+    /// Returns the event with this number, counted from 1.
     pub fn event(&self, number: u32) -> &Event
         requires { IsEvent self.now number }
         ensures { event_at self.now.events number ≡ Some result.now }

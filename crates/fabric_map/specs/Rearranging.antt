@@ -1,4 +1,4 @@
--- How the paths that move are taken out of a layout, and put back in their new slots. Source: this exchange's own.
+-- How the paths that move are taken out of a layout, and put back in their new slots. Source: this project.
 use Rattle.std.specs.Prelude.{◌≡◌, ℕ, ◌<◌, ⊤, Option, Some, None, List, [], ◌∷◌}
 use Rattle.control_memory.specs.Layout.{Path, Layout, path_in, IsSlot}
 use Rattle.control_memory.specs.Connecting.{with_path, without_path, IsFree}

@@ -1,4 +1,4 @@
-//! The live map of paths on thirty internal slots.
+//! The live map of paths on 30 internal slots.
 ghost use Rattle.std.specs.Prelude.{◌≡◌, ◌↔◌, ◌⊎◌, ℕ, ◌*◌, ◌-◌, ◌<◌, ◌≤◌, [], List, None, IfOk, length, replicate};
 ghost use Rattle.circuit_model.specs.declared.channel.Slot.{Slot};
 ghost use Rattle.control_memory.specs.Layout.{Layout, Legal, IsSlot, Joins, hop_of, path_to};
@@ -23,7 +23,7 @@ use std::sync::ledger::{Blank, Ledger};
 /// are enough (Slepian-Duguid).
 pub const SLOTS: u8 = 30;
 
-/// The live map of a rearrangeable fabric: thirty internal slots, as many as a line has places.
+/// The live map of a rearrangeable fabric: 30 internal slots, as many as a line has places.
 ///
 /// Contracts see its layout.
 #[derive(Drop)]
@@ -43,7 +43,7 @@ impl Model for FabricMap {
 }
 
 impl FabricMap {
-    /// A map without paths, for n lines, external and bridge lines together.
+    /// Returns a map without paths, for n lines, external and bridge lines together.
     pub fn new(alloc: Global, lines: u8) -> Result<FabricMap, AllocError>
         requires { (0 < lines) × (lines ≤ 34) }
         ensures lines { IfOk result (λ m. m.lines ≡ lines) }
@@ -56,8 +56,8 @@ impl FabricMap {
     }
 }
 
-// Connects by the rule where paths may have to move for it. It is apart, so that the lists of
-// moves are made only where no slot is free in both lines.
+// Connects by the rule where paths may have to move for it. It is apart, so that the lists of moves are made only if no
+// slot is free in both lines.
 fn connect_by_moves<L: Ledger>(memory: &mut PathMemory, from: Slot, to: Slot, blank: Blank) -> u32
     requires ledger { (blank.name ≡ L.name) × (blank.parts ≡ L.parts) × (0 < L.parts) }
     requires thirty { memory.old.slots ≡ 30 }

@@ -1,7 +1,7 @@
-//! The live map of the paths through a fabric of thirty internal slots, as a `PathMap`.
+//! The live map of the paths through a fabric of 30 internal slots, as a `PathMap`.
 //!
-//! [`FabricMap`] is a path memory of thirty slots. Where no slot is free in both lines, it moves
-//! live paths along a chain of Paull's matrix.
+//! [`FabricMap`] is a path memory of 30 slots. Where no slot is free in both lines, it moves live paths along a chain
+//! of Paull's matrix.
 //!
 //! - `connect` never refuses: the new path joins by the rule of rearrangement (`layout`), and at
 //!   most r-1 live paths of r lines move (`few`). It returns how many (`moves`).

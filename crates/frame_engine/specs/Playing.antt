@@ -1,4 +1,4 @@
--- What an engine plays on a slot. Source: this exchange's own.
+-- What an engine outputs on a slot. Source: this project.
 use Rattle.std.specs.Prelude.{◌≡◌, ℕ, ◌<◌, ◌-◌, Bool, false, List, slice_index, slice_index_or, if◌then◌else◌}
 use Rattle.circuit_model.specs.declared.channel.Slot.{Slot}
 use Rattle.circuit_model.specs.declared.circuit.Kind.{Kind}
@@ -10,8 +10,8 @@ use Rattle.control_memory.specs.Image.{Control, heard_at}
 use Rattle.tone_rules.specs.declared.tones.Tones.{Tones}
 use Rattle.tone_rules.specs.Tables.{IsGiven}
 
--- what is played on a slot in frame f by what it hears: nothing, the octet that was read out for the slot once its path is two frames old, or
--- the octet of a tone
+-- what is played on a slot in frame f by what it hears: nothing, the octet that was read out for the slot once its path
+-- is two frames old, or the octet of a tone
 abbrev pub played_as : (Kind → List ℕ) → ℕ → ℕ → Heard → ℕ
 played_as tones f octet Silent = idle_octet
 played_as tones f octet (Path since) = if is_through since f then octet else idle_octet
@@ -37,7 +37,7 @@ with_tone tones f octet (Tone kind since) = tone_octet (tones kind) (f - since)
 abbrev pub played_at : (Kind → List ℕ) → Control → (Slot → ℕ) → Slot → ℕ
 played_at tones m octet at = played_as tones m.frame (octet at) (heard_at m at)
 
--- a line has these thirty octets, by place
+-- a line has these 30 octets, by place
 abbrev pub HasLine : ℕ → (Slot → ℕ) → List ℕ → Type 0
 HasLine line octet octets = (place : ℕ) → place < 30 → slice_index octets place ≡ octet (record { line = line; place = place })
 

@@ -1,4 +1,4 @@
--- The conference ports of an engine: whom the bridge finds in them, and what each is given. Source: this exchange's own.
+-- The conference ports of an engine: whom the bridge finds in them, and what each is given. Source: this project.
 use Rattle.std.specs.Prelude.{◌≡◌, ℕ, ◌*◌, ◌<◌, List, Option, Some, None, map, if◌then◌else◌}
 use Rattle.std.specs.List.{range_with_len}
 use Rattle.circuit_model.specs.declared.channel.Slot.{Slot}
@@ -26,7 +26,7 @@ member_in m octet k = seated_by m.frame (octet (port_numbered m.external k)) (ro
 abbrev pub members_in_ports : Control → (Slot → ℕ) → List (Option Seated)
 members_in_ports m octet = map (member_in m octet) (range_with_len 0 (30 * m.bridges))
 
--- the octet that a port is given: its member's room without the member, mixed, and the idle octet where nobody sits
+-- the octet that a port is given: its member's room without the member, mixed, and the idle octet if nobody sits
 abbrev pub given_to : Control → (Slot → ℕ) → ℕ → ℕ
 given_to m octet k = given_at k (members_in_ports m octet)
 

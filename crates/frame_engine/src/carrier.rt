@@ -28,11 +28,10 @@ pub trait Carrier: Sized + Send + Drop {
     /// It carries the frames with these inputs, circuits and conference ports.
     ghost carries: { Self → List Input → List (List Circuit) → List Ports → Type 0 };
 
-    /// The octet that it plays on an external slot in a frame, given the tones and each frame's
-    /// input and circuits.
+    /// The octet that it outputs on an external slot in a frame, given the tones and each frame's input and circuits.
     ghost plays: { (Kind → List ℕ) → List Input → List (List Circuit) → ℕ → Slot → ℕ };
 
-    /// An engine for the given numbers of external lines, bridge lines and internal slots, which has carried no
+    /// Returns an engine for the given numbers of external lines, bridge lines and internal slots, which has carried no
     /// frame.
     fn new(alloc: Global, external: u8, bridges: u8, slots: u8) -> Result<Self, AllocError>
         requires external { 1 ≤ external × (external ≤ 32) }
@@ -42,10 +41,9 @@ pub trait Carrier: Sized + Send + Drop {
         ensures next { IfOk result (λ e. next e ≡ 0) }
         ensures carries { IfOk result (λ e. carries e [] [] []) };
 
-    /// Carries one frame: it takes `input` in, thirty octets for each external line or none for an
-    /// idle one, and writes what each external slot sends into `out`. The control memory is
-    /// this frame's; the engine keeps it, and hands another of the same sizes back. The work may be
-    /// shared among threads of this runtime, which are joined again.
+    /// Carries one frame: it takes `input` in, 30 octets for each external line or none for an idle one, and writes
+    /// what each external slot sends into `out`. The control memory is this frame's; the engine keeps it, and hands
+    /// another of the same sizes back. The work may be shared among threads of this runtime, which are joined again.
     fn frame<R: Threads + Sync>(
         &mut self,
         rt: &R,

@@ -7,7 +7,7 @@
 //!   hears, whatever the layouts of two frames in a row: octet invariance. Each internal slot of an
 //!   outgoing line has the octet of the layout's path there (`carries`). In a box it is one too, and goes
 //!   from hand to hand as one word.
-//! - [`Marker`] plays the number of the frame on every slot, for tests.
+//! - [`Marker`] outputs the number of the frame on every slot, for tests.
 //!
 //! It uses `circuit_model`, `frame_buffer`, `control_memory`, `time_stage`, `space_stage`,
 //! `alaw_codec`, `conference_mix` and `tone_rules`.

@@ -1,4 +1,5 @@
--- From which frame on a timer of a leg may run out, place by place. Source: this exchange's own; the timers are from ITU-T Q.931 (05/98), 9.1.
+-- From which frame on a timer of a leg may run out, place by place. Source: this project; the timers are from ITU-T
+-- Q.931 (05/98), 9.1.
 use Rattle.std.specs.Prelude.{◌≡◌, ℕ, ◌<◌, ◌≤◌, List, length, Option, None, IfSome, slice_index}
 use Rattle.call_states.specs.declared.leg.Leg.{Leg}
 use Rattle.call_timers.specs.Expiries.{due}

@@ -1,5 +1,5 @@
--- How a table of legs keeps the numbers that are pending and the messages that may be sent again: for each slot it has room for one of either, which
--- counts by the state of the slot's leg. Source: this exchange's own.
+-- How a table of legs keeps the numbers that are pending and the messages that may be sent again: for each slot it has
+-- room for one of either, which counts by the state of the slot's leg. Source: this project.
 use Rattle.std.specs.Prelude.{ℕ, ◌==◌, List, [], ◌∷◌, Option, Some, None, if◌then◌else◌}
 use Rattle.q931_codec.specs.CallStates.{overlap_sending}
 use Rattle.call_states.specs.Acts.{is_among}

@@ -1,5 +1,5 @@
--- The keys by which the legs of a line are found. Source: ITU-T Q.931 (05/98), 4.3, for call references and their flag; the rest is this
--- exchange's own.
+-- The keys by which the legs of a line are found. Source: ITU-T Q.931 (05/98), 4.3, for call references and their flag;
+-- the rest is this exchange's own.
 use Rattle.std.specs.Prelude.{◌≡◌, ◌≢◌, ℕ, ◌+◌, ◌*◌, ◌^◌, ◌<◌, ◌≤◌, ◌==◌, Bool, true, false, List, length, All, IfSome, Option, Some, None, slice_index, slice_index_or, if◌then◌else◌}
 use Rattle.call_states.specs.declared.leg.Leg.{Leg}
 use Rattle.call_states.specs.declared.leg.Side.{Side}
@@ -32,8 +32,8 @@ key_on keys line place = slice_index_or keys (32 * line + place) no_key
 abbrev pub leg_on : List (Option Leg) → ℕ → ℕ → Option Leg
 leg_on legs line place = slice_index_or legs (30 * line + place) None
 
--- n lines have thirty slots each, whose legs have numbers that a message can carry; and each line has the keys of its thirty slots, with two
--- places behind them that have no leg's
+-- n lines have 30 slots each, whose legs have numbers that a message can carry; and each line has the keys of its 30
+-- slots, with two places behind them that have no leg's
 pub record AreKeysOf (lines : ℕ) (legs : List (Option Leg)) (keys : List ℕ) : Type 0 where
   pub slots : length legs ≡ 30 * lines
   pub rows : length keys ≡ 32 * lines

@@ -20,7 +20,7 @@ pub(crate) fn due_from(leg: Leg, timers: &Timers) -> u32
     first_due(leg.state, leg.resent, leg.since, timers)
 }
 
-/// Lets the bound of a place be this frame, where it is a later one.
+/// Lets the bound of a place be this frame, if it is a later one.
 pub(crate) fn lower(bounds: &mut [u32; BOUNDS], place: u8, frame: u32)
     requires place { place < 30 }
     ensures places { length bounds.new ≡ length bounds.old }

@@ -46,7 +46,7 @@ impl Model for LegTable {
 }
 
 impl LegTable {
-    /// No legs on the slots of n external lines, in an exchange with these timers.
+    /// Returns no legs on the slots of n external lines, in an exchange with these timers.
     pub fn new(alloc: Global, external: u8, timers: Timers) -> Result<LegTable, AllocError>
         ensures { IfOk result (λ t. t ≡ no_legs external) }
     {
@@ -57,7 +57,7 @@ impl LegTable {
         })
     }
 
-    /// The leg that holds a slot.
+    /// Returns the leg that holds a slot.
     pub fn at(&self, x: Slot) -> Option<Leg>
         ensures found { result ≡ leg_at self.now x }
         ensures inside { IfSome result (λ _. number_of x < length self.now.held) }
@@ -66,14 +66,14 @@ impl LegTable {
         self.legs.at(x.number())
     }
 
-    /// The number that is pending at a slot.
+    /// Returns the number that is pending at a slot.
     pub fn pending(&self, x: Slot) -> Option<&Pending>
         ensures { option_copied result ≡ pending_at self.now x }
     {
         number_at(&self.legs, &self.notes, x.number())
     }
 
-    /// The message that is kept at a slot, to be sent again.
+    /// Returns the message that is kept at a slot, to be sent again.
     pub fn kept(&self, x: Slot) -> Option<&Encoded>
         ensures { option_copied result ≡ kept_at self.now x }
     {
@@ -137,7 +137,7 @@ impl LegTable {
         self.legs.remove(x);
     }
 
-    /// Whether a leg at this place may be due in a frame, by these timers.
+    /// Returns whether a leg at this place may be due in a frame, by these timers.
     pub fn may_be_due(&self, place: u8, frame: u32, timers: &Timers) -> bool
         requires place { place < 30 }
         ensures { result ≡ false → NoneDue timers.now self.now.held place frame }
@@ -154,7 +154,7 @@ impl LegTable {
         self.legs.settle(place);
     }
 
-    /// The leg of a line that a message with this flag and call reference value is for.
+    /// Returns the leg of a line that a message with this flag and call reference value is for.
     pub fn named(&self, line: u8, flag: bool, reference: u16) -> Option<Held>
         requires line { 30 * line + 30 ≤ length self.now.held }
         ensures { result ≡ leg_named self.now line flag reference }
@@ -175,15 +175,15 @@ impl LegTable {
         Some(Held { slot, leg })
     }
 
-    /// The call reference value of a new called leg of a line: the lowest from 1 up that none of the
-    /// line's called legs has.
+    /// Returns the call reference value of a new called leg of a line: the lowest from 1 up that none of the line's
+    /// called legs has.
     pub fn new_reference(&self, line: u8) -> u16
         requires line { 30 * line + 30 ≤ length self.now.held }
         ensures reference { result ≡ new_reference self.now line }
         ensures few { result ≤ 31 }
     {
         let used = references_in(self.row(line));
-        // No call has the value 0; and where the first thirty are used, it is the next.
+        // No call has the value 0; and where the first 30 are used, it is the next.
         (!(used | 1) | 1 << 31).trailing_zeros() as u16
     }
 

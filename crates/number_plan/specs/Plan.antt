@@ -1,4 +1,4 @@
--- The number plan: its numbers in the order of their digits, and what digits lead to. Source: this exchange's own.
+-- The number plan: its numbers in the order of their digits, and what digits lead to. Source: this project.
 use Rattle.std.specs.Prelude.{◌≡◌, ℕ, nat_le, Bool, true, false, IsTrue, not, ◌==◌, ◌&&◌, ◌||◌, if◌then◌else◌, List, [], ◌∷◌, length, Some}
 use Rattle.std.specs.List.{list_all, list_any, slice_get}
 use Rattle.std.specs.Char.{is_ascii_digit}
@@ -23,7 +23,8 @@ begins [] digits = true
 begins (d ∷ front) [] = false
 begins (d ∷ front) (e ∷ digits) = d == e && begins front digits
 
--- the first place in which two strings of digits differ decides which is lower; they are equal where one begins the other
+-- the first place in which two strings of digits differ decides which is lower; they are equal where one begins the
+-- other
 abbrev pub side_by_side : List ℕ → List ℕ → Ordering
 side_by_side [] others = Equal
 side_by_side (d ∷ digits) [] = Equal
@@ -87,7 +88,7 @@ IsUnknown plan digits = is_number_taken plan digits ≡ false
 abbrev pub all_targets : (Target → Bool) → List Number → Bool
 all_targets test plan = list_all (λ n. test n.target) plan
 
--- what digits lead to passes this test, where it is a line or a room
+-- what digits lead to passes this test, if it is a line or a room
 abbrev pub PassesTest : (Target → Bool) → Found → Type 0
 PassesTest test (answer.Line line) = test (target.Line line) ≡ true
 PassesTest test (answer.Room room) = test (target.Room room) ≡ true

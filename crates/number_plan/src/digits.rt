@@ -4,7 +4,7 @@ use arrayvec::ArrayVec;
 use std::cmp::Ordering;
 use std::marker::Model;
 
-/// The most digits of a number. Source: this exchange's own.
+/// The most digits of a number. Source: this project.
 pub const LONGEST_NUMBER: usize = 20;
 
 /// The digits of a number, as IA5 characters (ITU-T Q.931, 4.5.8). Contracts see their list.
@@ -36,7 +36,7 @@ impl Digits {
         Digits { octets }
     }
 
-    /// The digits in order.
+    /// Returns the digits in order.
     pub fn as_slice(&self) -> &[u8]
         ensures { result.now ≡ self.now }
     {
@@ -49,7 +49,7 @@ ghost use Rattle.std.specs.List.{list_all};
 ghost use Rattle.std.specs.Char.{is_ascii_digit};
 ghost use Rattle.number_plan.specs.Plan.{is_number, side_by_side};
 
-/// Whether these are 1 to 20 digits `0` to `9`, as a number of a plan has them.
+/// Returns whether these are 1 to 20 digits `0` to `9`, as a number of a plan has them.
 pub fn is_number(digits: &[u8]) -> bool
     ensures { result ≡ is_number digits.now }
 {

@@ -4,10 +4,10 @@
 //! at each digit whether the number is whole. The plan is kept in the order of its digits, and a
 //! look is one binary search.
 //!
-//! - [`Plan`]'s `add` refuses a number exactly where it equals, begins or continues a held one
-//!   (`prefix`), or where 256 are held (`too_many`); then the plan is as it was (`refused`).
-//! - `look` returns the line or the room to which the digits lead (`line`, `room`), `More` exactly
-//!   where they begin a held number (`more`), and else `Nothing` (`nothing`).
+//! - [`Plan`]'s `add` refuses a number if and only if it equals, begins or continues a held one (`prefix`), or where
+//!   256 are held (`too_many`); then the plan is as it was (`refused`).
+//! - `look` returns the line or the room to which the digits lead (`line`, `room`), `More` if and only if they begin a
+//!   held number (`more`), and else `Nothing` (`nothing`).
 //!
 //! It uses the kit's `arrayvec` and `thiserror` alone.
 #![tactic(auto)]

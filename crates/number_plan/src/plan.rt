@@ -7,7 +7,7 @@ use std::cmp::Ordering;
 use std::marker::Model;
 use thiserror::Error;
 
-/// The most numbers of a plan. Source: this exchange's own.
+/// The most numbers of a plan. Source: this project.
 pub const MOST_NUMBERS: usize = 256;
 
 /// A number and where it leads.
@@ -67,7 +67,7 @@ impl Plan {
     ghost use Rattle.number_plan.specs.Plan.{side_by_side, in_order, with_number, found_for, is_number_taken, is_number, AreApart, LeadsTo, IsUnfinishedNumber, IsUnknown};
     ghost use Rattle.number_plan.specs.Search.{IsBesideAt, IsPlaceFor};
 
-    /// A plan without numbers.
+    /// Returns a plan without numbers.
     pub fn new(alloc: Global) -> Plan
         ensures { result ≡ [] }
     {
@@ -80,8 +80,8 @@ impl Plan {
     ///
     /// # Errors
     ///
-    /// - [`PlanFault::Prefix`] exactly where the number equals, begins or continues one that is held.
-    /// - [`PlanFault::TooMany`] exactly where it doesn't, and 256 numbers are held.
+    /// - [`PlanFault::Prefix`] if and only if the number equals, begins or continues one that is held.
+    /// - [`PlanFault::TooMany`] if and only if it doesn't, and 256 numbers are held.
     /// - [`PlanFault::Memory`] where memory runs out.
     ///
     /// The plan stays as it was then.
@@ -103,7 +103,7 @@ impl Plan {
         }
     }
 
-    /// What the digits lead to.
+    /// Returns what the digits lead to.
     pub fn look(&self, digits: &[u8]) -> Found
         ensures found { result ≡ found_for self.now digits.now }
         ensures line { (l : ℕ) → (result ≡ Found.Line l) ↔ LeadsTo self.now digits.now (Target.Line l) }

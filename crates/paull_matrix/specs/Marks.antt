@@ -1,4 +1,4 @@
--- A word for each line, in which the bit of a slot is set exactly where a path of the line is in the slot.
+-- A word for each line, in which the bit of a slot is set if and only if a path of the line is in the slot.
 use Rattle.std.specs.Prelude.{◌≡◌, ℕ, ◌^◌, ◌<◌, Bool, Option, Some, None, List, length, get_or, set, nat_eq, bit_or, bit_and}
 use Rattle.std.specs.Int.{bit_at, bit_not, w64}
 

@@ -1,7 +1,7 @@
--- Paull's matrix as a value (M. C. Paull, "Reswitching of connection networks", Bell System Technical Journal 41, 1962).
--- A row is for a switch of the first stage, here an incoming line, and a column for a switch of the third stage, here an
--- outgoing line. The entries in the cell of a row and a column are the switches of the middle stage over which paths lead
--- from the one to the other. A middle switch is an internal time slot here.
+-- Paull's matrix as a value (M. C. Paull, "Reswitching of connection networks", Bell System Technical Journal 41,
+-- 1962). A row is for a switch of the first stage, here an incoming line, and a column for a switch of the third stage,
+-- here an outgoing line. The entries in the cell of a row and a column are the switches of the middle stage over which
+-- paths lead from the one to the other. A middle switch is an internal time slot here.
 use Rattle.std.specs.Prelude.{◌≡◌, refl, ℕ, ◌<◌, ◌≤◌, Bool, false, ◌&&◌, Option, Some, None, is_some, is_none, nat_eq}
 use Rattle.std.specs.declared.cmp.Ordering.{Ordering}
 use Rattle.std.specs.Ordering.{nat_cmp, ordering_then}

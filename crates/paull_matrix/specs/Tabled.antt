@@ -1,5 +1,5 @@
--- A matrix that is kept as a table of columns by row and slot, with a table of rows by column and slot and words of used
--- slots beside it.
+-- A matrix that is kept as a table of columns by row and slot, with a table of rows by column and slot and words of
+-- used slots beside it.
 use Rattle.std.specs.Prelude.{◌≡◌, ℕ, zero, suc, ◌+◌, ◌*◌, ◌<◌, Option, Some, None, List, length, get_or}
 use Rattle.std.specs.FinMap.{FinMap, empty, insert}
 use Rattle.paull_matrix.specs.Matrix.{Matrix, by_row_and_slot, row_slot, column_slot, IsLegal}

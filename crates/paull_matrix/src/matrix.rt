@@ -53,8 +53,8 @@ impl Model for PaullMatrix {
 }
 
 impl PaullMatrix {
-    /// An empty matrix of `lines` rows and columns and `slots` slots. It reserves the room for all
-    /// the paths that it can hold. The only error is running out of memory.
+    /// Returns an empty matrix of `lines` rows and columns and `slots` slots. It reserves the room for all the paths
+    /// that it can hold. The only error is running out of memory.
     pub fn new(alloc: Global, lines: u8, slots: u8) -> Result<PaullMatrix, AllocError>
         requires lines { (0 < lines) × (lines ≤ 34) }
         requires slots { (0 < slots) × (slots ≤ 59) }
@@ -72,7 +72,7 @@ impl PaullMatrix {
         })
     }
 
-    /// The column of the path of row `i` in slot `s`, `None` exactly where there is no such path.
+    /// Returns the column of the path of row `i` in slot `s`, `None` if and only if there is no such path.
     pub fn row_slot<L: Ledger>(&self, i: u8, s: u8, steps: &mut Steps<L>) -> Option<u8>
         requires row { i < self.now.lines }
         requires slot { s < self.now.slots }
@@ -84,7 +84,7 @@ impl PaullMatrix {
         self.columns[place_of(self.slots, i, s)]
     }
 
-    /// The row of the path of column `j` in slot `s`, `None` exactly where there is no such path.
+    /// Returns the row of the path of column `j` in slot `s`, `None` if and only if there is no such path.
     pub fn column_slot<L: Ledger>(&self, j: u8, s: u8, steps: &mut Steps<L>) -> Option<u8>
         requires column { j < self.now.lines }
         requires slot { s < self.now.slots }
@@ -96,8 +96,8 @@ impl PaullMatrix {
         self.rows[place_of(self.slots, j, s)]
     }
 
-    /// The lowest slot that is missing both in row `i` and in column `j`, `None` exactly where every
-    /// slot is in one of them.
+    /// Returns the lowest slot that is missing both in row `i` and in column `j`, `None` if and only if every slot is
+    /// in one of them.
     pub fn common_free<L: Ledger>(&self, i: u8, j: u8, steps: &mut Steps<L>) -> Option<u8>
         requires row { i < self.now.lines }
         requires column { j < self.now.lines }
@@ -110,7 +110,7 @@ impl PaullMatrix {
         lowest_missing(used, self.slots)
     }
 
-    /// The lowest slot that is missing in row `i`, which has fewer paths than there are slots.
+    /// Returns the lowest slot that is missing in row `i`, which has fewer paths than there are slots.
     pub fn free_in_row<L: Ledger>(&self, i: u8, steps: &mut Steps<L>) -> u8
         requires row { i < self.now.lines }
         requires room { paths_of_row self.now i < self.now.slots }
@@ -125,7 +125,7 @@ impl PaullMatrix {
         }
     }
 
-    /// The lowest slot that is missing in column `j`, which has fewer paths than there are slots.
+    /// Returns the lowest slot that is missing in column `j`, which has fewer paths than there are slots.
     pub fn free_in_column<L: Ledger>(&self, j: u8, steps: &mut Steps<L>) -> u8
         requires column { j < self.now.lines }
         requires room { paths_of_column self.now j < self.now.slots }
@@ -173,7 +173,7 @@ impl PaullMatrix {
     }
 }
 
-/// The lowest slot whose bit is clear in a word, `None` exactly where each is set.
+/// Returns the lowest slot whose bit is clear in a word, `None` if and only if each is set.
 fn lowest_missing(word: u64, slots: u8) -> Option<u8>
     requires few { slots ≤ 59 }
     ensures lowest { result ≡ lowest (lacks word) slots }
@@ -204,7 +204,7 @@ fn unmark(words: &mut Vec<u64>, line: u8, s: u8)
     words[usize::from(line)] &= !(1 << s);
 }
 
-/// The place of a line and a slot in a table, where each line has `slots` places.
+/// Returns the place of a line and a slot in a table, where each line has `slots` places.
 fn place_of(slots: u8, line: u8, s: u8) -> usize
     ensures { result ≡ line * slots + s }
 {

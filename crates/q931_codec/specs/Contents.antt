@@ -74,7 +74,8 @@ restart_in elements = option_and_then first_octet (first_of identifier.restart_i
 
 -- ---- bearer capability (4.5.5)
 
--- octets 3 and 4: speech (80), 3.1 kHz audio (90) or unrestricted digital information (88), in circuit mode at 64 kbit/s (90)
+-- octets 3 and 4: speech (80), 3.1 kHz audio (90) or unrestricted digital information (88), in circuit mode at 64
+-- kbit/s (90)
 abbrev pub is_carried : List ℕ → Bool
 is_carried (capability ∷ mode ∷ rest) = mode == 0x90 && (capability == 0x80 || capability == 0x90 || capability == 0x88)
 is_carried _ = false
@@ -95,7 +96,7 @@ complete_in elements = is_some (first_of identifier.sending_complete elements)
 
 -- ---- called party number (4.5.8)
 
--- its contents as they were received, where there is one
+-- its contents as they were received, if there is one
 abbrev pub called_received : List InformationElement → Option (List ℕ)
 called_received elements = first_of identifier.called_party_number elements
 
@@ -107,7 +108,7 @@ is_called_number contents = nat_le 1 (length contents) && nat_le (length content
 abbrev pub decimal_digits : List ℕ → Option (List ℕ)
 decimal_digits octets = let digits = map (λ octet. octet % 0x80) octets in if list_all is_ascii_digit digits then Some digits else None
 
--- the digits of a called party number: none where it has no octet
+-- the digits of a called party number: none if it has no octet
 abbrev pub dialled_digits : List ℕ → Option (List ℕ)
 dialled_digits contents = decimal_digits (drop 1 contents)
 

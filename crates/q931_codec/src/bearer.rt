@@ -19,7 +19,7 @@ impl BearerCapability {
     ghost use Rattle.std.specs.Prelude.{◌≡◌};
     ghost use Rattle.q931_codec.specs.Contents.{bearer_of};
 
-    /// What the contents of a bearer capability ask for.
+    /// Returns what the contents of a bearer capability ask for.
     pub fn of(contents: &[u8]) -> BearerCapability
         ensures { result ≡ bearer_of contents.now }
     {
@@ -38,15 +38,14 @@ impl<'a> Message<'a> {
     ghost use Rattle.std.specs.Option.{option_copied};
     ghost use Rattle.q931_codec.specs.Contents.{bearer_in, low_layer_in, high_layer_in};
 
-    /// The contents of the first bearer capability (4.5.5), `None` where there is none.
+    /// Returns the contents of the first bearer capability (4.5.5), `None` if there is none.
     pub fn bearer(&self) -> Option<&'a [u8]>
         ensures { option_copied result ≡ bearer_in self.now.elements }
     {
         self.elements.first(BEARER_CAPABILITY)
     }
 
-    /// The contents of the first low layer compatibility (4.5.19) where they have at most 16 octets,
-    /// else none.
+    /// Returns the contents of the first low layer compatibility (4.5.19) if they have at most 16 octets, else none.
     pub fn low_layer(&self) -> &'a [u8]
         ensures { result.now ≡ low_layer_in self.now.elements }
     {
@@ -56,8 +55,7 @@ impl<'a> Message<'a> {
         }
     }
 
-    /// The contents of the first high layer compatibility (4.5.17) where they have at most 3 octets,
-    /// else none.
+    /// Returns the contents of the first high layer compatibility (4.5.17) if they have at most 3 octets, else none.
     pub fn high_layer(&self) -> &'a [u8]
         ensures { result.now ≡ high_layer_in self.now.elements }
     {
@@ -71,7 +69,7 @@ impl<'a> Message<'a> {
 ghost use Rattle.std.specs.Prelude.{◌≡◌};
 ghost use Rattle.q931_codec.specs.Contents.{contents_passed_on};
 
-// What is passed on to the called user as it was received, where it isn't too long.
+// What is passed on to the called user as it was received, if it isn't too long.
 pub(crate) fn contents_passed_on(contents: &[u8], most: usize) -> &[u8]
     ensures { result.now ≡ contents_passed_on most contents.now }
 {

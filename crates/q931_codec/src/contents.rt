@@ -9,7 +9,7 @@ use crate::message::Message;
 pub enum ChannelIdentification {
     /// Any channel.
     Any,
-    /// This channel where it is idle, else another.
+    /// This channel if it is idle, else another.
     Preferred(u8),
     /// This channel and no other.
     Exclusive(u8),
@@ -21,9 +21,9 @@ impl<'a> Message<'a> {
     ghost use Rattle.std.specs.Prelude.{◌≡◌};
     ghost use Rattle.q931_codec.specs.Contents.{cause_in, call_state_in, channel_in, restart_in};
 
-    /// The cause value (Q.931, 4.5.12) of the first cause, `None` where there is none or its value
-    /// isn't there. Octet 3 has the location, octet 3a is there only where the extension bit of octet 3
-    /// is 0, and octet 4 has the value in its low seven bits.
+    /// Returns the cause value (Q.931, 4.5.12) of the first cause, `None` if there is none or its value isn't there.
+    /// Octet 3 has the location, octet 3a is there only where the extension bit of octet 3 is 0, and octet 4 has the
+    /// value in its low seven bits.
     pub fn cause(&self) -> Option<u8>
         ensures { result ≡ cause_in self.now.elements }
     {
@@ -34,8 +34,8 @@ impl<'a> Message<'a> {
         }
     }
 
-    /// The call state value (4.5.7) of the first call state, the low six bits of its first octet.
-    /// `None` where there is no such octet.
+    /// Returns the call state value (4.5.7) of the first call state, the low six bits of its first octet. `None` if
+    /// there is no such octet.
     pub fn call_state(&self) -> Option<u8>
         ensures { result ≡ call_state_in self.now.elements }
     {
@@ -45,14 +45,14 @@ impl<'a> Message<'a> {
         }
     }
 
-    /// What the first channel identification asks for, `None` where there is none.
+    /// Returns what the first channel identification asks for, `None` if there is none.
     pub fn channel(&self) -> Option<ChannelIdentification>
         ensures { result ≡ channel_in self.now.elements }
     {
         Some(channel_of(self.elements.first(CHANNEL_IDENTIFICATION)?))
     }
 
-    /// The first octet of the first restart indicator (4.5.25), `None` where there is none.
+    /// Returns the first octet of the first restart indicator (4.5.25), `None` if there is none.
     pub fn restart_indicator(&self) -> Option<u8>
         ensures { result ≡ restart_in self.now.elements }
     {

@@ -71,7 +71,7 @@ fn complete(writer: &mut Writer, complete: bool)
     }
 }
 
-// The element with these contents, where there are some.
+// The element with these contents, if there are some.
 fn element(writer: &mut Writer, code: u8, contents: &[u8])
     requires { length writer.old + 2 + length contents.now ≤ longest_message }
     ensures octets { writer.new ≡ writer.old ++ octets_of_all (item_of_row (code, contents.now)) }
@@ -82,7 +82,7 @@ fn element(writer: &mut Writer, code: u8, contents: &[u8])
     }
 }
 
-// The element of one octet, where there is one.
+// The element of one octet, if there is one.
 fn octet(writer: &mut Writer, code: u8, octet: Option<u8>)
     requires { length writer.old + 3 ≤ longest_message }
     ensures octets { writer.new ≡ writer.old ++ octets_of_all (item_of_row (code, one_octet octet)) }

@@ -40,8 +40,7 @@ pub enum MessageKind {
     Information,
     /// STATUS (3.1.16): tells the sender's call state.
     Status,
-    /// Any other octet. A kind that [`read`](crate::read) gives is `Unknown` only where it has no name
-    /// above.
+    /// Any other octet. A kind that [`read`](crate::read) gives is `Unknown` only if it has no name above.
     Unknown(u8),
 }
 

@@ -1,8 +1,7 @@
 //! Messages of ITU-T Q.931 (05/98) as octets, read and written.
 //!
-//! - [`read`] takes a message apart without copying it, exactly where its header is there (`found`,
-//!   `only`), and else says why not (`discriminator`, `short`, `reference_length`). No octets are
-//!   two messages ([`one_message`]).
+//! - [`read`] takes a message apart without copying it, if and only if its header is there (`found`, `only`), and else
+//!   says why not (`discriminator`, `short`, `reference_length`). No octets are two messages ([`one_message`]).
 //! - [`Message`]'s `cause`, `call_state`, `channel` and the like return what the first element of a
 //!   kind says.
 //! - [`write`] has one spelling of each message (`encoded`), of 107 octets at most (`fits`), which

@@ -42,7 +42,7 @@ ghost use Rattle.q931_codec.specs.Reading.{HasOtherDiscriminator, IsShort, HasOt
 ///
 /// # Errors
 ///
-/// - [`Discard::Discriminator`] where there is a first octet, and it isn't 08.
+/// - [`Discard::Discriminator`] if there is a first octet, and it isn't 08.
 /// - [`Discard::ReferenceLength`] where the first octet is 08, and there is a second that isn't 02.
 /// - [`Discard::Short`] where the octets are none, 08 alone, or 08 02 and fewer than three others.
 pub fn read(octets: &[u8]) -> Result<Message<'_>, Discard>
@@ -50,7 +50,7 @@ pub fn read(octets: &[u8]) -> Result<Message<'_>, Discard>
     ensures found { IfOk result (λ m. IsMessage octets.now m) }
     ensures only { (m : Message) → IsMessage octets.now m → result ≡ Ok m }
 
-    // Each reason comes exactly where it holds.
+    // Each reason comes if and only if it holds.
     ensures discriminator { IsErrOf result Discard.Discriminator ↔ HasOtherDiscriminator octets.now }
     ensures short { IsErrOf result Discard.Short ↔ IsShort octets.now }
     ensures reference_length { IsErrOf result Discard.ReferenceLength ↔ HasOtherReferenceLength octets.now }

@@ -40,8 +40,8 @@ impl<'a> Outgoing<'a> {
     ghost use Rattle.std.specs.Prelude.{◌≡◌};
     ghost use Rattle.q931_codec.specs.Outgoing.{outgoing_of, bare};
 
-    /// A message without elements, to which the fields that are wanted are added, as in
-    /// `Outgoing { cause: Some(16), ..Outgoing::new(flag, reference, MessageKind::Release) }`.
+    /// Returns a message without elements, to which the fields that are wanted are added, as in `Outgoing { cause:
+    /// Some(16), ..Outgoing::new(flag, reference, MessageKind::Release) }`.
     pub fn new(flag: bool, reference: u16, kind: MessageKind) -> Outgoing<'a>
         ensures { outgoing_of result ≡ bare flag reference kind }
     {

@@ -24,7 +24,7 @@ front_in (octet ∷ rest) =
     else (if nat_lt octet 0xA0 then NonLockingShift rest
     else Whole (record { code = octet; contents = [] }) rest)))
 
--- the octets behind one item, none where it is cut short
+-- the octets behind one item, none if it is cut short
 abbrev pub after_contents : List ℕ → List ℕ
 after_contents [] = []
 after_contents (len ∷ rest) = drop len rest

@@ -34,7 +34,7 @@ impl<'a> Elements<'a> {
     ghost use Rattle.q931_elements.specs.InformationElement.{first_of};
     ghost use Rattle.q931_elements.specs.Reading.{elements_of};
 
-    /// The elements of these octets, which are those after a message's header.
+    /// Returns the elements of these octets, which are those after a message's header.
     pub fn new(octets: &'a [u8]) -> Elements<'a>
         ensures grammar { IsElementList octets.entry.now result }
         ensures computed { result ≡ elements_of octets.entry.now }
@@ -43,8 +43,8 @@ impl<'a> Elements<'a> {
         Elements { rest: octets }
     }
 
-    /// The contents of the first of the elements that are left with this identifier, `None` where none
-    /// of them has it. A repeated element is ignored (5.8.5.2).
+    /// Returns the contents of the first of the elements that are left with this identifier, `None` if none of them has
+    /// it. A repeated element is ignored (5.8.5.2).
     pub fn first(&self, code: u8) -> Option<&'a [u8]>
         ensures first { option_copied result ≡ first_of code self.now }
         ensures none { IsNone result ↔ All (λ e. e.code ≢ code) self.now }

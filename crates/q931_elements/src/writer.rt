@@ -24,7 +24,7 @@ impl Writer {
     ghost use Rattle.std.specs.Prelude.{◌≡◌, ◌+◌, ◌≤◌, List, [], ◌∷◌, ◌++◌, length};
     ghost use Rattle.q931_elements.specs.Limits.{longest_message};
 
-    /// A writer that has written nothing, with room for the longest message.
+    /// Returns a writer that has written nothing, with room for the longest message.
     pub fn new() -> Writer
         ensures empty { result ≡ [] }
         ensures room { LONGEST_MESSAGE ≡ longest_message }
@@ -55,7 +55,7 @@ impl Writer {
         }
     }
 
-    /// The octets that were written.
+    /// Returns the octets that were written.
     pub fn finish(self) -> ArrayVec<u8, LONGEST_MESSAGE>
         ensures { result.items ≡ self }
     {

@@ -1,6 +1,5 @@
-//! Room for one path more in Paull's matrix: where no slot is free in a row and a column both,
-//! live paths are moved along an alternating chain of two slots, the shorter of the row's and
-//! the column's.
+//! Room for one path more in Paull's matrix: if no slot is free in a row and a column both, live paths are moved along
+//! an alternating chain of two slots, the shorter of the row's and the column's.
 //!
 //! [`make_room`] returns a slot that is free in both afterwards (`row_free`, `column_free`). It
 //! moves exactly the chain of the definition, in its order (`moves`, `exchanged`, `changes`): of r

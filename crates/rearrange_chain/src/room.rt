@@ -37,14 +37,12 @@ use std::sync::ledger::Ledger;
 /// Makes room for a path of row `i` and column `j`, which each have fewer paths than slots, and
 /// answers a slot that is free in both afterwards. `moves` comes empty, and lists the moves made.
 ///
-/// Where a slot is free in both already, the lowest one is answered and nothing moves. Else let `a`
-/// be the lowest slot that is free in the row, and `b` the lowest that is free in the column. The
-/// path of the column in `a`, the path in `b` of the row where that one ends, the next one in `a`
-/// and so on form the column's chain; the row's chain begins with the path of the row in `b`. The
-/// two share no row and no column, so with r lines the shorter has at most r - 1 paths. The paths
-/// of the row's chain, where it is strictly shorter, and else of the column's, exchange `a`
-/// and `b`, and are listed in the order of their chain. With the row's chain `b` is answered, with
-/// the column's `a`.
+/// Where a slot is free in both already, the lowest one is answered and nothing moves. Else let `a` be the lowest slot
+/// that is free in the row, and `b` the lowest that is free in the column. The path of the column in `a`, the path in
+/// `b` of the row where that one ends, the next one in `a` and so on form the column's chain; the row's chain begins
+/// with the path of the row in `b`. The two share no row and no column, so with r lines the shorter has at most r - 1
+/// paths. The paths of the row's chain, if it is strictly shorter, and else of the column's, exchange `a` and `b`, and
+/// are listed in the order of their chain. With the row's chain `b` is answered, with the column's `a`.
 ///
 /// Source: M. C. Paull, "Reswitching of connection networks", Bell System Technical Journal 41
 /// (1962), for the chain and the exchange; the Slepian-Duguid theorem, that a row and a column with
@@ -93,8 +91,8 @@ pub fn make_room<L: Ledger>(
     slot
 }
 
-/// Takes the row's chain in place of the column's where it is strictly shorter, and answers the slot
-/// that the chain taken frees in both lines.
+/// Takes the row's chain in place of the column's if it is strictly shorter, and answers the slot that the chain taken
+/// frees in both lines.
 fn take_shorter(moves: &mut ArrayVec<Move, 66>, by_row: &mut ArrayVec<Move, 66>, a: u8, b: u8) -> u8
     ensures moves { moves.new.items ≡ shorter by_row.old.items moves.old.items }
     ensures slot { result ≡ if is_shorter by_row.old.items moves.old.items then b else a }

@@ -1,11 +1,12 @@
--- What the space stage of a time-space-time fabric does. Source: this exchange's own; in each internal time slot the stage is a crossbar
--- whose crosspoints the control memory sets.
+-- What the space stage of a time-space-time fabric does. Source: this project; in each internal time slot the stage is
+-- a crossbar whose crosspoints the control memory sets.
 use Rattle.std.specs.Prelude.{◌≡◌, ℕ, ◌+◌, ◌*◌, ◌<◌, List, slice_index}
 use Rattle.frame_buffer.specs.Highways.{Highways, octet_on, RowsHold, AreFilled}
 use Rattle.control_memory.specs.Image.{Control, received}
 use Rattle.control_memory.specs.Carrying.{fetched}
 
--- an outgoing line gets in an internal slot the octet of the incoming line that its table names, and the idle octet where it names none
+-- an outgoing line gets in an internal slot the octet of the incoming line that its table names, and the idle octet if
+-- it names none
 abbrev pub gets : Control → Highways → ℕ → ℕ → ℕ
 gets control from line slot = fetched (received control line slot) (λ l. octet_on from l slot)
 
@@ -21,7 +22,8 @@ AreCrossed control from first octets part = AreFilled control.slots (gets contro
 abbrev pub IsCrossed : Control → Highways → Highways → Type 0
 IsCrossed control from to = (line slot : ℕ) → line < to.lines → slot < to.slots → octet_on to line slot ≡ gets control from line slot
 
--- where the row of each incoming line begins among rows behind an idle one, by the byte that names it; the idle row begins where no line is named
+-- where the row of each incoming line begins among rows behind an idle one, by the byte that names it; the idle row
+-- begins if no line is named
 pub record AreStarts (lines_in slots : ℕ) (starts : List ℕ) : Type 0 where
   pub lines : (line : ℕ) → line < lines_in → slice_index starts line ≡ (line + 1) * slots
   pub idle : slice_index starts 255 ≡ 0

@@ -8,8 +8,8 @@ ghost use Rattle.space_stage.specs.Crossing.{gets, IsCrossedPart, IsCrossed, Are
 use control_memory::Image;
 use frame_buffer::{Crossed, Highway, make_idle};
 
-/// Crosses one frame: in each internal slot each outgoing line gets the octet of the incoming line
-/// that the control memory names, and the idle octet where it names none.
+/// Crosses one frame: in each internal slot each outgoing line gets the octet of the incoming line that the control
+/// memory names, and the idle octet if it names none.
 pub fn cross(highway: &Highway, image: &Image, crossed: &mut Crossed)
     requires lines { highway.now.lines ≡ lines_of image.now }
     requires slots { highway.now.slots ≡ image.now.slots }

@@ -59,7 +59,7 @@ pub fn cross_by_halves<R: Threads + Sync>(
     cross_halves(rt, highway, image, slots, 0, end, part, levels, least);
 }
 
-// Crosses to the lines from `first` up to `end`, by halves where they have at least n octets.
+// Crosses to the lines from `first` up to `end`, by halves if they have at least n octets.
 fn cross_halves<R: Threads + Sync>(
     rt: &R,
     highway: &Highway,

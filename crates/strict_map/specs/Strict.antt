@@ -1,5 +1,6 @@
--- A strict-sense non-blocking fabric. Source: C. Clos, "A study of non-blocking switching networks", Bell System Technical Journal 32 (1953):
--- where two lines of n places have at most n-1 other paths each, 2n-1 internal slots always leave one free in both.
+-- A strict-sense non-blocking fabric. Source: C. Clos, "A study of non-blocking switching networks", Bell System
+-- Technical Journal 32 (1953): where two lines of n places have at most n-1 other paths each, 2n-1 internal slots
+-- always leave one free in both.
 use Rattle.std.specs.Prelude.{◌≡◌, ℕ, ◌<◌}
 use Rattle.circuit_model.specs.declared.channel.Slot.{Slot}
 use Rattle.control_memory.specs.Layout.{Legal}
@@ -10,7 +11,7 @@ use Rattle.control_memory.specs.Paths.{Fabric}
 abbrev pub most_moves : ℕ → ℕ
 most_moves lines = 0
 
--- a legal layout on fifty-nine internal slots
+-- a legal layout on 59 internal slots
 pub record Strict (f : Fabric) : Type 0 where
   pub slots : f.slots ≡ 59
   pub legal : Legal f.lines f.slots f.layout

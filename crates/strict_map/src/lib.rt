@@ -1,5 +1,5 @@
-//! The live map of the paths through a strict-sense non-blocking fabric, as a `PathMap`: with
-//! fifty-nine internal slots no path is ever moved.
+//! The live map of the paths through a strict-sense non-blocking fabric, as a `PathMap`: with 59 internal slots no path
+//! is ever moved.
 //!
 //! - `connect` of [`StrictMap`] never refuses: the new path gets the lowest internal slot that is
 //!   free in both lines (`layout`), and no live path moves (`moves`, `few`).

@@ -10,9 +10,8 @@ use circuit_model::PLACES;
 use control_memory::Image;
 use frame_buffer::{Crossed, FrameBuffer, Highway, make_idle};
 
-/// The incoming time stage of one frame: each line sends in each internal slot the octet of the
-/// place that the control memory names, out of the half of the buffer that is read, and the idle
-/// octet where it names none.
+/// The incoming time stage of one frame: each line sends in each internal slot the octet of the place that the control
+/// memory names, out of the half of the buffer that is read, and the idle octet if it names none.
 pub fn incoming(buffer: &FrameBuffer, image: &Image, highway: &mut Highway)
     requires buffer { buffer.now.lines ≡ lines_of image.now }
     requires lines { highway.old.lines ≡ lines_of image.now }
@@ -65,9 +64,9 @@ fn send_row(buffer: &FrameBuffer, image: &Image, line: u8, store: &mut Store, ro
     store.fetch(image.incoming_row(line), row);
 }
 
-/// The outgoing time stage of one frame: each place of a line reads the octet of the internal slot
-/// that the control memory names, and the idle octet where it names none. It writes the half of
-/// `out` that is filled, which is played once the halves are swapped.
+/// The outgoing time stage of one frame: each place of a line reads the octet of the internal slot that the control
+/// memory names, and the idle octet if it names none. It writes the half of `out` that is filled, which is played once
+/// the halves are swapped.
 ///
 /// `table` is the control memory by which the octets were crossed.
 pub fn outgoing(crossed: &Crossed, table: &Image, out: &mut FrameBuffer)
@@ -81,7 +80,7 @@ pub fn outgoing(crossed: &Crossed, table: &Image, out: &mut FrameBuffer)
     read_part(crossed, table, 0, out.filled());
 }
 
-// What some lines read, from line `first` on: `part` holds their rows, of thirty octets each.
+// What some lines read, from line `first` on: `part` holds their rows, of 30 octets each.
 pub(crate) fn read_part(crossed: &Crossed, table: &Image, first: u8, part: &mut [u8])
     requires crossed { crossed.now.lines ≡ lines_of table.now }
     requires slots { crossed.now.slots ≡ table.now.slots }

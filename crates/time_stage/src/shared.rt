@@ -60,7 +60,7 @@ pub fn incoming_by_halves<R: Threads + Sync>(
     send_halves(rt, buffer, image, slots, 0, end, part, levels, least);
 }
 
-// What the lines from `first` up to `end` send, by halves where they have at least n octets.
+// What the lines from `first` up to `end` send, by halves if they have at least n octets.
 fn send_halves<R: Threads + Sync>(
     rt: &R,
     buffer: &FrameBuffer,
@@ -154,7 +154,7 @@ pub fn outgoing_by_halves<R: Threads + Sync>(
     read_halves(rt, crossed, table, 0, end, out.filled(), levels, least);
 }
 
-// What the lines from `first` up to `end` read, by halves where they have at least n octets.
+// What the lines from `first` up to `end` read, by halves if they have at least n octets.
 fn read_halves<R: Threads + Sync>(
     rt: &R,
     crossed: &Crossed,

@@ -1,4 +1,4 @@
--- The octets of the tones. Source: this exchange's own; ITU-T Q.35 names the tones.
+-- The octets of the tones. Source: this project; ITU-T Q.35 names the tones.
 use Rattle.std.specs.Prelude.{ℕ, ◌<◌, List, length}
 use Rattle.circuit_model.specs.declared.circuit.Kind.{Kind}
 use Rattle.circuit_model.specs.declared.circuit.Kind.TheVariants.{Ringback, Busy}
