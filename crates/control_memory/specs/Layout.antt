@@ -19,7 +19,7 @@ number_of at = 30 * at.line + at.place
 abbrev pub slot_numbered : ℕ → Slot
 slot_numbered n = record { line = n / 30; place = n % 30 }
 
--- a layout: for each inlet, by its number, the hop of its path, or none where the inlet is free
+-- a layout: for each inlet, by its number, the hop of its path, or none if the inlet is free
 abbrev pub Layout : Type 0
 Layout = List (Option Hop)
 
@@ -56,13 +56,12 @@ IsSlot lines at = (at.line < lines) × (at.place < 30)
 abbrev pub HasPath : Layout → Slot → Slot → ℕ → Type 0
 HasPath layout from to slot = hop_of layout from ≡ Some (record { to = to; slot = slot })
 
--- the layout joins an inlet to an outlet, in whatever slot
+-- the layout joins an inlet to an outlet, in some slot
 abbrev pub Joins : Layout → Slot → Slot → Type 0
 Joins layout from to = (slot : ℕ) × HasPath layout from to slot
 
 -- a legal layout on n lines and m internal slots: each outlet ends at most one path, and no two paths of an incoming
--- line, and no two of an outgoing line, share an internal slot. That an inlet begins at most one path is in the form of
--- a layout
+-- line, or of an outgoing line, share an internal slot. By the form of a layout an inlet begins at most one path
 pub record Legal (lines slots : ℕ) (layout : Layout) : Type 0 where
   pub inlets : length layout ≡ 30 * lines
   pub within : (from to : Slot) (slot : ℕ) → IsSlot lines from → HasPath layout from to slot → IsSlot lines to × (slot < slots)

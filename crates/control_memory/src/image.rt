@@ -12,8 +12,8 @@ use circuit_model::{PLACES, Slot};
 use std::alloc::{AllocError, Global};
 use std::marker::Model;
 
-/// The control memory of one frame: its number, the tables of its three stages, what each slot
-/// hears, and who sits in each conference port.
+/// The control memory of one frame: its number, the tables of its three stages, the source of each slot's octets, and
+/// the member of each conference port.
 ///
 /// Lines are counted from 0, external lines first and bridge lines after them. The places of the
 /// bridge lines are the conference ports.
@@ -26,9 +26,10 @@ pub struct Image {
     incoming: ControlTable,
     space: ControlTable,
     outgoing: ControlTable,
-    // What each slot hears, by its number.
+    // The source of each slot's octets, by its number.
     heard: HeardTable,
-    // Who sits in each port: the places of the bridge lines, line after line.
+    // The member of each port: the places of the bridge lines, line after line. External slots have no entry, because
+    // only ports are mixed for.
     rooms: Vec<Option<(u8, u32)>>,
 }
 
@@ -98,14 +99,14 @@ impl Image {
         self.external
     }
 
-    /// Returns how many bridge lines it has, which come behind the external ones.
+    /// Returns the number of bridge lines, which come after the external ones.
     pub fn bridges(&self) -> u8
         ensures { result ≡ self.now.bridges }
     {
         self.bridges
     }
 
-    /// Returns how many internal slots a frame of a line has.
+    /// Returns the number of internal slots of a frame of a line.
     pub fn slots(&self) -> u8
         ensures { result ≡ self.now.slots }
     {
@@ -152,7 +153,7 @@ impl Image {
     }
 
     /// Returns the row of the space table of an outgoing line, by internal slot: the incoming line whose octet it gets,
-    /// or 255 where it gets none.
+    /// or 255 if it gets none.
     pub fn space_row(&self, line: u8) -> &[u8]
         requires { line < lines_of self.now }
         ensures { IsRow self.now.slots (lines_of self.now) (received self.now line) result.now }
@@ -160,8 +161,8 @@ impl Image {
         self.space.row(line)
     }
 
-    /// Returns the row of the outgoing table of a line, by place: the internal slot that the place reads, or 255 where
-    /// it reads none.
+    /// Returns the row of the outgoing table of a line, by place: the internal slot that the place reads, or 255 if it
+    /// reads none.
     pub fn outgoing_row(&self, line: u8) -> &[u8]
         requires { line < lines_of self.now }
         ensures { IsRow 30 self.now.slots (read self.now line) result.now }
@@ -169,8 +170,8 @@ impl Image {
         self.outgoing.row(line)
     }
 
-    /// Returns whether an incoming line is known to send no place. It is not known of a line whose entries were taken
-    /// out one by one.
+    /// Returns whether an incoming line is known to send no place. This is unknown for a line whose entries were
+    /// removed one by one.
     pub fn sends_nothing(&self, line: u8) -> bool
         requires { line < lines_of self.now }
         ensures { result ≡ true → (slot : ℕ) → slot < self.now.slots → sent self.now line slot ≡ None }
@@ -178,7 +179,7 @@ impl Image {
         self.incoming.is_bare(line)
     }
 
-    /// Returns whether an outgoing line is known to get no octet, as `sends_nothing` tells.
+    /// Returns whether an outgoing line is known to get no octet, with the limit of `sends_nothing`.
     pub fn gets_nothing(&self, line: u8) -> bool
         requires { line < lines_of self.now }
         ensures { result ≡ true → (slot : ℕ) → slot < self.now.slots → received self.now line slot ≡ None }
@@ -186,7 +187,7 @@ impl Image {
         self.space.is_bare(line)
     }
 
-    /// Returns whether an outgoing line is known to have no place that reads a slot, as `sends_nothing` tells.
+    /// Returns whether an outgoing line is known to have no place that reads a slot, with the limit of `sends_nothing`.
     pub fn reads_nothing(&self, line: u8) -> bool
         requires { line < lines_of self.now }
         ensures { result ≡ true → (place : ℕ) → place < 30 → read self.now line place ≡ None }
@@ -194,7 +195,7 @@ impl Image {
         self.outgoing.is_bare(line)
     }
 
-    /// Returns what a slot hears.
+    /// Returns the source of a slot's octets.
     pub fn heard(&self, at: Slot) -> Heard
         requires line { at.line < lines_of self.now }
         requires place { at.place < 30 }
@@ -203,7 +204,8 @@ impl Image {
         self.heard.get(at)
     }
 
-    /// Returns what each place of a line hears.
+    /// Returns the sources of a line, place by place. A loop over a line borrows the row once, and not an entry for
+    /// each octet.
     pub fn heard_row(&self, line: u8) -> &[HeardWord]
         requires { line < lines_of self.now }
         ensures size { length result.now ≡ 30 }
@@ -212,7 +214,7 @@ impl Image {
         self.heard.row(line)
     }
 
-    /// Returns whether a line is known to hear nothing. It is not known of a line that was silenced slot by slot.
+    /// Returns whether a line is known to be silent. This is unknown for a line that was silenced slot by slot.
     pub fn hears_nothing(&self, line: u8) -> bool
         requires { line < lines_of self.now }
         ensures { result ≡ true → (place : ℕ) → place < 30 → heard_at self.now (record { line = line; place = place }) ≡ Heard.Silent }
@@ -220,8 +222,8 @@ impl Image {
         self.heard.is_silent(line)
     }
 
-    /// Returns the room of the member that sits in a conference port, and the frame since which it sits there; none
-    /// where the port is free, and none for an external slot.
+    /// Returns the room of the member at a conference port, and its first frame there. `None` if the port is free, and
+    /// for an external slot.
     pub fn room(&self, port: Slot) -> Option<(u8, u32)>
         requires line { port.line < lines_of self.now }
         requires place { port.place < 30 }
@@ -233,8 +235,8 @@ impl Image {
         self.rooms[port_index(self.external, port)]
     }
 
-    /// Returns the room of the member that sits in each conference port, and the frame since which it sits there; none
-    /// where the port is free. It has the places of the bridge lines, line after line.
+    /// Returns the room of the member at each conference port, and its first frame there; `None` for a free port. It
+    /// has the places of the bridge lines, line after line.
     pub fn seats(&self) -> &[Option<(u8, u32)>]
         ensures size { length result.now ≡ 30 * self.now.bridges }
         ensures seats { result.now ≡ self.now.rooms }
@@ -254,11 +256,11 @@ impl Image {
         vacate(&mut self.rooms);
     }
 
-    /// Begins the control memory of another frame with what each slot hears and who sits in each
-    /// port, and without paths: one copy for each of the two.
+    /// Begins the control memory of another frame with the sources of all slots and the members of all ports, and
+    /// without paths: one copy for each of the two.
     ///
-    /// `hearing` has an entry for every place of every line; `sitting` one for every conference port,
-    /// that is for every place of the bridge lines, line after line.
+    /// `hearing` has an entry for every place of every line. `sitting` has one for every conference port, that is for
+    /// every place of the bridge lines, line after line.
     pub fn begin(&mut self, frame: u32, hearing: &HeardTable, sitting: &[Option<(u8, u32)>])
         requires hearing { length hearing.now ≡ 30 * lines_of self.old }
         requires sitting { length sitting.now ≡ 30 * self.old.bridges }
@@ -273,7 +275,7 @@ impl Image {
         self.rooms.copy_from_slice(sitting);
     }
 
-    // Gives the number of a frame, and takes out every path.
+    // Sets the number of the frame, and removes every path.
     fn take_out_paths(&mut self, frame: u32)
         ensures frame { self.new.frame ≡ frame }
         ensures sizes { SameSizes self.old self.new }
@@ -307,7 +309,7 @@ impl Image {
         self.outgoing.set(to.line, to.place, slot);
     }
 
-    /// Takes over the three tables of a layout whole, one copy for each.
+    /// Copies the three tables of a layout, one copy for each.
     pub(crate) fn set_tables(
         &mut self,
         incoming: &ControlTable,
@@ -330,7 +332,7 @@ impl Image {
         self.outgoing.copy_from(outgoing);
     }
 
-    /// Writes what a slot hears.
+    /// Writes the source of a slot's octets.
     pub fn set_heard(&mut self, at: Slot, heard: Heard)
         requires line { at.line < lines_of self.old }
         requires place { at.place < 30 }
@@ -343,7 +345,7 @@ impl Image {
         self.heard.set(at.number(), heard);
     }
 
-    /// Writes that a member of a room sits in a conference port since a frame.
+    /// Writes the room and the first frame of the member at a conference port.
     pub fn set_room(&mut self, port: Slot, room: u8, since: u32)
         requires line { port.line < lines_of self.old }
         requires bridge { self.old.external ≤ port.line }
@@ -359,8 +361,8 @@ impl Image {
     }
 }
 
-/// Returns the number of a conference port among all ports: 30 to a bridge line, and the bridge lines come behind n
-/// external ones. A table with an entry for each port has it there.
+/// Returns the number of a conference port among all ports: 30 to a bridge line, and the bridge lines come after n
+/// external ones. A table with an entry for each port uses it as its index.
 pub fn port_index(external: u8, port: Slot) -> usize
     requires { external ≤ port.line }
     ensures { result ≡ port_number external port }

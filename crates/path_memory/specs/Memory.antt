@@ -16,7 +16,7 @@ pub record IsPathMemory (m : Matrix) (f : Fabric) : Type 0 where
   pub legal : Legal f.lines f.slots f.layout
   pub is : IsMatrixOf m f.layout
 
--- two ends that can be connected: slots of the fabric, and both free
+-- two ends that can be connected: free slots of the fabric
 pub record CanConnect (f : Fabric) (from to : Slot) : Type 0 where
   pub from_inside : IsSlot f.lines from
   pub to_inside : IsSlot f.lines to

@@ -1,12 +1,12 @@
-//! A message as it is written, octet by octet and element by element.
+//! A message in writing, octet by octet and element by element.
 
 use arrayvec::ArrayVec;
 use std::marker::Model;
 
-/// The greatest number of octets that this exchange writes into one message.
+/// The greatest number of octets of a message that the exchange writes.
 pub const LONGEST_MESSAGE: usize = 112;
 
-/// Writes a message from its first octet on. Contracts see it as the octets that it has written.
+/// Writes a message from its first octet on. Contracts see its octets so far.
 #[derive(Debug, Drop)]
 pub struct Writer {
     octets: ArrayVec<u8, LONGEST_MESSAGE>,
@@ -24,7 +24,7 @@ impl Writer {
     ghost use Rattle.std.specs.Prelude.{◌≡◌, ◌+◌, ◌≤◌, List, [], ◌∷◌, ◌++◌, length};
     ghost use Rattle.q931_elements.specs.Limits.{longest_message};
 
-    /// Returns a writer that has written nothing, with room for the longest message.
+    /// Returns an empty writer, with capacity for the longest message.
     pub fn new() -> Writer
         ensures empty { result ≡ [] }
         ensures room { LONGEST_MESSAGE ≡ longest_message }
