@@ -1,4 +1,4 @@
-//! The STATUS messages that tell a leg its state.
+//! The STATUS messages that report a leg's state.
 
 ghost use Rattle.std.specs.Prelude.{◌≡◌, ◌<◌};
 ghost use Rattle.q931_codec.specs.Outgoing.{outgoing_of};
@@ -19,8 +19,8 @@ pub fn status(leg: &Leg, cause: u8) -> Outgoing<'static>
     }
 }
 
-/// Returns the STATUS that answers a message whose act is [`Act::Unexpected`](crate::Act::Unexpected): with cause 97
-/// where the message type is unknown (5.8.4), else with 101.
+/// Returns the STATUS for a message whose act is [`Act::Unexpected`](crate::Act::Unexpected): with cause 97 if the
+/// message type is unknown (5.8.4), otherwise with 101.
 pub fn unexpected(leg: &Leg, message: &Message) -> Outgoing<'static>
     ensures { outgoing_of result ≡ status leg.now (unexpected_cause message.now.kind) }
 {

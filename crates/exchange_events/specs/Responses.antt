@@ -1,4 +1,4 @@
--- What a step answers, by a short response and the outbox that it got. Source: this project.
+-- The reply of a step, by a short response and the outbox that the step got. Source: this project.
 use Rattle.exchange_events.specs.declared.outbox.Outbox.{Outbox}
 use Rattle.exchange_events.specs.declared.outbox.Response.{Response}
 use Rattle.exchange_events.specs.declared.outbox.Response.TheVariants as response

@@ -25,7 +25,7 @@ impl<T> ListOf<T> {
         ListOf { items }
     }
 
-    /// Its items, in order.
+    /// Returns its items, in order.
     pub fn as_slice(&self) -> &[T]
         ensures { result.now ≡ self.now }
     {

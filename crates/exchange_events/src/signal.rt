@@ -1,4 +1,4 @@
-//! Messages that are sent, as octets to a line.
+//! Messages to the users of lines, as octets.
 ghost use Rattle.std.specs.Prelude.{◌≡◌, ◌<◌, ◌+◌, [], ◌∷◌, ◌++◌, length};
 ghost use Rattle.exchange_events.specs.Limits.{most_sends};
 
@@ -6,7 +6,7 @@ use arrayvec::ArrayVec;
 use q931_elements::LONGEST_MESSAGE;
 use std::marker::Model;
 
-/// How many messages a step sends at most. Source: this project.
+/// The most messages that a step sends. Source: this project.
 pub const MOST_SENDS: usize = 64;
 
 /// The octets of a message that is sent. Contracts see their list.
@@ -24,7 +24,7 @@ impl Model for Encoded {
 }
 
 impl Encoded {
-    /// These octets.
+    /// Takes these octets.
     pub fn of(items: ArrayVec<u8, LONGEST_MESSAGE>) -> Encoded
         ensures { result ≡ items.items }
     {
@@ -38,7 +38,7 @@ impl Encoded {
         self.octets.as_slice()
     }
 
-    /// Returns the same octets once more. It takes no memory.
+    /// Returns a copy of the octets. It allocates nothing.
     pub fn copy(&self) -> Encoded
         ensures { result ≡ self.now }
     {
@@ -49,8 +49,8 @@ impl Encoded {
         copied
     }
 
-    /// Becomes the octets of another message. It takes no memory, makes the octets of the old message blank, and
-    /// touches no octet behind the longer of the two.
+    /// Copies the octets of another message. It allocates nothing, clears the octets of the old message first, and
+    /// touches no octet after the longer of the two. Most messages are far shorter than the capacity.
     pub fn copy_from(&mut self, other: &Encoded)
         ensures { self.new ≡ other.now }
     {
@@ -73,8 +73,8 @@ pub struct Signal {
 
 /// The messages that a step sends, in order, at most 64. Contracts see their list.
 ///
-/// A list that is cleared leaves its messages where they lie, and the next ones are written over them: to
-/// make one blank again would cost as much as to write it.
+/// Clearing a list leaves its messages in place, and the next ones overwrite them. Clearing the octets of one would
+/// cost as much as writing it.
 #[derive(Drop)]
 pub struct Signals {
     items: ArrayVec<Signal, MOST_SENDS>,
@@ -104,7 +104,7 @@ impl Signals {
         }
     }
 
-    /// These messages.
+    /// Takes these messages.
     pub fn of(items: ArrayVec<Signal, MOST_SENDS>) -> Signals
         ensures { result ≡ items.items }
     {
@@ -119,14 +119,14 @@ impl Signals {
         &self.items.as_slice()[..self.count]
     }
 
-    /// No message any more.
+    /// Removes all messages.
     pub fn clear(&mut self)
         ensures { self.new ≡ [] }
     {
         self.count = 0;
     }
 
-    /// One message more.
+    /// Appends a message.
     pub fn push(&mut self, signal: Signal)
         requires { length self.old < most_sends }
         ensures { self.new ≡ self.old ++ signal ∷ [] }

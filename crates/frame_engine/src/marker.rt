@@ -12,11 +12,11 @@ use tone_rules::Tones;
 /// An engine for tests: it outputs the number of the frame, modulo 256, on every slot.
 #[derive(Drop)]
 pub struct Marker {
-    /// How many external lines it has.
+    /// The number of external lines.
     pub external: u8,
-    /// How many bridge lines it has.
+    /// The number of bridge lines.
     pub bridges: u8,
-    /// How many internal slots it has.
+    /// The number of internal slots.
     pub slots: u8,
     /// The number of its next frame.
     pub next: u32,
@@ -33,7 +33,7 @@ impl Carrier for Marker {
 
     ghost counted = { λ e inputs held ports carried. carried };
 
-    /// Returns a marker takes no memory, so there is always one.
+    /// Returns a marker. It never fails, because a marker allocates nothing.
     fn new(_: Global, external: u8, bridges: u8, slots: u8) -> Result<Self, AllocError>
         ensures made { IsOk result }
         ensures external { IfOk result (λ e. e.external ≡ external) }

@@ -4,7 +4,7 @@ use Rattle.circuit_model.specs.declared.circuit.Kind.{Kind}
 use Rattle.circuit_model.specs.declared.circuit.Kind.TheVariants.{Ringback, Busy}
 use Rattle.tone_rules.specs.declared.tones.Tones.{Tones}
 
--- the octets of a kind of tone; none where the tone isn't given
+-- the octets of a kind of tone; none if the tone is not given
 abbrev pub table_of : Tones → Kind → List ℕ
 table_of tones Ringback = tones.ringback
 table_of tones Busy = tones.busy
