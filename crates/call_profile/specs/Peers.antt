@@ -10,11 +10,11 @@ pub record IsThere (external : ℕ) (h : Held) : Type 0 where
   pub within : IsExternal external h.slot
   pub told : FitsMessages h.leg
 
--- so is its peer, if it has one, at another slot
+-- its peer is such a leg too, if it has one, at another slot
 abbrev pub PeerIsThere : ℕ → Held → Option Held → Type 0
 PeerIsThere external h None = Unit {0}
 PeerIsThere external h (Some other) = IsThere external other × (other.slot ≢ h.slot)
 
--- its peer's slot hears nothing, if it has one
+-- its peer's slot is silent, if it has a peer
 abbrev pub IsSilent : Connections → Option Held → Type 0
 IsSilent map peer = IfSome peer (λ other. hears_at map other.slot ≡ None)

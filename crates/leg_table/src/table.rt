@@ -244,7 +244,8 @@ fn keep(notes: &mut Vec<Note>, x: Slot, note: Note)
     notes[x.number()] = note;
 }
 
-// Stores a message at a slot. It overwrites an earlier message in place, so that no space is initialized.
+// Stores a message at a slot. It overwrites an earlier message, because a new one would move the capacity of the
+// longest message.
 fn keep_message(notes: &mut Vec<Note>, x: Slot, message: &Encoded)
     requires { number_of x < length notes.old.items }
     ensures items { notes.new.items ≡ slice_set notes.old.items (number_of x) (A_note.Message message.now) }
