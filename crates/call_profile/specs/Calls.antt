@@ -67,7 +67,7 @@ request_read legs line (Err why) = Unanswered
 abbrev pub request_of : Legs → ℕ → List ℕ → Request
 request_of legs line octets = request_read legs line (reading octets)
 
--- ---- the course of a request
+-- ---- the operations of a request
 
 abbrev pub making_by : Setting → World → Course → Making
 making_by s w c = making_after_all s.dimensions (making_at w) c.operations
@@ -80,7 +80,7 @@ abbrev pub answer_back : ℕ → Option OutgoingMessage → List Operation
 answer_back line None = []
 answer_back line (Some message) = Send line message ∷ []
 
--- the course of a message to a leg in the leg's state
+-- the operations of a message to a leg in the leg's state
 abbrev pub course_on : Setting → World → Held → Message → Course
 course_on s w h m = course_of s w h m (act_on h.leg.state m)
 

@@ -1,4 +1,4 @@
--- A course of action: the operations for a message. Source: this project.
+-- The exchange's operations for a message (`Course`). Source: this project.
 use Rattle.std.specs.Prelude.{ℕ, List, [], Option, None}
 use Rattle.call_profile.specs.Operations.{Operation}
 
@@ -7,7 +7,7 @@ pub record Course : Type 0 where
   pub operations : List Operation
   pub cause : Option ℕ
 
--- a course that clears no call
+-- operations that clear no call
 abbrev pub only : List Operation → Course
 only operations = record { operations = operations; cause = None }
 

@@ -1,4 +1,4 @@
--- The commands that lead to an exchange state. Source: this project.
+-- The commands that made an exchange state. Source: this project.
 use Rattle.std.specs.Prelude.{◌≡◌, List, [], ◌∷◌, length, All}
 use Rattle.circuit_model.specs.declared.circuit.Circuit.{Circuit}
 use Rattle.circuit_model.specs.declared.circuit.Circuit.TheVariants.{Pair, Member, Tone}

@@ -32,7 +32,7 @@ pub record IsAwaited (leg : Leg) (message : OutgoingMessage) : Type 0 where
   pub writable : IsWritable message
   pub quiet : message.progress ≡ false
 
--- the stored octets of a leg: those of such a message
+-- the stored octets of a leg are such a message
 pub record IsKept (leg : Leg) (octets : List ℕ) : Type 0 where
   pub message : OutgoingMessage
   pub encoded : octets ≡ encoding message

@@ -1,5 +1,5 @@
--- The conditions of the operations. They are proved once of every course, and from them follow the conditions of its
--- commands (`IsMade`) and of the code's calls. Source: this project.
+-- The conditions of the operations. They are proved once for the operations of every message, and from them follow the
+-- conditions of its commands (`IsMade`) and of the code's calls. Source: this project.
 use Rattle.std.specs.Prelude.{◌≡◌, ◌*◌, ◌<◌, true, count_by}
 use Rattle.circuit_model.specs.declared.channel.Slot.{Slot}
 use Rattle.circuit_model.specs.Circuits.{is_idle, is_member}

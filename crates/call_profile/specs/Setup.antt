@@ -192,7 +192,7 @@ with_channel x message = record message { channel = Some (channel_at x.place) }
 abbrev pub call_proceeding : Bool → Slot → Leg → OutgoingMessage
 call_proceeding first x leg = if first then with_channel x (message_to leg kind.CallProceeding) else message_to leg kind.CallProceeding
 
--- SETUP ACKNOWLEDGE: the caller is asked for further digits
+-- SETUP ACKNOWLEDGE: requests further digits from the caller
 abbrev pub setup_acknowledge : Slot → Leg → OutgoingMessage
 setup_acknowledge x leg = with_channel x (message_to leg kind.SetupAcknowledge)
 
@@ -228,7 +228,7 @@ call_room first own x room =
     ∷ Send x.line (message_to caller kind.Connect)
     ∷ []
 
--- an incomplete number: the caller's leg waits for further digits, which it is asked for once
+-- an incomplete number: the caller's leg waits for further digits, which are requested once
 abbrev pub ask_for_digits : Bool → Slot → Leg → List Operation
 ask_for_digits true x leg = Send x.line (setup_acknowledge x leg) ∷ []
 ask_for_digits false x leg = []

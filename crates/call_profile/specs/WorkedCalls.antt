@@ -50,8 +50,8 @@ at line place = record { line = line; place = place }
 abbrev pub to : ℕ → List ℕ → Signal
 to line octets = record { line = line; octets = octets }
 
--- a reply with these messages only; one of a message that has connected two slots, or made one a member, and moved no
--- path; and one of a message that has ended a call
+-- a reply with these messages only; the reply to a message that has connected two slots, or made one a member, and
+-- moved no path; and the reply to a message that has ended a call
 abbrev pub sends_reply : List Signal → Reply
 sends_reply sends = Sent_reply sends None []
 

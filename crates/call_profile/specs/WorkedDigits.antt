@@ -10,7 +10,7 @@ use Rattle.exchange_events.specs.declared.trace.Event.{Event}
 use Rattle.exchange_events.specs.declared.trace.Event.TheVariants.{Message, Nail}
 use Rattle.call_profile.specs.WorkedCalls.{at, to, sends_reply, records_reply, connected}
 
--- line 0 calls number 101 digit by digit: it is asked for further digits once, and CALL PROCEEDING does not repeat the
+-- line 0 calls number 101 digit by digit: further digits are requested once, and CALL PROCEEDING does not repeat the
 -- channel
 abbrev pub in_three_messages : List Event
 in_three_messages =

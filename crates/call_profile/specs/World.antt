@@ -73,7 +73,7 @@ pass w input = record w {
   seated = w.seated ++ w.ports ∷ [];
 }
 
--- every conference port is taken: there are as many members as ports
+-- every conference port is taken: the number of members equals the number of ports
 abbrev pub is_full : Dimensions → World → Bool
 is_full d w = count_by is_member w.holding.circuits == 30 * d.bridges
 

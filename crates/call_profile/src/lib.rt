@@ -1,8 +1,8 @@
 //! The rules of calls, as definitions that are read from top to bottom. `Step` gives the reply to each event and the
 //! exchange state after it. `Calls` gives the request of a message, and `ActCourse`, `Digits`, `Setup` and `Restarts`
-//! its course, as a list of operations (`Operations`). `Expiring` gives the turn of a frame. A few functions read a leg
-//! or a circuit ([`is_for`], [`from_frame`], [`resent_from`], [`is_calling`], [`party_of`], [`since_of`]). The other
-//! functions are theorems on these definitions:
+//! its list of operations (`Operations`). `Expiring` gives the turn of a frame. A few functions read a leg or a circuit
+//! ([`is_for`], [`from_frame`], [`resent_from`], [`is_calling`], [`party_of`], [`since_of`]). The other functions are
+//! theorems on these definitions:
 //!
 //! - Every event keeps the legs consistent ([`law_of_legs`]). A number is pending at exactly those legs that wait for
 //!   further digits. The state of a leg determines the circuit by which its slot receives. In release request, the
@@ -16,9 +16,9 @@
 //! - The layout of the paths and the number of internal slots decide only how many paths move
 //!   ([`law_of_paths`], [`law_of_fabrics`]). An answered call and a granted nail get both paths
 //!   ([`law_of_answered_calls`], [`law_of_granted_nails`]).
-//! - Theorems state the calls that a message and a frame record ([`law_of_records`], [`law_of_frame_records`]), the
-//!   reference of a new leg ([`law_of_references`]), the exchange state after a RESTART ([`law_of_restarts`]), and the
-//!   messages that inform a user of a tone ([`law_of_progress`]).
+//! - Theorems state the calls that a message and a frame record ([`law_of_records`], [`law_of_frame_records`]) and the
+//!   call reference of a new leg ([`law_of_references`]). They also state the legs after a RESTART
+//!   ([`law_of_restarts`]) and the messages that inform a user of a tone ([`law_of_progress`]).
 //! - Allowed commands made the circuits of each frame ([`worlds_are_made`]), and later events do not change its octets
 //!   ([`later_frames_change_nothing`]).
 #![tactic(auto)]

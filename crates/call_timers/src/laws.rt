@@ -6,7 +6,7 @@ ghost use Rattle.call_timers.specs.declared.expiry.Expiry.{Expiry};
 ghost use Rattle.call_timers.specs.declared.expiry.Expiry.TheVariants as expiry;
 ghost use Rattle.call_timers.specs.declared.timers.Timers.{Timers};
 
-/// The expiries that are due at a leg that has waited since frame 1000, in the frame in which its usual timer expires.
+/// The expiries that are due at a leg whose wait began in frame 1000, in the frame in which its usual timer expires.
 pub fn worked_expiries()
     ensures digits { due overlap_sending false 1000 121000 usual ≡ Some expiry.Digits }
     ensures setup { due call_present false 1000 33000 usual ≡ Some expiry.SetupAgain }

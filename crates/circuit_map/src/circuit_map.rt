@@ -116,7 +116,7 @@ impl<P: PathMap> CircuitMap<P> {
         self.heard[at.number()]
     }
 
-    /// Returns whether every conference port is taken: there are as many members as ports.
+    /// Returns whether every conference port is taken: the number of members equals the number of ports.
     pub fn is_full(&self) -> bool
         ensures { (h : Holding) (ports : Members) → Represents self.now h ports → result ≡ (count_by is_member h.circuits == 30 * self.now.bridges) }
     {
@@ -182,7 +182,7 @@ impl<P: PathMap> CircuitMap<P> {
     /// then the port to the member.
     ///
     /// Returns the number of live paths that each of the two connects moved. Returns `NoPort` and changes nothing if
-    /// and only if there are as many members as ports.
+    /// and only if every port is taken.
     pub fn seat(&mut self, x: Slot, room: u8) -> Result<(u32, u32), NoPort>
         requires external { IsExternal self.old x }
         requires idle { hears_at self.old x ≡ None }

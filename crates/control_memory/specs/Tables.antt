@@ -57,7 +57,7 @@ pub record AreBare (lines slots : ℕ) (incoming space outgoing : Table) : Type 
   pub outgoing_size : HasSize outgoing lines 30 slots
   pub none : HasNoPaths lines slots (entry incoming) (entry space) (entry outgoing)
 
--- the number in a byte of a table: 255 is no number
+-- the number in a byte of a table, or none for 255
 abbrev pub number_in : ℕ → Option ℕ
 number_in byte = if byte == 255 then None else Some byte
 

@@ -235,7 +235,7 @@ impl Image {
         self.rooms[port_index(self.external, port)]
     }
 
-    /// Returns the room of the member at each conference port, and its first frame there; `None` for a free port. It
+    /// Returns the room of the member at each conference port, and its first frame there. A free port has `None`. It
     /// has the places of the bridge lines, line after line.
     pub fn seats(&self) -> &[Option<(u8, u32)>]
         ensures size { length result.now ≡ 30 * self.now.bridges }

@@ -1,7 +1,7 @@
 //! Stores the control memory of one frame, and the layouts of paths that it carries out.
 //!
 //! - [`Image`] is the control memory: three control tables, the source of each slot's octets, and the member of each
-//!   port. Each read returns the value that was written, and each write states what it changes and what it preserves.
+//!   port. Each read returns the value that was written, and each write states its change and preserves the rest.
 //! - [`PathMap`] is the contract of any live map of paths. A new path joins the layout by its rule (`layout`), and its
 //!   pairs are the earlier ones and the new one (`pairs`). The result is the number of moved paths (`moves`). The
 //!   layout stays legal (`legal`), and the tables at a boundary encode it (`tables`).

@@ -99,7 +99,7 @@ impl PathTable {
         self.slots
     }
 
-    /// Returns the hop of the path that begins at an inlet; `None` if the inlet is free.
+    /// Returns the hop of the path that begins at an inlet. `None` if the inlet is free.
     pub fn hop(&self, from: Slot) -> Option<Hop>
         requires { IsSlot self.now.lines from }
         ensures hop { result ≡ hop_of self.now.layout from }
@@ -108,7 +108,7 @@ impl PathTable {
         self.hops[from.number()]
     }
 
-    /// Returns the internal slot of the path that ends at an outlet; `None` if it is free.
+    /// Returns the internal slot of the path that ends at an outlet. `None` if the outlet is free.
     pub fn read(&self, to: Slot) -> Option<u8>
         requires { IsSlot self.now.lines to }
         ensures slot { result ≡ slot_read self.now.layout to }

@@ -1,4 +1,4 @@
--- What an engine outputs on a slot. Source: this project.
+-- The octet that an engine outputs on a slot. Source: this project.
 use Rattle.std.specs.Prelude.{◌≡◌, ℕ, ◌<◌, ◌-◌, Bool, false, List, slice_index, slice_index_or, if◌then◌else◌}
 use Rattle.circuit_model.specs.declared.channel.Slot.{Slot}
 use Rattle.circuit_model.specs.declared.circuit.Kind.{Kind}

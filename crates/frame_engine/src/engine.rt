@@ -34,7 +34,7 @@ const LEVELS: u8 = 3;
 /// whether or not its path moved in between, and a mixed octet passes the stages twice. This project chose the order.
 ///
 /// Only `new` allocates. A frame's work is the same for all circuits. It takes no lock, and waits only for the halves
-/// of its own stages, which return.
+/// of its stages, which return.
 #[derive(Drop)]
 pub struct Engine {
     external: u8,

@@ -81,7 +81,7 @@ fn play_paths(read: &[u8], heard: &[HeardWord], frame: u32, octets: &mut [u8; 30
     }
 }
 
-// Writes the octets of tones over those of the paths.
+// Writes the octets of tones over the octets of the paths.
 fn play_tones(heard: &[HeardWord], tones: &Tones, frame: u32, octets: &mut [u8; 30])
     requires heard { length heard.now ≡ 30 }
     requires tones { AreGiven tones.now heard.now }

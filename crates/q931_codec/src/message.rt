@@ -8,7 +8,7 @@ use thiserror::Error;
 /// The reason for which a received message is ignored: it changes no call, and gets no reply.
 #[derive(Clone, Copy, Debug, PartialEq, Eq, Error)]
 pub enum Discard {
-    /// The protocol discriminator is not that of user-network call control (Q.931, 5.8.1).
+    /// The protocol discriminator is not user-network call control (Q.931, 5.8.1).
     #[error("another protocol discriminator")]
     Discriminator = 1,
     /// The message ends before its message type (5.8.2).
@@ -19,7 +19,7 @@ pub enum Discard {
     ReferenceLength = 3,
 }
 
-/// A message as it was received. Contracts see `elements` as the list of its information elements.
+/// A received message. Contracts see `elements` as the list of its information elements.
 #[derive(Clone, Debug, Drop)]
 pub struct Message<'a> {
     /// The call reference flag (Q.931, 4.3): true if the message goes to the side that chose the call reference value.

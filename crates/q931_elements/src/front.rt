@@ -1,4 +1,4 @@
-//! The front of the octets after a header.
+//! The first item of the octets after a header.
 
 ghost use Rattle.std.specs.Prelude.{◌≡◌, []};
 ghost use Rattle.q931_elements.specs.Reading.{front_in, variable_front, after_item, Whole};
