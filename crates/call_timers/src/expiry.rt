@@ -29,12 +29,14 @@ pub enum Expiry {
 
 /// Returns the expiry that is due in a frame at a leg in this call state (Q.931, 4.5.7). `since` is the first frame of
 /// its wait, and `resent` whether its SETUP or RELEASE was retransmitted. The result is `Some` if and only if the state
-/// has a timer that has expired in this frame or before it.
+/// has a timer that has expired in this frame or before it. The arguments are not a leg, so that timers are proved
+/// below the calls.
 pub fn due(state: u8, resent: bool, since: u32, frame: u32, timers: &Timers) -> Option<Expiry>
     ensures { result ≡ due state resent since frame timers.now }
 {
     let expiry = expiry_in(state, resent)?;
-    // The sum has 64 bits, because above 2^32 - 1 it is not the number of a frame.
+    // Returns a frame before which nothing is due at such a leg: the frame in which its timer expires. If that is not
+    // below 2^32, or the state has no timer, it returns the greatest number.
     let end = u64::from(since) + u64::from(frames_to(timers, expiry));
     if end <= u64::from(frame) {
         Some(expiry)

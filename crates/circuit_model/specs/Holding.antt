@@ -94,7 +94,7 @@ pub data Stands (circuits : List Circuit) (x : Slot) : Type 0 where
   Is_connected : (y : Slot) (since : ℕ) → ¬ (y ≡ x) → (circuits_naming circuits x ≡ Pair x y since ∷ Pair y x since ∷ []) ⊎ (circuits_naming circuits x ≡ Pair y x since ∷ Pair x y since ∷ []) → Stands circuits x
 
 -- a holding of an exchange with n bridge lines: no circuit is younger than the next frame, each member finds a port,
--- and each slot, external or not, is in one state
+-- and each slot, external or not, is in one state, so that the theorems need no number of external lines
 pub record Valid (bridges : ℕ) (h : Holding) : Type 0 where
   pub young : All (λ c. since_of c ≤ h.next) h.circuits
   pub seated : count_by is_member h.circuits ≤ 30 * bridges

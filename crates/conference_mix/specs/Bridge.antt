@@ -3,7 +3,7 @@ use Rattle.std.specs.Prelude.{ℕ, ℤ, pos, List, Option, Some, None, filter_ma
 use Rattle.circuit_model.specs.ALaw.{expand, compress}
 use Rattle.circuit_model.specs.Hears.{sum_of_values}
 
--- the most members that a bridge mixes: the bearer channels of two bridge lines
+-- the maximum number of members that a bridge mixes: the bearer channels of two bridge lines
 abbrev pub most_members : ℕ
 most_members = 60
 

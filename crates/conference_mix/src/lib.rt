@@ -21,7 +21,8 @@ use alaw_codec::{compress, expand};
 pub use laws::{law_of_order, law_of_small_rooms};
 pub use mixer::{Mixer, Seated};
 
-/// The most members that a bridge mixes: the bearer channels of two bridge lines. This project sets the limit.
+/// The maximum number of members that a bridge mixes: the bearer channels of two bridge lines. This project sets the
+/// limit.
 pub const MAX_MEMBERS: usize = 60;
 
 /// Mixes a room: writes to each place of `out` the A-law octet of the sum of the others' values.

@@ -89,7 +89,7 @@ impl ControlTable {
         &self.bytes[start..start + columns]
     }
 
-    /// Returns whether a row is known to have no number. This is unknown for a row whose numbers were removed one by
+    /// Returns true only if a row has no number. The result can be false for a row whose numbers were removed one by
     /// one.
     pub fn is_bare(&self, row: u8) -> bool
         requires { row < self.now.rows }

@@ -67,7 +67,7 @@ impl HeardTable {
         &self.words[start..start + usize::from(PLACES)]
     }
 
-    /// Returns whether a line is known to be silent. This is unknown for a line that was silenced place by place.
+    /// Returns true only if a line is silent. The result can be false for a line that was silenced place by place.
     pub(crate) fn is_silent(&self, line: u8) -> bool
         requires { 30 * line + 30 ≤ length self.now }
         ensures { result ≡ true → IsSilent self.now line }

@@ -170,7 +170,7 @@ impl Image {
         self.outgoing.row(line)
     }
 
-    /// Returns whether an incoming line is known to send no place. This is unknown for a line whose entries were
+    /// Returns true only if an incoming line sends no place. The result can be false for a line whose entries were
     /// removed one by one.
     pub fn sends_nothing(&self, line: u8) -> bool
         requires { line < lines_of self.now }
@@ -179,7 +179,7 @@ impl Image {
         self.incoming.is_bare(line)
     }
 
-    /// Returns whether an outgoing line is known to get no octet, with the limit of `sends_nothing`.
+    /// Returns true only if an outgoing line gets no octet. The result can be false, as for `sends_nothing`.
     pub fn gets_nothing(&self, line: u8) -> bool
         requires { line < lines_of self.now }
         ensures { result ≡ true → (slot : ℕ) → slot < self.now.slots → received self.now line slot ≡ None }
@@ -187,7 +187,8 @@ impl Image {
         self.space.is_bare(line)
     }
 
-    /// Returns whether an outgoing line is known to have no place that reads a slot, with the limit of `sends_nothing`.
+    /// Returns true only if an outgoing line has no place that reads a slot. The result can be false, as for
+    /// `sends_nothing`.
     pub fn reads_nothing(&self, line: u8) -> bool
         requires { line < lines_of self.now }
         ensures { result ≡ true → (place : ℕ) → place < 30 → read self.now line place ≡ None }
@@ -214,7 +215,7 @@ impl Image {
         self.heard.row(line)
     }
 
-    /// Returns whether a line is known to be silent. This is unknown for a line that was silenced slot by slot.
+    /// Returns true only if a line is silent. The result can be false for a line that was silenced slot by slot.
     pub fn hears_nothing(&self, line: u8) -> bool
         requires { line < lines_of self.now }
         ensures { result ≡ true → (place : ℕ) → place < 30 → heard_at self.now (record { line = line; place = place }) ≡ Heard.Silent }

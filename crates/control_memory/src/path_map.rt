@@ -18,7 +18,7 @@ pub trait PathMap {
     /// The number of internal slots.
     ghost depth: { Self → ℕ };
 
-    /// The most live paths that a new path moves.
+    /// The maximum number of live paths that a new path moves.
     ghost bound: { Self → ℕ };
 
     /// The layout of its paths.

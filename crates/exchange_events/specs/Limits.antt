@@ -7,10 +7,10 @@ most_sends = 64
 abbrev pub most_records : ℕ
 most_records = 64
 
--- the most changes of meters in a trace
+-- the maximum number of changes of meters in a trace
 abbrev pub most_changes : ℕ
 most_changes = 65535
 
--- the most events of a trace
+-- the maximum number of events of a trace
 abbrev pub most_events : ℕ
 most_events = 65535

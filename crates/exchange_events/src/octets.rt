@@ -4,8 +4,8 @@ ghost use Rattle.std.specs.Prelude.{◌≡◌, ◌≤◌, length};
 use arrayvec::ArrayVec;
 use std::marker::Model;
 
-/// The most octets of a message that is stored without an allocation. Most messages that clear a call or reply to one
-/// are shorter. Source: this project.
+/// The maximum number of octets of a message that is stored without an allocation. Most messages that clear a call or
+/// reply to one are shorter. Source: this project.
 pub const FEW_OCTETS: usize = 16;
 
 /// The octets of a message from the user of a line. Contracts see their list.

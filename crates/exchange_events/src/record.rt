@@ -6,7 +6,7 @@ use arrayvec::ArrayVec;
 use circuit_model::Slot;
 use std::marker::Model;
 
-/// The most calls that a step ends. Source: this project.
+/// The maximum number of calls that a step ends. Source: this project.
 pub const MOST_RECORDS: usize = 64;
 
 /// The party that a caller was, or was to be, connected with.

@@ -6,7 +6,7 @@ use arrayvec::ArrayVec;
 use q931_elements::LONGEST_MESSAGE;
 use std::marker::Model;
 
-/// The most messages that a step sends. Source: this project.
+/// The maximum number of messages that a step sends. Source: this project.
 pub const MOST_SENDS: usize = 64;
 
 /// The octets of a message that is sent. Contracts see their list.

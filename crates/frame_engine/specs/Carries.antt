@@ -68,8 +68,8 @@ pub record EngineCarries (e : Stages) (inputs : List Input) (held : List (List C
   pub counted : AreCounted e.next inputs held ports
   pub last : CarriesAt e inputs held ports e.next
 
--- the sizes of the parts of an engine: one line for every external and bridge line; and the most times that a stage
--- halves its lines
+-- the sizes of the parts of an engine: one line for every external and bridge line; and the maximum number of halvings
+-- in a stage
 pub record IsBuilt (external bridges slots levels : ℕ) (kept : Control) (speech : Speech) (highway crossed : Highways) (read : Speech) : Type 0 where
   pub few : external ≤ 32
   pub few_bridges : bridges ≤ 2

@@ -22,7 +22,7 @@ use std::thread::Threads;
 use time_stage::{incoming_shared, outgoing_shared};
 use tone_rules::Tones;
 
-// The most times that a stage of a new engine halves its lines, if the halves are large enough.
+// The maximum number of halvings in a stage of a new engine, if the halves are large enough.
 const LEVELS: u8 = 3;
 
 /// The engine of a time-space-time exchange: two speech memories, the highways between the stages,
@@ -91,8 +91,8 @@ fn highways(alloc: Global, lines: u8, slots: u8) -> Result<(Highway, Crossed), A
 }
 
 impl Engine {
-    /// Sets the most times that each stage halves its lines, if the halves are large enough. With 0 no stage is divided
-    /// among threads. A new engine's stages halve theirs three times. The output does not depend on it.
+    /// Sets the maximum number of halvings in each stage, if the halves are large enough. With 0 no stage is divided
+    /// among threads. A new engine has three. The output does not depend on it.
     pub fn halve_stages(&mut self, levels: u8)
         requires levels { levels ≤ 3 }
         ensures same { self.new ≡ self.old }

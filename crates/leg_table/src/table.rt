@@ -29,7 +29,7 @@ use std::marker::Model;
 pub struct LegTable {
     legs: KeyedLegs,
     // The data of each slot, whose space is reserved before the first event. It counts by the state of the slot's leg,
-    // so a leg that leaves the state clears nothing, and a call with a complete number writes nothing.
+    // so a leg that leaves the state clears nothing.
     notes: Vec<Note>,
 }
 

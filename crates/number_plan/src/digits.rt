@@ -4,7 +4,7 @@ use arrayvec::ArrayVec;
 use std::cmp::Ordering;
 use std::marker::Model;
 
-/// The most digits of a number. Source: this project.
+/// The maximum number of digits of a number. Source: this project.
 pub const LONGEST_NUMBER: usize = 20;
 
 /// The digits of a number, as IA5 characters (ITU-T Q.931, 4.5.8), the form of a called party number and of a trace.

@@ -7,7 +7,7 @@ use std::cmp::Ordering;
 use std::marker::Model;
 use thiserror::Error;
 
-/// The most numbers of a plan. Source: this project.
+/// The maximum number of numbers of a plan. Source: this project.
 pub const MOST_NUMBERS: usize = 256;
 
 /// A number and its target.

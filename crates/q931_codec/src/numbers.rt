@@ -5,8 +5,8 @@ use crate::codes::{CALLED_PARTY_NUMBER, CALLING_PARTY_NUMBER, SENDING_COMPLETE};
 use crate::message::Message;
 use arrayvec::ArrayVec;
 
-/// The most digits of a called party number: it has at most 21 octets, and the first of them is the type of number.
-/// Source: this project.
+/// The maximum number of digits of a called party number: it has at most 21 octets, and the first of them is the type
+/// of number. Source: this project.
 pub const MOST_DIGITS: usize = 20;
 
 impl<'a> Message<'a> {

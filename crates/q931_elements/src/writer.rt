@@ -34,7 +34,8 @@ impl Writer {
         }
     }
 
-    /// Writes one octet: one of the header, or a single octet information element (Q.931, 4.5.1).
+    /// Writes one octet: one of the header, or a single octet information element (Q.931, 4.5.1). One call for both has
+    /// one contract.
     pub fn single(&mut self, code: u8)
         requires { length self.old + 1 ≤ longest_message }
         ensures { self.new ≡ self.old ++ code ∷ [] }

@@ -7,7 +7,7 @@ use Rattle.control_memory.specs.Layout.{Legal}
 use Rattle.control_memory.specs.Connecting.{connect, with_path, moved}
 use Rattle.control_memory.specs.Paths.{Fabric}
 
--- the most live paths that a new path moves, on n lines
+-- the maximum number of live paths that a new path moves, on n lines
 abbrev pub most_moves : ℕ → ℕ
 most_moves lines = 0
 
