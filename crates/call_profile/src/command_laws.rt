@@ -12,9 +12,9 @@ ghost use Rattle.call_profile.specs.Refused.{refuses, AllAreTaken};
 ghost use Rattle.call_profile.specs.Step.{reply, next};
 ghost use Rattle.call_profile.specs.World.{World, is_full};
 
-/// A refused command changes nothing: no slot, no leg and no path. A seat is refused without a free port if and only if
-/// the slot is idle and the number of members equals the number of ports. In every exchange state that events make,
-/// each port then has a member.
+/// A refused command changes nothing: no slot, no leg and no path. A seat is refused with `NoPort` if and only if the
+/// slot is idle and the number of members equals the number of ports. In every exchange state that events make, each
+/// port then has a member.
 pub fn law_of_refusals()
     ensures world { (s : Setting) (w : World) (e : Event) → refuses (reply s w e) ≡ true → next s w e ≡ w }
     ensures no_port { (s : Setting) (w : World) (x : Slot) (room : ℕ)
