@@ -1,4 +1,4 @@
-//! The A-law code of ITU-T G.711 (11/88), table 1a: converts octets to values and back.
+//! Converts octets to values and back, by the A-law code of ITU-T G.711 (11/88), table 1a.
 //!
 //! Values are in the units of the table, in which the last decision value is 4096. The definition searches the list of
 //! decision values. The code reads the value of an octet from a table, and takes the segment of a value from the

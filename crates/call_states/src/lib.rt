@@ -1,4 +1,4 @@
-//! The call table: maps each message of ITU-T Q.931 (05/98) and the state of a leg to the act of the exchange.
+//! Maps each message of ITU-T Q.931 (05/98) and the state of a leg to the act of the exchange: the call table.
 //!
 //! The table is a definition in `specs/`, one line for each message type. It is this project's profile of the
 //! recommendation's basic call control.

@@ -1,4 +1,4 @@
-//! The circuits that exist, the paths and conference ports that carry them, and the control memory that shows them at a
+//! Stores the circuits with the paths and conference ports that carry them, and writes the control memory at each
 //! frame's boundary, over any live map of paths (`PathMap`).
 //!
 //! - After `pair`, `seat`, `tone` and `clear` of [`CircuitMap`] the holding is the one that the definitions give

@@ -1,4 +1,4 @@
-//! Slots, circuits, and the octet that a slot receives in each frame.
+//! Defines slots, circuits, and the octet that a slot receives in each frame.
 //!
 //! The types here are plain data. `specs/` defines the octet that a slot receives in a frame, and the crates above cite
 //! those definitions in their contracts.

@@ -1,4 +1,4 @@
-//! The conference bridge: mixes for each member of a room the octets of the other members.
+//! Mixes for each member of a conference room the octets of the other members.
 //!
 //! A room is a row of places, each with the octet that its member sent, or none. A member receives the sum of the
 //! values of the other octets, coded once by A-law. The definition adds up the others (`specs/Bridge.antt`). The code

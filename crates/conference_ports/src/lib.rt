@@ -1,4 +1,4 @@
-//! The ports of the conference bridges: 30 to a bridge line, each given to one member.
+//! Gives the ports of the conference bridges to members: 30 ports to a bridge line, one to a member.
 //!
 //! - `take` of [`Ports`] gives a member the lowest free port, and returns `None` if and only if there is none
 //!   (`lowest`). `give` frees a member's port. Each has one result (`owners`, `members`).

@@ -1,4 +1,5 @@
-//! The events of an exchange and its replies: the types that its reader, its core, its printer and its meters share.
+//! Defines the events of an exchange and its replies: the types that its reader, its core, its printer and its meters
+//! share.
 //!
 //! - A [`Trace`] is a list of events ([`Event`]). Every part of the exchange requires a sound one (`IsSound`).
 //! - A [`Reply`] is the result of one event: the connection, the messages that were sent ([`Signal`]), and the records

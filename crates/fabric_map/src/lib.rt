@@ -1,4 +1,4 @@
-//! The live map of the paths through a fabric of 30 internal slots, as a `PathMap`.
+//! Connects and releases the live paths through a fabric of 30 internal slots, as a `PathMap`.
 //!
 //! [`FabricMap`] is a path memory of 30 slots. If no slot is free in both lines, it moves live paths along a chain of
 //! Paull's matrix.

@@ -1,4 +1,4 @@
-//! The engine that carries the octets of each frame, and the interface that every engine implements.
+//! Carries the octets of each frame, and defines the interface that every engine implements.
 //!
 //! - [`Carrier`] is that interface: `frame` outputs the octets that the engine's definition gives at the boundary
 //!   (`plays`), and has carried one more frame afterwards (`carries`).

@@ -1,5 +1,5 @@
-//! The table of the legs of all calls, by the slots that they hold, with the numbers in overlap sending and the
-//! messages that may be retransmitted.
+//! Stores the legs of all calls by the slots that they hold, with the numbers in overlap sending and the messages that
+//! may be retransmitted.
 //!
 //! - [`LegTable`] follows the definitions of `call_profile`: `put`, `wait`, `expect`, `expect_still` and `remove`
 //!   change the leg of one slot, with the number or message stored there.

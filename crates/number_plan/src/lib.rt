@@ -1,4 +1,4 @@
-//! The number plan: routes digits to a line or a conference room.
+//! Routes digits to a line or a conference room, by a number plan.
 //!
 //! No number of a plan begins another one. Digits are therefore routed to one number at most, and each digit shows
 //! whether the number is complete. The plan is in the order of its digits, so no result depends on the order in which

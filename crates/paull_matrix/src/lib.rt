@@ -1,4 +1,4 @@
-//! Paull's matrix: the internal slot of each path through a three-stage switch.
+//! Stores the internal slot of each path through a three-stage switch, as Paull's matrix.
 //!
 //! A row is an incoming line, a column an outgoing line. Their cell has the internal slots of the paths from one to the
 //! other. The matrix is legal if no slot is in a row or a column twice.

@@ -1,4 +1,4 @@
-//! The space stage of the fabric: in each internal slot it moves octets from incoming to outgoing highways.
+//! Moves octets from incoming to outgoing highways in each internal slot: the space stage of the fabric.
 //!
 //! - [`cross`] gives each outgoing line, in each internal slot, the octet of the incoming line in the control table, or
 //!   the idle octet if the table has no entry (`octets`).

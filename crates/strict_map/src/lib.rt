@@ -1,5 +1,5 @@
-//! The live map of the paths through a strict-sense non-blocking fabric, as a `PathMap`: with 59 internal slots no path
-//! ever moves.
+//! Connects and releases the live paths through a strict-sense non-blocking fabric, as a `PathMap`: with 59 internal
+//! slots no path ever moves.
 //!
 //! - `connect` of [`StrictMap`] never refuses: the new path gets the lowest internal slot that is
 //!   free in both lines (`layout`), and no live path moves (`moves`, `few`).

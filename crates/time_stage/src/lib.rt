@@ -1,5 +1,5 @@
-//! The time stages of the fabric, on both sides of the space stage: each fetches the octets of its lines in the order
-//! that the control memory gives.
+//! Fetches the octets of each line in the order that the control memory gives: the time stages on both sides of the
+//! space stage.
 //!
 //! - [`incoming`] fills each internal slot with the octet of the place in its table. [`outgoing`] fills each place with
 //!   the octet of its internal slot. Both write the idle octet if the table has no entry (`octets`).

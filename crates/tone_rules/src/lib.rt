@@ -1,4 +1,4 @@
-//! The tones of a call: the tone that a leg hears in its state, and the octets of the tones.
+//! Gives the tone that a leg hears in its state, and the octets of the tones.
 //!
 //! - [`tone_for`] returns the tone of a state and a cause: ringing tone in call delivered, busy tone if a leg was
 //!   cleared with user busy. [`tone_given`] returns it if its octets are given (`tone`, `octets`).
