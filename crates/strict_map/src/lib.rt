@@ -4,6 +4,7 @@
 //! - `connect` of [`StrictMap`] never refuses: the new path gets the lowest internal slot that is
 //!   free in both lines (`layout`), and no live path moves (`moves`, `few`).
 //! - `disconnect` removes a path and moves no other (`layout`). After each call the layout is legal (`legal`).
+//!   `PathMap` has the clauses of these calls.
 //! - [`nothing_moves`] states the same of layouts: by the rule of every fabric a new path moves no other (`unmoved`),
 //!   and gets its own slot (`slot`).
 //!
