@@ -84,7 +84,7 @@ pub record LegsStand (external : ℕ) (tones : Tones) (w : World) : Type 0 where
       → x.line ≡ y.line → a.side ≡ b.side → a.reference ≡ b.reference → x ≡ y
 
 -- each slot is in one state, the legs are consistent, numbers are pending if and only if legs wait for further digits,
--- messages are stored if and only if legs wait for the reply, and a stored RELEASE decides the tone of its user. Every
+-- messages are stored if and only if legs wait for the reply, and a stored RELEASE decides the tone of its user; every
 -- event preserves this, so that the definition of a step needs no condition
 pub record CallsStand (s : Setting) (w : World) : Type 0 where
   pub circuits : Valid s.dimensions.bridges w.holding

@@ -78,8 +78,9 @@ held_at legs x = option_map (λ leg. record { slot = x; leg = leg }) (leg_at leg
 abbrev pub legs_of : Legs → ℕ → List Held
 legs_of legs line = filter_map (held_at legs) (slots_of line)
 
--- the side that chose a call reference value sends flag 0 with it. A user chose a caller's value, and the exchange a
--- called leg's. A user's message with flag 0 is therefore for a caller's leg, and one with flag 1 for a called leg
+-- the side of the leg for a message with this flag: the side that chose a call reference value sends flag 0 with it, a
+-- user chose a caller's value, and the exchange a called leg's, so a user's message with flag 0 is for a caller's leg,
+-- and one with flag 1 for a called leg
 abbrev pub side_named : Bool → Side
 side_named false = Caller
 side_named true = Called

@@ -24,7 +24,7 @@ interval_of magnitude = position_or_len (λ upper. nat_lt magnitude upper) (drop
 abbrev pub middle : ℕ → ℕ
 middle k = (slice_index decision_values k + slice_index decision_values (k + 1)) / 2
 
--- a character: the sign in its first bit, 1 for positive, and below it the number of the interval. The octet on the
+-- a character: the sign in its first bit, 1 for positive, and below it the number of the interval; the octet on the
 -- line is the character with its even bits inverted
 abbrev pub octet_of_interval : Bool → ℕ → ℕ
 octet_of_interval positive interval = bit_xor (interval + (if positive then 128 else 0)) 0x55

@@ -24,7 +24,7 @@ pub data Command : Type 0 where
   Clear : (x : Slot) → Command
   Frame : Command
 
--- the holding after a command. A circuit exists from the next frame on, and a frame's boundary changes the number only
+-- the holding after a command: a circuit exists from the next frame on, and a frame's boundary changes the number only
 abbrev pub after : Holding → Command → Holding
 after h (Connect x y) = record h { circuits = h.circuits ++ Pair x y h.next ∷ Pair y x h.next ∷ [] }
 after h (Seat x room) = record h { circuits = h.circuits ++ Member room x h.next ∷ [] }

@@ -61,7 +61,7 @@ abbrev pub Joins : Layout → Slot → Slot → Type 0
 Joins layout from to = (slot : ℕ) × HasPath layout from to slot
 
 -- a legal layout on n lines and m internal slots: each outlet ends at most one path, and no two paths of an incoming
--- line, or of an outgoing line, share an internal slot. By the form of a layout an inlet begins at most one path
+-- line, or of an outgoing line, share an internal slot; by the form of a layout an inlet begins at most one path
 pub record Legal (lines slots : ℕ) (layout : Layout) : Type 0 where
   pub inlets : length layout ≡ 30 * lines
   pub within : (from to : Slot) (slot : ℕ) → IsSlot lines from → HasPath layout from to slot → IsSlot lines to × (slot < slots)

@@ -52,7 +52,7 @@ pub record AreSegments (events : ℕ) (ends : List ℕ) : Type 0 where
 abbrev pub is_between : List ℕ → ℕ → Bool
 is_between ends count = list_any (λ place. place == count) (0 ∷ ends)
 
--- the places at which meters change: each is between segments, and none is before the one in front of it. Several
+-- the places at which meters change: each is between segments, and none is before the one in front of it; several
 -- changes can have one place, since each changes one meter
 pub record AreChanges (ends changes : List ℕ) : Type 0 where
   pub few : length changes ≤ most_changes

@@ -64,8 +64,8 @@ impl<'a> Message<'a> {
 ghost use Rattle.std.specs.Prelude.{◌≡◌};
 ghost use Rattle.q931_codec.specs.Contents.{channel_of, is_bearer_channel};
 
-// Octet 3 requests any channel, or one channel of a primary rate interface by its number. Octet 3.2 then states that
-// the number is a B-channel's.
+// Returns the channel that the contents request. Octet 3 requests any channel, or one channel of a primary rate
+// interface by its number. Octet 3.2 then states that the number is a B-channel's.
 fn channel_of(contents: &[u8]) -> ChannelIdentification
     ensures { result ≡ channel_of contents.now }
 {

@@ -10,9 +10,9 @@ use circuit_model::PLACES;
 use control_memory::Image;
 use frame_buffer::{Crossed, FrameBuffer, Highway, make_idle};
 
-/// The incoming time stage of one frame: each line sends in each internal slot the octet of the place in its control
-/// table's entry, out of the half of the buffer that is read. It sends the idle octet if there is no entry. Every octet
-/// is written, so nothing of an earlier frame remains.
+/// Performs the incoming time stage of one frame: each line sends in each internal slot the octet of the place in its
+/// control table's entry, out of the half of the buffer that is read. It sends the idle octet if there is no entry.
+/// Every octet is written, so nothing of an earlier frame remains.
 pub fn incoming(buffer: &FrameBuffer, image: &Image, highway: &mut Highway)
     requires buffer { buffer.now.lines ≡ lines_of image.now }
     requires lines { highway.old.lines ≡ lines_of image.now }
@@ -65,9 +65,9 @@ fn send_row(buffer: &FrameBuffer, image: &Image, line: u8, store: &mut Store, ro
     store.fetch(image.incoming_row(line), row);
 }
 
-/// The outgoing time stage of one frame: each place of a line reads the octet of the internal slot in its control
-/// table's entry, or the idle octet if there is no entry. It writes the half of `out` that is filled, which is output
-/// once the halves are swapped.
+/// Performs the outgoing time stage of one frame: each place of a line reads the octet of the internal slot in its
+/// control table's entry, or the idle octet if there is no entry. It writes the half of `out` that is filled, which is
+/// output once the halves are swapped.
 ///
 /// `table` is the control memory by which the octets were crossed.
 pub fn outgoing(crossed: &Crossed, table: &Image, out: &mut FrameBuffer)

@@ -12,9 +12,9 @@ use control_memory::Image;
 use frame_buffer::{Crossed, FrameBuffer, Highway, LEAST_HALF};
 use std::thread::{Threads, join_mut};
 
-/// The incoming time stage of one frame, by halves of the lines: they are halved `levels` times, and the halves joined.
-/// A half of at least [`LEAST_HALF`] octets gets a thread. If the first half of all lines has fewer, this is
-/// `incoming`.
+/// Performs the incoming time stage of one frame, by halves of the lines: they are halved `levels` times, and the
+/// halves joined. A half of at least [`LEAST_HALF`] octets gets a thread. If the first half of all lines has fewer,
+/// this is `incoming`.
 pub fn incoming_shared<R: Threads + Sync>(
     rt: &R,
     buffer: &FrameBuffer,
@@ -37,8 +37,8 @@ pub fn incoming_shared<R: Threads + Sync>(
     }
 }
 
-/// The incoming time stage of one frame, with a thread for a half of at least n octets. With n = 0 each half has a
-/// thread. For tests and measurements.
+/// Performs the incoming time stage of one frame, with a thread for a half of at least n octets. With n = 0 each half
+/// has a thread. For tests and measurements.
 pub fn incoming_by_halves<R: Threads + Sync>(
     rt: &R,
     buffer: &FrameBuffer,
@@ -106,9 +106,9 @@ fn send_halves<R: Threads + Sync>(
     );
 }
 
-/// The outgoing time stage of one frame, by halves of the lines: they are halved `levels` times, and the halves joined.
-/// A half of at least [`LEAST_HALF`] octets gets a thread. If the first half of all lines has fewer, this is
-/// `outgoing`.
+/// Performs the outgoing time stage of one frame, by halves of the lines: they are halved `levels` times, and the
+/// halves joined. A half of at least [`LEAST_HALF`] octets gets a thread. If the first half of all lines has fewer,
+/// this is `outgoing`.
 pub fn outgoing_shared<R: Threads + Sync>(
     rt: &R,
     crossed: &Crossed,
@@ -132,8 +132,8 @@ pub fn outgoing_shared<R: Threads + Sync>(
     }
 }
 
-/// The outgoing time stage of one frame, with a thread for a half of at least n octets. With n = 0 each half has a
-/// thread. For tests and measurements.
+/// Performs the outgoing time stage of one frame, with a thread for a half of at least n octets. With n = 0 each half
+/// has a thread. For tests and measurements.
 pub fn outgoing_by_halves<R: Threads + Sync>(
     rt: &R,
     crossed: &Crossed,
