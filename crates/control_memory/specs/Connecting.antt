@@ -63,7 +63,7 @@ exchanged layout a b [] = layout
 exchanged layout a b (p ∷ ps) = exchanged (with_path layout p.from p.to (if p.slot == a then b else a)) a b ps
 
 -- the two chains that make room for a path from incoming line i to outgoing line j if no slot is free in both: a is the
--- lowest slot that line i leaves free, b the lowest that line j does. One starts with the path to line j in a, the
+-- lowest slot that line i leaves free, b the lowest that line j does; one starts with the path to line j in a, the
 -- other with the path from line i in b
 abbrev pub column_chain : ℕ → Layout → ℕ → ℕ → ℕ → List Path
 column_chain lines layout j a b = chain (2 * lines) layout Outgoing j a b
