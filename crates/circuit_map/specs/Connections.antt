@@ -84,7 +84,7 @@ pub record Represents (m : Connections) (h : Holding) (ports : Ports) : Type 0 w
 abbrev pub IsLaid : Connections → Type 0
 IsLaid m = Legal (map_lines m) m.slots m.layout
 
--- the second connections are of the holding and ports after the command, for all holding and ports of the first ones
+-- the second connections are of the holding and ports after the command, for every holding and ports of the first ones
 abbrev pub Obeys : Connections → Connections → Command → Type 0
 Obeys m n command = (h : Holding) (ports : Ports) → Represents m h ports → Represents n (after h command) (ports_after ports command)
 
@@ -114,7 +114,7 @@ abbrev pub AreRoomed : (Slot → Option Circuit) → List (Option Owner) → Typ
 AreRoomed hears owners = (k : ℕ) (owner : Owner) → slice_index_or owners k None ≡ Some owner → (since : ℕ) × (hears owner.member ≡ Some (Member owner.room owner.member since))
 
 -- the sizes of the parts; the parts belong to some holding; each port's owner has its room; and the tables for the next
--- control memory are those that they show
+-- control memory show these
 pub record IsSound (m : Connections) (lines first_line bridge_lines : ℕ) (owners : List (Option Owner)) (hearing : List Heard) (sitting : List (Option (ℕ × ℕ))) : Type 0 where
   pub few : map_lines m ≤ 34
   pub width : lines ≡ map_lines m

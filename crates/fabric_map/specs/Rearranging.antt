@@ -33,7 +33,7 @@ laid layout [] moves = layout
 laid layout (e ∷ es) [] = layout
 laid layout (e ∷ es) (v ∷ moves) = laid (with_path layout e.from e.to v.new) es moves
 
--- the slot of a move is free in both lines of its path
+-- the slot of a move is free in both lines of its path, and so is the slot of each move after the moves before it
 pub record HasRoom (lines slots : ℕ) (layout : Layout) (e : Ends) (v : Move) : Type 0 where
   pub from : IsSlot lines e.from
   pub to : IsSlot lines e.to

@@ -23,7 +23,7 @@ hears_path f Silent = false
 hears_path f (Path since) = is_through since f
 hears_path f (Tone kind since) = false
 
--- the same for paths only; silence and tones are idle
+-- the octet of a path that is received, or the idle octet
 abbrev pub by_path : ℕ → ℕ → Heard → ℕ
 by_path f octet heard = if hears_path f heard then octet else idle_octet
 
