@@ -1,4 +1,4 @@
--- How a time-space-time fabric moves the octets of one frame. Source: this project.
+-- The movement of the octets of one frame through a time-space-time fabric. Source: this project.
 use Rattle.std.specs.Prelude.{◌≡◌, ℕ, ◌<◌, Option, Some, None}
 use Rattle.circuit_model.specs.declared.channel.Slot.{Slot}
 use Rattle.circuit_model.specs.FrameInput.{idle_octet}

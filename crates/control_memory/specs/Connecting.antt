@@ -1,6 +1,6 @@
--- How a path joins a layout: in the lowest common slot, or after live paths are moved along the shorter of two
--- alternating chains. Source: M. C. Paull, "Reswitching of connection networks", Bell System Technical Journal 41
--- (1962). By the Slepian-Duguid theorem the internal slots need only be the same number as the places of a line. In
+-- The rule by which a path joins a layout: in the lowest common slot, or after live paths are moved along the shorter
+-- of two alternating chains. Source: M. C. Paull, "Reswitching of connection networks", Bell System Technical Journal
+-- 41 (1962). By the Slepian-Duguid theorem the internal slots need only be the same number as the places of a line. In
 -- graph terms the chains are Kempe's. The choice of the shorter one is this project's.
 use Rattle.std.specs.Prelude.{◌≡◌, ℕ, zero, suc, ◌+◌, ◌*◌, ◌&&◌, not, Bool, true, false, nat_lt, length, ◌==◌, is_none, List, [], ◌∷◌, Option, Some, None, unwrap_or, slice_set, find, if◌then◌else◌}
 use Rattle.std.specs.List.{range_with_len}

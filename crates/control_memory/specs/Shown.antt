@@ -1,4 +1,4 @@
--- How the control memory of a frame shows the circuits and conference ports at its boundary. Source: this project.
+-- The circuits and conference ports at a frame's boundary, in the control memory of the frame. Source: this project.
 use Rattle.std.specs.Prelude.{◌≡◌, ℕ, nat_lt, ◌↔◌, List, [], ◌∷◌, Contains, Option, Some, None, slice_index_or, option_and_then, if◌then◌else◌}
 use Rattle.circuit_model.specs.declared.channel.Slot.{Slot}
 use Rattle.circuit_model.specs.declared.circuit.Circuit.{Circuit}

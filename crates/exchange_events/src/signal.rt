@@ -78,7 +78,7 @@ pub struct Signal {
 #[derive(Drop)]
 pub struct Signals {
     items: ArrayVec<Signal, MOST_SENDS>,
-    // How many of them count.
+    // The number of messages that count.
     count: usize,
 }
 

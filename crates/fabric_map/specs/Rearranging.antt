@@ -1,4 +1,4 @@
--- How moved paths are removed from a layout, and set up again in their new slots. Source: this project.
+-- The removal of moved paths from a layout, and their new slots. Source: this project.
 use Rattle.std.specs.Prelude.{◌≡◌, ℕ, ◌<◌, ⊤, Option, Some, None, List, [], ◌∷◌}
 use Rattle.control_memory.specs.Layout.{Path, Layout, path_in, IsSlot}
 use Rattle.control_memory.specs.Connecting.{with_path, without_path, IsFree}

@@ -1,5 +1,5 @@
--- How a table of legs stores the pending numbers and the messages that may be retransmitted: for each slot it has space
--- for one of either, which counts by the state of the slot's leg. Source: this project.
+-- The pending numbers and the messages for retransmission in a table of legs: each slot has space for one of either,
+-- which counts by the state of the slot's leg. Source: this project.
 use Rattle.std.specs.Prelude.{ℕ, ◌==◌, List, [], ◌∷◌, Option, Some, None, if◌then◌else◌}
 use Rattle.q931_codec.specs.CallStates.{overlap_sending}
 use Rattle.call_states.specs.Acts.{is_among}

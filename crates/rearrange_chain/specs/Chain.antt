@@ -1,8 +1,8 @@
--- How Paull's matrix makes room for one more path, by moving live paths along the shorter of two alternating chains.
--- Source: M. C. Paull, "Reswitching of connection networks", Bell System Technical Journal 41 (1962), for the rule and
--- its chains; in terms of graphs the chains are Kempe's. The chain from a column never reaches the row in which room is
--- made. This proves the Slepian-Duguid theorem: the slots need only be the same number as the places of a line. The
--- choice of the shorter chain is this project's.
+-- The rule by which Paull's matrix makes room for another path: live paths move along the shorter of two alternating
+-- chains. Source: M. C. Paull, "Reswitching of connection networks", Bell System Technical Journal 41 (1962), for the
+-- rule and its chains; in terms of graphs the chains are Kempe's. The chain from a column never reaches the row in
+-- which room is made. This proves the Slepian-Duguid theorem: the slots need only be the same number as the places of a
+-- line. The choice of the shorter chain is this project's.
 use Rattle.std.specs.Prelude.{◌≡◌, ℕ, zero, suc, ◌-◌, ◌*◌, ◌++◌, Bool, nat_lt, length, if◌then◌else◌, Option, Some, None, unwrap_or, List, [], ◌∷◌, ◌≢◌, All, AllPairs}
 use Rattle.paull_matrix.specs.Matrix.{Matrix, row_slot, column_slot, lowest_in_row, lowest_in_column, lowest_in_both, with_path, without_path}
 use Rattle.rearrange_chain.specs.declared.moves.Move.{Move}
