@@ -1,4 +1,4 @@
--- The table of all codes. Source: this exchange's own; the codes are from ITU-T G.711 (11/88), table 1a.
+-- The table of all codes. Source: this project; the codes are from ITU-T G.711 (11/88), table 1a.
 use Rattle.std.specs.Prelude.{◌≡◌, ℕ, ◌<◌, pos, ◌-ℤ◌, List, length, slice_index}
 use Rattle.circuit_model.specs.ALaw.{compress}
 

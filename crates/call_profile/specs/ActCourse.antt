@@ -1,5 +1,5 @@
--- What an act does for a message to a leg. Which message is sent when is this exchange's own profile of basic call control (ITU-T Q.931 (05/98),
--- 5.1 to 5.3).
+-- The operations of an act for a message to a leg. Source: this project's profile of basic call control (ITU-T Q.931
+-- (05/98), 5.1 to 5.3).
 use Rattle.std.specs.Prelude.{[], ◌∷◌, ◌++◌, Some}
 use Rattle.q931_codec.specs.declared.message.Message.{Message}
 use Rattle.q931_codec.specs.CallStates.{incoming_call_proceeding}

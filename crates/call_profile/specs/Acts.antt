@@ -1,5 +1,5 @@
--- What each act does with the leg that a message is for, and with its peer. Which message is sent when is this exchange's own profile of
--- basic call control (ITU-T Q.931 (05/98), 5.1 to 5.3).
+-- The operations of each act on the leg that a message is for, and on its peer. Source: this project's profile of basic
+-- call control (ITU-T Q.931 (05/98), 5.1 to 5.3).
 use Rattle.std.specs.Prelude.{ℕ, List, [], ◌∷◌, Option, Some, None, is_some}
 use Rattle.circuit_model.specs.declared.circuit.Kind.{Kind}
 use Rattle.q931_codec.specs.declared.kind.MessageKind.{MessageKind}
@@ -28,7 +28,7 @@ disconnect leg cause = record (message_to leg kind.Disconnect) { cause = Some ca
 abbrev pub send_to : Held → OutgoingMessage → Operation
 send_to h message = Send h.slot.line message
 
--- the same message, with a progress indicator exactly where the slot of its user gets a tone: there is something to be heard
+-- the same message, with a progress indicator if and only if the slot of its user gets a tone
 abbrev pub with_progress : Option Kind → OutgoingMessage → OutgoingMessage
 with_progress tone message = record message { progress = is_some tone }
 
@@ -37,20 +37,20 @@ with_progress tone message = record message { progress = is_some tone }
 abbrev pub in_state : ℕ → Leg → Leg
 in_state state leg = record leg { state = state }
 
--- a leg that is being cleared is alone
+-- a leg that is being cleared has no peer
 abbrev pub in_release_request : Leg → Leg
 in_release_request leg = record leg { state = release_request; peer = peer.Alone }
 
 abbrev pub in_disconnect_indication : ℕ → Leg → Leg
 in_disconnect_indication cause leg = record leg { state = disconnect_indication; peer = peer.Alone; cause = cause }
 
--- the tone that the slot of a leg gets, by its state and the cause that it was cleared with, where the trace gives it
+-- the tone that the slot of a leg gets, by its state and the cause with which it was cleared, if the trace gives it
 abbrev pub tone_of : Tones → Leg → Option Kind
 tone_of tones leg = tone_given tones leg.state leg.cause
 
 -- ---- the peer
 
--- the other leg of the call, where there is one, and what is done with it
+-- the other leg of the call, if there is one, and its operations
 abbrev pub peer_of : Legs → Peer → Option Held
 peer_of legs peer.Alone = None
 peer_of legs (peer.Leg y) = held_at legs y
@@ -60,7 +60,7 @@ abbrev pub with_peer : Option Held → (Held → List Operation) → List Operat
 with_peer None does = []
 with_peer (Some h) does = does h
 
--- the other leg of the call is cleared with a cause, and its user may hear why
+-- the other leg of the call is cleared with a cause, and its user may hear the tone of the cause
 abbrev pub clear_with : Tones → ℕ → Held → List Operation
 clear_with tones cause h =
     let tone = tone_of tones (in_disconnect_indication cause h.leg) in
@@ -72,7 +72,8 @@ clear_with tones cause h =
 
 -- ---- the acts
 
--- the called user is being alerted; the caller is sent the same, and may hear it
+-- the called user is being alerted; the caller is sent the same, and may hear ringing tone; its slot is silent until
+-- then, so nothing is cleared first
 abbrev pub on_alerting : Tones → Held → Held → List Operation
 on_alerting tones h caller =
     let tone = tone_of tones (in_state call_delivered caller.leg) in
@@ -82,7 +83,7 @@ on_alerting tones h caller =
     ∷ send_to caller (with_progress tone (message_to caller.leg kind.Alerting))
     ∷ []
 
--- the called user has answered: the two slots are connected, and whatever the caller heard until now stops
+-- the called user has answered: the caller's slot is cleared of its tone, and the two slots are connected
 abbrev pub on_connect : Held → Held → List Operation
 on_connect h caller =
     Clear caller.slot
@@ -93,7 +94,7 @@ on_connect h caller =
     ∷ send_to caller (message_to caller.leg kind.Connect)
     ∷ []
 
--- the user of the leg has asked for the call to be cleared, by DISCONNECT
+-- the user of the leg has requested that the call be cleared, by DISCONNECT
 abbrev pub on_disconnect : Held → List Operation
 on_disconnect h =
     Clear h.slot
@@ -108,7 +109,7 @@ on_release h =
     ∷ send_to h (message_to h.leg kind.ReleaseComplete)
     ∷ []
 
--- the leg is gone, and every circuit that names its slot
+-- the leg is removed, and every circuit that uses its slot
 abbrev pub remove_leg : Held → List Operation
 remove_leg h =
     Clear h.slot

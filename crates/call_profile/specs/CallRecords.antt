@@ -1,4 +1,4 @@
--- What is recorded of calls once their clearing has begun. Source: this exchange's own.
+-- The records of calls whose clearing has begun. Source: this project.
 use Rattle.std.specs.Prelude.{ℕ, ◌==◌, ◌&&◌, not, Bool, false, List, [], ◌∷◌, length, filter_map, Option, Some, None, option_map, option_and_then, if◌then◌else◌}
 use Rattle.std.specs.List.{range_with_len}
 use Rattle.circuit_model.specs.declared.channel.Slot.{Slot}
@@ -22,7 +22,7 @@ use Rattle.call_profile.specs.World.{World}
 abbrev pub before_clearing : List ℕ
 before_clearing = outgoing_call_proceeding ∷ call_delivered ∷ active ∷ []
 
--- the caller's leg of a call whose clearing hasn't begun
+-- the caller's leg of a call whose clearing has not begun
 abbrev pub is_calling : Option Leg → Bool
 is_calling None = false
 is_calling (Some leg) = same_side Caller leg.side && is_among before_clearing leg.state
@@ -32,12 +32,12 @@ party_of peer.Alone = None
 party_of (peer.Leg y) = Some (party.Line y)
 party_of (peer.Room room) = Some (party.Room room)
 
--- the first frame of the circuit by which a slot hears
+-- the first frame of the circuit by which a slot receives
 abbrev pub since_heard : ℕ → Option Circuit → ℕ
 since_heard next None = next
 since_heard next (Some c) = since_of c
 
--- the first frame of the conversation, where there was one
+-- the first frame of the conversation, if there was one
 abbrev pub conversation_begin : World → Held → ℕ
 conversation_begin w h = if h.leg.state == active then since_heard w.holding.next (heard_by w.holding.circuits h.slot) else w.holding.next
 
@@ -51,7 +51,7 @@ record_of w cause h = option_map (λ called. record {
   cause = cause;
 }) (party_of h.leg.peer)
 
--- the call of the caller at a slot was one before, and isn't any more
+-- the call of the caller at a slot existed before, and has ended
 abbrev pub is_ended : World → World → Slot → Bool
 is_ended before after x = is_calling (leg_at before.legs x) && not (is_calling (leg_at after.legs x))
 
@@ -63,7 +63,7 @@ record_at before after cause x = if is_ended before after x then option_and_then
 abbrev pub records : World → World → ℕ → List CallRecord
 records before after cause = filter_map (λ n. record_at before after cause (slot_numbered n)) (range_with_len 0 (length before.legs.held))
 
--- none where no cause is given
+-- the records with a cause; no records without one
 abbrev pub records_by : World → World → Option ℕ → List CallRecord
 records_by before after None = []
 records_by before after (Some cause) = records before after cause

@@ -1,4 +1,5 @@
--- What a message makes of the world, from its octets to the octets that are sent and the calls that are recorded. Source: this exchange's own.
+-- The exchange state after a message, from its octets to the octets that are sent and the calls that are recorded.
+-- Source: this project.
 use Rattle.std.specs.Prelude.{ℕ, ◌==◌, ◌&&◌, not, Bool, true, false, List, [], ◌∷◌, Option, Some, None, Ok, Err, Result, if◌then◌else◌}
 use Rattle.q931_codec.specs.declared.kind.MessageKind.{MessageKind}
 use Rattle.q931_codec.specs.declared.kind.MessageKind.TheVariants as kind
@@ -23,10 +24,10 @@ use Rattle.exchange_events.specs.Sizes.{Setting}
 use Rattle.call_profile.specs.Setup.{course_of_setup}
 use Rattle.call_profile.specs.World.{World}
 
--- ---- what is asked for
+-- ---- the request
 
--- what the user of a line has sent: a message for a leg, a SETUP that asks for a call, a message on the call reference of no call, a RESTART
--- that is taken, or something that is not answered
+-- the request of the user of a line: a message for a leg, a SETUP for a new call, a message on a call reference without
+-- a call, an accepted RESTART, or a message without a reply
 pub data Request : Type 0 where
   For_leg : (held : Held) (message : Message) → Request
   New_call : (setup : Message) → Request
@@ -34,7 +35,7 @@ pub data Request : Type 0 where
   Restarts : (restart : Restart) → Request
   Unanswered : Request
 
--- a SETUP from the side that chose the call reference asks for a call
+-- a SETUP from the side that chose the call reference requests a call
 abbrev pub is_setup : MessageKind → Bool
 is_setup kind.Setup = true
 is_setup _ = false
@@ -42,12 +43,12 @@ is_setup _ = false
 abbrev pub asks_for_call : Message → Bool
 asks_for_call m = is_setup m.kind && not m.flag
 
--- on the global call reference, which is no call's, a RESTART alone is taken
+-- on the global call reference, which has no call, only a RESTART is accepted
 abbrev pub on_global_reference : Option Restart → Request
 on_global_reference None = Unanswered
 on_global_reference (Some r) = Restarts r
 
--- a message that names no leg
+-- a message without a leg
 abbrev pub request_without_leg : Message → Request
 request_without_leg m =
     if m.reference == global_call_reference then on_global_reference (restart_asked m)
@@ -58,7 +59,7 @@ abbrev pub with_leg_named : Message → Option Held → Request
 with_leg_named m None = request_without_leg m
 with_leg_named m (Some h) = For_leg h m
 
--- octets that are no message have no effect
+-- octets that are not a message have no effect
 abbrev pub request_read : Legs → ℕ → Result Message Discard → Request
 request_read legs line (Ok m) = with_leg_named m (leg_named legs line m.flag m.reference)
 request_read legs line (Err why) = Unanswered
@@ -66,7 +67,7 @@ request_read legs line (Err why) = Unanswered
 abbrev pub request_of : Legs → ℕ → List ℕ → Request
 request_of legs line octets = request_read legs line (reading octets)
 
--- ---- what is done for it
+-- ---- the operations of a request
 
 abbrev pub making_by : Setting → World → Course → Making
 making_by s w c = making_after_all s.dimensions (making_at w) c.operations
@@ -74,12 +75,12 @@ making_by s w c = making_after_all s.dimensions (making_at w) c.operations
 abbrev pub outcome_by : Setting → World → Course → MessageOutcome
 outcome_by s w c = let m = making_by s w c in record { making = m; recorded = records_by w m.world c.cause }
 
--- the answer to a message, where there is one
+-- the reply to a message, if there is one
 abbrev pub answer_back : ℕ → Option OutgoingMessage → List Operation
 answer_back line None = []
 answer_back line (Some message) = Send line message ∷ []
 
--- what a message to a leg asks for in the leg's state
+-- the operations of a message to a leg in the leg's state
 abbrev pub course_on : Setting → World → Held → Message → Course
 course_on s w h m = course_of s w h m (act_on h.leg.state m)
 
@@ -95,13 +96,14 @@ outcome_of_octets s w line octets = outcome_for s w line (request_of w.legs line
 
 -- ---- the answer
 
--- what is answered to a message: what is sent, in order; how many live paths were moved, where a connection or a seat was made; and the records
+-- the answer to a message: the messages sent, in order; the numbers of live paths that moved, if a connection was made
+-- or a member joined; and the records
 pub record MessageAnswer : Type 0 where
   pub sends : List Signal
   pub moved : Option (ℕ × ℕ)
   pub records : List CallRecord
 
--- what a message makes of the world, and what it is answered
+-- the exchange state after a message, and its answer
 abbrev pub after_message : Setting → World → ℕ → List ℕ → World
 after_message s w line octets = (outcome_of_octets s w line octets).making.world
 

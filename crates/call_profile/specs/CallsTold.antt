@@ -1,4 +1,4 @@
--- The calls that end in a run: what meters note. Source: this exchange's own.
+-- The calls that end in a run, which meters record. Source: this project.
 use Rattle.std.specs.Prelude.{ℕ, List, [], ◌∷◌, ◌++◌}
 use Rattle.exchange_events.specs.declared.answer.Kept.{Kept}
 use Rattle.exchange_events.specs.declared.answer.Kept.TheVariants as k
@@ -10,7 +10,7 @@ use Rattle.exchange_events.specs.Sound.{setting_of}
 use Rattle.call_profile.specs.Step.{run, events_of}
 use Rattle.call_profile.specs.World.{start}
 
--- the calls that ended with what is kept of a reply
+-- the calls that ended with a stored reply
 abbrev pub calls_kept : Kept → List CallRecord
 calls_kept (k.Granted a b) = []
 calls_kept k.Busy = []
@@ -26,6 +26,6 @@ abbrev pub calls_ended : List Reply → List CallRecord
 calls_ended [] = []
 calls_ended (r ∷ replies) = calls_kept (kept_of r) ++ calls_ended replies
 
--- the records of the calls that end in a run of a trace whose events happen in this order
+-- the records of the calls that end in a run of a trace whose events are processed in this order
 abbrev pub calls_told : ℕ → Trace → List ℕ → List CallRecord
 calls_told slots trace order = let s = setting_of slots trace in calls_ended (run s (start s.dimensions) (events_of trace.events order))

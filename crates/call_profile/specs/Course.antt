@@ -1,13 +1,13 @@
--- A course of action: what the exchange does for a message. Source: this exchange's own.
+-- The exchange's operations for a message (`Course`). Source: this project.
 use Rattle.std.specs.Prelude.{ℕ, List, [], Option, None}
 use Rattle.call_profile.specs.Operations.{Operation}
 
--- the operations, in order; and the cause that is recorded of a call which they begin to clear, where they may clear one
+-- the operations, in order; and the cause in the record of a call that they begin to clear, if they may clear one
 pub record Course : Type 0 where
   pub operations : List Operation
   pub cause : Option ℕ
 
--- a course that clears no call
+-- operations that clear no call
 abbrev pub only : List Operation → Course
 only operations = record { operations = operations; cause = None }
 

@@ -1,5 +1,5 @@
--- More digits of a number that is dialled in parts: what is dialled by then, the checks in their order, and what is done. Source: ITU-T Q.931
--- (05/98), 5.1.3; which check comes first is this exchange's own profile.
+-- Further digits in overlap sending: the digits so far, the checks in their order, and the operations. Source: ITU-T
+-- Q.931 (05/98), 5.1.3; the order of the checks is this project's profile.
 use Rattle.std.specs.Prelude.{◌≡◌, ℕ, ◌||◌, Bool, true, false, List, [], ◌∷◌, ◌++◌, length, drop, nat_lt, is_none, Option, Some, None}
 use Rattle.circuit_model.specs.declared.channel.Slot.{Slot}
 use Rattle.q931_codec.specs.declared.message.Message.{Message}
@@ -16,10 +16,10 @@ use Rattle.call_profile.specs.Operations.{Operation}
 use Rattle.call_profile.specs.Setup.{Check, first_cause, number_checks, called_checks, target_dialled, accept}
 use Rattle.call_profile.specs.World.{World, is_full}
 
--- ---- what is dialled by then
+-- ---- the digits so far
 
--- the octets that a called party number adds to those so far: all of its own where there are none, else those after the first, which says again
--- what kind of number it is
+-- the octets that a called party number adds to those so far: all of its octets if there are none, otherwise those
+-- after the first, which is the type of number again
 abbrev pub octets_added : List ℕ → Option (List ℕ) → List ℕ
 octets_added called None = []
 octets_added [] (Some contents) = contents
@@ -31,13 +31,13 @@ called_with called m = called ++ octets_added called (called_received m.elements
 abbrev pub asked_with : Pending → Message → Pending
 asked_with p m = record p { called = called_with p.called m }
 
--- ---- the checks: whether each fails, and the cause with which the leg is cleared then
+-- ---- the checks: whether each fails, and the cause with which the leg is then cleared
 
 abbrev pub has_no_octet : Option (List ℕ) → Bool
 has_no_octet (Some []) = true
 has_no_octet _ = false
 
--- a called party number without octets adds nothing, and a number of more than 21 octets is none
+-- a called party number without octets adds nothing, and a number of more than 21 octets is not a number
 abbrev pub adds_wrongly : List ℕ → Message → Bool
 adds_wrongly called m = has_no_octet (called_received m.elements) || nat_lt 21 (length (called_with called m))
 
@@ -52,9 +52,9 @@ digits_checks s w x called m =
 abbrev pub digits_refusal : Setting → World → Slot → List ℕ → Message → Option ℕ
 digits_refusal s w x called m = first_cause (digits_checks s w x called m)
 
--- ---- what is done
+-- ---- the operations
 
--- the leg waits on with the longer number, or its call is accepted; where a check fails, the leg is cleared
+-- the leg waits with the longer number, or its call is accepted; if a check fails, the leg is cleared
 abbrev pub dial_on : Setting → World → Held → Pending → Option ℕ → List Operation
 dial_on s w h asked (Some cause) = clear_with s.tones cause h
 dial_on s w h asked None = accept false w h.leg.reference asked h.slot (target_dialled s.plan asked.called)
@@ -66,7 +66,7 @@ with_pending s w h m (Some p) = dial_on s w h (asked_with p m) (digits_refusal s
 abbrev pub on_digits : Setting → World → Held → Message → List Operation
 on_digits s w h m = with_pending s w h m (pending_at w.legs h.slot)
 
--- ---- where a call can't go on
+-- ---- calls that cannot continue
 
 -- the number is a line's, and it has no idle slot; or a room's, and every port is taken
 abbrev pub WantsSlot : Setting → World → List ℕ → Type 0

@@ -1,4 +1,5 @@
--- The record of the call of a leg that begins to be cleared. Source: this exchange's own.
+-- The record of the call of a leg that begins to be cleared. It is made before the act, because the circuit with the
+-- first frame of the conversation is removed by the act. Source: this project.
 use Rattle.std.specs.Prelude.{ℕ, List, [], Option, Some, None, option_and_then, if◌then◌else◌}
 use Rattle.std.specs.List.{cons_option}
 use Rattle.circuit_model.specs.declared.channel.Slot.{Slot}
@@ -25,7 +26,7 @@ abbrev pub caller_in : Side → Held → Option Held → Option Held
 caller_in Caller h peer = Some h
 caller_in Called h peer = peer
 
--- the record of a caller's leg, where its call's clearing hasn't begun
+-- the record of a caller's leg, if its call's clearing has not begun
 abbrev pub record_calling : World → ℕ → Held → Option CallRecord
 record_calling w cause h = if is_calling (Some h.leg) then record_of w cause h else None
 
@@ -33,20 +34,20 @@ record_calling w cause h = if is_calling (Some h.leg) then record_of w cause h e
 abbrev pub record_ended : World → Held → ℕ → Option CallRecord
 record_ended w h cause = option_and_then (record_calling w cause) (caller_in h.leg.side h (peer_of w.legs h.leg.peer))
 
--- the record of what an act ends
+-- the record of the call that an act ends
 abbrev pub record_of_act : World → Held → Act → Option CallRecord
 record_of_act w h a = option_and_then (record_ended w h) (cause_of_act a)
 
--- the records of what the restart of a slot ends
+-- the records of the calls that the restart of a slot ends
 abbrev pub slot_records : Restart → World → Slot → List CallRecord
 slot_records r w x = if is_restarted r x.place then cons_option (option_and_then (λ h. record_ended w h temporary_failure) (held_at w.legs x)) [] else []
 
--- the record of what an expiry ends
+-- the record of the call that an expiry ends
 abbrev pub record_of_expiry : World → Held → Expiry → Option CallRecord
 record_of_expiry w h expiry.SetupOver = record_ended w h no_user_responding
 record_of_expiry w h expiry.Proceeding = record_ended w h no_user_responding
 record_of_expiry w h _ = None
 
--- the records of what expires in a frame at a slot
+-- the records of the calls that expiries at a slot end in a frame
 abbrev pub expired_records : Setting → ℕ → World → Slot → List CallRecord
 expired_records s frame w x = cons_option (option_and_then (λ h. option_and_then (record_of_expiry w h) (due_of s.timers frame h.leg)) (held_at w.legs x)) []

@@ -1,5 +1,6 @@
--- What the expiry of a leg's timer makes, and the turn of a frame: ITU-T Q.931 (05/98), 9.1, table 9-1, with 5.1.3 (T302), 5.2.5.4 (T303,
--- T310) and 5.3 (T305, T308). When a leg is looked at, and what becomes of the rest of its call, is this exchange's own profile.
+-- The operations of a timer's expiry, and the turn of a frame: ITU-T Q.931 (05/98), 9.1, table 9-1, with 5.1.3 (T302),
+-- 5.2.5.4 (T303, T310) and 5.3 (T305, T308). The frame in which a leg is examined, and the clearing of the rest of its
+-- call, are this project's profile.
 use Rattle.std.specs.Prelude.{ℕ, zero, suc, ◌%◌, List, [], ◌∷◌, ◌++◌, Option, Some, None}
 use Rattle.circuit_model.specs.declared.channel.Slot.{Slot}
 use Rattle.circuit_model.specs.FrameInput.{Input}
@@ -21,7 +22,7 @@ use Rattle.call_profile.specs.Operations.{Operation, Clear, Expect, Repeat, Remo
 use Rattle.call_profile.specs.Restarts.{MessageOutcome, outcome_then}
 use Rattle.call_profile.specs.World.{World, pass}
 
--- ---- what each expiry asks for
+-- ---- the operations of each expiry
 
 abbrev pub release_for : Leg → ℕ → OutgoingMessage
 release_for leg cause = record (message_to leg kind.Release) { cause = Some cause }
@@ -29,28 +30,29 @@ release_for leg cause = record (message_to leg kind.Release) { cause = Some caus
 abbrev pub release_complete_for : Leg → ℕ → OutgoingMessage
 release_complete_for leg cause = record (message_to leg kind.ReleaseComplete) { cause = Some cause }
 
--- the user of a leg is sent once more what is kept of it
+-- the stored message of a leg is retransmitted to its user
 abbrev pub send_again : Held → Option (List ℕ) → List Operation
 send_again h None = []
 send_again h (Some octets) = Repeat h octets ∷ []
 
--- the called user didn't answer the SETUP: its leg is gone
+-- the called user did not answer the SETUP: its leg is removed
 abbrev pub give_up : Held → List Operation
 give_up h = Clear h.slot ∷ Remove h.slot ∷ send_to h (release_complete_for h.leg recovery_on_timer_expiry) ∷ []
 
--- the user didn't release the call: it is sent RELEASE with the cause that it was cleared with, and hears what it heard
+-- the user did not release the call: it is sent RELEASE with the cause with which it was cleared, and still hears its
+-- tone
 abbrev pub ask_for_release : Held → List Operation
 ask_for_release h = Expect h.slot (in_release_request h.leg) (release_for h.leg h.leg.cause) ∷ []
 
--- the caller of a user who doesn't respond is cleared
+-- the caller is cleared, because the called user does not respond
 abbrev pub clear_peer : Tones → Legs → Held → List Operation
 clear_peer tones legs h = with_peer (peer_of legs h.leg.peer) (clear_with tones no_user_responding)
 
--- the called user didn't answer the SETUP, sent twice
+-- the called user did not answer the SETUP, which was sent twice
 abbrev pub setup_over : Tones → Legs → Held → List Operation
 setup_over tones legs h = give_up h ++ clear_peer tones legs h
 
--- it is neither alerted nor answers, so that both legs are cleared
+-- the called user neither alerts nor answers, so both legs are cleared
 abbrev pub proceeding_over : Tones → Legs → Held → List Operation
 proceeding_over tones legs h = clear_with tones recovery_on_timer_expiry h ++ clear_peer tones legs h
 
@@ -63,7 +65,7 @@ on_expiry tones legs h expiry.Disconnect = ask_for_release h
 on_expiry tones legs h expiry.ReleaseAgain = send_again h (kept_at legs h.slot)
 on_expiry tones legs h expiry.ReleaseOver = remove_leg h
 
--- the state whose timer it is
+-- the state of the timer
 abbrev pub timed_state : Expiry → ℕ
 timed_state expiry.Digits = overlap_sending
 timed_state expiry.SetupAgain = call_present
@@ -91,18 +93,18 @@ expire_slot s frame legs x = expire_leg s frame legs (held_at legs x)
 
 -- ---- a frame's turn
 
--- each frame looks at the legs of one place, so that each leg is looked at in every thirtieth frame
+-- each frame examines the legs of one place, so each leg is examined in every 30th frame
 abbrev pub slot_looked_at : ℕ → ℕ → Slot
 slot_looked_at frame line = record { line = line; place = frame % 30 }
 
 abbrev pub outcome_on_line : Setting → ℕ → ℕ → MessageOutcome → MessageOutcome
 outcome_on_line s frame line a = outcome_then s.dimensions no_user_responding a (expire_slot s frame a.making.world.legs (slot_looked_at frame line))
 
--- the first n lines, lowest first, each in the world that those before it left
+-- the first n lines, lowest first, each in the exchange state after those before it
 unfoldable pub outcome_of_lines : Setting → ℕ → World → ℕ → MessageOutcome
 outcome_of_lines s frame w zero = record { making = making_at w; recorded = [] }
 outcome_of_lines s frame w (suc line) = outcome_on_line s frame line (outcome_of_lines s frame w line)
 
--- the frame passes, and then the legs are looked at whose turn it is
+-- the frame passes, and then the legs of its place are examined
 abbrev pub outcome_of_frame : Setting → World → Input → MessageOutcome
 outcome_of_frame s w input = outcome_of_lines s w.holding.next (pass w input) s.dimensions.external

@@ -1,4 +1,4 @@
--- How much a frame's turn may send and record, and what it leaves as it was. Source: this exchange's own.
+-- The limits of a frame's turn, and the legs and circuits that it preserves. Source: this project.
 use Rattle.std.specs.Prelude.{◌≡◌, ℕ, ◌*◌, ◌≤◌, ◌%◌, Bool, true, false, List, [], ◌∷◌, length, ◌⊎◌, Some, is_some, IfSome}
 use Rattle.std.specs.List.{filter}
 use Rattle.circuit_model.specs.declared.channel.Slot.{Slot}
@@ -20,26 +20,26 @@ use Rattle.call_profile.specs.World.{World, pass}
 abbrev pub SendsFew : Setting → World → Input → Type 0
 SendsFew s w input = length (outcome_of_frame s w input).making.sends ≤ 2 * s.dimensions.external
 
--- at most one record for each
+-- at most one record for each external line
 abbrev pub RecordsFew : Setting → World → Input → Type 0
 RecordsFew s w input = length (outcome_of_frame s w input).recorded ≤ s.dimensions.external
 
 -- ---- the legs
 
--- the timer of this leg runs out in a frame: the frame looks at its slot, and it is due
+-- the timer of this leg expires in a frame: the frame examines its slot, and the timer is due
 pub record RunsOut (timers : Timers) (frame : ℕ) (legs : Legs) (x : Slot) (leg : Leg) : Type 0 where
   pub looked : x.place ≡ frame % 30
   pub at : leg_at legs x ≡ Some leg
   pub due : is_some (due_of timers frame leg) ≡ true
 
--- the timer of its peer, the other leg of its call, does
+-- the timer of its peer, the other leg of its call, expires
 abbrev pub PeerRunsOut : Timers → ℕ → Legs → Leg → Type 0
 PeerRunsOut timers frame legs leg = (y : Slot) × (other : Leg) × (leg.peer ≡ peer.Leg y) × RunsOut timers frame legs y other
 
 abbrev pub EitherRunsOut : Timers → ℕ → Legs → Slot → Type 0
 EitherRunsOut timers frame legs x = (leg : Leg) × (leg_at legs x ≡ Some leg) × (RunsOut timers frame legs x leg ⊎ PeerRunsOut timers frame legs leg)
 
--- a slot has another leg afterwards, or none, only where its leg's timer runs out, or its peer's does
+-- a slot has another leg afterwards, or none, only if its leg's timer expires, or its peer's does
 abbrev pub NoneElseChanges : Setting → World → Input → Type 0
 NoneElseChanges s w input =
     (x : Slot) → IsExternal s.dimensions.external x
@@ -50,13 +50,13 @@ NoneElseChanges s w input =
 abbrev pub without_timers : List ℕ
 without_timers = call_delivered ∷ call_received ∷ active ∷ []
 
--- a leg in one of them is as it was
+-- a leg in one of these states is unchanged
 abbrev pub UntimedStay : Setting → World → Input → Type 0
 UntimedStay s w input =
     (x : Slot) (leg : Leg) → IsExternal s.dimensions.external x → leg_at w.legs x ≡ Some leg → is_among without_timers leg.state ≡ true
     → leg_at (outcome_of_frame s w input).making.world.legs x ≡ Some leg
 
--- each leg is as it was, or waits anew from the frame after it, so that it is not due once more in the same frame
+-- each leg is unchanged, or its wait restarts in the frame after, so that it is not due again in the same frame
 abbrev pub EachStaysOrBegins : Setting → World → Input → Type 0
 EachStaysOrBegins s w input =
     (x : Slot) → IsExternal s.dimensions.external x
@@ -65,18 +65,18 @@ EachStaysOrBegins s w input =
 
 -- ---- the circuits
 
--- a connection or a seat, and no tone
+-- a connection or a membership, and not a tone
 abbrev pub is_conversation : Circuit → Bool
 is_conversation (Pair from to since) = true
 is_conversation (Member room at since) = true
 is_conversation (Tone kind to since) = false
 
--- each connection and each seat is as it was
+-- each connection and each membership is unchanged
 abbrev pub ConversationsStay : Setting → World → Input → Type 0
 ConversationsStay s w input =
     filter is_conversation (outcome_of_frame s w input).making.world.holding.circuits ≡ filter is_conversation w.holding.circuits
 
--- so is each path, and each member's port
+-- each path and each member's port is unchanged
 abbrev pub LayoutStays : Setting → World → Input → Type 0
 LayoutStays s w input = (outcome_of_frame s w input).making.world.layout ≡ w.layout
 

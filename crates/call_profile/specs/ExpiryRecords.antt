@@ -1,4 +1,4 @@
--- The records of a frame, in which calls end because a timer runs out. Source: this exchange's own.
+-- The records of a frame, in which calls end because a timer expires. Source: this project.
 use Rattle.std.specs.Prelude.{◌≡◌, ◌<◌, List, AllPairs, Contains, Some}
 use Rattle.circuit_model.specs.declared.channel.Slot.{Slot}
 use Rattle.circuit_model.specs.FrameInput.{Input}
@@ -14,7 +14,7 @@ use Rattle.call_profile.specs.ExpiryBounds.{RunsOut}
 use Rattle.call_profile.specs.Recorded.{HasEnded}
 use Rattle.call_profile.specs.World.{World, pass}
 
--- the call of a caller's leg ended in the frame, in which the timer of its called leg ran out, and this is its record
+-- the call of a caller's leg ended in the frame, in which the timer of its called leg expired, and this is its record
 pub record IsFrameRecord (s : Setting) (w : World) (input : Input) (h : Held) (told : CallRecord) : Type 0 where
   pub ended : HasEnded s.dimensions.external w (outcome_of_frame s w input).making.world h
   pub is : record_of (pass w input) no_user_responding h ≡ Some told

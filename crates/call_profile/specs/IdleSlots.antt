@@ -1,19 +1,19 @@
--- Which slots are idle. Source: this exchange's own.
+-- The idle slots of an exchange state. Source: this project.
 use Rattle.std.specs.Prelude.{ℕ, ◌&&◌, not, Bool, is_none, Option, find}
 use Rattle.circuit_model.specs.declared.channel.Slot.{Slot}
 use Rattle.circuit_model.specs.Circuits.{is_idle, same_slot}
 use Rattle.call_profile.specs.Legs.{leg_at, slots_of}
 use Rattle.call_profile.specs.World.{World}
 
--- no circuit names the slot, and no leg holds it
+-- no circuit uses the slot, and no leg holds it
 abbrev pub idle : World → Slot → Bool
 idle w x = is_idle w.holding.circuits x && is_none (leg_at w.legs x)
 
--- a circuit names the slot, and no leg holds it
+-- a circuit uses the slot, and no leg holds it
 abbrev pub is_nailed : World → Slot → Bool
 is_nailed w x = not (is_idle w.holding.circuits x) && is_none (leg_at w.legs x)
 
--- the lowest idle slot of a line, and the lowest one beside another slot
+-- the lowest idle slot of a line, and the lowest one other than a given slot
 abbrev pub lowest_idle : World → ℕ → Option Slot
 lowest_idle w line = find (idle w) (slots_of line)
 

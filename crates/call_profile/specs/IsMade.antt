@@ -1,4 +1,4 @@
--- How a world comes about. Source: this exchange's own.
+-- The commands that made an exchange state. Source: this project.
 use Rattle.std.specs.Prelude.{◌≡◌, List, [], ◌∷◌, length, All}
 use Rattle.circuit_model.specs.declared.circuit.Circuit.{Circuit}
 use Rattle.circuit_model.specs.declared.circuit.Circuit.TheVariants.{Pair, Member, Tone}
@@ -10,19 +10,19 @@ use Rattle.tone_rules.specs.Tables.{IsGiven}
 use Rattle.exchange_events.specs.Sizes.{Dimensions}
 use Rattle.call_profile.specs.World.{World}
 
--- what a list of commands makes of the ports
+-- the ports after a list of commands
 abbrev pub ports_after_all : Ports → List Command → Ports
 ports_after_all ports [] = ports
 ports_after_all ports (c ∷ cs) = ports_after_all (ports_after ports c) cs
 
--- a tone that exists is one that the trace gives: it has octets
+-- a tone that exists is one that the trace gives, so it has octets, as the engine requires
 abbrev pub HasOctets : Tones → Circuit → Type 0
 HasOctets tones (Pair from to since) = Unit {0}
 HasOctets tones (Member room at since) = Unit {0}
 HasOctets tones (Tone kind to since) = IsGiven tones kind
 
--- a list of allowed commands and boundaries, which name slots of external lines alone, made the circuits and the ports of the world and of
--- each frame so far; and each tone that exists has octets
+-- a list of allowed commands and boundaries, which use slots of external lines only, made the circuits and the ports of
+-- the exchange state and of each frame so far; and each tone that exists has octets
 pub record IsMade (d : Dimensions) (tones : Tones) (w : World) : Type 0 where
   pub commands : List Command
   pub within : AreWithin d.external commands

@@ -1,4 +1,5 @@
--- When the legs of a world are consistent. Source: this exchange's own; the states are from ITU-T Q.931 (05/98), 2.1.2.
+-- The consistency of the legs of an exchange state. Source: this project; the states are from ITU-T Q.931 (05/98),
+-- 2.1.2.
 use Rattle.std.specs.Prelude.{◌≡◌, ◌≢◌, ℕ, ◌*◌, ◌^◌, ◌<◌, ◌≤◌, ◌⊎◌, ◌&&◌, ◌||◌, ◌==◌, Bool, IsTrue, List, [], ◌∷◌, length, Option, Some, None}
 use Rattle.circuit_model.specs.declared.channel.Slot.{Slot}
 use Rattle.circuit_model.specs.declared.circuit.Circuit.{Circuit}
@@ -31,7 +32,8 @@ are_matched caller called =
     || ((caller == call_delivered) && (called == call_received))
     || ((caller == active) && (called == active))
 
--- the legs at these slots are the two of one call: each names the other, from the two sides of the call, in states that go together
+-- the legs at these slots are the two of one call: each is the other's peer, from the two sides of the call, in states
+-- that go together
 pub record AreOneCall (x : Slot) (caller : Leg) (y : Slot) (called : Leg) : Type 0 where
   pub calls : caller.side ≡ Caller
   pub is_called : called.side ≡ Called
@@ -43,23 +45,24 @@ abbrev pub IsInCall : Side → Slot → Leg → Slot → Leg → Type 0
 IsInCall Caller x leg y other = AreOneCall x leg y other
 IsInCall Called x leg y other = AreOneCall y other x leg
 
--- the states in which a leg is alone
+-- the states in which a leg has no peer
 abbrev pub alone : List ℕ
 alone = overlap_sending ∷ disconnect_indication ∷ release_request ∷ []
 
--- what a leg has for its peer: nothing in overlap sending and once clearing has begun, the other leg of its call, or a conference room
+-- the peer of a leg: none in overlap sending and once clearing has begun, otherwise the other leg of its call, or a
+-- conference room
 abbrev pub HasPeer : ℕ → Legs → Slot → Leg → Peer → Type 0
 HasPeer external legs x leg peer.Alone = IsTrue (is_among alone leg.state)
 HasPeer external legs x leg (peer.Leg y) = IsExternal external y × ((other : Leg) × (leg_at legs y ≡ Some other) × IsInCall leg.side x leg y other)
 HasPeer external legs x leg (peer.Room room) = (leg.side ≡ Caller) × (leg.state ≡ active)
 
--- a leg has the tone of its state and cause. One that was asked to release its call because its user didn't answer DISCONNECT keeps the
--- tone that it heard: which one does so, ReleasesSound says
+-- a leg has the tone of its state and cause; one that was asked to release its call because its user did not answer
+-- DISCONNECT may keep its tone, as ReleasesSound decides
 abbrev pub MaySound : Tones → Leg → Kind → Type 0
 MaySound tones leg kind = (tone_of tones leg ≡ Some kind) ⊎ ((leg.state ≡ release_request) × (tone_given tones disconnect_indication leg.cause ≡ Some kind))
 
--- by what a leg's slot hears: in state active by the connection with its peer or by its seat; else by its tone exactly where the trace gives
--- that tone, and by nothing where there is none
+-- the circuit by which a leg's slot receives: in state active the connection with its peer or its membership; otherwise
+-- its tone if and only if the trace gives that tone, and none if there is no tone
 abbrev pub MayHear : Tones → Leg → Option Circuit → Type 0
 MayHear tones leg None = (leg.state ≢ active) × (tone_of tones leg ≡ None)
 MayHear tones leg (Some (Tone kind to since)) = MaySound tones leg kind
@@ -80,8 +83,9 @@ pub record LegsStand (external : ℕ) (tones : Tones) (w : World) : Type 0 where
   pub one : (x y : Slot) (a b : Leg) → IsExternal external x → IsExternal external y → leg_at w.legs x ≡ Some a → leg_at w.legs y ≡ Some b
       → x.line ≡ y.line → a.side ≡ b.side → a.reference ≡ b.reference → x ≡ y
 
--- each slot is in one state, the legs are consistent, numbers are pending where legs wait for the rest of them, messages are kept where
--- legs wait for the answer, and a kept RELEASE decides what its user hears
+-- each slot is in one state, the legs are consistent, numbers are pending if and only if legs wait for further digits,
+-- messages are stored if and only if legs wait for the reply, and a stored RELEASE decides the tone of its user; every
+-- event preserves this, so that the definition of a step needs no condition
 pub record CallsStand (s : Setting) (w : World) : Type 0 where
   pub circuits : Valid s.dimensions.bridges w.holding
   pub legs : LegsStand s.dimensions.external s.tones w

@@ -1,5 +1,5 @@
--- The legs of calls, by the slots that they hold. Source: ITU-T Q.931 (05/98), 4.3, for call references and their flag; the rest is this
--- exchange's own.
+-- The legs of calls, by the slots that they hold. Source: ITU-T Q.931 (05/98), 4.3, for call references and their flag;
+-- the rest is this project's.
 use Rattle.std.specs.Prelude.{ℕ, ◌+◌, ◌*◌, ◌&&◌, ◌==◌, Bool, true, false, List, map, replicate, is_none, Option, Some, None, option_map, slice_index_or, slice_set, find, filter_map}
 use Rattle.std.specs.List.{range_with_len, position_or_len}
 use Rattle.circuit_model.specs.declared.channel.Slot.{Slot}
@@ -10,8 +10,8 @@ use Rattle.call_states.specs.declared.leg.Side.TheVariants.{Caller, Called}
 use Rattle.call_states.specs.declared.leg.Held.{Held}
 use Rattle.call_states.specs.declared.pending.Pending.{Pending}
 
--- for each external slot, by its number, the leg that holds it, the number that is pending there, and the octets of the message that is kept
--- there to be sent again
+-- for each external slot, by its number, the leg that holds it, the number that is pending there, and the octets of the
+-- message that is stored there for retransmission
 pub record Legs : Type 0 where
   pub held : List (Option Leg)
   pub pending : List (Option Pending)
@@ -29,14 +29,14 @@ pending_at legs x = slice_index_or legs.pending (number_of x) None
 abbrev pub kept_at : Legs → Slot → Option (List ℕ)
 kept_at legs x = slice_index_or legs.kept (number_of x) None
 
--- a leg waits in its state from this frame on, once it holds its slot, and once what it got in this state was sent again
+-- a leg waits in its state from this frame on, after it gets its slot, and again after a retransmission
 abbrev pub from_frame : ℕ → Leg → Leg
 from_frame next leg = record leg { since = next; resent = false }
 
 abbrev pub resent_from : ℕ → Leg → Leg
 resent_from next leg = record leg { since = next; resent = true }
 
--- the slot is held by this leg, if by any, and no number is pending there and no message kept
+-- the slot is held by this leg, if there is one, with no pending number and no stored message
 abbrev pub with_entry : Legs → Slot → Option Leg → Legs
 with_entry legs x leg = record {
   held = slice_set legs.held (number_of x) leg;
@@ -58,7 +58,7 @@ with_waiting legs x leg pending = record {
   kept = slice_set legs.kept (number_of x) None;
 }
 
--- the slot is held by this leg, and the message with these octets is kept there
+-- the slot is held by this leg, and the message with these octets is stored there
 abbrev pub with_kept : Legs → Slot → Leg → List ℕ → Legs
 with_kept legs x leg octets = record {
   held = slice_set legs.held (number_of x) (Some leg);
@@ -78,8 +78,9 @@ held_at legs x = option_map (λ leg. record { slot = x; leg = leg }) (leg_at leg
 abbrev pub legs_of : Legs → ℕ → List Held
 legs_of legs line = filter_map (held_at legs) (slots_of line)
 
--- The side that chose a call reference value sends flag 0 with it. A caller's value was chosen by its user, a called leg's by the
--- exchange: so what a user sends with flag 0 is for a caller's leg, and what it sends with flag 1 for a called one
+-- the side of the leg for a message with this flag: the side that chose a call reference value sends flag 0 with it, a
+-- user chose a caller's value, and the exchange a called leg's, so a user's message with flag 0 is for a caller's leg,
+-- and one with flag 1 for a called leg
 abbrev pub side_named : Bool → Side
 side_named false = Caller
 side_named true = Called
@@ -98,8 +99,8 @@ is_for flag reference h = same_side (side_named flag) h.leg.side && (h.leg.refer
 abbrev pub leg_named : Legs → ℕ → Bool → ℕ → Option Held
 leg_named legs line flag reference = find (is_for flag reference) (legs_of legs line)
 
--- the call reference of a new called leg: the lowest from 1 up that no called leg of the line has. A line has thirty slots, so one of the
--- first thirty is free where a slot is
+-- the call reference of a new called leg: the lowest from 1 up that no called leg of the line has; a line has 30 slots,
+-- so one of the first 30 is free if a slot is
 abbrev pub is_unused : Legs → ℕ → ℕ → Bool
 is_unused legs line reference = is_none (leg_named legs line true reference)
 

@@ -1,4 +1,4 @@
--- What the exchange does with calls, one operation after another. Source: this exchange's own.
+-- The operations of the exchange on calls, in sequence. Source: this project.
 use Rattle.std.specs.Prelude.{ℕ, List, [], ◌∷◌, ◌++◌, Option, Some, None, option_map}
 use Rattle.circuit_model.specs.declared.channel.Slot.{Slot}
 use Rattle.circuit_model.specs.declared.circuit.Kind.{Kind}
@@ -16,28 +16,30 @@ use Rattle.exchange_events.specs.Sizes.{Dimensions}
 use Rattle.call_profile.specs.World.{World, obey, one_way, both_ways}
 
 pub data Operation : Type 0 where
-  -- every circuit that names the slot is taken down
+  -- every circuit that uses the slot is released
   Clear : (x : Slot) → Operation
   -- the two slots are connected, both ways
   Pair : (x y : Slot) → Operation
-  -- the slot takes a seat in a room
+  -- the slot becomes a member of a room
   Seat : (x : Slot) (room : ℕ) → Operation
-  -- the slot gets this tone, if there is one
+  -- the slot gets this tone, if there is one; an act is then the same list of operations whether tones are given or not
   Sound : (x : Slot) (kind : Option Kind) → Operation
-  -- the slot is held by this leg from the next frame on, in place of any other, and no number is pending there and no message kept
+  -- the slot is held by this leg from the next frame on, instead of any other, with no pending number and no stored
+  -- message
   Put : (x : Slot) (leg : Leg) → Operation
-  -- the same, and its number is pending
+  -- the same, with a pending number
   Wait : (x : Slot) (leg : Leg) (pending : Pending) → Operation
-  -- the same, and this message goes to its user, and is kept, to be sent again
+  -- the same, and this message goes to its user, and is stored for retransmission
   Expect : (x : Slot) (leg : Leg) (message : OutgoingMessage) → Operation
-  -- what is kept of the leg goes to its user again, and the leg waits anew from the next frame on
+  -- the stored message of the leg is retransmitted to its user, and the wait of the leg restarts in the next frame
   Repeat : (h : Held) (octets : List ℕ) → Operation
-  -- the slot is held by no leg, and no number is pending there and no message kept
+  -- the slot is held by no leg, with no pending number and no stored message
   Remove : (x : Slot) → Operation
   -- a message goes to the user of a line
   Send : (line : ℕ) (message : OutgoingMessage) → Operation
 
--- a world in the making: the world, what was sent so far, and how many live paths were moved where a connection or a seat was made
+-- an exchange state between two operations: the state, the messages sent so far, and the numbers of live paths that
+-- moved, if a connection was made or a member joined
 pub record Making : Type 0 where
   pub world : World
   pub sends : List Signal
@@ -46,23 +48,23 @@ pub record Making : Type 0 where
 abbrev pub making_at : World → Making
 making_at w = record { world = w; sends = []; moves = None }
 
--- how many live paths are moved for a path there, and for the one back
+-- the numbers of live paths that move for a path there, and for the one back
 abbrev pub moves_for : Dimensions → Layout → Slot → Slot → ℕ × ℕ
 moves_for d layout x y = (moved layout (one_way d layout x y), moved (one_way d layout x y) (both_ways d layout x y))
 
 abbrev pub moves_of_seat : Dimensions → World → Slot → Option (ℕ × ℕ)
 moves_of_seat d w x = option_map (moves_for d w.layout x) (port_of d.external (ports_with x w.ports) x)
 
--- the circuits once a slot got a tone, if there is one: it sounds from the next frame on
+-- the circuits after a slot got a tone, if there is one: it sounds from the next frame on
 abbrev pub with_tone : Holding → Slot → Option Kind → Holding
 with_tone h x None = h
 with_tone h x (Some kind) = after h (Give_tone x kind)
 
--- the legs of the world are others
+-- the exchange state with other legs
 abbrev pub with_legs : World → Legs → World
 with_legs w legs = record w { legs = legs }
 
--- a leg as it is put into the world: it waits from the next frame on
+-- a leg as stored in the exchange state: it waits from the next frame on
 abbrev pub begun : World → Leg → Leg
 begun w leg = from_frame w.holding.next leg
 

@@ -1,4 +1,4 @@
--- The leg that a message is for, and the other leg of its call. Source: this exchange's own.
+-- The leg that a message is for, and the other leg of its call. Source: this project.
 use Rattle.std.specs.Prelude.{◌≡◌, ◌≢◌, IfSome, ℕ, Option, Some, None}
 use Rattle.circuit_model.specs.Extent.{IsExternal}
 use Rattle.call_states.specs.Status.{FitsMessages}
@@ -10,11 +10,11 @@ pub record IsThere (external : ℕ) (h : Held) : Type 0 where
   pub within : IsExternal external h.slot
   pub told : FitsMessages h.leg
 
--- so is its peer, where it has one, at another slot
+-- its peer is such a leg too, if it has one, at another slot
 abbrev pub PeerIsThere : ℕ → Held → Option Held → Type 0
 PeerIsThere external h None = Unit {0}
 PeerIsThere external h (Some other) = IsThere external other × (other.slot ≢ h.slot)
 
--- its peer's slot hears nothing, where it has one
+-- its peer's slot is silent, if it has a peer
 abbrev pub IsSilent : Connections → Option Held → Type 0
 IsSilent map peer = IfSome peer (λ other. hears_at map other.slot ≡ None)

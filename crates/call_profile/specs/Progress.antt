@@ -1,4 +1,4 @@
--- Where a user learns that there is something to be heard. Source: ITU-T Q.931 (05/98), 4.5.23.
+-- The messages that inform a user of a tone. Source: ITU-T Q.931 (05/98), 4.5.23.
 use Rattle.std.specs.Prelude.{◌≡◌, ℕ, Bool, false, List, filter_map, Option, Some, None, is_some, Result, Ok, Err, if◌then◌else◌}
 use Rattle.q931_elements.specs.InformationElement.{first_of}
 use Rattle.q931_codec.specs.Identifiers as identifier

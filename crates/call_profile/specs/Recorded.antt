@@ -1,4 +1,4 @@
--- The calls that a message ends, by the legs before and after it. Source: this exchange's own.
+-- The calls that a message ends, by the legs before and after it. Source: this project.
 use Rattle.std.specs.Prelude.{◌≡◌, ℕ, ◌<◌, nat_lt, true, false, List, AllPairs, Contains, Option, Some, None, if◌then◌else◌}
 use Rattle.circuit_model.specs.Extent.{IsExternal}
 use Rattle.q931_codec.specs.Causes.{temporary_failure}
@@ -18,13 +18,13 @@ use Rattle.call_profile.specs.Legs.{leg_at}
 use Rattle.call_profile.specs.Restarts.{restarts_slot}
 use Rattle.call_profile.specs.World.{World}
 
--- the octets come on a line of an exchange in which circuits and legs are consistent
+-- the octets arrive on a line of an exchange in which circuits and legs are consistent
 pub record Arrive (s : Setting) (w : World) (line : ℕ) (octets : List ℕ) : Type 0 where
   pub planned : IsPlanned s
   pub fits : Fits s.dimensions.external (event.Message line octets)
   pub stands : CallsStand s w
 
--- a caller's leg was in state 3, 4 or 10, and is in none of them any more, or is gone
+-- a caller's leg was in state 3, 4 or 10 before, and is in none of them afterwards, or is removed
 pub record HasEnded (external : ℕ) (before afterwards : World) (h : Held) : Type 0 where
   pub within : IsExternal external h.slot
   pub at : leg_at before.legs h.slot ≡ Some h.leg
@@ -45,17 +45,17 @@ pub record IsRecordOf (s : Setting) (w : World) (line : ℕ) (octets : List ℕ)
   pub cause : cause_of_clearing (request_of w.legs line octets) ≡ Some told.cause
   pub is : record_of w told.cause h ≡ Some told
 
--- the record of a call is among those that are answered
+-- the record of a call is among the records of the answer
 abbrev pub IsRecorded : Setting → World → ℕ → List ℕ → Held → Type 0
 IsRecorded s w line octets h = (told : CallRecord) × IsRecordOf s w line octets h told × Contains (answer_to s w line octets).records told
 
 -- ---- the order of records
 
--- the message is no RESTART that is taken
+-- the message is not an accepted RESTART
 abbrev pub RestartsNothing : World → ℕ → List ℕ → Type 0
 RestartsNothing w line octets = (r : Restart) → ¬ (request_of w.legs line octets ≡ Restarts r)
 
--- the place of a party's slot where a RESTART on a line restarts it; beyond all places where it does not
+-- the place of a party's slot if a RESTART on a line restarts it; beyond all places otherwise
 abbrev pub restarted_place : Restart → ℕ → Party → ℕ
 restarted_place r line (party.Line x) = if restarts_slot r line x then x.place else 30
 restarted_place r line (party.Room room) = 30

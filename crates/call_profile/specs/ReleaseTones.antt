@@ -1,5 +1,6 @@
--- What a slot hears while its user is asked to release the call. A RELEASE has a cause only where it was sent because DISCONNECT was not
--- answered (ITU-T Q.931 (05/98), 5.3 and 9.1: T305); that the user then hears on what it heard is this exchange's own profile.
+-- The tone of a slot while its user is asked to release the call. A RELEASE has a cause only if it was sent because
+-- DISCONNECT was not answered (ITU-T Q.931 (05/98), 5.3 and 9.1: T305). In this project's profile the user still hears
+-- its tone after such a RELEASE.
 use Rattle.std.specs.Prelude.{◌≡◌, ℕ, List, Option, Some, IfSome, option_map, option_and_then}
 use Rattle.circuit_model.specs.declared.channel.Slot.{Slot}
 use Rattle.circuit_model.specs.declared.circuit.Circuit.{Circuit}
@@ -21,29 +22,30 @@ use Rattle.call_profile.specs.World.{World}
 abbrev pub release_with : Leg → Option ℕ → OutgoingMessage
 release_with leg cause = record (message_to leg kind.Release) { cause = cause }
 
--- the tone that is heard on: with a cause the tone of disconnect indication with it, where the trace gives that; without one none
+-- the tone that remains: with a cause the tone of disconnect indication with it, if the trace gives that; without one
+-- none
 abbrev pub tone_left : Tones → Option ℕ → Option Kind
 tone_left tones cause = option_and_then (tone_given tones disconnect_indication) cause
 
--- the slot hears this tone; where there is none, nothing
+-- the slot receives this tone; if there is none, nothing
 abbrev pub HearsTone : Slot → Option Kind → Option Circuit → Type 0
 HearsTone x tone heard = (since : ℕ) × (heard ≡ option_map (λ kind. Tone kind x since) tone)
 
--- the octets are a RELEASE to the user of the leg, without a cause or with the one that the leg was cleared with, and this decides what the
--- slot hears
+-- the octets are a RELEASE to the user of the leg, without a cause or with the one with which the leg was cleared, and
+-- this decides the tone of the slot
 pub record SoundsByRelease (tones : Tones) (x : Slot) (leg : Leg) (octets : List ℕ) (heard : Option Circuit) : Type 0 where
   pub cause : Option ℕ
   pub own : IfSome cause (λ value. value ≡ leg.cause)
   pub kept : octets ≡ encoding (release_with leg cause)
   pub hears : HearsTone x (tone_left tones cause) heard
 
--- so it is at each slot whose leg is in release request, by what is kept there
+-- this holds of each slot whose leg is in release request, with the message stored there
 abbrev pub ReleasesSound : ℕ → Tones → World → Type 0
 ReleasesSound external tones w =
     (x : Slot) (leg : Leg) (octets : List ℕ) → IsExternal external x → leg_at w.legs x ≡ Some leg → leg.state ≡ release_request
     → kept_at w.legs x ≡ Some octets → SoundsByRelease tones x leg octets (heard_by w.holding.circuits x)
 
--- where something is kept at each of them
+-- the same for the slots with a stored message
 abbrev pub EachReleaseSounds : ℕ → Tones → World → Type 0
 EachReleaseSounds external tones w =
     (x : Slot) (leg : Leg) → IsExternal external x → leg_at w.legs x ≡ Some leg → leg.state ≡ release_request

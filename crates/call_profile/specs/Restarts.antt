@@ -1,4 +1,5 @@
--- What a RESTART makes: slot by slot. Source: ITU-T Q.931 (05/98), 5.5; what becomes of the calls is this exchange's own profile.
+-- The exchange state after a RESTART, slot by slot. Source: ITU-T Q.931 (05/98), 5.5; the clearing of the calls is this
+-- project's profile.
 use Rattle.std.specs.Prelude.{ℕ, zero, suc, ◌==◌, ◌&&◌, Bool, List, [], ◌++◌, Option, Some, None, if◌then◌else◌}
 use Rattle.circuit_model.specs.declared.channel.Slot.{Slot}
 use Rattle.q931_codec.specs.Causes.{temporary_failure}
@@ -20,11 +21,12 @@ use Rattle.call_profile.specs.World.{World}
 abbrev pub restarts_slot : Restart → ℕ → Slot → Bool
 restarts_slot r line x = (x.line == line) && is_restarted r x.place
 
--- the other leg of a call is gone too where its slot is restarted as well, and its user is sent nothing; else it is cleared
+-- the other leg of a call is removed too if its slot is also restarted, and its user is sent nothing; otherwise it is
+-- cleared
 abbrev pub restart_peer : Tones → Restart → ℕ → Held → List Operation
 restart_peer tones r line other = if restarts_slot r line other.slot then remove_leg other else clear_with tones temporary_failure other
 
--- the leg that holds a restarted slot is gone
+-- the leg that holds a restarted slot is removed
 abbrev pub restart_leg : Tones → Restart → Legs → Option Held → List Operation
 restart_leg tones r legs None = []
 restart_leg tones r legs (Some h) = remove_leg h ++ with_peer (peer_of legs h.leg.peer) (restart_peer tones r h.slot.line)
@@ -34,7 +36,7 @@ restart_slot tones r legs x = if is_restarted r x.place then restart_leg tones r
 
 -- ---- the slots of the line, one after another
 
--- what a message has done so far: the world in the making, and the calls that were recorded
+-- the outcome of a message so far: the exchange state with its messages, and the calls that were recorded
 pub record MessageOutcome : Type 0 where
   pub making : Making
   pub recorded : List CallRecord
@@ -48,12 +50,12 @@ outcome_then d cause a operations =
 abbrev pub outcome_at_slot : Dimensions → Tones → Restart → Slot → MessageOutcome → MessageOutcome
 outcome_at_slot d tones r x a = outcome_then d temporary_failure a (restart_slot tones r a.making.world.legs x)
 
--- the places of the line below n, lowest first, each in the world that those before it left
+-- the places of the line below n, lowest first, each in the exchange state after those before it
 unfoldable pub outcome_below : Dimensions → Tones → Restart → ℕ → World → ℕ → MessageOutcome
 outcome_below d tones r line w zero = record { making = making_at w; recorded = [] }
 outcome_below d tones r line w (suc place) = outcome_at_slot d tones r (record { line = line; place = place }) (outcome_below d tones r line w place)
 
--- all of them, and last the acknowledgement
+-- all places, and last the acknowledgement
 abbrev pub outcome_of_restart : Dimensions → Tones → Restart → ℕ → World → MessageOutcome
 outcome_of_restart d tones r line w =
     let a = outcome_below d tones r line w 30 in

@@ -1,5 +1,5 @@
--- SETUP: the checks in their order, and what is chosen. Which check comes first, and what is chosen, is this exchange's own profile of ITU-T
--- Q.931 (05/98), 5.1 and 5.2.
+-- SETUP: the checks in their order, and the choice of slots. Source: this project's profile of ITU-T Q.931 (05/98), 5.1
+-- and 5.2.
 use Rattle.std.specs.Prelude.{ℕ, ◌&&◌, Bool, true, false, List, [], ◌∷◌, ◌++◌, Option, Some, None, is_none, not, option_map, option_and_then, unwrap_or, if◌then◌else◌}
 use Rattle.std.specs.Option.{option_or}
 use Rattle.circuit_model.specs.declared.channel.Slot.{Slot}
@@ -31,23 +31,24 @@ use Rattle.call_profile.specs.Operations.{Operation, Seat, Put, Wait, Expect, Se
 use Rattle.exchange_events.specs.Sizes.{Setting, Dimensions}
 use Rattle.call_profile.specs.World.{World, is_full}
 
--- ---- what is read of a SETUP
+-- ---- the fields of a SETUP
 
--- what its bearer capability is, and the digits that it dials, where all of them are digits
+-- its bearer capability, and the digits that it dials, if all of them are digits
 abbrev pub bearer_asked : Message → Option BearerCapability
 bearer_asked m = option_map bearer_of (bearer_in m.elements)
 
 abbrev pub digits_in : Message → Option (List ℕ)
 digits_in m = dialled_digits (called_in m.elements)
 
--- what the plan knows of the digits of a called party number
+-- the target of the digits of a called party number in the plan
 abbrev pub target_dialled : List Number → List ℕ → Found
 target_dialled plan called = found_for plan (unwrap_or (dialled_digits called) [])
 
 abbrev pub target_of : Setting → Message → Found
 target_of s m = target_dialled s.plan (called_in m.elements)
 
--- what a call is made from: the contents of the elements that are passed on to the called user
+-- the contents of the elements that are passed on to the called user; a SETUP and a pending number give the same value,
+-- so that one definition accepts both
 abbrev pub call_asked : Message → Pending
 call_asked m = record {
   bearer = unwrap_or (bearer_in m.elements) [];
@@ -57,9 +58,9 @@ call_asked m = record {
   high = high_layer_in m.elements;
 }
 
--- ---- what is chosen
+-- ---- the choice of slots
 
--- the slot of a line that a channel identification names
+-- the slot of a line with the channel of a channel identification
 abbrev pub slot_of : ℕ → ℕ → Option Slot
 slot_of line channel = option_map (λ place. record { line = line; place = place }) (place_of channel)
 
@@ -73,16 +74,17 @@ slot_asked line (Some Invalid) = None
 abbrev pub if_idle : World → Slot → Option Slot
 if_idle w x = if idle w x then Some x else None
 
--- the caller's slot is the named one where it is idle, else the line's lowest idle slot
+-- the caller's slot is the requested one if it is idle, otherwise the line's lowest idle slot; an exclusive channel
+-- needs no case, since its check comes first
 abbrev pub caller_slot : World → ℕ → Option ChannelIdentification → Option Slot
 caller_slot w line channel = option_or (option_and_then (if_idle w) (slot_asked line channel)) (lowest_idle w line)
 
--- the called slot is the called line's lowest idle slot beside the caller's
+-- the called slot is the called line's lowest idle slot other than the caller's
 abbrev pub called_slot : World → Slot → Found → Option Slot
 called_slot w caller (Line line) = lowest_idle_beside w caller line
 called_slot w caller _ = None
 
--- ---- the checks: whether each fails, and the cause with which the SETUP is refused then
+-- ---- the checks: whether each fails, and the cause with which the SETUP is then refused
 
 abbrev pub Check : Type 0
 Check = Bool × ℕ
@@ -91,7 +93,7 @@ abbrev pub is_invalid : Option ChannelIdentification → Bool
 is_invalid (Some Invalid) = true
 is_invalid _ = false
 
--- what the elements say: a bearer that this exchange carries, a channel that can be read, and a number of digits
+-- the checks of the elements: a bearer that this exchange carries, a channel that can be read, and a number of digits
 abbrev pub is_unreadable : Option BearerCapability → Bool
 is_unreadable (Some bearer.Invalid) = true
 is_unreadable _ = false
@@ -100,7 +102,7 @@ abbrev pub is_not_carried : Option BearerCapability → Bool
 is_not_carried (Some bearer.NotCarried) = true
 is_not_carried _ = false
 
--- without a called party number the digits are still to come, unless nothing more comes
+-- without a called party number the digits are still to come, unless the number is complete
 abbrev pub lacks_number : Option (List ℕ) → Bool → Bool
 lacks_number None complete = complete
 lacks_number (Some contents) complete = not (is_called_number contents)
@@ -123,19 +125,19 @@ abbrev pub is_incomplete : Found → Bool
 is_incomplete More = true
 is_incomplete _ = false
 
--- what the plan knows of the number; one that isn't complete is refused where nothing more of it comes
+-- the checks of the number in the plan; an incomplete number is refused if no further digits come
 abbrev pub number_checks : Found → Bool → List Check
 number_checks target complete =
     (is_unknown target, unallocated_number)
     ∷ (is_incomplete target && complete, invalid_number_format)
     ∷ []
 
--- the slot of the one channel that is asked for is not idle
+-- the slot of the one requested channel is not idle
 abbrev pub is_taken : World → ℕ → Option ChannelIdentification → Bool
 is_taken w line (Some (Exclusive channel)) = is_none (option_and_then (if_idle w) (slot_of line channel))
 is_taken w line _ = false
 
--- the called line has no idle slot beside the caller's
+-- the called line has no idle slot other than the caller's
 abbrev pub is_line_full : World → Option Slot → Found → Bool
 is_line_full w caller (Line line) = is_none (option_and_then (λ x. lowest_idle_beside w x line) caller)
 is_line_full w caller _ = false
@@ -160,7 +162,7 @@ slot_checks d w line channel target =
     ∷ (is_none caller, no_channel_available)
     ∷ called_checks d w caller target
 
--- the twelve checks in their order
+-- the 12 checks in their order
 abbrev pub checks : Setting → World → ℕ → Message → List Check
 checks s w line m = element_checks m ++ number_checks (target_of s m) (complete_in m.elements) ++ slot_checks s.dimensions w line (channel_in m.elements) (target_of s m)
 
@@ -172,7 +174,8 @@ first_cause ((fails, cause) ∷ others) = if fails then Some cause else first_ca
 abbrev pub refusal : Setting → World → ℕ → Message → Option ℕ
 refusal s w line m = first_cause (checks s w line m)
 
--- ---- what an accepted call makes. A caller learns its channel in the first answer to its SETUP (5.1.2, 5.1.3), and in no later one
+-- ---- the operations of an accepted call. A caller gets its channel in the first reply to its SETUP (5.1.2, 5.1.3),
+-- and in no later one
 
 -- a leg of a new call, before it holds a slot
 abbrev pub caller_leg : ℕ → ℕ → Peer → Leg
@@ -181,15 +184,15 @@ caller_leg state reference peer = record { state = state; reference = reference;
 abbrev pub called_leg : ℕ → Slot → Leg
 called_leg reference caller = record { state = call_present; reference = reference; side = Called; peer = peer.Leg caller; cause = 0; since = 0; resent = false }
 
--- a message that tells the user the channel of its call
+-- a message with the channel of its user's call
 abbrev pub with_channel : Slot → OutgoingMessage → OutgoingMessage
 with_channel x message = record message { channel = Some (channel_at x.place) }
 
--- first: whether this answers the SETUP
+-- the flag is true for the first reply to the SETUP
 abbrev pub call_proceeding : Bool → Slot → Leg → OutgoingMessage
 call_proceeding first x leg = if first then with_channel x (message_to leg kind.CallProceeding) else message_to leg kind.CallProceeding
 
--- SETUP ACKNOWLEDGE: the caller is asked for the rest of the number
+-- SETUP ACKNOWLEDGE: requests further digits from the caller
 abbrev pub setup_acknowledge : Slot → Leg → OutgoingMessage
 setup_acknowledge x leg = with_channel x (message_to leg kind.SetupAcknowledge)
 
@@ -225,7 +228,7 @@ call_room first own x room =
     ∷ Send x.line (message_to caller kind.Connect)
     ∷ []
 
--- a number that isn't complete: the caller's leg waits for the rest of it, which it is asked for once
+-- an incomplete number: the caller's leg waits for further digits, which are requested once
 abbrev pub ask_for_digits : Bool → Slot → Leg → List Operation
 ask_for_digits true x leg = Send x.line (setup_acknowledge x leg) ∷ []
 ask_for_digits false x leg = []
@@ -242,11 +245,11 @@ call first w own asked x (Room room) called = call_room first own x room
 call first w own asked x More called = await_digits first own asked x
 call first w own asked x _ _ = []
 
--- the call of a caller at a slot, which is made from this and leads there
+-- the call of a caller at a slot, with these contents and this target
 abbrev pub accept : Bool → World → ℕ → Pending → Slot → Found → List Operation
 accept first w own asked x target = call first w own asked x target (called_slot w x target)
 
--- ---- what a SETUP makes
+-- ---- the exchange state after a SETUP
 
 -- RELEASE COMPLETE, to the side that chose the call reference
 abbrev pub release_complete : ℕ → ℕ → OutgoingMessage

@@ -1,4 +1,4 @@
--- The exchange as a machine: what each event makes of the world, and what it is answered. Source: this exchange's own.
+-- The exchange as a machine: the exchange state after each event, and the reply. Source: this project.
 use Rattle.std.specs.Prelude.{ℕ, ◌≤◌, ◌&&◌, not, Bool, List, [], ◌∷◌, filter_map, IfSome, if◌then◌else◌}
 use Rattle.circuit_model.specs.declared.channel.Slot.{Slot}
 use Rattle.circuit_model.specs.Holding.{Connect, Seat as Take_seat, Clear}
@@ -15,22 +15,22 @@ use Rattle.exchange_events.specs.Sizes.{Setting, Dimensions}
 use Rattle.call_profile.specs.Restarts.{MessageOutcome}
 use Rattle.call_profile.specs.World.{World, obey, is_full, nail_reply, seat_reply}
 
--- two slots can be nailed together where both are idle; one can be seated where it is idle and a port is free
+-- two slots can be nailed together if both are idle; one can be seated if it is idle and a port is free
 abbrev pub may_nail : World → Slot → Slot → Bool
 may_nail w x y = idle w x && idle w y
 
 abbrev pub may_seat : Dimensions → World → Slot → Bool
 may_seat d w x = idle w x && not (is_full d w)
 
--- the answer to a message
+-- the reply to a message
 abbrev pub message_reply : MessageAnswer → Reply
 message_reply a = Sent_reply a.sends a.moved a.records
 
--- the answer to a frame: its number, and what was sent and recorded in its turn
+-- the reply to a frame: its number, and the messages and records of its turn
 abbrev pub frame_reply : ℕ → MessageOutcome → Reply
 frame_reply number a = Frame_reply number a.making.sends a.recorded
 
--- what an event is answered
+-- the reply to an event
 abbrev pub reply : Setting → World → Event → Reply
 reply s w (Nail x y) = if may_nail w x y then nail_reply s.dimensions w.layout x y else Busy
 reply s w (Seat x room) =
@@ -41,7 +41,7 @@ reply s w (Free x) = if is_nailed w x then Freed else NotNailed
 reply s w (Message line octets) = message_reply (answer_to s w line octets)
 reply s w (Frame input) = frame_reply w.holding.next (outcome_of_frame s w input)
 
--- what an event makes of the world; where it is refused, nothing
+-- the exchange state after an event; a refused event does not change it
 abbrev pub next : Setting → World → Event → World
 next s w (Nail x y) = if may_nail w x y then obey s.dimensions w (Connect x y) else w
 next s w (Seat x room) = if may_seat s.dimensions w x then obey s.dimensions w (Take_seat x room) else w
@@ -49,7 +49,7 @@ next s w (Free x) = if is_nailed w x then obey s.dimensions w (Clear x) else w
 next s w (Message line octets) = after_message s w line octets
 next s w (Frame input) = (outcome_of_frame s w input).making.world
 
--- an answer says that at most n paths moved, each way
+-- a reply states that at most n paths moved, each way
 abbrev pub MovesAtMost : ℕ → Reply → Type 0
 MovesAtMost n (Granted a b) = (a ≤ n) × (b ≤ n)
 MovesAtMost n Busy = Unit {0}
@@ -60,12 +60,12 @@ MovesAtMost n NotNailed = Unit {0}
 MovesAtMost n (Sent_reply sends moved records) = IfSome moved (λ moves. (moves.0 ≤ n) × (moves.1 ≤ n))
 MovesAtMost n (Frame_reply k sends records) = Unit {0}
 
--- the world after a list of events
+-- the exchange state after a list of events
 abbrev pub world_after_all : Setting → World → List Event → World
 world_after_all s w [] = w
 world_after_all s w (e ∷ es) = world_after_all s (next s w e) es
 
--- the replies of a run, in order: the world that the events before it made gives each
+-- the replies of a run, in order, each in the exchange state after the events before it
 abbrev pub run : Setting → World → List Event → List Reply
 run s w [] = []
 run s w (e ∷ es) = reply s w e ∷ run s (next s w e) es

@@ -1,4 +1,4 @@
--- Numbers that are dialled in parts (overlap sending). Source: ITU-T Q.931 (05/98), 5.1.3; the rest is this exchange's own.
+-- Numbers in overlap sending. Source: ITU-T Q.931 (05/98), 5.1.3; the rest is this project's.
 use Rattle.std.specs.Prelude.{◌≡◌, ◌≢◌, ℕ, ◌*◌, List, length, Option, Some, None, option_map}
 use Rattle.circuit_model.specs.declared.channel.Slot.{Slot}
 use Rattle.circuit_model.specs.Circuits.{heard_by}
@@ -17,7 +17,7 @@ use Rattle.call_profile.specs.Legs.{Legs, leg_at, pending_at}
 use Rattle.call_profile.specs.World.{World}
 use Rattle.exchange_events.specs.Sizes.{Setting}
 
--- a leg in overlap sending: a caller's, alone; the digits that were dialled so far are the beginning of a number, and not the whole of one
+-- a leg in overlap sending: a caller's, without a peer; the digits so far are a proper prefix of a number
 pub record IsWaiting (plan : List Number) (leg : Leg) (p : Pending) : Type 0 where
   pub state : leg.state ≡ overlap_sending
   pub calls : leg.side ≡ Caller
@@ -25,7 +25,7 @@ pub record IsWaiting (plan : List Number) (leg : Leg) (p : Pending) : Type 0 whe
   pub dialled : option_map (found_for plan) (dialled_digits p.called) ≡ Some More
   pub fits : FitsElements p
 
--- a number is pending at a slot exactly where its leg is in overlap sending
+-- a number is pending at a slot if and only if its leg is in overlap sending
 abbrev pub MayWait : List Number → Option Leg → Option Pending → Type 0
 MayWait plan None None = Unit {0}
 MayWait plan None (Some p) = ⊥
@@ -37,9 +37,9 @@ pub record NumbersPend (external : ℕ) (plan : List Number) (legs : Legs) : Typ
   pub count : length legs.pending ≡ 30 * external
   pub each : (x : Slot) → IsExternal external x → MayWait plan (leg_at legs x) (pending_at legs x)
 
--- ---- what holds of it in a world
+-- ---- the pending numbers of an exchange state
 
--- its number is pending, and its slot hears nothing
+-- its number is pending, and its slot is silent
 pub record Waits (s : Setting) (w : World) (x : Slot) (leg : Leg) : Type 0 where
   pub number : Pending
   pub pends : pending_at w.legs x ≡ Some number

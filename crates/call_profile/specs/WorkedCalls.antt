@@ -1,4 +1,4 @@
--- Worked calls, on which the definitions are evaluated. Source: this exchange's own.
+-- Worked calls, on which the definitions are evaluated. Source: this project.
 use Rattle.std.specs.Prelude.{ℕ, ◌+◌, ◌*◌, true, false, List, [], ◌∷◌, ◌++◌, map, replicate, Some, None}
 use Rattle.std.specs.List.{range_with_len}
 use Rattle.circuit_model.specs.declared.channel.Slot.{Slot}
@@ -23,7 +23,7 @@ use Rattle.call_profile.specs.World.{start}
 abbrev pub silent : Tones
 silent = record { ringback = []; busy = [] }
 
--- an exchange of two lines, where number 101 is line 1's, and an exchange of a single line, where number 30 is room 0's
+-- an exchange of two lines with number 101 of line 1, and an exchange of a single line with number 30 of room 0
 abbrev pub two_lines : Setting
 two_lines = record {
   dimensions = record { external = 2; bridges = 0; slots = 30 };
@@ -40,7 +40,7 @@ one_line bridges = record {
   timers = usual;
 }
 
--- what the events of a run are answered, from the first on
+-- the replies to the events of a run, from the first on
 abbrev pub answers : Setting → List Event → List Reply
 answers s events = run s (start s.dimensions) events
 
@@ -50,8 +50,8 @@ at line place = record { line = line; place = place }
 abbrev pub to : ℕ → List ℕ → Signal
 to line octets = record { line = line; octets = octets }
 
--- a message whose answer is these messages alone; one that has connected two slots, or seated one, and moved no path; and one that has
--- ended a call
+-- a reply with these messages only; the reply to a message that has connected two slots, or made one a member, and
+-- moved no path; and the reply to a message that has ended a call
 abbrev pub sends_reply : List Signal → Reply
 sends_reply sends = Sent_reply sends None []
 
@@ -65,7 +65,8 @@ records_reply sends told = Sent_reply sends None (told ∷ [])
 abbrev pub quiet_frame : Event
 quiet_frame = Frame (None ∷ None ∷ [])
 
--- line 0 calls number 101, which is line 1's; the called user is alerted and answers, three frames pass, and the caller clears
+-- line 0 calls number 101, which is line 1's; the called user is alerted and answers, three frames pass, and the caller
+-- clears
 abbrev pub whole_call : List Event
 whole_call =
     Message 0 (0x08 ∷ 0x02 ∷ 0x00 ∷ 0x01 ∷ 0x05 ∷ 0x04 ∷ 0x03 ∷ 0x80 ∷ 0x90 ∷ 0xA3 ∷ 0x18 ∷ 0x03 ∷ 0xA9 ∷ 0x83 ∷ 0x81 ∷ 0x70 ∷ 0x04 ∷ 0x80 ∷ 0x31 ∷ 0x30 ∷ 0x31 ∷ [])
@@ -94,7 +95,8 @@ whole_call_answered =
     ∷ sends_reply []
     ∷ []
 
--- the channel that is asked for is nailed: a call that asks for it alone is refused, one that prefers it gets another; and a number that the plan doesn't know
+-- the requested channel is nailed: a call with this channel only is refused, and one that prefers it gets another; and
+-- a number that the plan does not have
 abbrev pub refused_or_moved : List Event
 refused_or_moved =
     Nail (at 0 0) (at 1 0)
@@ -111,7 +113,7 @@ refused_or_moved_answered =
     ∷ sends_reply (to 0 (0x08 ∷ 0x02 ∷ 0x80 ∷ 0x03 ∷ 0x5A ∷ 0x08 ∷ 0x02 ∷ 0x82 ∷ 0x81 ∷ []) ∷ [])
     ∷ []
 
--- both users ask for the call to be cleared
+-- both users request that the call be cleared
 abbrev pub clear_collision : List Event
 clear_collision =
     Message 0 (0x08 ∷ 0x02 ∷ 0x00 ∷ 0x01 ∷ 0x05 ∷ 0x04 ∷ 0x03 ∷ 0x80 ∷ 0x90 ∷ 0xA3 ∷ 0x18 ∷ 0x03 ∷ 0xA9 ∷ 0x83 ∷ 0x81 ∷ 0x70 ∷ 0x04 ∷ 0x80 ∷ 0x31 ∷ 0x30 ∷ 0x31 ∷ [])
@@ -136,8 +138,8 @@ clear_collision_answered =
     ∷ sends_reply (to 0 (0x08 ∷ 0x02 ∷ 0x80 ∷ 0x01 ∷ 0x7D ∷ 0x08 ∷ 0x02 ∷ 0x82 ∷ 0x9E ∷ 0x14 ∷ 0x01 ∷ 0x00 ∷ []) ∷ [])
     ∷ []
 
--- on a call reference of no call: STATUS ENQUIRY, RELEASE from the called side, RELEASE COMPLETE, and a SETUP from the called side; and on the
--- global call reference STATUS ENQUIRY
+-- on a call reference without a call: STATUS ENQUIRY, RELEASE from the called side, RELEASE COMPLETE, and a SETUP from
+-- the called side; and on the global call reference STATUS ENQUIRY
 abbrev pub without_call : List Event
 without_call =
     Message 0 (0x08 ∷ 0x02 ∷ 0x00 ∷ 0x01 ∷ 0x75 ∷ [])
@@ -156,7 +158,7 @@ without_call_answered =
     ∷ sends_reply []
     ∷ []
 
--- elements in another order, behind shifts, cut short, and octets that are no message
+-- elements in another order, after shifts, truncated, and octets that are not a message
 abbrev pub lenient_reading : List Event
 lenient_reading =
     Message 0 (0x08 ∷ 0x02 ∷ 0x00 ∷ 0x01 ∷ 0x05 ∷ 0x70 ∷ 0x04 ∷ 0x80 ∷ 0x31 ∷ 0x30 ∷ 0x31 ∷ 0x04 ∷ 0x03 ∷ 0x80 ∷ 0x90 ∷ 0xA3 ∷ [])
@@ -190,11 +192,12 @@ call_to_room_answered =
     connected (to 0 (0x08 ∷ 0x02 ∷ 0x80 ∷ 0x01 ∷ 0x02 ∷ 0x18 ∷ 0x03 ∷ 0xA9 ∷ 0x83 ∷ 0x81 ∷ []) ∷ to 0 (0x08 ∷ 0x02 ∷ 0x80 ∷ 0x01 ∷ 0x07 ∷ []) ∷ [])
     ∷ []
 
--- the same where there is no bridge line, and so no port
+-- the same if there is no bridge line, and so no port
 abbrev pub no_port_answered : List Reply
 no_port_answered = sends_reply (to 0 (0x08 ∷ 0x02 ∷ 0x80 ∷ 0x01 ∷ 0x5A ∷ 0x08 ∷ 0x02 ∷ 0x82 ∷ 0xAA ∷ []) ∷ []) ∷ []
 
--- messages that the caller's state doesn't expect, a type that is unknown, and a SETUP on a call reference that is in use
+-- messages that do not belong to the caller's state, a type that is unknown, and a SETUP on a call reference that is in
+-- use
 abbrev pub unexpected : List Event
 unexpected =
     Message 0 (0x08 ∷ 0x02 ∷ 0x00 ∷ 0x01 ∷ 0x05 ∷ 0x04 ∷ 0x03 ∷ 0x80 ∷ 0x90 ∷ 0xA3 ∷ 0x18 ∷ 0x03 ∷ 0xA9 ∷ 0x83 ∷ 0x81 ∷ 0x70 ∷ 0x04 ∷ 0x80 ∷ 0x31 ∷ 0x30 ∷ 0x31 ∷ [])
@@ -211,7 +214,7 @@ unexpected_answered =
     ∷ sends_reply []
     ∷ []
 
--- the thirty slots of line 1 are connected among themselves, and line 0 calls it
+-- the 30 slots of line 1 are connected among themselves, and line 0 calls it
 abbrev pub line_full : List Event
 line_full =
     map (λ k. Nail (at 1 (2 * k)) (at 1 (2 * k + 1))) (range_with_len 0 15)
@@ -221,7 +224,8 @@ line_full =
 abbrev pub line_full_answered : List Reply
 line_full_answered = replicate 15 (Granted 0 0) ++ sends_reply (to 0 (0x08 ∷ 0x02 ∷ 0x80 ∷ 0x01 ∷ 0x5A ∷ 0x08 ∷ 0x02 ∷ 0x82 ∷ 0xA2 ∷ []) ∷ []) ∷ []
 
--- line 1 restarts its interface while line 0's user calls it: the caller is cleared with cause 41; and a line on which no leg is restarts one channel
+-- line 1 restarts its interface while line 0's user calls it: the caller is cleared with cause 41; and a line without
+-- legs restarts one channel
 abbrev pub restart_of_called : List Event
 restart_of_called =
     Message 0 (0x08 ∷ 0x02 ∷ 0x00 ∷ 0x01 ∷ 0x05 ∷ 0x04 ∷ 0x03 ∷ 0x80 ∷ 0x90 ∷ 0xA3 ∷ 0x18 ∷ 0x03 ∷ 0xA9 ∷ 0x83 ∷ 0x81 ∷ 0x70 ∷ 0x04 ∷ 0x80 ∷ 0x31 ∷ 0x30 ∷ 0x31 ∷ [])
@@ -236,7 +240,7 @@ restart_of_called_answered =
     ∷ sends_reply (to 1 (0x08 ∷ 0x02 ∷ 0x80 ∷ 0x00 ∷ 0x4E ∷ 0x18 ∷ 0x03 ∷ 0xA9 ∷ 0x83 ∷ 0x82 ∷ 0x79 ∷ 0x01 ∷ 0x80 ∷ []) ∷ [])
     ∷ []
 
--- an exchange of a single line, where number 10 is that line's own: its user calls itself
+-- an exchange of a single line with number 10 of that line: its user calls itself
 abbrev pub own_line : Setting
 own_line = record {
   dimensions = record { external = 1; bridges = 0; slots = 30 };
@@ -245,7 +249,7 @@ own_line = record {
   timers = usual;
 }
 
--- the interface is restarted, and with it both legs of the call: nobody gets a message
+-- the interface is restarted, and with it both legs of the call: no user gets a message
 abbrev pub restart_of_both : List Event
 restart_of_both =
     Message 0 (0x08 ∷ 0x02 ∷ 0x00 ∷ 0x01 ∷ 0x05 ∷ 0x04 ∷ 0x03 ∷ 0x80 ∷ 0x90 ∷ 0xA3 ∷ 0x70 ∷ 0x03 ∷ 0x80 ∷ 0x31 ∷ 0x30 ∷ [])
@@ -261,7 +265,7 @@ restart_of_both_answered =
     ∷ records_reply (to 0 (0x08 ∷ 0x02 ∷ 0x80 ∷ 0x00 ∷ 0x4E ∷ 0x79 ∷ 0x01 ∷ 0x86 ∷ []) ∷ []) (record { caller = at 0 0; called = party.Line (at 0 1); answered = false; from = 0; to = 0; cause = 41 })
     ∷ []
 
--- the caller's channel alone is restarted: the called user gets a message
+-- only the caller's channel is restarted: the called user gets a message
 abbrev pub restart_of_one : List Event
 restart_of_one =
     Message 0 (0x08 ∷ 0x02 ∷ 0x00 ∷ 0x01 ∷ 0x05 ∷ 0x04 ∷ 0x03 ∷ 0x80 ∷ 0x90 ∷ 0xA3 ∷ 0x70 ∷ 0x03 ∷ 0x80 ∷ 0x31 ∷ 0x30 ∷ [])
@@ -280,7 +284,7 @@ restart_of_one_answered =
 abbrev pub sounding_lines : Setting
 sounding_lines = record two_lines { tones = record { ringback = 0x11 ∷ 0x22 ∷ 0x33 ∷ []; busy = 0x44 ∷ [] } }
 
--- the circuits that exist once these events have happened
+-- the circuits that exist after these events
 abbrev pub circuits_after : Setting → List Event → List Circuit
 circuits_after s events = (world_after_all s (start s.dimensions) events).holding.circuits
 
@@ -308,7 +312,7 @@ found_busy_answered =
     ∷ records_reply (to 0 (0x08 ∷ 0x02 ∷ 0x80 ∷ 0x01 ∷ 0x45 ∷ 0x08 ∷ 0x02 ∷ 0x82 ∷ 0x91 ∷ 0x1E ∷ 0x02 ∷ 0x82 ∷ 0x88 ∷ []) ∷ []) (record { caller = at 0 0; called = party.Line (at 1 0); answered = false; from = 1; to = 1; cause = 17 })
     ∷ []
 
--- or is gone for another cause, which has no tone
+-- or the called user is gone for another cause, which has no tone
 abbrev pub found_gone : List Event
 found_gone = rings ++ Message 1 (0x08 ∷ 0x02 ∷ 0x80 ∷ 0x01 ∷ 0x5A ∷ 0x08 ∷ 0x02 ∷ 0x80 ∷ 0x92 ∷ []) ∷ []
 
@@ -318,11 +322,11 @@ found_gone_answered =
     ++ records_reply (to 0 (0x08 ∷ 0x02 ∷ 0x80 ∷ 0x01 ∷ 0x45 ∷ 0x08 ∷ 0x02 ∷ 0x82 ∷ 0x92 ∷ []) ∷ []) (record { caller = at 0 0; called = party.Line (at 1 0); answered = false; from = 0; to = 0; cause = 18 })
     ∷ []
 
--- or answers
+-- or the called user answers
 abbrev pub found_there : List Event
 found_there = rings ++ Message 1 (0x08 ∷ 0x02 ∷ 0x80 ∷ 0x01 ∷ 0x07 ∷ []) ∷ []
 
--- what exists in each case: a tone since the next frame, or the connection alone
+-- the circuits in each case: a tone since the next frame, or only the connection
 abbrev pub ringing_tone : List Circuit
 ringing_tone = Tone Ringback (at 0 0) 0 ∷ []
 

@@ -1,5 +1,5 @@
--- Worked calls whose number is dialled on, on which the definitions are evaluated. Source: this exchange's own; the octets are from ITU-T Q.931
--- (05/98), section 4.
+-- Worked calls with further digits, on which the definitions are evaluated. Source: this project; the octets are from
+-- ITU-T Q.931 (05/98), section 4.
 use Rattle.std.specs.Prelude.{◌+◌, ◌*◌, List, [], ◌∷◌, ◌++◌, Option, Some, map, replicate, true}
 use Rattle.std.specs.List.{range_with_len}
 use Rattle.call_states.specs.declared.pending.Pending.{Pending}
@@ -10,7 +10,8 @@ use Rattle.exchange_events.specs.declared.trace.Event.{Event}
 use Rattle.exchange_events.specs.declared.trace.Event.TheVariants.{Message, Nail}
 use Rattle.call_profile.specs.WorkedCalls.{at, to, sends_reply, records_reply, connected}
 
--- line 0 calls number 101 digit by digit: it is asked for the rest once, and CALL PROCEEDING doesn't tell the channel again
+-- line 0 calls number 101 digit by digit: further digits are requested once, and CALL PROCEEDING does not repeat the
+-- channel
 abbrev pub in_three_messages : List Event
 in_three_messages =
     Message 0 (0x08 ∷ 0x02 ∷ 0x00 ∷ 0x01 ∷ 0x05 ∷ 0x04 ∷ 0x03 ∷ 0x80 ∷ 0x90 ∷ 0xA3 ∷ 0x18 ∷ 0x03 ∷ 0xA9 ∷ 0x83 ∷ 0x81 ∷ 0x70 ∷ 0x02 ∷ 0x80 ∷ 0x31 ∷ [])
@@ -40,7 +41,8 @@ wrong_digit_answered =
     ∷ sends_reply (to 0 (0x08 ∷ 0x02 ∷ 0x80 ∷ 0x01 ∷ 0x5A ∷ []) ∷ [])
     ∷ []
 
--- Sending complete before the number is, a letter, a called party number of no octet, and one of one octet, which adds nothing
+-- Sending complete before the number is complete, a letter, a called party number of no octet, and one of one octet,
+-- which adds nothing
 abbrev pub faulty_digits : List Event
 faulty_digits =
     Message 0 (0x08 ∷ 0x02 ∷ 0x00 ∷ 0x01 ∷ 0x05 ∷ 0x04 ∷ 0x03 ∷ 0x80 ∷ 0x90 ∷ 0xA3 ∷ 0x70 ∷ 0x02 ∷ 0x80 ∷ 0x31 ∷ [])
@@ -65,7 +67,7 @@ faulty_digits_answered =
     ∷ sends_reply []
     ∷ []
 
--- a number of 21 octets in all, which is none of the plan: cause 1; and a number of 22 octets: cause 28
+-- a number of 21 octets in all, which is not in the plan: cause 1; and a number of 22 octets: cause 28
 abbrev pub longest_numbers : List Event
 longest_numbers =
     Message 0 (0x08 ∷ 0x02 ∷ 0x00 ∷ 0x01 ∷ 0x05 ∷ 0x04 ∷ 0x03 ∷ 0x80 ∷ 0x90 ∷ 0xA3 ∷ 0x70 ∷ 0x02 ∷ 0x80 ∷ 0x31 ∷ [])
@@ -82,7 +84,8 @@ longest_numbers_answered =
     ∷ sends_reply (to 0 (0x08 ∷ 0x02 ∷ 0x80 ∷ 0x02 ∷ 0x45 ∷ 0x08 ∷ 0x02 ∷ 0x82 ∷ 0x9C ∷ []) ∷ [])
     ∷ []
 
--- a SETUP without a called party number: it begins with the first octet of the first one that comes; in later ones the first octet doesn't count
+-- a SETUP without a called party number: the number begins with the first octet of the first one that comes; in later
+-- ones the first octet does not count
 abbrev pub begun_later : List Event
 begun_later =
     Message 0 (0x08 ∷ 0x02 ∷ 0x00 ∷ 0x01 ∷ 0x05 ∷ 0x04 ∷ 0x03 ∷ 0x80 ∷ 0x90 ∷ 0xA3 ∷ [])
@@ -106,7 +109,8 @@ ended_later_answered =
     ∷ sends_reply (to 0 (0x08 ∷ 0x02 ∷ 0x80 ∷ 0x01 ∷ 0x02 ∷ []) ∷ to 1 (0x08 ∷ 0x02 ∷ 0x00 ∷ 0x01 ∷ 0x05 ∷ 0xA1 ∷ 0x04 ∷ 0x03 ∷ 0x80 ∷ 0x90 ∷ 0xA3 ∷ 0x18 ∷ 0x03 ∷ 0xA9 ∷ 0x83 ∷ 0x81 ∷ 0x70 ∷ 0x04 ∷ 0x81 ∷ 0x31 ∷ 0x30 ∷ 0x31 ∷ []) ∷ [])
     ∷ []
 
--- the elements of the SETUP are passed on with the whole number: calling party number, low and high layer compatibility
+-- the elements of the SETUP are passed on with the complete number: calling party number, low and high layer
+-- compatibility
 abbrev pub passed_on_later : List Event
 passed_on_later =
     Message 0 (0x08 ∷ 0x02 ∷ 0x00 ∷ 0x01 ∷ 0x05 ∷ 0x04 ∷ 0x03 ∷ 0x80 ∷ 0x90 ∷ 0xA3 ∷ 0x6C ∷ 0x03 ∷ 0x00 ∷ 0x81 ∷ 0x35 ∷ 0x70 ∷ 0x02 ∷ 0x80 ∷ 0x31 ∷ 0x7C ∷ 0x02 ∷ 0x88 ∷ 0x90 ∷ 0x7D ∷ 0x02 ∷ 0x91 ∷ 0x81 ∷ [])
@@ -143,7 +147,7 @@ own_line_later_answered =
     ∷ sends_reply (to 0 (0x08 ∷ 0x02 ∷ 0x80 ∷ 0x01 ∷ 0x02 ∷ []) ∷ to 0 (0x08 ∷ 0x02 ∷ 0x00 ∷ 0x01 ∷ 0x05 ∷ 0xA1 ∷ 0x04 ∷ 0x03 ∷ 0x80 ∷ 0x90 ∷ 0xA3 ∷ 0x18 ∷ 0x03 ∷ 0xA9 ∷ 0x83 ∷ 0x82 ∷ 0x70 ∷ 0x03 ∷ 0x80 ∷ 0x31 ∷ 0x30 ∷ []) ∷ [])
     ∷ []
 
--- a call to a conference room, and the same where there is no port: cause 42
+-- a call to a conference room, and the same if there is no port: cause 42
 abbrev pub room_later : List Event
 room_later =
     Message 0 (0x08 ∷ 0x02 ∷ 0x00 ∷ 0x01 ∷ 0x05 ∷ 0x04 ∷ 0x03 ∷ 0x80 ∷ 0x90 ∷ 0xA3 ∷ 0x18 ∷ 0x03 ∷ 0xA9 ∷ 0x83 ∷ 0x81 ∷ 0x70 ∷ 0x02 ∷ 0x80 ∷ 0x33 ∷ [])
@@ -162,7 +166,8 @@ no_port_later_answered =
     ∷ sends_reply (to 0 (0x08 ∷ 0x02 ∷ 0x80 ∷ 0x01 ∷ 0x45 ∷ 0x08 ∷ 0x02 ∷ 0x82 ∷ 0xAA ∷ []) ∷ [])
     ∷ []
 
--- INFORMATION in each other state, from the caller and from the called user: in 3, 4 and 10 nothing, and elsewhere STATUS with cause 101
+-- INFORMATION in each other state, from the caller and from the called user: in 3, 4 and 10 nothing, and elsewhere
+-- STATUS with cause 101
 abbrev pub in_other_states : List Event
 in_other_states =
     Message 0 (0x08 ∷ 0x02 ∷ 0x00 ∷ 0x01 ∷ 0x05 ∷ 0x04 ∷ 0x03 ∷ 0x80 ∷ 0x90 ∷ 0xA3 ∷ 0x18 ∷ 0x03 ∷ 0xA9 ∷ 0x83 ∷ 0x81 ∷ 0x70 ∷ 0x04 ∷ 0x80 ∷ 0x31 ∷ 0x30 ∷ 0x31 ∷ [])

@@ -1,4 +1,5 @@
--- Worked expiries of timers, on which the definitions are evaluated. Source: this exchange's own; the octets are from ITU-T Q.931 (05/98), section 4.
+-- Worked expiries of timers, on which the definitions are evaluated. Source: this project; the octets are from ITU-T
+-- Q.931 (05/98), section 4.
 use Rattle.std.specs.Prelude.{ℕ, false, List, [], ◌∷◌, ◌++◌}
 use Rattle.number_plan.specs.declared.target.Target.TheVariants as target
 use Rattle.exchange_events.specs.declared.record.CallRecord.{CallRecord}
@@ -13,28 +14,28 @@ use Rattle.call_profile.specs.Step.{reply, next, world_after_all}
 use Rattle.call_profile.specs.WorkedCalls.{at, to, two_lines, quiet_frame}
 use Rattle.call_profile.specs.World.{World, start}
 
--- two lines, number 101 is line 1's and number 102 line 0's, each of whose timers runs out after one frame
+-- two lines, number 101 of line 1 and number 102 of line 0, all of whose timers expire after one frame
 abbrev pub hasty_lines : Setting
 hasty_lines = record two_lines {
   plan = record { digits = 0x31 ∷ 0x30 ∷ 0x31 ∷ []; target = target.Line 1 } ∷ record { digits = 0x31 ∷ 0x30 ∷ 0x32 ∷ []; target = target.Line 0 } ∷ [];
   timers = record { t302 = 1; t303 = 1; t305 = 1; t308 = 1; t310 = 1 };
 }
 
--- the world after these events, at the boundary of frame n, whatever frames were before it
+-- the exchange state after these events, at the boundary of frame n, whatever frames were before it
 abbrev pub in_frame : ℕ → World → World
 in_frame n w = record w { holding = record w.holding { next = n } }
 
 abbrev pub world_in : ℕ → List Event → World
 world_in n events = in_frame n (world_after_all hasty_lines (start hasty_lines.dimensions) events)
 
--- what that frame answers, and the world that it leaves
+-- the reply to that frame, and the exchange state after it
 abbrev pub turn_of : World → Reply
 turn_of w = reply hasty_lines w quiet_frame
 
 abbrev pub after_turn : World → World
 after_turn w = next hasty_lines w quiet_frame
 
--- a frame's answer
+-- a frame's reply
 abbrev pub nothing_in : ℕ → Reply
 nothing_in n = Frame_reply n [] []
 
@@ -54,7 +55,7 @@ offered = Message 0 (0x08 ∷ 0x02 ∷ 0x00 ∷ 0x01 ∷ 0x05 ∷ 0x04 ∷ 0x03 
 abbrev pub unanswered : ℕ → CallRecord
 unanswered n = record { caller = at 0 0; called = party.Line (at 1 0); answered = false; from = n; to = n; cause = 18 }
 
--- in frame 30 the SETUP is sent again, and in frame 60 both legs are cleared
+-- in frame 30 the SETUP is retransmitted, and in frame 60 both legs are cleared
 abbrev pub setup_again : Reply
 setup_again =
     sent_in 30 (to 1 (0x08 ∷ 0x02 ∷ 0x00 ∷ 0x01 ∷ 0x05 ∷ 0xA1 ∷ 0x04 ∷ 0x03 ∷ 0x80 ∷ 0x90 ∷ 0xA3 ∷ 0x18 ∷ 0x03 ∷ 0xA9 ∷ 0x83 ∷ 0x81 ∷ 0x70 ∷ 0x04 ∷ 0x80 ∷ 0x31 ∷ 0x30 ∷ 0x31 ∷ []) ∷ [])
@@ -64,7 +65,7 @@ setup_over = ended_in 60 (to 1 (0x08 ∷ 0x02 ∷ 0x00 ∷ 0x01 ∷ 0x5A ∷ 0x0
 
 -- ---- T310
 
--- the called user has all that is needed, and is never alerted
+-- the called user has complete information, and never alerts
 abbrev pub proceeds : List Event
 proceeds =
     Message 0 (0x08 ∷ 0x02 ∷ 0x00 ∷ 0x01 ∷ 0x05 ∷ 0x04 ∷ 0x03 ∷ 0x80 ∷ 0x90 ∷ 0xA3 ∷ 0x70 ∷ 0x04 ∷ 0x80 ∷ 0x31 ∷ 0x30 ∷ 0x31 ∷ [])
@@ -74,7 +75,8 @@ proceeds =
 abbrev pub proceeding_over : Reply
 proceeding_over = ended_in 30 (to 1 (0x08 ∷ 0x02 ∷ 0x00 ∷ 0x01 ∷ 0x45 ∷ 0x08 ∷ 0x02 ∷ 0x82 ∷ 0xE6 ∷ []) ∷ to 0 (0x08 ∷ 0x02 ∷ 0x80 ∷ 0x01 ∷ 0x45 ∷ 0x08 ∷ 0x02 ∷ 0x82 ∷ 0x92 ∷ []) ∷ []) (unanswered 31)
 
--- the user of each line calls the other line on channel 2, so that both called legs are at place 0, and both called users proceed
+-- the user of each line calls the other line on channel 2, so that both called legs are at place 0, and both called
+-- users proceed
 abbrev pub both_proceed : List Event
 both_proceed =
     Message 0 (0x08 ∷ 0x02 ∷ 0x00 ∷ 0x01 ∷ 0x05 ∷ 0x04 ∷ 0x03 ∷ 0x80 ∷ 0x90 ∷ 0xA3 ∷ 0x18 ∷ 0x03 ∷ 0xA9 ∷ 0x83 ∷ 0x82 ∷ 0x70 ∷ 0x04 ∷ 0x80 ∷ 0x31 ∷ 0x30 ∷ 0x31 ∷ [])
@@ -127,6 +129,6 @@ second_turn = after_turn (in_frame 60 first_turn)
 abbrev pub third_turn : World
 third_turn = after_turn (in_frame 90 second_turn)
 
--- RELEASE with the cause, the same once more, and then both legs are gone without a message
+-- RELEASE with the cause, its retransmission, and then both legs are removed without a message
 abbrev pub released : ℕ → Reply
 released n = sent_in n (released_with 0 0x9C ∷ released_with 1 0x9C ∷ [])

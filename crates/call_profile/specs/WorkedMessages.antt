@@ -1,5 +1,6 @@
--- More worked messages, on which the definitions are evaluated: refusals by each cause of an element, causes that can't be read, release at both
--- ends, and what is passed on. Source: this exchange's own; the octets are from ITU-T Q.931 (05/98), section 4.
+-- More worked messages, on which the definitions are evaluated: refusals by each cause of an element, unreadable
+-- causes, release at both ends, and elements that are passed on. Source: this project; the octets are from ITU-T Q.931
+-- (05/98), section 4.
 use Rattle.std.specs.Prelude.{ℕ, true, false, List, [], ◌∷◌}
 use Rattle.exchange_events.specs.declared.record.CallRecord.{CallRecord}
 use Rattle.exchange_events.specs.declared.record.Party.TheVariants as party
@@ -8,8 +9,9 @@ use Rattle.exchange_events.specs.declared.trace.Event.{Event}
 use Rattle.exchange_events.specs.declared.trace.Event.TheVariants.{Message}
 use Rattle.call_profile.specs.WorkedCalls.{at, to, sends_reply, connected, records_reply}
 
--- SETUPs to number 101 without a bearer capability; with a single octet of it; with one in packet mode; for the D-channel; without a number of
--- which nothing more comes; with a letter in it; and without both, where the first check decides
+-- SETUPs to number 101 without a bearer capability; with a single octet of it; with one in packet mode; for the
+-- D-channel; without a number, with Sending complete; with a letter in it; and without both, so that the first check
+-- decides
 abbrev pub refused_by_element : List Event
 refused_by_element =
     Message 0 (0x08 ∷ 0x02 ∷ 0x00 ∷ 0x01 ∷ 0x05 ∷ 0x70 ∷ 0x04 ∷ 0x80 ∷ 0x31 ∷ 0x30 ∷ 0x31 ∷ [])
@@ -44,7 +46,7 @@ room_joined = connected (to 0 (0x08 ∷ 0x02 ∷ 0x80 ∷ 0x01 ∷ 0x02 ∷ 0x18
 abbrev pub room_record : ℕ → CallRecord
 room_record cause = record { caller = at 0 0; called = party.Room 0; answered = true; from = 0; to = 0; cause = cause }
 
--- the first cause of a DISCONNECT ends before its value, and a second one doesn't count: the call ends with cause 16
+-- the first cause of a DISCONNECT ends before its value, and a second one does not count: the call ends with cause 16
 abbrev pub unreadable_cause : List Event
 unreadable_cause =
     room_called
@@ -57,7 +59,7 @@ unreadable_cause_answered =
     ∷ records_reply (to 0 (0x08 ∷ 0x02 ∷ 0x80 ∷ 0x01 ∷ 0x4D ∷ []) ∷ []) (room_record 16)
     ∷ []
 
--- a STATUS that tells the null state: the leg is gone, and nothing is sent
+-- a STATUS that reports the null state: the leg is removed, and nothing is sent
 abbrev pub null_status_received : List Event
 null_status_received =
     room_called
@@ -70,7 +72,8 @@ null_status_answered =
     ∷ records_reply [] (room_record 41)
     ∷ []
 
--- RELEASE meets RELEASE: the leg is gone, nothing is sent, and nothing is recorded again; the call reference is then no call's
+-- RELEASE meets RELEASE: the leg is removed, nothing is sent, and nothing is recorded again; the call reference then
+-- has no call
 abbrev pub release_collision : List Event
 release_collision =
     room_called
@@ -87,7 +90,8 @@ release_collision_answered =
     ∷ sends_reply (to 0 (0x08 ∷ 0x02 ∷ 0x80 ∷ 0x01 ∷ 0x5A ∷ 0x08 ∷ 0x02 ∷ 0x82 ∷ 0xD1 ∷ []) ∷ [])
     ∷ []
 
--- two calls to number 101; the first called user is gone with cause 18, and a third call gets its call reference and its channel
+-- two calls to number 101; the first called user clears with cause 18, and a third call gets its call reference and its
+-- channel
 abbrev pub reference_given_again : List Event
 reference_given_again =
     Message 0 (0x08 ∷ 0x02 ∷ 0x00 ∷ 0x01 ∷ 0x05 ∷ 0x04 ∷ 0x03 ∷ 0x80 ∷ 0x90 ∷ 0xA3 ∷ 0x70 ∷ 0x04 ∷ 0x80 ∷ 0x31 ∷ 0x30 ∷ 0x31 ∷ [])
@@ -104,7 +108,7 @@ reference_given_again_answered =
     ∷ sends_reply (to 0 (0x08 ∷ 0x02 ∷ 0x80 ∷ 0x03 ∷ 0x02 ∷ 0x18 ∷ 0x03 ∷ 0xA9 ∷ 0x83 ∷ 0x83 ∷ []) ∷ to 1 (0x08 ∷ 0x02 ∷ 0x00 ∷ 0x01 ∷ 0x05 ∷ 0xA1 ∷ 0x04 ∷ 0x03 ∷ 0x80 ∷ 0x90 ∷ 0xA3 ∷ 0x18 ∷ 0x03 ∷ 0xA9 ∷ 0x83 ∷ 0x81 ∷ 0x70 ∷ 0x04 ∷ 0x80 ∷ 0x31 ∷ 0x30 ∷ 0x31 ∷ []) ∷ [])
     ∷ []
 
--- low and high layer compatibility are passed on as they were received, where they are not too long
+-- low and high layer compatibility are passed on as received, if they are not too long
 abbrev pub compatibility : List Event
 compatibility =
     Message 0 (0x08 ∷ 0x02 ∷ 0x00 ∷ 0x01 ∷ 0x05 ∷ 0x04 ∷ 0x03 ∷ 0x80 ∷ 0x90 ∷ 0xA3 ∷ 0x70 ∷ 0x04 ∷ 0x80 ∷ 0x31 ∷ 0x30 ∷ 0x31 ∷ 0x7C ∷ 0x03 ∷ 0x80 ∷ 0x90 ∷ 0xA3 ∷ 0x7D ∷ 0x02 ∷ 0x91 ∷ 0x81 ∷ [])

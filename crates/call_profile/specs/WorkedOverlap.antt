@@ -1,5 +1,5 @@
--- Worked calls whose number is dialled in parts, on which the definitions are evaluated. Source: this exchange's own; the octets are from ITU-T
--- Q.931 (05/98), section 4.
+-- Worked calls in overlap sending, on which the definitions are evaluated. Source: this project; the octets are from
+-- ITU-T Q.931 (05/98), section 4.
 use Rattle.std.specs.Prelude.{ℕ, List, [], ◌∷◌, Option, Some}
 use Rattle.call_states.specs.declared.pending.Pending.{Pending}
 use Rattle.exchange_events.specs.declared.reply.Reply.{Reply}
@@ -11,8 +11,8 @@ use Rattle.call_profile.specs.Step.{world_after_all}
 use Rattle.call_profile.specs.WorkedCalls.{at, to, sends_reply, two_lines}
 use Rattle.call_profile.specs.World.{start}
 
--- a call to number 101 of which the first digit is dialled, and an enquiry for its state, which is 2; a call without a number; and one whose digit
--- has its top bit set
+-- a call to number 101 of which the first digit is dialled, and an enquiry for its state, which is 2; a call without a
+-- number; and one whose digit has its top bit set
 abbrev pub dialled_in_part : List Event
 dialled_in_part =
     Message 0 (0x08 ∷ 0x02 ∷ 0x00 ∷ 0x01 ∷ 0x05 ∷ 0x04 ∷ 0x03 ∷ 0x80 ∷ 0x90 ∷ 0xA3 ∷ 0x18 ∷ 0x03 ∷ 0xA9 ∷ 0x83 ∷ 0x81 ∷ 0x70 ∷ 0x02 ∷ 0x80 ∷ 0x31 ∷ [])
@@ -29,16 +29,16 @@ dialled_in_part_answered =
     ∷ sends_reply (to 0 (0x08 ∷ 0x02 ∷ 0x80 ∷ 0x03 ∷ 0x0D ∷ 0x18 ∷ 0x03 ∷ 0xA9 ∷ 0x83 ∷ 0x83 ∷ []) ∷ [])
     ∷ []
 
--- what is pending at a place of line 0 after these events
+-- the pending number at a place of line 0 after these events
 abbrev pub pending_after : List Event → ℕ → Option Pending
 pending_after events place = pending_at (world_after_all two_lines (start two_lines.dimensions) events).legs (at 0 place)
 
--- the number as it was received
+-- the number as received
 abbrev pub first_digit : Option Pending
 first_digit = Some (record { bearer = 0x80 ∷ 0x90 ∷ 0xA3 ∷ []; calling = []; called = 0x80 ∷ 0x31 ∷ []; low = []; high = [] })
 
--- SETUPs of which nothing more comes, without a number and with its first digit; with a number of no octet, of 22 octets and of 21; with a letter;
--- and with a digit that begins no number
+-- SETUPs with Sending complete: without a number and with its first digit; with a number of no octet, of 22 octets and
+-- of 21; with a letter; and with a digit that begins no number
 abbrev pub refused_at_once : List Event
 refused_at_once =
     Message 0 (0x08 ∷ 0x02 ∷ 0x00 ∷ 0x01 ∷ 0x05 ∷ 0xA1 ∷ 0x04 ∷ 0x03 ∷ 0x80 ∷ 0x90 ∷ 0xA3 ∷ [])
@@ -72,7 +72,8 @@ dials_nothing = Message 0 (0x08 ∷ 0x02 ∷ 0x00 ∷ 0x01 ∷ 0x05 ∷ 0x04 ∷
 abbrev pub dials_nothing_answered : List Reply
 dials_nothing_answered = sends_reply (to 0 (0x08 ∷ 0x02 ∷ 0x80 ∷ 0x01 ∷ 0x5A ∷ 0x08 ∷ 0x02 ∷ 0x82 ∷ 0x81 ∷ []) ∷ []) ∷ []
 
--- calls that end in overlap sending: by DISCONNECT, RELEASE, RELEASE COMPLETE, a STATUS that tells the null state, and a RESTART. None is recorded
+-- calls that end in overlap sending: by DISCONNECT, RELEASE, RELEASE COMPLETE, a STATUS that reports the null state,
+-- and a RESTART; none is recorded
 abbrev pub given_up : List Event
 given_up =
     Message 0 (0x08 ∷ 0x02 ∷ 0x00 ∷ 0x01 ∷ 0x05 ∷ 0x04 ∷ 0x03 ∷ 0x80 ∷ 0x90 ∷ 0xA3 ∷ 0x70 ∷ 0x02 ∷ 0x80 ∷ 0x31 ∷ [])

@@ -1,4 +1,4 @@
--- What the exchange holds, and what commands make of it. Source: this exchange's own; the paths join the layout by Paull's rule.
+-- The exchange state, and its change by commands. Source: this project; the paths join the layout by Paull's rule.
 use Rattle.std.specs.Prelude.{ℕ, ◌+◌, ◌*◌, ◌==◌, Bool, List, [], ◌∷◌, ◌++◌, count_by, replicate, Option, Some, None}
 use Rattle.circuit_model.specs.declared.channel.Slot.{Slot}
 use Rattle.circuit_model.specs.declared.circuit.Circuit.{Circuit}
@@ -17,8 +17,8 @@ use Rattle.exchange_events.specs.declared.reply.Reply.TheVariants.{Granted, Seat
 abbrev pub exchange_lines : Dimensions → ℕ
 exchange_lines d = d.external + d.bridges
 
--- what the exchange holds: the live circuits, the legs of the calls, the member of each conference port and the layout of the paths;
--- and of each frame so far its input, and the circuits and ports at its boundary
+-- the exchange state: the live circuits, the legs of the calls, the member of each conference port and the layout of
+-- the paths; and of each frame so far its input, and the circuits and ports at its boundary
 pub record World : Type 0 where
   pub holding : Holding
   pub legs : Legs
@@ -40,20 +40,20 @@ start d = record {
   seated = [];
 }
 
--- the layout once a path joins it from x to y, and once another joins it back
+-- the layout after a path joins it from x to y, and after another joins it back
 abbrev pub one_way : Dimensions → Layout → Slot → Slot → Layout
 one_way d layout x y = connect (exchange_lines d) d.slots layout x y
 
 abbrev pub both_ways : Dimensions → Layout → Slot → Slot → Layout
 both_ways d layout x y = connect (exchange_lines d) d.slots (one_way d layout x y) y x
 
--- the layout once a member is connected with its port
+-- the layout after a member is connected with its port
 abbrev pub with_port : Dimensions → Layout → Slot → Option Slot → Layout
 with_port d layout x None = layout
 with_port d layout x (Some port) = both_ways d layout x port
 
--- what a command makes of the layout: a connection needs a path each way, a seat one to its member's port and one back; what is cleared
--- takes its paths along
+-- the layout after a command: a connection needs a path each way, a seat one to its member's port and one back, and
+-- clearing a slot removes its paths
 abbrev pub layout_after : Dimensions → World → Command → Layout
 layout_after d w (Connect x y) = both_ways d w.layout x y
 layout_after d w (Take_seat x room) = with_port d w.layout x (port_of d.external (ports_with x w.ports) x)
@@ -64,7 +64,7 @@ layout_after d w Boundary = w.layout
 abbrev pub obey : Dimensions → World → Command → World
 obey d w command = record w { holding = after w.holding command; ports = ports_after w.ports command; layout = layout_after d w command }
 
--- a frame is recorded as it was at its boundary
+-- a frame is recorded in the state at its boundary
 abbrev pub pass : World → Input → World
 pass w input = record w {
   holding = after w.holding Boundary;
@@ -73,11 +73,12 @@ pass w input = record w {
   seated = w.seated ++ w.ports ∷ [];
 }
 
--- every conference port is taken: there are as many members as ports
+-- every conference port is taken: the number of members equals the number of ports
 abbrev pub is_full : Dimensions → World → Bool
 is_full d w = count_by is_member w.holding.circuits == 30 * d.bridges
 
--- the answer to a connection of x with y, or to a seat at a port: how many live paths were moved for the path there, and for the one back
+-- the reply to a connection of x with y, or to a seat at a port: the numbers of live paths that moved for the path
+-- there, and for the one back
 abbrev pub nail_reply : Dimensions → Layout → Slot → Slot → Reply
 nail_reply d layout x y = Granted (moved layout (one_way d layout x y)) (moved (one_way d layout x y) (both_ways d layout x y))
 

@@ -1,4 +1,4 @@
-//! Laws of calls, and worked calls.
+//! Theorems on calls, and worked calls.
 ghost use Rattle.std.specs.Prelude.{◌≡◌, ◌≢◌, [], ℕ, List, All, None, Some, is_some};
 ghost use Rattle.circuit_model.specs.declared.channel.Slot.{Slot};
 ghost use Rattle.q931_codec.specs.Outgoing.{encoding};
@@ -32,7 +32,7 @@ ghost use Rattle.call_profile.specs.Waiting.{EachWaits, NoneElsePends};
 ghost use Rattle.call_profile.specs.World.{World, start};
 ghost use Rattle.call_profile.specs.WorkedCalls.{two_lines, one_line, answers, whole_call, whole_call_answered, refused_or_moved, refused_or_moved_answered, clear_collision, clear_collision_answered, without_call, without_call_answered, own_line, restart_of_called, restart_of_called_answered, restart_of_both, restart_of_both_answered, restart_of_one, restart_of_one_answered, lenient_reading, lenient_reading_answered, call_to_room, call_to_room_answered, no_port_answered, unexpected, unexpected_answered, line_full, line_full_answered, sounding_lines, circuits_after, rings, rings_answered, ringing_tone, found_busy, found_busy_answered, busy_tone, found_gone, found_gone_answered, found_there, conversation};
 
-/// The definitions of what is done for messages, evaluated on small exchanges.
+/// The definitions of the operations for messages, evaluated on small exchanges.
 pub fn worked_calls()
     ensures whole { answers two_lines whole_call ≡ whole_call_answered }
     ensures channel { answers two_lines refused_or_moved ≡ refused_or_moved_answered }
@@ -56,8 +56,8 @@ pub fn worked_calls()
     ensures not_given { circuits_after two_lines rings ≡ [] }
 {}
 
-/// A SETUP that is refused is answered by RELEASE COMPLETE with the cause of its refusal, on its call
-/// reference, and by nothing else; no slot, no leg and no path is another afterwards.
+/// The only reply to a refused SETUP is RELEASE COMPLETE with the cause of its refusal, on its call reference. It
+/// changes no slot, no leg and no path.
 pub fn law_of_refused_calls()
     ensures answer { (s : Setting) (w : World) (line : ℕ) (octets : List ℕ) (setup : Message) (cause : ℕ) → IsRefused s w line octets setup cause
         → reply s w (event.Message line octets) ≡ refusal_reply line setup cause }
@@ -89,20 +89,23 @@ pub fn law_of_paths()
         → without_paths (outcome_of_frame s (with_layout w layout) input).making.world ≡ without_paths (outcome_of_frame s w input).making.world }
 {}
 
-/// A call that is answered always gets both paths: whatever else exists, its two slots are silent once
-/// the caller's is cleared, so that they can be connected, and then they are.
+/// An answered call always gets both paths. Its two slots are silent once the caller's is cleared, whatever else
+/// exists, so that they can be connected, and then they are.
 pub fn law_of_answered_calls()
     ensures { (s : Setting) (w : World) (line : ℕ) (octets : List ℕ) (h : Held) → IsAnswered s w line octets h → GetsBothPaths s w line octets h }
 {}
 
-/// Every event keeps the legs consistent: peers name each other, in states that go together, each slot
-/// hears by what its leg's state says, and call references name one leg. So it is in every run. A leg in
-/// overlap sending is then a caller's and alone, its slot hears nothing, and its number is pending, whose
-/// digits so far are the beginning of a number of the plan; in no other state a number is pending. A leg
-/// waits in its state since a frame that is at most the next one; in call present and in release request,
-/// and in no other state, the octets of its SETUP or RELEASE are kept. The kept RELEASE decides what a slot
-/// hears in release request: one with a cause has the cause that the leg was cleared with, and the slot
-/// hears the tone of disconnect indication with this cause, where the trace gives it; else nothing.
+/// Every event, and so every run, preserves the consistency of the legs. Peers refer to each other, in states that go
+/// together. The state of a leg determines the circuit by which its slot receives, and a call reference identifies one
+/// leg.
+///
+/// A leg in overlap sending is a caller's, without a peer. Its slot is silent, and its number is pending, whose digits
+/// are a proper prefix of a number of the plan. In no other state a number is pending.
+///
+/// A leg has waited in its state since a frame that is at most the next one. The octets of its SETUP or RELEASE are
+/// stored in call present and in release request, and in no other state. The stored RELEASE decides the tone in release
+/// request. One with a cause has the cause with which the leg was cleared. The slot then receives the tone of
+/// disconnect indication with this cause, if the trace gives it, and otherwise nothing.
 pub fn law_of_legs()
     ensures begins { (s : Setting) → CallsStand s (start s.dimensions) }
     ensures kept { (s : Setting) (w : World) (e : Event) → IsPlanned s → Fits s.dimensions.external e → CallsStand s w
@@ -118,9 +121,9 @@ pub fn law_of_legs()
     ensures told_apart { (leg : Leg) (cause : ℕ) → encoding (release_with leg None) ≢ encoding (release_with leg (Some cause)) }
 {}
 
-/// The slot that a call gets whose number is dialled on is the called line's lowest idle one, as for a SETUP, since a
-/// slot with a leg isn't idle; it is refused with cause 34 for lack of such a slot alone, and with 42 for lack of a
-/// port alone. More digits end no call, so that nothing is recorded.
+/// A call with further digits gets the called line's lowest idle slot, as for a SETUP, since a slot with a leg is not
+/// idle. It is refused with cause 34 only if there is no such slot, and with cause 42 only if there is no free port.
+/// Further digits end no call, so that nothing is recorded.
 pub fn law_of_digits()
     ensures choice { (w : World) (x : Slot) (leg : Leg) (line : ℕ) → leg_at w.legs x ≡ Some leg → lowest_idle_beside w x line ≡ lowest_idle w line }
     ensures no_slot { (s : Setting) (w : World) (h : Held) (called : List ℕ) (m : Message) → leg_at w.legs h.slot ≡ Some h.leg
@@ -131,11 +134,11 @@ pub fn law_of_digits()
         → (outcome_for s w line (For_leg h m)).recorded ≡ [] }
 {}
 
-/// The turn of a frame sends at most two messages for each external line, and records at most one call for
-/// each. So what a step may send, 64 messages, is enough for 32 lines. Only a leg whose timer runs out, or the
-/// timer of the other leg of its call, is another afterwards, or gone; what is there then waits anew from the
-/// frame after it. So the legs of a call stay whose called user is alerted or has answered, and each connection, each
-/// seat, each path and each port does.
+/// The turn of a frame sends at most two messages for each external line, and records at most one call for each. The
+/// limit of 64 messages a step is therefore enough for 32 lines. A frame event changes or removes a leg only if the
+/// timer of that leg, or of its peer, expires in the frame. The wait of a changed leg restarts in the frame after. The
+/// legs of a call whose called user is alerted or has answered are unchanged, and so is each connection, each
+/// membership, each path and each port.
 pub fn law_of_expiries()
     ensures sends { (s : Setting) (w : World) (input : Input) → SendsFew s w input }
     ensures records { (s : Setting) (w : World) (input : Input) → CallsStand s w → RecordsFew s w input }

@@ -1,4 +1,4 @@
-//! Laws of the commands of a trace.
+//! Theorems on the commands of a trace.
 ghost use Rattle.std.specs.Prelude.{◌≡◌, ◌↔◌, ℕ, true, Contains};
 ghost use Rattle.circuit_model.specs.declared.channel.Slot.{Slot};
 ghost use Rattle.exchange_events.specs.declared.reply.Reply.TheVariants.{NoPort};
@@ -12,9 +12,9 @@ ghost use Rattle.call_profile.specs.Refused.{refuses, AllAreTaken};
 ghost use Rattle.call_profile.specs.Step.{reply, next};
 ghost use Rattle.call_profile.specs.World.{World, is_full};
 
-/// A command that is answered by a refusal makes nothing of the world: no slot, no leg and no path is
-/// another afterwards. For lack of a port a seat is refused exactly where the slot is idle and there are
-/// as many members as ports, which is where each port has a member, in every world that events make.
+/// A refused command changes nothing: no slot, no leg and no path. A seat is refused with `NoPort` if and only if the
+/// slot is idle and the number of members equals the number of ports. In every exchange state that events make, each
+/// port then has a member.
 pub fn law_of_refusals()
     ensures world { (s : Setting) (w : World) (e : Event) → refuses (reply s w e) ≡ true → next s w e ≡ w }
     ensures no_port { (s : Setting) (w : World) (x : Slot) (room : ℕ)
@@ -23,8 +23,8 @@ pub fn law_of_refusals()
         → (is_full s.dimensions w ≡ true) ↔ AllAreTaken s.dimensions.bridges w.ports }
 {}
 
-/// A nail of two idle slots is always granted, and gets both ways: from the next frame on each slot is
-/// connected with the other.
+/// A nail of two idle slots is always granted, and gets both paths: from the next frame on each slot is connected with
+/// the other.
 pub fn law_of_granted_nails()
     ensures granted { (s : Setting) (w : World) (x y : Slot) → idle w x ≡ true → idle w y ≡ true → IsGranted (reply s w (Nail x y)) }
     ensures both { (s : Setting) (w : World) (x y : Slot) → idle w x ≡ true → idle w y ≡ true → AreNailed w (next s w (Nail x y)) x y }

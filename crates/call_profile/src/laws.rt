@@ -1,4 +1,4 @@
-//! Laws of the worlds that events make, and of their frames.
+//! Theorems on the exchange states that events make, and on their frames.
 ghost use Rattle.std.specs.Prelude.{◌≡◌, ℕ, ◌<◌, ◌++◌, All, List, length, map};
 ghost use Rattle.circuit_model.specs.declared.channel.Slot.{Slot};
 ghost use Rattle.circuit_model.specs.declared.circuit.Circuit.{Circuit};
@@ -15,16 +15,16 @@ ghost use Rattle.call_profile.specs.IsMade.{IsMade};
 ghost use Rattle.call_profile.specs.Step.{reply, next, world_after_all};
 ghost use Rattle.call_profile.specs.World.{World, start};
 
-/// Whatever events happen, the circuits and ports of each frame come of one list of commands, each
-/// of which was allowed when its turn came.
+/// The circuits and ports of each frame are the result of one list of commands, each of which was allowed after those
+/// before it. This holds for all events. It is a theorem, so that the definitions of replies stay short.
 pub fn worlds_are_made()
     ensures { (s : Setting) (events : List Event) → IsPlanned s → All (Fits s.dimensions.external) events
         → IsMade s.dimensions s.tones (world_after_all s (start s.dimensions) events) }
 {}
 
-/// The number of internal slots and the layout of the paths decide only how many paths move. Two exchanges that
-/// differ in them send and record the same in every run. They end with the same circuits, legs, ports and
-/// recorded frames, so that each slot hears the same.
+/// The number of internal slots and the layout of the paths decide only how many paths move. Two exchanges that differ
+/// in them send and record the same in every run. They end with the same circuits, legs, ports and recorded frames, so
+/// that each slot receives the same octets.
 pub fn law_of_fabrics()
     ensures reply { (s : Setting) (slots : ℕ) (w : World) (layout : Layout) (e : Event)
         → without_moves (reply (with_slots s slots) (with_layout w layout) e) ≡ without_moves (reply s w e) }
@@ -38,7 +38,7 @@ pub fn law_of_fabrics()
         → heard_in_run tones (with_slots s slots) es f y ≡ heard_in_run tones s es f y }
 {}
 
-/// What a slot hears in a frame stays as it is, whatever frames come later.
+/// Later frames do not change the octet that a slot receives in a frame.
 pub fn later_frames_change_nothing()
     ensures { (tones : Kind → List ℕ) (inputs more : List Input) (held later : List (List Circuit)) (f : ℕ) (y : Slot)
         → f < length inputs → f < length held → hears tones (inputs ++ more) (held ++ later) f y ≡ hears tones inputs held f y }

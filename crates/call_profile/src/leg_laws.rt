@@ -1,4 +1,4 @@
-//! Laws of legs: their call references, what their users get, and what becomes of them.
+//! Theorems on legs: their call references, the messages to their users, and their removal.
 ghost use Rattle.std.specs.Prelude.{◌≡◌, ◌<◌, ◌≤◌, ℕ, List, length, Contains, Some};
 ghost use Rattle.circuit_model.specs.declared.channel.Slot.{Slot};
 ghost use Rattle.circuit_model.specs.Extent.{IsExternal};
@@ -33,9 +33,9 @@ pub fn law_of_references()
     ensures first { (legs : Legs) (line : ℕ) → 1 ≤ new_reference legs line }
 {}
 
-/// A user is sent a progress indicator if and only if its slot gets a tone in the same step: by an act, by a
-/// SETUP, by the restart of a slot, by the expiry of a timer, and by the answer to a message on no call,
-/// which gives none. So no message that is retransmitted has one.
+/// A user is sent a progress indicator if and only if its slot gets a tone in the same step: by an act, by a SETUP, by
+/// the restart of a slot, by the expiry of a timer, and by the reply to a message on no call, which gives none.
+/// Therefore no retransmitted message has one.
 pub fn law_of_progress()
     ensures acts { (s : Setting) (w : World) (h : Held) (m : Message) (a : Act) → TellsOfTones (course_of s w h m a).operations }
     ensures setups { (s : Setting) (w : World) (line : ℕ) (m : Message) → TellsOfTones (course_of_setup s w line m).operations }
@@ -45,9 +45,9 @@ pub fn law_of_progress()
         → leg_at w.legs h.slot ≡ Some h.leg → TellsOfTones (on_expiry s.tones w.legs h e) }
 {}
 
-/// A RESTART that is taken: no leg holds a restarted slot afterwards. At every other slot the other leg of a
-/// call whose leg is gone is in disconnect indication with cause 41, and each other leg is as it was. A slot
-/// that no leg holds hears what it heard, so that nails and seats stay.
+/// After an accepted RESTART no leg holds a restarted slot. At every other slot a leg whose peer was removed is in
+/// disconnect indication with cause 41, and each other leg is unchanged. A slot without a leg keeps its circuit, so
+/// that nails and seats stay.
 pub fn law_of_restarts()
     ensures gone { (s : Setting) (w : World) (line : ℕ) (octets : List ℕ) (r : Restart) → IsRestart s w line octets r
         → RestartedAreEmpty s.dimensions.external r line (after_message s w line octets) }
@@ -57,10 +57,10 @@ pub fn law_of_restarts()
         → UnheldStay s.dimensions.external w (after_message s w line octets) }
 {}
 
-/// An answer has the record of a call exactly where a caller's leg left states 3, 4 and 10 by the message,
-/// with the cause that the message gives. That is every such leg, so none of them is without the other
-/// party of its call. The records of a RESTART come by the place of the first restarted leg of their call,
-/// each once; any other message has one record at the most.
+/// An answer has the record of a call if and only if a caller's leg left states 3, 4 and 10 by the message, with the
+/// cause that the message gives. That is every such leg, so none of them is without the other party of its call. The
+/// records of a RESTART come by the place of the first restarted leg of their call, each once. Any other message has at
+/// most one record.
 pub fn law_of_records()
     ensures told { (s : Setting) (w : World) (line : ℕ) (octets : List ℕ) → Arrive s w line octets → (told : CallRecord)
         → Contains (answer_to s w line octets).records told → (h : Held) × IsRecordOf s w line octets h told }
@@ -73,7 +73,7 @@ pub fn law_of_records()
 {}
 
 /// A frame has the record of a call if and only if a caller's leg leaves states 3, 4 and 10 in it. The timer of its
-/// called leg ran out, and the cause is 18. The records come by the line of the called slot, lowest first.
+/// called leg expired, and the cause is 18. The records come by the line of the called slot, lowest first.
 pub fn law_of_frame_records()
     ensures told { (s : Setting) (w : World) (input : Input) → CallsStand s w → (told : CallRecord)
         → Contains (outcome_of_frame s w input).recorded told → (h : Held) × IsFrameRecord s w input h told }

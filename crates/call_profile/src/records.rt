@@ -1,4 +1,4 @@
-//! What the record of a call tells of its caller's leg.
+//! The parts of a call record that its caller's leg gives.
 ghost use Rattle.std.specs.Prelude.{◌≡◌, Some};
 ghost use Rattle.circuit_model.specs.Circuits.{since_of};
 ghost use Rattle.call_profile.specs.CallRecords.{is_calling, party_of};
@@ -8,7 +8,7 @@ use circuit_model::Circuit;
 use exchange_events::Party;
 use q931_codec::states::{ACTIVE, CALL_DELIVERED, OUTGOING_CALL_PROCEEDING};
 
-/// Whether a leg is a caller's, of a call whose clearing hasn't begun.
+/// Returns whether a leg is a caller's, of a call whose clearing has not begun.
 pub fn is_calling(leg: &Leg) -> bool
     ensures { result ≡ is_calling (Some leg.now) }
 {
@@ -19,7 +19,7 @@ pub fn is_calling(leg: &Leg) -> bool
     leg.side == Side::Caller && is_up
 }
 
-/// Whom a caller called, by its leg's peer.
+/// Returns the party that a caller called, by its leg's peer.
 pub fn party_of(peer: Peer) -> Option<Party>
     ensures { result ≡ party_of peer }
 {
@@ -30,7 +30,7 @@ pub fn party_of(peer: Peer) -> Option<Party>
     }
 }
 
-/// The first frame that a circuit exists in.
+/// Returns the first frame of a circuit.
 pub fn since_of(circuit: Circuit) -> u32
     ensures { result ≡ since_of circuit }
 {

@@ -7,7 +7,7 @@ ghost use Rattle.call_profile.specs.Legs.{no_legs};
 ghost use Rattle.call_profile.specs.WorkedExpiries.{turn_of, after_turn, world_in, in_frame, nothing_in, offered, setup_again, setup_over, proceeds, proceeding_over, both_proceed, both_over, begun_on_both, digits_over, first_turn, second_turn, third_turn, released};
 ghost use Rattle.call_profile.specs.WorkedOverlap.{dialled_in_part, dialled_in_part_answered, pending_after, first_digit, refused_at_once, refused_at_once_answered, no_numbers, dials_nothing, dials_nothing_answered, given_up, given_up_answered};
 
-/// The definitions of what is done for messages, evaluated on more of them.
+/// The definitions of the operations for messages, evaluated on more messages.
 pub fn worked_messages()
     ensures refused { answers two_lines refused_by_element ≡ refused_by_element_answered }
     ensures no_cause { answers (one_line 1) unreadable_cause ≡ unreadable_cause_answered }
@@ -17,7 +17,7 @@ pub fn worked_messages()
     ensures passed_on { answers two_lines compatibility ≡ compatibility_answered }
 {}
 
-/// The definitions evaluated on calls whose number is dialled in parts.
+/// The definitions, evaluated on calls in overlap sending.
 pub fn worked_overlap()
     ensures in_part { answers two_lines dialled_in_part ≡ dialled_in_part_answered }
     ensures pends { pending_after dialled_in_part 0 ≡ first_digit }
@@ -27,7 +27,7 @@ pub fn worked_overlap()
     ensures dropped { pending_after given_up 0 ≡ None }
 {}
 
-/// The definitions evaluated on calls whose number is dialled on.
+/// The definitions, evaluated on calls with further digits.
 pub fn worked_digits()
     ensures in_three { answers two_lines in_three_messages ≡ in_three_messages_answered }
     ensures dropped { pending_after in_three_messages 0 ≡ None }
@@ -44,7 +44,7 @@ pub fn worked_digits()
     ensures others { answers two_lines in_other_states ≡ in_other_states_answered }
 {}
 
-/// The definitions evaluated on calls whose timers run out.
+/// The definitions, evaluated on calls whose timers expire.
 pub fn worked_expiries()
     ensures early { turn_of (world_in 0 offered) ≡ nothing_in 0 }
     ensures setup { turn_of (world_in 30 offered) ≡ setup_again }

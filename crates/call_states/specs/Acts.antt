@@ -1,5 +1,5 @@
--- The call table: which act a message asks of a leg of a call. Which message answers which is this exchange's own profile
--- of basic call control (ITU-T Q.931 (05/98), 5.1 to 5.3, 5.8.4, 5.8.10 and 5.8.11).
+-- The call table: the act of a message at a leg of a call. Source: this project's profile of basic call control (ITU-T
+-- Q.931 (05/98), 5.1 to 5.3, 5.8.4, 5.8.10 and 5.8.11).
 use Rattle.std.specs.Prelude.{ℕ, Bool, false, ◌==◌, ◌||◌, List, [], ◌∷◌, Option, Some, None, unwrap_or, if◌then◌else◌}
 use Rattle.q931_elements.specs.InformationElement.{InformationElement}
 use Rattle.q931_codec.specs.declared.kind.MessageKind.{MessageKind}
@@ -27,11 +27,11 @@ every_state = release_request ∷ before_release_request
 
 -- ---- the table
 
--- the act where the leg's state is one of these; elsewhere the message is not expected
+-- the act if the leg's state is one of these; in other states the message is not expected
 abbrev pub expected_in : List ℕ → ℕ → Act → Act
 expected_in states state wanted = if is_among states state then wanted else act.Unexpected
 
--- the act of a message, from the leg's state, the message's type and cause, and whether a STATUS tells the null state
+-- the act of a message, from the leg's state, the message's type and cause, and whether a STATUS reports the null state
 abbrev pub act_of : ℕ → MessageKind → ℕ → Bool → Act
 act_of state kind.Information cause tells_null = if state == overlap_sending then act.Digits else expected_in (outgoing_call_proceeding ∷ call_delivered ∷ active ∷ []) state act.Nothing
 act_of state kind.CallProceeding cause tells_null = expected_in (call_present ∷ []) state act.Proceeding
@@ -53,9 +53,9 @@ act_of state kind.Restart cause tells_null = act.Unexpected
 act_of state kind.RestartAcknowledge cause tells_null = act.Unexpected
 act_of state (kind.Unknown octet) cause tells_null = act.Unexpected
 
--- ---- what the table reads of a message
+-- ---- the fields of a message that the table reads
 
--- the cause of a message; normal call clearing where none is readable
+-- the cause of a message; normal call clearing if none is readable
 abbrev pub clearing_cause : List InformationElement → ℕ
 clearing_cause elements = unwrap_or (cause_in elements) normal_call_clearing
 
@@ -63,11 +63,11 @@ abbrev pub is_null : Option ℕ → Bool
 is_null None = false
 is_null (Some state) = state == null
 
--- the act that a message asks of a leg in this state
+-- the act of a message at a leg in this state
 abbrev pub act_on : ℕ → Message → Act
 act_on state m = act_of state m.kind (clearing_cause m.elements) (is_null (call_state_in m.elements))
 
--- ---- the cause that an act has
+-- ---- the cause of an act
 
 abbrev pub cause_of_act : Act → Option ℕ
 cause_of_act (act.Disconnect cause) = Some cause

@@ -1,4 +1,4 @@
--- What a call is made from (ITU-T Q.931 (05/98), 5.1.1 and 5.1.3).
+-- The contents from which a call is made (ITU-T Q.931 (05/98), 5.1.1 and 5.1.3).
 use Rattle.std.specs.Prelude.{◌≤◌, length}
 use Rattle.call_states.specs.declared.pending.Pending.{Pending}
 

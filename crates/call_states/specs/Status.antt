@@ -1,4 +1,4 @@
--- The STATUS that tells a leg its state (ITU-T Q.931 (05/98), 3.1.16, 5.8.4 and 5.8.10).
+-- The STATUS that reports a leg's state (ITU-T Q.931 (05/98), 3.1.16, 5.8.4 and 5.8.10).
 use Rattle.std.specs.Prelude.{ℕ, ◌^◌, ◌<◌, Bool, true, false, Some}
 use Rattle.q931_codec.specs.declared.kind.MessageKind.{MessageKind}
 use Rattle.q931_codec.specs.declared.kind.MessageKind.TheVariants as kind
@@ -17,7 +17,7 @@ flag_to Called = false
 abbrev pub status : Leg → ℕ → OutgoingMessage
 status leg cause = record (bare (flag_to leg.side) leg.reference kind.Status) { cause = Some cause; state = Some leg.state }
 
--- why a message is not expected: its type is unknown, or its type is known and not one of the state
+-- the cause of an unexpected message: its type is unknown, or its type is known and not one of the state
 abbrev pub unexpected_cause : MessageKind → ℕ
 unexpected_cause (kind.Unknown octet) = message_type_not_implemented
 unexpected_cause _ = message_not_compatible_with_call_state

@@ -1,25 +1,25 @@
-//! What the exchange does for a message on a call.
+//! The act of a message on a call.
 ghost use Rattle.std.specs.Prelude.{◌≡◌};
 ghost use Rattle.call_states.specs.Acts.{cause_of_act};
 
-/// What the exchange does for a message. The number is a cause value (Q.931, 4.5.12).
+/// The act of the exchange for a message. The number is a cause value (Q.931, 4.5.12).
 #[derive(Clone, Copy, Debug, PartialEq, Eq)]
 pub enum Act {
     /// Nothing.
     Nothing,
-    /// The message isn't one of this state: a STATUS says so.
+    /// The message does not belong to this state: a STATUS reports that.
     Unexpected,
-    /// A STATUS tells the leg's state.
+    /// A STATUS reports the leg's state.
     Enquiry,
-    /// The called user has all that is needed to set up the call.
+    /// The called user has all the information to set up the call.
     Proceeding,
     /// The called user is being alerted.
     Alerting,
     /// The called user has answered.
     Answer,
-    /// The user dials more of the number.
+    /// The user sends further digits of the number.
     Digits,
-    /// The user asks for the call to be cleared.
+    /// The user requests that the call be cleared.
     Disconnect(u8),
     /// The user has released the channel, and waits for the exchange to do so.
     Release(u8),
@@ -27,7 +27,7 @@ pub enum Act {
     ReleaseComplete(u8),
 }
 
-/// The cause that an act has: the acts that clear a call have one, no other does.
+/// Returns the cause of an act: the acts that clear a call have one, the others have none.
 pub fn cause_of_act(act: Act) -> Option<u8>
     ensures { result ≡ cause_of_act act }
 {

@@ -1,4 +1,4 @@
-// Laws about the definitions alone: these functions do nothing, and their contracts are the laws.
+// Theorems on the definitions only: these functions do nothing, and their contracts are the theorems.
 ghost use Rattle.std.specs.Prelude.{◌≡◌, ◌<◌, ℕ, IfSome, is_some};
 ghost use Rattle.circuit_model.specs.Channels.{place_of};
 ghost use Rattle.q931_codec.specs.declared.message.Message.{Message};
@@ -8,13 +8,12 @@ ghost use Rattle.call_states.specs.declared.leg.Leg.{Leg};
 ghost use Rattle.call_states.specs.Acts.{act_on, cause_of_act};
 ghost use Rattle.call_states.specs.Status.{status, FitsMessages};
 
-/// The cause that a message asks to be passed on fits a message.
+/// The cause that a message passes on fits a message.
 pub fn law_of_passed_causes()
     ensures { (state : ℕ) (m : Message) → IfSome (cause_of_act (act_on state m)) (λ cause. cause < 128) }
 {}
 
-/// The channels that a channel identification can name are those that have a place among the thirty of
-/// their line.
+/// A channel identification can contain the channels that have a place among the 30 of their line, and no others.
 pub fn law_of_channels()
     ensures { (channel : ℕ) → is_bearer_channel channel ≡ is_some (place_of channel) }
 {}

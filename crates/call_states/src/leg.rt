@@ -1,11 +1,11 @@
-//! The legs of calls: what the exchange keeps of a call on one line.
+//! The legs of calls: the state of a call on one line.
 
 use circuit_model::Slot;
 
 /// The two sides of a call.
 #[derive(Clone, Copy, Debug, PartialEq, Eq)]
 pub enum Side {
-    /// The line that asked for the call. It chose the call reference value.
+    /// The line that requested the call. It chose the call reference value.
     Caller,
     /// The line that the call is for. The exchange chose the call reference value.
     Called,
@@ -15,8 +15,8 @@ impl Side {
     ghost use Rattle.std.specs.Prelude.{◌≡◌};
     ghost use Rattle.call_states.specs.Status.{flag_to};
 
-    /// The call reference flag of messages to a leg of this side (Q.931, 4.3): true towards the side that
-    /// chose the call reference value.
+    /// Returns the call reference flag of messages to a leg of this side (Q.931, 4.3): true towards the side that chose
+    /// the call reference value.
     pub fn flag(self) -> bool
         ensures { result ≡ flag_to self }
     {
@@ -24,10 +24,10 @@ impl Side {
     }
 }
 
-/// What a leg is in a call with.
+/// The peer of a leg in its call.
 #[derive(Clone, Copy, Debug, PartialEq, Eq)]
 pub enum Peer {
-    /// Nothing: the call is being cleared.
+    /// No peer: the call is being cleared.
     Alone,
     /// The leg that holds this slot.
     Leg(Slot),
@@ -35,22 +35,22 @@ pub enum Peer {
     Room(u8),
 }
 
-/// A leg of a call: what the exchange keeps of the call on one line, as long as it holds a slot of it.
+/// A leg of a call: the state of the call on one line, as long as it holds a slot of it.
 #[derive(Clone, Copy, Debug, PartialEq, Eq)]
 pub struct Leg {
     /// The call state value (Q.931, 4.5.7), one of [`states`](q931_codec::states).
     pub state: u8,
     /// The call reference value (4.3), below 32,768.
     pub reference: u16,
-    /// Which side of the call the leg is.
+    /// The side of the call.
     pub side: Side,
-    /// What the leg is in a call with.
+    /// The peer of the leg.
     pub peer: Peer,
     /// The cause value (4.5.12) that the leg was cleared with, 0 until then.
     pub cause: u8,
-    /// The number of the frame from which on it waits in its state.
+    /// The number of the first frame of its wait in its state.
     pub since: u32,
-    /// Whether the message that it got in this state was sent again.
+    /// Whether the message that it got in this state was retransmitted.
     pub resent: bool,
 }
 

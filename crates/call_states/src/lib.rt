@@ -1,15 +1,12 @@
-//! The call table: what each message of ITU-T Q.931 (05/98) asks of a leg of a call, by the leg's
-//! state.
+//! Maps each message of ITU-T Q.931 (05/98) and the state of a leg to the act of the exchange: the call table.
 //!
-//! The table is a definition in `specs/`, one line for each message type. Which message is answered
-//! by what is this exchange's own profile of the recommendation's basic call control.
+//! The table is a definition in `specs/`, one line for each message type. It is this project's profile of the
+//! recommendation's basic call control.
 //!
 //! - [`on_message`] returns the act of the table, for every message and leg, and [`cause_of_act`] its cause.
-//! - [`status`] and [`unexpected`] return the STATUS that tells a leg its state, with its cause.
+//! - [`status`] and [`unexpected`] return the STATUS that reports a leg's state, with its cause.
 //!
-//! [`Pending`] is what is kept of a call whose number is dialled in parts. Nothing here allocates.
-//!
-//! It uses `circuit_model`, `q931_elements` and `q931_codec`, and the kit's `arrayvec`.
+//! [`Pending`] stores the contents of a call in overlap sending. Nothing here allocates.
 #![tactic(auto)]
 
 mod act;

@@ -1,4 +1,4 @@
-//! What is kept of a call whose number is dialled in parts, until the number is complete.
+//! The stored contents of a call in overlap sending, until the number is complete.
 ghost use Rattle.std.specs.Prelude.{◌≡◌, ◌+◌, ◌++◌, ◌≤◌, [], length};
 
 use arrayvec::ArrayVec;
@@ -19,7 +19,7 @@ impl<const MOST: usize> Model for Contents<MOST> {
 }
 
 impl<const MOST: usize> Contents<MOST> {
-    /// These octets.
+    /// Copies these octets.
     pub fn of(octets: &[u8]) -> Contents<MOST>
         requires { length octets.now ≤ MOST }
         ensures { result ≡ octets.now }
@@ -31,7 +31,7 @@ impl<const MOST: usize> Contents<MOST> {
         contents
     }
 
-    /// Puts these octets behind those that are there.
+    /// Appends these octets.
     pub fn append(&mut self, octets: &[u8])
         requires { length self.old + length octets.now ≤ MOST }
         ensures { self.new ≡ self.old ++ octets.now }
@@ -42,7 +42,7 @@ impl<const MOST: usize> Contents<MOST> {
         }
     }
 
-    /// The octets in the order in which they were received.
+    /// Returns the octets in the order in which they were received.
     pub fn as_slice(&self) -> &[u8]
         ensures octets { result.now ≡ self.now }
         ensures few { length result.now ≤ MOST }
@@ -51,15 +51,15 @@ impl<const MOST: usize> Contents<MOST> {
     }
 }
 
-/// What is kept of a call in overlap sending (Q.931, 5.1.3): the contents of the SETUP's elements that are
-/// passed on to the called user, with the number as far as it was dialled. No octets mean no element.
+/// The stored contents of a call in overlap sending (Q.931, 5.1.3): the elements of the SETUP that are passed on to the
+/// called user, with the number so far. No octets mean no element.
 #[derive(Clone, Debug, Default, Drop)]
 pub struct Pending {
     /// The bearer capability (4.5.5).
     pub bearer: Contents<10>,
     /// The calling party number (4.5.10).
     pub calling: Contents<22>,
-    /// The called party number so far (4.5.8): the octet that says what kind of number it is, and the digits.
+    /// The called party number so far (4.5.8): the octet with the type of number, and the digits.
     pub called: Contents<21>,
     /// The low layer compatibility (4.5.19).
     pub low: Contents<16>,

@@ -1,4 +1,4 @@
-//! The STATUS messages that tell a leg its state.
+//! The STATUS messages that report a leg's state.
 
 ghost use Rattle.std.specs.Prelude.{◌≡◌, ◌<◌};
 ghost use Rattle.q931_codec.specs.Outgoing.{outgoing_of};
@@ -8,7 +8,7 @@ use crate::leg::Leg;
 use q931_codec::causes::{MESSAGE_NOT_COMPATIBLE_WITH_CALL_STATE, MESSAGE_TYPE_NOT_IMPLEMENTED};
 use q931_codec::{Message, MessageKind, Outgoing};
 
-/// The STATUS (Q.931, 3.1.16) to a leg with this cause value and the leg's state.
+/// Returns the STATUS (Q.931, 3.1.16) to a leg with this cause value and the leg's state.
 pub fn status(leg: &Leg, cause: u8) -> Outgoing<'static>
     ensures { outgoing_of result ≡ status leg.now cause }
 {
@@ -19,8 +19,8 @@ pub fn status(leg: &Leg, cause: u8) -> Outgoing<'static>
     }
 }
 
-/// The STATUS that answers a message whose act is [`Act::Unexpected`](crate::Act::Unexpected): with
-/// cause 97 where the message type is unknown (5.8.4), else with 101.
+/// Returns the STATUS for a message whose act is [`Act::Unexpected`](crate::Act::Unexpected): with cause 97 if the
+/// message type is unknown (5.8.4), otherwise with 101.
 pub fn unexpected(leg: &Leg, message: &Message) -> Outgoing<'static>
     ensures { outgoing_of result ≡ status leg.now (unexpected_cause message.now.kind) }
 {

@@ -1,4 +1,4 @@
-//! The call table: what each message asks of a leg in its state.
+//! The call table: the act of each message at a leg in its state.
 
 ghost use Rattle.std.specs.Prelude.{◌≡◌};
 ghost use Rattle.call_states.specs.Acts.{act_of, act_on, is_among, before_release_request};
@@ -12,8 +12,8 @@ use q931_codec::states::{
 };
 use q931_codec::{Message, MessageKind};
 
-/// What a message asks of a leg, by the call table. A message without a readable cause counts as one
-/// with cause 16, normal call clearing.
+/// Returns the act of a message at a leg, by the call table. A message without a readable cause counts as one with
+/// cause 16, normal call clearing.
 pub fn on_message(leg: &Leg, message: &Message) -> Act
     ensures { result ≡ act_on leg.now.state message.now }
 {
@@ -22,7 +22,7 @@ pub fn on_message(leg: &Leg, message: &Message) -> Act
     act_of(leg.state, message.kind, cause, tells_null)
 }
 
-// The call table. A message in a state in which it isn't expected is answered with STATUS.
+// Returns the act of the call table. The reply to a message in a state in which it is not expected is STATUS.
 fn act_of(state: u8, kind: MessageKind, cause: u8, tells_null: bool) -> Act
     ensures { result ≡ act_of state kind cause tells_null }
 {
@@ -65,7 +65,7 @@ fn act_of(state: u8, kind: MessageKind, cause: u8, tells_null: bool) -> Act
     }
 }
 
-// Whether a leg in this state was not asked to release its channel.
+// Returns whether a leg in this state was not asked to release its channel.
 fn is_before_release_request(state: u8) -> bool
     ensures { result ≡ is_among before_release_request state }
 {

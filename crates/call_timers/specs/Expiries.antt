@@ -1,13 +1,13 @@
--- The timers of calls at the network side of an interface: which one runs in a state, and what its expiry asks for (ITU-T Q.931 (05/98),
--- 9.1, table 9-1). Time is counted in frames; a second expiry of T303 and T308 ends the leg.
+-- The timers of calls at the network side of an interface: the timer of each state, and the act of its expiry (ITU-T
+-- Q.931 (05/98), 9.1, table 9-1). Time is counted in frames. A second expiry of T303 and T308 ends the leg.
 use Rattle.std.specs.Prelude.{ℕ, ◌+◌, ◌==◌, nat_le, Bool, Option, Some, None, option_and_then, if◌then◌else◌}
 use Rattle.q931_codec.specs.CallStates.{overlap_sending, call_present, incoming_call_proceeding, disconnect_indication, release_request}
 use Rattle.call_timers.specs.declared.expiry.Expiry.{Expiry}
 use Rattle.call_timers.specs.declared.expiry.Expiry.TheVariants as expiry
 use Rattle.call_timers.specs.declared.timers.Timers.{Timers}
 
--- what the expiry of a state's timer asks for, where the state has one; in two states that goes by whether what was sent was sent again
--- already
+-- the act of the expiry of a state's timer, if the state has one; in two states it depends on whether the message was
+-- already retransmitted
 abbrev pub expiry_in : ℕ → Bool → Option Expiry
 expiry_in state resent =
     if state == overlap_sending then Some expiry.Digits
@@ -17,7 +17,7 @@ expiry_in state resent =
     else if state == release_request then Some (if resent then expiry.ReleaseOver else expiry.ReleaseAgain)
     else None
 
--- how many frames its timer runs
+-- the number of frames that its timer runs
 abbrev pub frames_to : Timers → Expiry → ℕ
 frames_to timers expiry.Digits = timers.t302
 frames_to timers expiry.SetupAgain = timers.t303
@@ -27,11 +27,11 @@ frames_to timers expiry.Disconnect = timers.t305
 frames_to timers expiry.ReleaseAgain = timers.t308
 frames_to timers expiry.ReleaseOver = timers.t308
 
--- the expiry, where its timer has run since one frame when another one comes
+-- the expiry, if its timer has expired in one frame after running since another
 abbrev pub if_run_out : Timers → ℕ → ℕ → Expiry → Option Expiry
 if_run_out timers since frame e = if nat_le (since + frames_to timers e) frame then Some e else None
 
--- what is due in a frame of a leg that has waited in its state since one
+-- the expiry that is due in a frame at a leg that has waited in its state since another frame
 abbrev pub due : ℕ → Bool → ℕ → ℕ → Timers → Option Expiry
 due state resent since frame timers = option_and_then (if_run_out timers since frame) (expiry_in state resent)
 

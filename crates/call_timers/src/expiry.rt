@@ -1,4 +1,4 @@
-//! What the expiry of a timer asks for, and when.
+//! The act of a timer's expiry, and the frame in which it is due.
 
 ghost use Rattle.std.specs.Prelude.{◌≡◌, ◌<◌, ℕ, None};
 ghost use Rattle.call_timers.specs.Expiries.{due, expiry_in, frames_to};
@@ -8,32 +8,35 @@ use q931_codec::states::{
     CALL_PRESENT, DISCONNECT_INDICATION, INCOMING_CALL_PROCEEDING, OVERLAP_SENDING, RELEASE_REQUEST,
 };
 
-/// What the expiry of a timer asks for (Q.931, 9.1, table 9-1).
+/// The act of a timer's expiry (Q.931, 9.1, table 9-1).
 #[derive(Clone, Copy, Debug, PartialEq, Eq)]
 pub enum Expiry {
     /// T302 in overlap sending: the number stays incomplete.
     Digits,
-    /// T303 in call present, for the first time: the SETUP is sent again.
+    /// T303 in call present, for the first time: the SETUP is retransmitted.
     SetupAgain,
-    /// T303 in call present, once more: the called user doesn't answer.
+    /// T303 in call present, for the second time: the called user does not answer.
     SetupOver,
-    /// T310 in incoming call proceeding: the called user is neither alerted nor answers.
+    /// T310 in incoming call proceeding: the called user neither alerts nor answers.
     Proceeding,
     /// T305 in disconnect indication: the user is asked to release the call.
     Disconnect,
-    /// T308 in release request, for the first time: the RELEASE is sent again.
+    /// T308 in release request, for the first time: the RELEASE is retransmitted.
     ReleaseAgain,
-    /// T308 in release request, once more: the user doesn't complete the release.
+    /// T308 in release request, for the second time: the user does not complete the release.
     ReleaseOver,
 }
 
-/// What is due in this frame of a leg in this call state (Q.931, 4.5.7), which has waited since that frame,
-/// and whose SETUP or RELEASE was sent again or not: `Some` exactly where the state has a timer that has
-/// run out, be it in this frame or before it.
+/// Returns the expiry that is due in a frame at a leg in this call state (Q.931, 4.5.7). `since` is the first frame of
+/// its wait, and `resent` whether its SETUP or RELEASE was retransmitted. The result is `Some` if and only if the state
+/// has a timer that has expired in this frame or before it. The arguments are not a leg, so that timers are proved
+/// below the calls.
 pub fn due(state: u8, resent: bool, since: u32, frame: u32, timers: &Timers) -> Option<Expiry>
     ensures { result ≡ due state resent since frame timers.now }
 {
     let expiry = expiry_in(state, resent)?;
+    // Returns a frame before which nothing is due at such a leg: the frame in which its timer expires. If that is not
+    // below 2^32, or the state has no timer, it returns the greatest number.
     let end = u64::from(since) + u64::from(frames_to(timers, expiry));
     if end <= u64::from(frame) {
         Some(expiry)
@@ -42,8 +45,8 @@ pub fn due(state: u8, resent: bool, since: u32, frame: u32, timers: &Timers) -> 
     }
 }
 
-/// A frame before which nothing is due of such a leg: the one in which its timer runs out. Where that is none below
-/// 2^32, or the state has no timer, the last number there is.
+/// Returns a frame before which nothing is due at such a leg: the frame in which its timer expires. If no frame below
+/// 2^32 is that one, or the state has no timer, it returns the greatest number.
 pub fn first_due(state: u8, resent: bool, since: u32, timers: &Timers) -> u32
     ensures { (frame : ℕ) → frame < result → due state resent since frame timers.now ≡ None }
 {
@@ -53,7 +56,7 @@ pub fn first_due(state: u8, resent: bool, since: u32, timers: &Timers) -> u32
     }
 }
 
-// What the expiry of the state's timer asks for, where it has one.
+// Returns the act of the expiry of the state's timer, if it has one.
 fn expiry_in(state: u8, resent: bool) -> Option<Expiry>
     ensures { result ≡ expiry_in state resent }
 {
@@ -69,7 +72,7 @@ fn expiry_in(state: u8, resent: bool) -> Option<Expiry>
     }
 }
 
-// How many frames its timer runs.
+// Returns the number of frames that its timer runs.
 fn frames_to(timers: &Timers, expiry: Expiry) -> u32
     ensures { result ≡ frames_to timers.now expiry }
 {

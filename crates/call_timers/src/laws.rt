@@ -1,4 +1,4 @@
-// Laws about the definitions alone: these functions do nothing, and their contracts are the laws.
+// Theorems on the definitions only: these functions do nothing, and their contracts are the theorems.
 ghost use Rattle.std.specs.Prelude.{◌≡◌, ◌≢◌, ◌+◌, ◌≤◌, ◌^◌, ◌-◌, ℕ, Bool, true, false, Some, None, is_some};
 ghost use Rattle.q931_codec.specs.CallStates.{overlap_sending, outgoing_call_proceeding, call_delivered, call_present, call_received, incoming_call_proceeding, active, disconnect_indication, release_request};
 ghost use Rattle.call_timers.specs.Expiries.{due, usual};
@@ -6,7 +6,7 @@ ghost use Rattle.call_timers.specs.declared.expiry.Expiry.{Expiry};
 ghost use Rattle.call_timers.specs.declared.expiry.Expiry.TheVariants as expiry;
 ghost use Rattle.call_timers.specs.declared.timers.Timers.{Timers};
 
-/// What is due of a leg that has waited since frame 1000, in the frame in which its usual timer runs out.
+/// The expiries that are due at a leg whose wait began in frame 1000, in the frame in which its usual timer expires.
 pub fn worked_expiries()
     ensures digits { due overlap_sending false 1000 121000 usual ≡ Some expiry.Digits }
     ensures setup { due call_present false 1000 33000 usual ≡ Some expiry.SetupAgain }
@@ -17,7 +17,7 @@ pub fn worked_expiries()
     ensures release_over { due release_request true 1000 33000 usual ≡ Some expiry.ReleaseOver }
 {}
 
-/// A frame before it nothing is due, and later it still is.
+/// Nothing is due a frame earlier, and the expiry is still due later.
 pub fn worked_waits()
     ensures digits { due overlap_sending true 1000 120999 usual ≡ None }
     ensures setup { due call_present false 1000 32999 usual ≡ None }
@@ -30,7 +30,7 @@ pub fn worked_waits()
     ensures never { due call_present false 4294967290 4294967295 usual ≡ None }
 {}
 
-/// In no other state of a leg is anything ever due.
+/// In all other states of a leg nothing is ever due.
 pub fn law_of_untimed_states()
     ensures proceeding { (resent : Bool) (since f : ℕ) (t : Timers) → due outgoing_call_proceeding resent since f t ≡ None }
     ensures delivered { (resent : Bool) (since f : ℕ) (t : Timers) → due call_delivered resent since f t ≡ None }

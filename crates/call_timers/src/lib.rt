@@ -1,15 +1,12 @@
-//! The timers of calls at the network side of an interface (ITU-T Q.931 (05/98), 9.1, table 9-1),
-//! counted in frames.
+//! Counts in frames the timers of calls at the network side of an interface (ITU-T Q.931 (05/98), 9.1, table 9-1).
 //!
-//! - [`due`] returns what the expiry of a leg's timer asks for, exactly where the timer of its state
-//!   has run out, however large the numbers of frames are.
-//! - [`first_due`] is a frame before which nothing is due.
-//! - [`Timers::usual`] returns the values of a trace that gives none.
-//! - In the states that have no timer nothing is ever due ([`law_of_untimed_states`]).
+//! - [`due`] returns the act of a leg's timer, if and only if the timer of its state has expired, for all frame
+//!   numbers.
+//! - [`first_due`] returns a frame before which nothing is due.
+//! - [`Timers::usual`] returns the values for a trace that gives none.
+//! - In the states without a timer nothing is ever due ([`law_of_untimed_states`]).
 //!
 //! Nothing here allocates.
-//!
-//! It uses the call state values of `q931_codec`.
 #![tactic(auto)]
 
 mod expiry;

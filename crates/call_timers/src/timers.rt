@@ -1,4 +1,4 @@
-//! How long a leg of a call waits in a state.
+//! The time that a leg of a call waits in a state.
 
 ghost use Rattle.std.specs.Prelude.{◌≡◌};
 ghost use Rattle.call_timers.specs.Expiries.{usual};
@@ -7,20 +7,20 @@ ghost use Rattle.call_timers.specs.Expiries.{usual};
 /// microseconds.
 #[derive(Clone, Copy, Debug, PartialEq, Eq)]
 pub struct Timers {
-    /// T302: how long the next digits of a number may take.
+    /// T302: the time for the next digits of a number.
     pub t302: u32,
-    /// T303: how long a called user may take to answer a SETUP in any way.
+    /// T303: the time for a called user's first reply to a SETUP.
     pub t303: u32,
-    /// T305: how long a user who was asked to clear a call by DISCONNECT may take to release it.
+    /// T305: the time for a user to release a call after DISCONNECT.
     pub t305: u32,
-    /// T308: how long a user who was sent a RELEASE may take to complete it.
+    /// T308: the time for a user to complete a RELEASE.
     pub t308: u32,
-    /// T310: how long a called user who has all that is needed may take to alert or to answer.
+    /// T310: the time for a called user with complete information to alert or to answer.
     pub t310: u32,
 }
 
 impl Timers {
-    /// The usual timers: 15 seconds, 4, 30, 4 and 10, which are values of table 9-1, in frames.
+    /// Returns the usual timers: 15 seconds, 4, 30, 4 and 10, which are values of table 9-1, in frames.
     pub fn usual() -> Timers
         ensures { result ≡ usual }
     {

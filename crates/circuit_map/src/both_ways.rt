@@ -1,4 +1,4 @@
-//! Two slots that are connected both ways, and parted.
+//! Setting up and releasing the paths between two slots, both ways.
 ghost use Rattle.std.specs.Prelude.{◌≡◌, ◌≢◌, ◌≤◌, ◌↔◌, ◌⊎◌};
 ghost use Rattle.circuit_model.specs.declared.channel.Slot.{Slot};
 ghost use Rattle.control_memory.specs.Layout.{Legal, IsSlot, Joins};
@@ -10,7 +10,7 @@ use control_memory::PathMap;
 
 /// Connects two slots at which no path begins or ends: x to y, and then y to x.
 ///
-/// Answers how many live paths each of the two connects moved.
+/// Returns the number of live paths that each of the two connects moved.
 #[inline(always)]
 pub(crate) fn connect_both<P: PathMap>(map: &mut P, x: Slot, y: Slot) -> (u32, u32)
     requires { CanBeJoined (P.width map.old) (P.layout map.old) x y }
@@ -30,7 +30,7 @@ pub(crate) fn connect_both<P: PathMap>(map: &mut P, x: Slot, y: Slot) -> (u32, u
     (there, back)
 }
 
-/// Takes out the path from x to y, and then the one back.
+/// Releases the path from x to y, and then the one back.
 #[inline(always)]
 pub(crate) fn disconnect_both<P: PathMap>(map: &mut P, x: Slot, y: Slot)
     requires joined { AreJoined (P.width map.old) (P.layout map.old) x y }

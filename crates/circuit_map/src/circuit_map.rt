@@ -1,4 +1,4 @@
-//! The circuits that are there, with their paths and ports.
+//! The circuits that exist, with their paths and ports.
 ghost use Rattle.std.specs.Prelude.{◌≡◌, ◌≢◌, ◌+◌, ◌*◌, ◌==◌, ◌<◌, ◌≤◌, ◌↔◌, ℕ, None, Some, IfSome, true, IfOk, IsOk, IsErr, IsTrue, OnErr, OnOk, count_by, is_none};
 ghost use Rattle.circuit_model.specs.declared.channel.Slot.{Slot};
 ghost use Rattle.circuit_model.specs.declared.circuit.Circuit.{Circuit};
@@ -23,19 +23,21 @@ pub struct NoPort;
 
 /// The circuits that exist, and the paths and conference ports that carry them.
 ///
-/// Contracts see the circuit by which each external slot hears, the member of each port and the
-/// layout of the paths; `Represents` says of which holding these are. No call but `new` takes memory.
+/// Contracts see the circuit by which each external slot receives, the member of each port and the layout of the paths.
+/// `Represents` relates these to a holding. The invariant requires only that some valid holding has them, so the map
+/// stores no holding. Only `new` allocates.
 #[derive(Drop)]
 pub struct CircuitMap<P: PathMap> {
     external: u8,
     bridges: u8,
     // The number of the next frame.
     next: u32,
-    // The circuit by which each external slot hears, line by line.
+    // The circuit by which each external slot receives, line by line. By this form no two circuits serve one slot.
     heard: Vec<Option<Circuit>>,
     ports: Ports,
     paths: P,
-    // What each slot hears, and who sits in each port: for the next control memory.
+    // The source of each slot's octets and the member of each port, in the form of a control memory. A command writes
+    // few entries, and a boundary copies the tables whole.
     hearing: HeardTable,
     sitting: Vec<Option<(u8, u32)>>,
 }
@@ -53,8 +55,8 @@ impl<P: PathMap> Model for CircuitMap<P> {
 }
 
 impl<P: PathMap + Drop> CircuitMap<P> {
-    /// No circuit over a map of paths that has none yet, for the given numbers of external and bridge lines.
-    /// `AllocError` where memory is lacking.
+    /// Returns a map without circuits over a map of paths without paths, for the given numbers of external and bridge
+    /// lines. Returns `AllocError` if an allocation fails.
     pub fn new(
         alloc: Global,
         paths: P,
@@ -69,7 +71,7 @@ impl<P: PathMap + Drop> CircuitMap<P> {
         ensures bridges { IfOk result (λ m. m.bridges ≡ bridges) }
         ensures paths { IfOk result (λ m. (m.layout ≡ P.layout paths) × (m.slots ≡ P.depth paths) × (m.bound ≡ P.bound paths)) }
     {
-        // Any call of a path map tells that its layout is legal.
+        // Each call of a path map guarantees that its layout is legal.
         let _slots = paths.slots();
         let places = usize::from(PLACES);
         Ok(CircuitMap {
@@ -86,7 +88,7 @@ impl<P: PathMap + Drop> CircuitMap<P> {
 }
 
 impl<P: PathMap> CircuitMap<P> {
-    /// The number of the next frame.
+    /// Returns the number of the next frame.
     pub fn next_frame(&self) -> u32
         ensures number { result ≡ self.now.next }
         ensures laid { IsLaid self.now }
@@ -94,7 +96,7 @@ impl<P: PathMap> CircuitMap<P> {
         self.next
     }
 
-    /// Whether no circuit names an external slot.
+    /// Returns whether no circuit uses an external slot.
     pub fn idle(&self, at: Slot) -> bool
         requires external { IsExternal self.now at }
         ensures silent { result ≡ is_none (hears_at self.now at) }
@@ -103,8 +105,8 @@ impl<P: PathMap> CircuitMap<P> {
         self.hears(at).is_none()
     }
 
-    /// The circuit by which an external slot hears: the direction of a connection that ends there,
-    /// its seat in a conference room, or its tone. `None` exactly where it is idle.
+    /// Returns the circuit by which an external slot receives: the direction of a connection that ends there, its
+    /// membership of a conference room, or its tone. `None` if and only if it is idle.
     pub fn hears(&self, at: Slot) -> Option<Circuit>
         requires external { IsExternal self.now at }
         ensures circuit { result ≡ hears_at self.now at }
@@ -114,7 +116,7 @@ impl<P: PathMap> CircuitMap<P> {
         self.heard[at.number()]
     }
 
-    /// Whether every conference port is taken: there are as many members as ports.
+    /// Returns whether every conference port is taken: the number of members equals the number of ports.
     pub fn is_full(&self) -> bool
         ensures { (h : Holding) (ports : Members) → Represents self.now h ports → result ≡ (count_by is_member h.circuits == 30 * self.now.bridges) }
     {
@@ -141,7 +143,7 @@ impl<P: PathMap> CircuitMap<P> {
 
     /// Connects two idle slots: x to y, and then y to x.
     ///
-    /// Answers how many live paths each of the two connects moved.
+    /// Returns the number of live paths that each of the two connects moved.
     pub fn pair(&mut self, x: Slot, y: Slot) -> (u32, u32)
         requires external_x { IsExternal self.old x }
         requires external_y { IsExternal self.old y }
@@ -176,11 +178,11 @@ impl<P: PathMap> CircuitMap<P> {
         moves
     }
 
-    /// Seats an idle slot in a conference room, at the lowest free port: connects the member to the
-    /// port, and then the port to the member.
+    /// Makes an idle slot a member of a conference room, at the lowest free port: connects the member to the port, and
+    /// then the port to the member.
     ///
-    /// Answers how many live paths each of the two connects moved. `NoPort` exactly where there are
-    /// as many members as ports; then nothing changes.
+    /// Returns the number of live paths that each of the two connects moved. Returns `NoPort` and changes nothing if
+    /// and only if every port is taken.
     pub fn seat(&mut self, x: Slot, room: u8) -> Result<(u32, u32), NoPort>
         requires external { IsExternal self.old x }
         requires idle { hears_at self.old x ≡ None }
@@ -210,7 +212,7 @@ impl<P: PathMap> CircuitMap<P> {
         Ok(moves)
     }
 
-    /// Takes away every circuit that names a slot, with its paths and its conference port.
+    /// Removes every circuit that uses a slot, with its paths and its conference port.
     pub fn clear(&mut self, x: Slot)
         requires external { IsExternal self.old x }
         ensures holds { Obeys self.old self.new (Clear x) }
@@ -230,10 +232,10 @@ impl<P: PathMap> CircuitMap<P> {
         }
     }
 
-    /// Writes the control memory of the next frame whole, and answers the frame's number.
+    /// Writes the whole control memory of the next frame, and returns the frame's number.
     ///
-    /// It has the paths' tables, what each slot and each port hears, and who sits in each port. The
-    /// next boundary has the next number.
+    /// It has the paths' tables, the source of each slot and port, and the member of each port. The next boundary has
+    /// the next number.
     pub fn boundary(&mut self, image: &mut Image) -> u32
         requires next { self.old.next < 4294967295 }
         requires external { image.old.external ≡ self.old.external }
@@ -257,7 +259,7 @@ impl<P: PathMap> CircuitMap<P> {
         frame
     }
 
-    // Takes away the tone of a slot, if it has one.
+    // Removes the tone of a slot, if it has one.
     fn silence(&mut self, x: Slot)
         requires external { IsExternal self.old x }
         requires pathless { is_pathless (hears_at self.old x) ≡ true }
@@ -275,7 +277,7 @@ impl<P: PathMap> CircuitMap<P> {
         self.hearing.set(at, Heard::Silent);
     }
 
-    // Takes down the connection of x with y, both ways.
+    // Releases the connection of x with y, both ways.
     fn release(&mut self, x: Slot, y: Slot)
         requires external { IsExternal self.old x }
         requires connected { (to : Slot) × (since : ℕ) × (hears_at self.old x ≡ Some (Circuit.Pair y to since)) }
@@ -296,7 +298,7 @@ impl<P: PathMap> CircuitMap<P> {
         self.hearing.set(at_y, Heard::Silent);
     }
 
-    // Takes a member out of its room, and its port back.
+    // Removes a member from its room, and frees its port.
     fn unseat(&mut self, x: Slot)
         requires external { IsExternal self.old x }
         requires seated { (room : ℕ) × (at : Slot) × (since : ℕ) × (hears_at self.old x ≡ Some (Circuit.Member room at since)) }

@@ -1,5 +1,5 @@
--- Bearer channels of a primary rate line. Source: ITU-T Q.931 (05/98), section 4.5.13 numbers a channel by its time slot;
--- ITU-T G.704, section 2.3, gives slots 0 and 16 to framing and signalling.
+-- Bearer channels of a primary rate line. Source: ITU-T Q.931 (05/98), section 4.5.13 numbers a channel by its time
+-- slot; ITU-T G.704, section 2.3, gives slots 0 and 16 to framing and signalling.
 use Rattle.std.specs.Prelude.{ℕ, ◌+◌, ◌-◌, ◌&&◌, Bool, nat_le, nat_lt, Option, Some, None, if◌then◌else◌}
 
 -- the number lies between two others, both included

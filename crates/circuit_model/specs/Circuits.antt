@@ -1,4 +1,4 @@
--- What a circuit names and who hears it. Source: this exchange's own.
+-- The slots that a circuit uses, and the slot that receives by it. Source: this project.
 use Rattle.std.specs.Prelude.{ℕ, ◌&&◌, ◌||◌, not, Bool, true, false, ◌==◌, List, Option, Some, None, find, if◌then◌else◌}
 use Rattle.std.specs.List.{list_any}
 use Rattle.circuit_model.specs.declared.channel.Slot.{Slot}
@@ -8,7 +8,7 @@ use Rattle.circuit_model.specs.declared.circuit.Circuit.TheVariants.{Pair, Membe
 abbrev pub same_slot : Slot → Slot → Bool
 same_slot x y = (x.line == y.line) && (x.place == y.place)
 
--- the slot that hears something by the circuit
+-- the slot that receives by the circuit
 abbrev pub listener : Circuit → Slot
 listener (Pair from to since) = to
 listener (Member room at since) = at
@@ -20,13 +20,13 @@ since_of (Pair from to since) = since
 since_of (Member room at since) = since
 since_of (Tone kind to since) = since
 
--- the circuit names the slot, as the one that hears or the one that is heard
+-- the circuit uses the slot, as receiver or as sender
 abbrev pub names : Slot → Circuit → Bool
 names x (Pair from to since) = same_slot x from || same_slot x to
 names x (Member room at since) = same_slot x at
 names x (Tone kind to since) = same_slot x to
 
--- no circuit names the slot
+-- no circuit uses the slot
 abbrev pub is_idle : List Circuit → Slot → Bool
 is_idle circuits x = not (list_any (names x) circuits)
 
@@ -35,16 +35,16 @@ is_member (Pair from to since) = false
 is_member (Member room at since) = true
 is_member (Tone kind to since) = false
 
--- the circuit by which a slot hears
+-- the circuit by which a slot receives
 abbrev pub heard_by : List Circuit → Slot → Option Circuit
 heard_by circuits x = find (λ c. same_slot x (listener c)) circuits
 
--- a circuit, unless it names the slot
+-- a circuit, unless it uses the slot
 abbrev pub unless_naming : Slot → Option Circuit → Option Circuit
 unless_naming x None = None
 unless_naming x (Some c) = if names x c then None else Some c
 
--- by what z hears once a new circuit exists, and once x and y are connected, where it heard by `before`
+-- the circuit by which z receives after a new circuit, or after x and y are connected, if it was `before`
 abbrev pub with_circuit : Circuit → Option Circuit → Slot → Option Circuit
 with_circuit c before z = if same_slot z (listener c) then Some c else before
 

@@ -1,7 +1,7 @@
--- How large an exchange is. Source: this exchange's own.
+-- The size of an exchange. Source: this project.
 use Rattle.std.specs.Prelude.{ℕ}
 
--- how many external lines, bridge lines and internal slots it has
+-- the numbers of external lines, bridge lines and internal slots
 pub record Dimensions : Type 0 where
   pub external : ℕ
   pub bridges : ℕ

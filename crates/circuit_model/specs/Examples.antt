@@ -1,4 +1,4 @@
--- Small worked exchanges, on which the definitions are evaluated. Each line sends on its first bearer channel alone.
+-- Small worked exchanges, on which the definitions are evaluated. Each line sends on its first bearer channel only.
 use Rattle.std.specs.Prelude.{ℕ, List, [], ◌∷◌, Some, None, map}
 use Rattle.circuit_model.specs.declared.channel.Slot.{Slot}
 use Rattle.circuit_model.specs.declared.circuit.Kind.{Kind}
@@ -20,7 +20,7 @@ abbrev pub some_tones : Kind → List ℕ
 some_tones Ringback = 0x11 ∷ 0x22 ∷ 0x33 ∷ []
 some_tones Busy = 0x44 ∷ []
 
--- what the first bearer channel of a line hears in frame f, after these commands over these inputs
+-- the octet that the first bearer channel of a line receives in frame f, after these commands over these inputs
 abbrev pub hears_on : List Input → List Command → ℕ → ℕ → ℕ
 hears_on inputs commands f line = hears some_tones inputs (frames empty commands) f (first line)
 
@@ -46,7 +46,7 @@ a_room = Seat (first 0) 0 ∷ Seat (first 1) 0 ∷ Seat (first 2) 0 ∷ Frame �
 abbrev pub loud_lines : List Input
 loud_lines = input_of (0xAA ∷ 0xAA ∷ 0xAA ∷ []) ∷ input_of (0xAA ∷ 0xAA ∷ 0x2A ∷ []) ∷ input_of (0xAA ∷ 0xAA ∷ 0x2A ∷ []) ∷ []
 
--- a member alone, and two members of a room
+-- a member without others, and two members of a room
 abbrev pub alone : List Command
 alone = Seat (first 0) 5 ∷ Frame ∷ Frame ∷ Frame ∷ Frame ∷ Frame ∷ Frame ∷ []
 
@@ -64,7 +64,7 @@ a_tone = Frame ∷ Give_tone (first 0) Ringback ∷ Frame ∷ Frame ∷ Frame �
 abbrev pub a_late_connection : List Command
 a_late_connection = Frame ∷ Frame ∷ Connect (first 0) (first 1) ∷ Frame ∷ Frame ∷ Frame ∷ []
 
--- a connection taken down and made anew between frames 1 and 2
+-- a connection taken down and made again between frames 1 and 2
 abbrev pub a_renewed_connection : List Command
 a_renewed_connection = Connect (first 0) (first 1) ∷ Frame ∷ Frame ∷ Clear (first 1) ∷ Connect (first 0) (first 1) ∷ Frame ∷ Frame ∷ Frame ∷ []
 
@@ -91,10 +91,10 @@ a_full_room = Seat (first 0) 0 ∷ Seat (first 1) 0 ∷ Seat (first 2) 0 ∷ Sea
 abbrev pub loud_and_low : List Input
 loud_and_low = input_of (0xD5 ∷ 0xAA ∷ 0xAA ∷ 0x2A ∷ []) ∷ []
 
--- a tone of one octet, and another one given in its place between frames 1 and 2
+-- a tone of one octet, and another one that replaces it between frames 1 and 2
 abbrev pub two_tones : List Command
 two_tones = Give_tone (first 0) Busy ∷ Frame ∷ Frame ∷ Clear (first 0) ∷ Give_tone (first 0) Ringback ∷ Frame ∷ Frame ∷ Clear (first 0) ∷ Give_tone (first 0) Ringback ∷ Frame ∷ Frame ∷ []
 
--- what a line hears in frames 0, 1, ..
+-- the octets that a line receives in frames 0, 1, ..
 abbrev pub heard_in_frames : List Input → List Command → ℕ → List ℕ → List ℕ
 heard_in_frames inputs commands line fs = map (λ f. hears_on inputs commands f line) fs

@@ -1,4 +1,5 @@
--- The slots of the external lines, which circuits connect. Source: this exchange's own; ports of bridge lines are given, and named by no command.
+-- The slots of the external lines, which circuits connect. Source: this project; the exchange allocates ports of bridge
+-- lines, and no command refers to one.
 use Rattle.std.specs.Prelude.{ℕ, ◌<◌, List, [], ◌∷◌}
 use Rattle.circuit_model.specs.declared.channel.Slot.{Slot}
 use Rattle.circuit_model.specs.declared.circuit.Circuit.{Circuit}
@@ -9,7 +10,7 @@ use Rattle.circuit_model.specs.Holding.{Command, Connect, Seat, Give_tone, Clear
 abbrev pub IsExternal : ℕ → Slot → Type 0
 IsExternal lines x = (x.line < lines) × (x.place < 30)
 
--- a command, and a circuit, that names such slots alone
+-- a command, or a circuit, that uses such slots only
 abbrev pub CommandWithin : ℕ → Command → Type 0
 CommandWithin lines (Connect x y) = IsExternal lines x × IsExternal lines y
 CommandWithin lines (Seat x room) = IsExternal lines x
@@ -22,7 +23,7 @@ NamesWithin lines (Pair x y since) = IsExternal lines x × IsExternal lines y
 NamesWithin lines (Member room x since) = IsExternal lines x
 NamesWithin lines (Tone kind x since) = IsExternal lines x
 
--- so does each of the commands
+-- each of the commands uses such slots only
 abbrev pub AreWithin : ℕ → List Command → Type 0
 AreWithin lines [] = Unit {0}
 AreWithin lines (c ∷ cs) = CommandWithin lines c × AreWithin lines cs

@@ -1,5 +1,5 @@
--- The circuits that exist, and what the commands make of them. Source: this exchange's own; the terms connection, room member and tone
--- come from circuit switching (ITU-T Q.9).
+-- The circuits that exist, and their change by commands. Source: this project; the terms connection, room member and
+-- tone come from circuit switching (ITU-T Q.9).
 use Rattle.std.specs.Prelude.{◌≡◌, ℕ, ◌+◌, ◌*◌, ◌≤◌, ◌<◌, ◌⊎◌, IsTrue, not, List, [], ◌∷◌, ◌++◌, filter, All, count_by, slice_index_or, Option, Some}
 use Rattle.circuit_model.specs.declared.channel.Slot.{Slot}
 use Rattle.circuit_model.specs.declared.circuit.Kind.{Kind}
@@ -7,7 +7,8 @@ use Rattle.circuit_model.specs.declared.circuit.Circuit.{Circuit}
 use Rattle.circuit_model.specs.declared.circuit.Circuit.TheVariants.{Pair, Member, Tone}
 use Rattle.circuit_model.specs.Circuits.{names, is_idle, is_member, since_of, heard_by}
 
--- the circuits that exist, a list that is read as a set, and the number of the next frame
+-- the circuits that exist, and the number of the next frame; the circuits are a list that is read as a set, since lists
+-- compute and no definition depends on the order of a valid holding (`law_of_one_circuit`)
 pub record Holding : Type 0 where
   pub circuits : List Circuit
   pub next : ℕ
@@ -23,7 +24,7 @@ pub data Command : Type 0 where
   Clear : (x : Slot) → Command
   Frame : Command
 
--- what a command makes of a holding. A circuit exists from the next frame on; a frame's boundary changes the number alone
+-- the holding after a command: a circuit exists from the next frame on, and a frame's boundary changes the number only
 abbrev pub after : Holding → Command → Holding
 after h (Connect x y) = record h { circuits = h.circuits ++ Pair x y h.next ∷ Pair y x h.next ∷ [] }
 after h (Seat x room) = record h { circuits = h.circuits ++ Member room x h.next ∷ [] }
@@ -44,34 +45,34 @@ frames h (Give_tone x kind ∷ cs) = frames (after h (Give_tone x kind)) cs
 frames h (Clear x ∷ cs) = frames (after h (Clear x)) cs
 frames h (Frame ∷ cs) = h.circuits ∷ frames (after h Frame) cs
 
--- the circuits of frame f of those listed; none where there is no such frame
+-- the circuits of frame f of those listed; none if there is no such frame
 abbrev pub circuits_of : List (List Circuit) → ℕ → List Circuit
 circuits_of held f = slice_index_or held f []
 
--- the circuits that existed in frame f of these commands, and the holding that they make at its boundary
+-- the circuits of frame f of these commands, and the holding at its boundary
 abbrev pub circuits_in_frame : List Command → ℕ → List Circuit
 circuits_in_frame cs f = circuits_of (frames empty cs) f
 
 abbrev pub held_in : List Command → ℕ → Holding
 held_in cs f = record { circuits = circuits_in_frame cs f; next = f }
 
--- the circuit by which a slot hears in a holding
+-- the circuit by which a slot receives in a holding
 abbrev pub hears_by : Holding → Slot → Option Circuit
 hears_by h x = heard_by h.circuits x
 
--- by what each slot hears after a command, from that by which it heard before
+-- the circuit by which each slot receives after a command, from its circuit before
 abbrev pub HearsAfter : Holding → Command → (Option Circuit → Slot → Option Circuit) → Type 0
 HearsAfter h c now = (z : Slot) → hears_by (after h c) z ≡ now (hears_by h z) z
 
--- slot x hears y, since some frame
+-- slot x receives from y, since some frame
 abbrev pub HearsSlot : Holding → Slot → Slot → ℕ → Type 0
 HearsSlot h x y since = hears_by h x ≡ Some (Pair y x since)
 
--- how many members there are
+-- the number of members
 abbrev pub members_of : Holding → ℕ
 members_of h = count_by is_member h.circuits
 
--- a slot is idle; it hears by a seat since some frame; it hears by none
+-- a slot is idle; it receives as a member of a room since some frame; it receives by no circuit
 abbrev pub IsIdle : Holding → Slot → Type 0
 IsIdle h x = IsTrue (is_idle h.circuits x)
 
@@ -81,7 +82,7 @@ IsMember h x = (room since : ℕ) × (hears_by h x ≡ Some (Member room x since
 abbrev pub IsNoMember : Holding → Slot → Type 0
 IsNoMember h x = (room since : ℕ) → ¬ (hears_by h x ≡ Some (Member room x since))
 
--- all that names a slot
+-- all circuits that use a slot
 abbrev pub circuits_naming : List Circuit → Slot → List Circuit
 circuits_naming circuits x = filter (names x) circuits
 
@@ -92,13 +93,15 @@ pub data Stands (circuits : List Circuit) (x : Slot) : Type 0 where
   Is_seated : (room since : ℕ) → circuits_naming circuits x ≡ Member room x since ∷ [] → Stands circuits x
   Is_connected : (y : Slot) (since : ℕ) → ¬ (y ≡ x) → (circuits_naming circuits x ≡ Pair x y since ∷ Pair y x since ∷ []) ⊎ (circuits_naming circuits x ≡ Pair y x since ∷ Pair x y since ∷ []) → Stands circuits x
 
--- a holding of an exchange with n bridge lines: no circuit is younger than the next frame, each member finds a port, and each slot is in one state
+-- a holding of an exchange with n bridge lines: no circuit is younger than the next frame, each member finds a port,
+-- and each slot, external or not, is in one state, so that the theorems need no number of external lines
 pub record Valid (bridges : ℕ) (h : Holding) : Type 0 where
   pub young : All (λ c. since_of c ≤ h.next) h.circuits
   pub seated : count_by is_member h.circuits ≤ 30 * bridges
   pub standing : (x : Slot) → Stands h.circuits x
 
--- what a command asks of the holding that it acts on: idle slots, two different ones for a connection, and a free port for a member
+-- the requirements of a command on its holding: idle slots, two different ones for a connection, and a free port for a
+-- member
 abbrev pub IsAllowed : ℕ → Holding → Command → Type 0
 IsAllowed bridges h (Connect x y) = ¬ (x ≡ y) × IsTrue (is_idle h.circuits x) × IsTrue (is_idle h.circuits y)
 IsAllowed bridges h (Seat x room) = IsTrue (is_idle h.circuits x) × (count_by is_member h.circuits < 30 * bridges)
@@ -106,7 +109,7 @@ IsAllowed bridges h (Give_tone x kind) = IsTrue (is_idle h.circuits x)
 IsAllowed bridges h (Clear x) = Unit {0}
 IsAllowed bridges h Frame = Unit {0}
 
--- each of the commands is allowed where its turn comes
+-- each of the commands is allowed after the commands before it
 abbrev pub AreAllowed : ℕ → Holding → List Command → Type 0
 AreAllowed bridges h [] = Unit {0}
 AreAllowed bridges h (c ∷ cs) = IsAllowed bridges h c × AreAllowed bridges (after h c) cs

@@ -1,4 +1,4 @@
--- The ports of the conference bridges, and which member has which. Source: this exchange's own.
+-- The ports of the conference bridges, and their members. Source: this project.
 use Rattle.std.specs.Prelude.{◌≡◌, ◌<◌, Contains, ℕ, ℤ, pos, ◌+◌, ◌+ℤ◌, ◌-◌, ◌*◌, ◌/◌, ◌%◌, Bool, false, List, [], ◌∷◌, map, replicate, Option, Some, None, option_map, position, slice_index_or, if◌then◌else◌}
 use Rattle.circuit_model.specs.declared.channel.Slot.{Slot}
 use Rattle.circuit_model.specs.declared.circuit.Circuit.{Circuit}
@@ -10,7 +10,7 @@ use Rattle.circuit_model.specs.Holding.{Command, Connect, Seat, Give_tone, Clear
 abbrev pub Ports : Type 0
 Ports = List (Option Slot)
 
--- thirty ports to a bridge line, all free
+-- 30 ports to a bridge line, all free
 abbrev pub free_ports : ℕ → Ports
 free_ports bridges = replicate (30 * bridges) None
 
@@ -28,7 +28,7 @@ has x (Some member) = same_slot x member
 abbrev pub ports_without : Slot → Ports → Ports
 ports_without x ports = map (λ port. if has x port then None else port) ports
 
--- what a command makes of the ports
+-- the ports after a command
 abbrev pub ports_after : Ports → Command → Ports
 ports_after ports (Connect x y) = ports
 ports_after ports (Seat x room) = ports_with x ports
@@ -36,7 +36,7 @@ ports_after ports (Give_tone x kind) = ports
 ports_after ports (Clear x) = ports_without x ports
 ports_after ports Frame = ports
 
--- the ports of each frame: as they were at its boundary
+-- the ports of each frame, at its boundary
 abbrev pub port_frames : Ports → List Command → List Ports
 port_frames ports [] = []
 port_frames ports (Connect x y ∷ cs) = port_frames ports cs
@@ -45,7 +45,7 @@ port_frames ports (Give_tone x kind ∷ cs) = port_frames ports cs
 port_frames ports (Clear x ∷ cs) = port_frames (ports_without x ports) cs
 port_frames ports (Frame ∷ cs) = ports ∷ port_frames ports cs
 
--- bridge lines are numbered behind the external ones
+-- bridge lines are numbered after the external ones
 abbrev pub port_numbered : ℕ → ℕ → Slot
 port_numbered external n = record { line = external + n / 30; place = n % 30 }
 
@@ -53,7 +53,7 @@ port_numbered external n = record { line = external + n / 30; place = n % 30 }
 abbrev pub port_of : ℕ → Ports → Slot → Option Slot
 port_of external ports x = option_map (port_numbered external) (position (has x) ports)
 
--- the ports of frame f of those listed; none where there is no such frame
+-- the ports of frame f of those listed; none if there is no such frame
 abbrev pub ports_of : List Ports → ℕ → Ports
 ports_of ports f = slice_index_or ports f []
 
@@ -75,29 +75,29 @@ HaveOneEach ports = (j k : ℕ) (x : Slot) → owner_of ports j ≡ Some x → o
 abbrev pub KeepsPort : Ports → Ports → Slot → Type 0
 KeepsPort before now x = (k : ℕ) → owner_of before k ≡ Some x → owner_of now k ≡ Some x
 
--- a member of frame f of these commands has in it the port that it had in the frame before
+-- a member of frame f of these commands has the same port in it as in the frame before
 abbrev pub KeepsItsPort : ℕ → List Command → ℕ → Slot → Type 0
 KeepsItsPort bridges cs f x = KeepsPort (ports_in bridges cs (f - 1)) (ports_in bridges cs f) x
 
--- a slot sits in some room
+-- a slot is a member of some room
 abbrev pub HasSeat : List Circuit → Slot → Type 0
 HasSeat circuits x = (room since : ℕ) × Contains circuits (Member room x since)
 
--- and has since an earlier frame than this one
+-- a slot has been a member of some room since an earlier frame than this one
 abbrev pub HasSeatBefore : ℕ → List Circuit → Slot → Type 0
 HasSeatBefore f circuits x = (room since : ℕ) × Contains circuits (Member room x since) × (since < f)
 
--- so much holds of the circuits and the ports of each frame of allowed commands
+-- a condition on the circuits and the ports of each frame of allowed commands
 abbrev pub InEachFrame : ℕ → (List Circuit → Ports → Type 0) → Type 0
 InEachFrame bridges holds = (cs : List Command) (f : ℕ) → AreAllowed bridges empty cs → holds (circuits_in_frame cs f) (ports_in bridges cs f)
 
--- what the members who have ports add up to, each by its weight
+-- the sum of the weights of the members who have ports
 abbrev pub sum_of_owners : (Slot → ℤ) → Ports → ℤ
 sum_of_owners weight [] = pos 0
 sum_of_owners weight (None ∷ ports) = sum_of_owners weight ports
 sum_of_owners weight (Some x ∷ ports) = weight x +ℤ sum_of_owners weight ports
 
--- what the members among some circuits add up to, each by its weight
+-- the sum of the weights of the members among some circuits
 abbrev pub sum_of_members : (Slot → ℤ) → List Circuit → ℤ
 sum_of_members weight [] = pos 0
 sum_of_members weight (Pair from to since ∷ circuits) = sum_of_members weight circuits

@@ -3,14 +3,13 @@
 ghost use Rattle.std.specs.Prelude.{◌≡◌, ◌<◌, ◌+◌, ◌*◌};
 ghost use Rattle.circuit_model.specs.Channels.{place_of, channel_at};
 
-/// How many bearer channels a primary rate line carries: time slots 1 to 15 and 17 to 31 of its
-/// thirty-two. Slot 0 carries framing and slot 16 the D channel (ITU-T G.704, section 2.3; Q.931
-/// numbers the channels by their time slot).
+/// The number of bearer channels of a primary rate line: time slots 1 to 15 and 17 to 31 of its 32. Slot 0 carries
+/// framing and slot 16 the D channel (ITU-T G.704, section 2.3; Q.931 numbers the channels by their time slot).
 pub const PLACES: u8 = 30;
 
-/// A bearer channel of the exchange: a line, and the place of the channel among the line's thirty.
+/// A bearer channel of the exchange: a line, and the place of the channel among the 30 of the line.
 ///
-/// Places count from 0 to 29, so that a frame of a line is a row of thirty octets.
+/// Places count from 0 to 29, so that a frame of a line is a row of 30 octets.
 #[derive(Clone, Copy, Debug, PartialEq, Eq)]
 pub struct Slot {
     /// The line, counted from 0. External lines come first, bridge lines after them.
@@ -20,8 +19,7 @@ pub struct Slot {
 }
 
 impl Slot {
-    /// The number of the slot among the slots of all lines: thirty places to a line, line after line.
-    /// A table with an entry for each slot has it there.
+    /// Returns the index of the slot among the slots of all lines: 30 places to a line, line after line.
     pub fn number(self) -> usize
         ensures { result ≡ 30 * self.line + self.place }
     {
@@ -29,9 +27,9 @@ impl Slot {
     }
 }
 
-/// The place of the bearer channel with the given time slot number.
+/// Returns the place of the bearer channel with the given time slot number.
 ///
-/// `None` exactly for a number that carries no bearer: 0 (framing), 16 (D channel), and from 32 on.
+/// Returns `None` if and only if the number carries no bearer: 0 (framing), 16 (D channel), and from 32 on.
 pub fn slot_of_channel(channel: u8) -> Option<u8>
     ensures { result ≡ place_of channel }
 {
@@ -42,7 +40,7 @@ pub fn slot_of_channel(channel: u8) -> Option<u8>
     }
 }
 
-/// The time slot number of the bearer channel at a place of a line.
+/// Returns the time slot number of the bearer channel at a place of a line.
 pub fn channel_of(place: u8) -> u8
     requires { place < 30 }
     ensures { result ≡ channel_at place }

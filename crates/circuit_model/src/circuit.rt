@@ -1,4 +1,4 @@
-//! Circuits: who hears whom, since when, and the kinds of tones.
+//! Circuits: the slots that they connect, their first frames, and the kinds of tones.
 
 use crate::channel::Slot;
 
@@ -16,15 +16,15 @@ pub enum Kind {
     Busy,
 }
 
-/// What the exchange connects: one direction of a connection, a conference member, or a tone.
+/// A circuit of the exchange: one direction of a connection, a conference member, or a tone.
 ///
 /// `since` is the number of the first frame that the circuit exists in.
 #[derive(Clone, Copy, Debug, PartialEq, Eq)]
 pub enum Circuit {
-    /// `to` hears `from`. A two-way connection is two of these.
+    /// `to` receives the octets of `from`. A two-way connection is two of these.
     Pair { from: Slot, to: Slot, since: u32 },
-    /// `at` sits in the conference room `room`.
+    /// `at` is a member of the conference room `room`.
     Member { room: u8, at: Slot, since: u32 },
-    /// `to` hears a tone.
+    /// `to` receives a tone.
     Tone { kind: Kind, to: Slot, since: u32 },
 }

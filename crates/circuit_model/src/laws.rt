@@ -1,4 +1,4 @@
-//! The law of age, and the definitions of what a slot hears evaluated on small exchanges.
+//! The theorem of age, and the definitions of received octets, evaluated on small exchanges.
 
 ghost use Rattle.std.specs.Prelude.{◌≡◌, ◌<◌, ◌-◌, ℕ, List, [], ◌∷◌, length, map, pos, negsuc, slice_index, Contains};
 ghost use Rattle.circuit_model.specs.declared.circuit.Circuit.{Circuit};
@@ -8,17 +8,17 @@ ghost use Rattle.circuit_model.specs.ALaw.{decision_values, expand, compress};
 ghost use Rattle.circuit_model.specs.Hears.{hears};
 ghost use Rattle.circuit_model.specs.Examples.{first, heard_in_frames, a_connection, two_lines, a_reused_slot, three_lines, a_room, loud_lines, alone, a_pair_of_members, soft_lines, a_tone, a_late_connection, a_renewed_connection, quiet_lines, a_changing_room, counting_lines, two_rooms, a_full_room, loud_and_low, two_tones};
 
-/// The law of age: after any commands, a circuit that exists in frame `f` since an earlier frame
-/// existed in frame `f - 1` too.
+/// Theorem of age: after any commands, a circuit that exists in frame `f` since an earlier frame existed in frame
+/// `f - 1` too.
 ///
-/// So an octet that crossed in the frame before, by a circuit that is heard now, was sent by it.
+/// An octet that crossed in the frame before, by a circuit that a slot receives by, was therefore sent by that circuit.
 pub fn law_of_age()
     ensures { (cs : List Command) (f : ℕ) (c : Circuit) → Contains (circuits_in_frame cs f) c → since_of c < f → Contains (circuits_in_frame cs (f - 1)) c }
 {}
 
-/// The definitions of what a slot hears, evaluated on small exchanges: octets pass after exactly
-/// two frames, a slot taken anew lets nothing of the old connection through, a room is summed
-/// without the listener and coded once, and a tone begins with the first frame that it exists in.
+/// The definitions of received octets, evaluated on small exchanges: octets pass after two frames, a reused slot lets
+/// no octet of the old connection through, a room is summed without the receiver and coded once, and a tone begins with
+/// the first frame that it exists in.
 pub fn worked_frames()
     ensures delay { heard_in_frames two_lines a_connection 1 (0 ∷ 1 ∷ 2 ∷ 3 ∷ 4 ∷ []) ≡ 0xD5 ∷ 0xD5 ∷ 0x01 ∷ 0x02 ∷ 0x03 ∷ [] }
     ensures other_way { heard_in_frames two_lines a_connection 0 (0 ∷ 1 ∷ 2 ∷ 3 ∷ 4 ∷ []) ≡ 0xD5 ∷ 0xD5 ∷ 0x81 ∷ 0x82 ∷ 0x83 ∷ [] }
@@ -32,13 +32,12 @@ pub fn worked_frames()
     ensures tone { heard_in_frames [] a_tone 0 (0 ∷ 1 ∷ 2 ∷ 3 ∷ 4 ∷ 5 ∷ []) ≡ 0xD5 ∷ 0x11 ∷ 0x22 ∷ 0x33 ∷ 0x11 ∷ 0xD5 ∷ [] }
 {}
 
-/// Edges of the definitions of what a slot hears: connections made late or anew, lines that send
-/// nothing, members who come and go while the others stay, and sums whose parts pass the highest
-/// value though the whole does not.
+/// Boundary cases of received octets: connections made late or again, lines that send nothing, members who join and
+/// leave while the others stay, and sums whose parts pass the highest value though the total does not.
 ///
-/// A newcomer hears the room two frames after taking the seat, and is heard four frames after it;
-/// what a member sent before leaving is still heard for two frames, since it is mixed already. A
-/// member whose line sends nothing counts as the idle octet, whose value is 1.
+/// A new member receives the room's mix two frames after it joins, and is heard four frames after it joins. A member
+/// that left is heard for two more frames, since its octets are already mixed. A member whose line sends nothing counts
+/// as the idle octet, whose value is 1.
 pub fn worked_edges()
     ensures late { heard_in_frames two_lines a_late_connection 1 (0 ∷ 1 ∷ 2 ∷ 3 ∷ 4 ∷ []) ≡ 0xD5 ∷ 0xD5 ∷ 0xD5 ∷ 0xD5 ∷ 0x03 ∷ [] }
     ensures renewed { heard_in_frames two_lines a_renewed_connection 1 (0 ∷ 1 ∷ 2 ∷ 3 ∷ 4 ∷ []) ≡ 0xD5 ∷ 0xD5 ∷ 0xD5 ∷ 0xD5 ∷ 0x03 ∷ [] }
@@ -52,8 +51,8 @@ pub fn worked_edges()
     ensures tones { heard_in_frames [] two_tones 0 (0 ∷ 1 ∷ 2 ∷ 3 ∷ 4 ∷ 5 ∷ []) ≡ 0x44 ∷ 0x44 ∷ 0x11 ∷ 0x22 ∷ 0x11 ∷ 0x22 ∷ [] }
 {}
 
-/// The A-law definitions, evaluated: how many decision values there are and the last of them, the
-/// ends of the first interval and of the last, zero, ties, and values beyond the last decision value.
+/// The A-law definitions, evaluated: the number of decision values and the last of them, the ends of the first interval
+/// and of the last, zero, ties, and values beyond the last decision value.
 pub fn worked_values()
     ensures count { length decision_values ≡ 129 }
     ensures last { slice_index decision_values 128 ≡ 4096 }

@@ -1,15 +1,12 @@
-//! The words of the exchange: slots, circuits, and what a slot hears.
+//! Defines slots, circuits, and the octet that a slot receives in each frame.
 //!
-//! The types here are plain data. Which octet a slot hears in a frame is defined in `specs/`, and
-//! the crates above cite those definitions in their contracts.
+//! The types here are plain data. `specs/` defines the octet that a slot receives in a frame, and the crates above cite
+//! those definitions in their contracts.
 //!
-//! - What exists in a frame since an earlier one existed in the frame before ([`law_of_age`]).
-//! - Holdings stay valid under allowed commands ([`law_of_validity`]), each slot hears by one
-//!   circuit at most ([`law_of_one_circuit`]), and [`law_of_commands`] says whom it hears after
-//!   each command.
-//! - Each member of a room has a port of its own ([`law_of_ports`]).
-//!
-//! It uses no other crate.
+//! - A circuit that exists in a frame since an earlier one existed in the frame before ([`law_of_age`]).
+//! - Holdings stay valid under allowed commands ([`law_of_validity`]). Each slot receives by one circuit at most
+//!   ([`law_of_one_circuit`]). [`law_of_commands`] gives the circuit by which it receives after each command.
+//! - Each member of a room has its own port ([`law_of_ports`]).
 #![tactic(auto)]
 
 mod channel;

@@ -1,5 +1,6 @@
--- The restart procedure: what a RESTART asks for, and the message that acknowledges it (ITU-T Q.931 (05/98), 5.5, 3.4.1 and 3.4.2). Which
--- RESTART is taken is this exchange's own profile: one channel or all of the line, and others are ignored.
+-- The restart procedure: the channels that a RESTART requests, and the message that acknowledges it. Source: ITU-T
+-- Q.931 (05/98), 5.5, 3.4.1 and 3.4.2, in this project's profile: a restart is of one channel or of all of the line,
+-- and others are ignored.
 use Rattle.std.specs.Prelude.{ℕ, ◌<◌, ◌==◌, ◌&&◌, ◌||◌, not, Bool, true, false, Option, Some, None, option_map, option_and_then, if◌then◌else◌}
 use Rattle.circuit_model.specs.Channels.{place_of, channel_at}
 use Rattle.q931_codec.specs.declared.contents.ChannelIdentification.{ChannelIdentification}
@@ -17,20 +18,20 @@ use Rattle.clearing_rules.specs.declared.scope.Restart.TheVariants.{Channel, Int
 abbrev pub global_call_reference : ℕ
 global_call_reference = 0
 
--- ---- what is asked for
+-- ---- the restart that is requested
 
--- a channel identification names one channel, alone or as preferred; "any channel" names none (4.5.13)
+-- a channel identification contains one channel, exclusive or preferred; "any channel" contains none (4.5.13)
 abbrev pub channel_named : ChannelIdentification → Option ℕ
 channel_named Any = None
 channel_named (Preferred channel) = Some channel
 channel_named (Exclusive channel) = Some channel
 channel_named Invalid = None
 
--- the place on the line of the channel that a message names
+-- the place on the line of the channel in a message
 abbrev pub place_named : Message → Option ℕ
 place_named m = option_and_then place_of (option_and_then channel_named (channel_in m.elements))
 
--- what a restart of this class is of: the channel that the message names, or all channels of the line (4.5.25)
+-- the restart of this class: of the channel in the message, or of all channels of the line (4.5.25)
 abbrev pub restart_of_class : Message → ℕ → Option Restart
 restart_of_class m class =
     if class == indicated_channels then option_map Channel (place_named m)
@@ -44,7 +45,7 @@ is_restart _ = false
 abbrev pub begins_restart : Message → Bool
 begins_restart m = is_restart m.kind && not m.flag && m.reference == global_call_reference
 
--- what a message asks to be restarted; nothing where it is no RESTART that is taken
+-- the restart that a message requests; none if it is not an accepted RESTART
 abbrev pub restart_asked : Message → Option Restart
 restart_asked m = if begins_restart m then option_and_then (restart_of_class m) (restart_in m.elements) else None
 
@@ -54,14 +55,14 @@ abbrev pub is_restarted : Restart → ℕ → Bool
 is_restarted (Channel restarted) place = place == restarted
 is_restarted (Interface class) place = true
 
--- the channel that is restarted has one of the thirty places of a line
+-- the channel that is restarted has one of the 30 places of a line
 abbrev pub IsOnLine : Restart → Type 0
 IsOnLine (Channel place) = place < 30
 IsOnLine (Interface class) = Unit {0}
 
 -- ---- the acknowledgement
 
--- RESTART ACKNOWLEDGE: towards the side that chose the call reference, with what was asked for (5.5.2)
+-- RESTART ACKNOWLEDGE: towards the side that chose the call reference, with the restart that was requested (5.5.2)
 abbrev pub acknowledge : OutgoingMessage
 acknowledge = bare true global_call_reference kind.RestartAcknowledge
 

@@ -1,5 +1,5 @@
--- What answers a message whose call reference names no call (ITU-T Q.931 (05/98), 5.8.3.2 and 5.8.10). Which message is answered by which is
--- this exchange's own profile of these sections.
+-- The reply to a message whose call reference has no call. Source: ITU-T Q.931 (05/98), 5.8.3.2 and 5.8.10, in this
+-- project's profile of these sections.
 use Rattle.std.specs.Prelude.{not, ◌==◌, Option, Some, None, if◌then◌else◌}
 use Rattle.q931_codec.specs.declared.kind.MessageKind.{MessageKind}
 use Rattle.q931_codec.specs.declared.kind.MessageKind.TheVariants as kind
@@ -17,12 +17,12 @@ message_back m type = bare (not m.flag) m.reference type
 abbrev pub null_status : Message → OutgoingMessage
 null_status m = record (message_back m kind.Status) { cause = Some response_to_status_enquiry; state = Some null }
 
--- RELEASE COMPLETE: the call reference is no call's
+-- RELEASE COMPLETE: the call reference has no call
 abbrev pub no_such_reference : Message → OutgoingMessage
 no_such_reference m = record (message_back m kind.ReleaseComplete) { cause = Some invalid_call_reference }
 
--- the answer, by the message's type. A SETUP from the side that chose the call reference asks for a call, which other rules answer; one
--- from the other side is ignored
+-- the reply, by the message's type; a SETUP from the side that chose the call reference requests a call, to which other
+-- rules reply, and one from the other side is ignored
 abbrev pub answer_to_type : Message → MessageKind → Option OutgoingMessage
 answer_to_type m kind.Setup = None
 answer_to_type m kind.ReleaseComplete = None
@@ -30,6 +30,6 @@ answer_to_type m kind.Status = None
 answer_to_type m kind.StatusEnquiry = Some (null_status m)
 answer_to_type m _ = Some (no_such_reference m)
 
--- on the global call reference nothing is answered by these rules: it names no call, and what a RESTART asks for there has rules of its own
+-- on the global call reference these rules give no reply: it has no call, and a RESTART there has separate rules
 abbrev pub answer_without_call : Message → Option OutgoingMessage
 answer_without_call m = if m.reference == global_call_reference then None else answer_to_type m m.kind

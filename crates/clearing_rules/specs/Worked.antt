@@ -1,4 +1,4 @@
--- The definitions from octets to octets, and worked messages. Source: this exchange's own.
+-- The definitions from octets to octets, and worked messages. Source: this project.
 use Rattle.std.specs.Prelude.{ℕ, List, [], ◌∷◌, Option, None, option_map, Result, Ok, Err}
 use Rattle.q931_codec.specs.declared.message.Message.{Message}
 use Rattle.q931_codec.specs.declared.message.Discard.{Discard}
@@ -12,7 +12,7 @@ abbrev pub answer_to_read : Result Message Discard → Option (List ℕ)
 answer_to_read (Ok m) = option_map encoding (answer_without_call m)
 answer_to_read (Err why) = None
 
--- the octets that answer these where they are on no call, if any do
+-- the octets of the reply to these octets if they are on no call, if there is a reply
 abbrev pub answer_to_octets : List ℕ → Option (List ℕ)
 answer_to_octets octets = answer_to_read (reading octets)
 
@@ -20,7 +20,7 @@ abbrev pub restart_read : Result Message Discard → Option Restart
 restart_read (Ok m) = restart_asked m
 restart_read (Err why) = None
 
--- what these octets ask to be restarted, and the octets that acknowledge it
+-- the restart that these octets request, and the octets that acknowledge it
 abbrev pub restart_in_octets : List ℕ → Option Restart
 restart_in_octets octets = restart_read (reading octets)
 
@@ -29,7 +29,7 @@ acknowledgement_of_octets octets = option_map (λ r. encoding (acknowledgement r
 
 -- ---- worked messages
 
--- on call references that name no call: from the side that chose it and from the other one
+-- on call references without a call: from the side that chose it and from the other one
 abbrev pub enquiry : List ℕ
 enquiry = 0x08 ∷ 0x02 ∷ 0x00 ∷ 0x01 ∷ 0x75 ∷ []
 
@@ -60,7 +60,7 @@ status = 0x08 ∷ 0x02 ∷ 0x00 ∷ 0x01 ∷ 0x7D ∷ 0x14 ∷ 0x01 ∷ 0x0A ∷
 abbrev pub setup_from_called : List ℕ
 setup_from_called = 0x08 ∷ 0x02 ∷ 0x80 ∷ 0x01 ∷ 0x05 ∷ []
 
--- what answers them: STATUS with cause 30 and state 0, RELEASE COMPLETE with cause 81
+-- their replies: STATUS with cause 30 and state 0, RELEASE COMPLETE with cause 81
 abbrev pub no_call : List ℕ
 no_call = 0x08 ∷ 0x02 ∷ 0x80 ∷ 0x01 ∷ 0x7D ∷ 0x08 ∷ 0x02 ∷ 0x82 ∷ 0x9E ∷ 0x14 ∷ 0x01 ∷ 0x00 ∷ []
 
@@ -73,7 +73,7 @@ invalid_reference = 0x08 ∷ 0x02 ∷ 0x80 ∷ 0x01 ∷ 0x5A ∷ 0x08 ∷ 0x02 �
 abbrev pub invalid_reference_to_called : List ℕ
 invalid_reference_to_called = 0x08 ∷ 0x02 ∷ 0x00 ∷ 0x01 ∷ 0x5A ∷ 0x08 ∷ 0x02 ∷ 0x82 ∷ 0xD1 ∷ []
 
--- RESTARTs that are taken: of an interface, of all, of channels 1, 17 and 31, the last one as preferred
+-- accepted RESTARTs: of an interface, of all, of channels 1, 17 and 31, the last one as preferred
 abbrev pub restart_interface : List ℕ
 restart_interface = 0x08 ∷ 0x02 ∷ 0x00 ∷ 0x00 ∷ 0x46 ∷ 0x79 ∷ 0x01 ∷ 0x86 ∷ []
 
@@ -89,7 +89,8 @@ restart_17 = 0x08 ∷ 0x02 ∷ 0x00 ∷ 0x00 ∷ 0x46 ∷ 0x18 ∷ 0x03 ∷ 0xA9
 abbrev pub restart_31 : List ℕ
 restart_31 = 0x08 ∷ 0x02 ∷ 0x00 ∷ 0x00 ∷ 0x46 ∷ 0x18 ∷ 0x03 ∷ 0xA1 ∷ 0x83 ∷ 0x9F ∷ 0x79 ∷ 0x01 ∷ 0x80 ∷ []
 
--- and those that are not: of any channel, of channel 16, without an indicator, from the side that did not choose the call reference; and no RESTART
+-- ignored messages: RESTARTs of any channel, of channel 16, without an indicator, from the side that did not choose the
+-- call reference; and a message that is not a RESTART
 abbrev pub restart_any : List ℕ
 restart_any = 0x08 ∷ 0x02 ∷ 0x00 ∷ 0x00 ∷ 0x46 ∷ 0x18 ∷ 0x01 ∷ 0xA3 ∷ 0x79 ∷ 0x01 ∷ 0x80 ∷ []
 
@@ -105,7 +106,7 @@ restart_from_called = 0x08 ∷ 0x02 ∷ 0x80 ∷ 0x00 ∷ 0x46 ∷ 0x79 ∷ 0x01
 abbrev pub restart_acknowledge : List ℕ
 restart_acknowledge = 0x08 ∷ 0x02 ∷ 0x00 ∷ 0x00 ∷ 0x4E ∷ 0x79 ∷ 0x01 ∷ 0x86 ∷ []
 
--- what acknowledges two of them
+-- the acknowledgements of two of them
 abbrev pub interface_acknowledged : List ℕ
 interface_acknowledged = 0x08 ∷ 0x02 ∷ 0x80 ∷ 0x00 ∷ 0x4E ∷ 0x79 ∷ 0x01 ∷ 0x86 ∷ []
 

@@ -1,4 +1,4 @@
-// Laws about the definitions alone: these functions do nothing, and their contracts are the laws.
+// Theorems on the definitions only: these functions do nothing, and their contracts are the theorems.
 ghost use Rattle.std.specs.Prelude.{◌≡◌, ◌<◌, ◌^◌, Some, None, IfSome};
 ghost use Rattle.q931_codec.specs.declared.message.Message.{Message};
 ghost use Rattle.q931_codec.specs.Outgoing.{IsWritable};
@@ -12,8 +12,8 @@ ghost use Rattle.clearing_rules.specs.Worked as worked;
 
 use crate::restart_message::GLOBAL_CALL_REFERENCE;
 
-/// The answers can be written: each to a message whose call reference value has fifteen bits, and each
-/// acknowledgement of a restart.
+/// The replies can be written: each reply to a message whose call reference value has 15 bits, and each acknowledgement
+/// of a restart.
 pub fn law_of_answers()
     ensures answer { (m : Message) → m.reference < 2 ^ 15 → IfSome (answer_without_call m) IsWritable }
     ensures acknowledgement { (r : Restart) → IsOnLine r → IsWritable (acknowledgement r) }
@@ -24,7 +24,7 @@ pub fn law_of_global_reference()
     ensures { GLOBAL_CALL_REFERENCE ≡ global_call_reference }
 {}
 
-/// What answers messages on call references that name no call, from octets to octets.
+/// The replies to messages on call references without a call, from octets to octets.
 pub fn worked_answers()
     ensures enquiry { answer_to_octets worked.enquiry ≡ Some worked.no_call }
     ensures enquiry_from_called { answer_to_octets worked.enquiry_from_called ≡ Some worked.no_call_to_called }
@@ -39,7 +39,7 @@ pub fn worked_answers()
     ensures global_enquiry { answer_to_octets worked.enquiry_on_global ≡ None }
 {}
 
-/// What octets ask to be restarted, and the octets that acknowledge it.
+/// The restarts that octets request, and the octets that acknowledge them.
 pub fn worked_restarts()
     ensures interface { restart_in_octets worked.restart_interface ≡ Some (Interface single_interface) }
     ensures all { restart_in_octets worked.restart_all ≡ Some (Interface all_interfaces) }

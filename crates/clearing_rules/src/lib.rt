@@ -1,15 +1,13 @@
-//! Messages of ITU-T Q.931 (05/98) that are for no call, and what a RESTART asks for.
+//! Replies to messages of ITU-T Q.931 (05/98) that are for no call, and reads the restart that a RESTART requests.
 //!
-//! The rules are definitions in `specs/`, this exchange's own profile of sections 5.5 and 5.8.3.
+//! The rules are definitions in `specs/`, this project's profile of sections 5.5 and 5.8.3.
 //!
-//! - [`unknown_reference`] returns what answers a message on a call reference that names no leg.
-//! - [`restart`] returns what a message asks to be restarted, and `None` exactly where it is no
-//!   RESTART that is taken (`asked`); [`acknowledgement`] returns the RESTART ACKNOWLEDGE.
-//! - Every such answer can be written ([`law_of_answers`]).
+//! - [`unknown_reference`] returns the reply to a message on a call reference without a leg.
+//! - [`restart`] returns the restart that a message requests, and `None` if and only if it is not an accepted RESTART
+//!   (`asked`). [`acknowledgement`] returns the RESTART ACKNOWLEDGE.
+//! - Every such reply can be written ([`law_of_answers`]).
 //!
 //! Nothing here allocates.
-//!
-//! It uses `circuit_model`, `q931_elements` and `q931_codec`.
 #![tactic(auto)]
 
 mod cause;

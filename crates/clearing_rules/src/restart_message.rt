@@ -1,4 +1,4 @@
-//! What a RESTART asks for, and what acknowledges it.
+//! The restart that a RESTART requests, and its acknowledgement.
 
 ghost use Rattle.std.specs.Prelude.{◌≡◌, IfSome};
 ghost use Rattle.q931_codec.specs.Outgoing.{outgoing_of};
@@ -12,15 +12,15 @@ use q931_codec::{ChannelIdentification, Message, MessageKind, Outgoing};
 /// The call reference value that means all calls of an interface (Q.931, 4.3).
 pub const GLOBAL_CALL_REFERENCE: u16 = 0;
 
-/// What a message asks to be restarted (Q.931, 5.5). `None` for every message that is not a RESTART on the
+/// Returns the restart that a message requests (Q.931, 5.5). `None` for every message that is not a RESTART on the
 /// global call reference with flag 0, and for a RESTART
 ///
-/// - without a restart indicator, or with one that is none of 80, 86 and 87;
-/// - with indicator 80 (indicated channels), and no channel identification that names one channel,
-///   exclusively or as preferred. "Any channel" names none.
+/// - without a restart indicator, or with one other than 80, 86 and 87;
+/// - with indicator 80 (indicated channels), and no channel identification with one channel, exclusive or preferred.
+///   "Any channel" is not one channel.
 ///
-/// With 86 and 87 a channel identification isn't looked at. What is not asked for here has no effect and no
-/// answer on the global call reference.
+/// With 86 and 87 the channel identification is not read. Every message without a restart here is ignored on the global
+/// call reference.
 pub fn restart(message: &Message) -> Option<Restart>
     ensures asked { result ≡ restart_asked message.now }
     ensures place { IfSome result IsOnLine }
@@ -35,10 +35,10 @@ pub fn restart(message: &Message) -> Option<Restart>
     }
 }
 
-/// The RESTART ACKNOWLEDGE (Q.931, 3.4.2) for what was restarted: on the global call reference with flag 1,
-/// with the restart indicator that was received, and the channel where one channel was restarted.
+/// Returns the RESTART ACKNOWLEDGE (Q.931, 3.4.2) for a restart: on the global call reference with flag 1, with the
+/// received restart indicator, and the channel if one channel was restarted.
 ///
-/// The place of that channel is below 30, as it is in what [`restart`] gives.
+/// The place of that channel is below 30, as in each result of [`restart`].
 pub fn acknowledgement(restarted: Restart) -> Outgoing<'static>
     requires { IsOnLine restarted }
     ensures { outgoing_of result ≡ acknowledgement restarted }
@@ -57,7 +57,8 @@ pub fn acknowledgement(restarted: Restart) -> Outgoing<'static>
 ghost use Rattle.std.specs.Prelude.{◌<◌};
 ghost use Rattle.clearing_rules.specs.Restarting.{begins_restart, place_named};
 
-// Whether the message is a RESTART on the global call reference from the side that chose it.
+// Returns whether the message is a RESTART on the global call reference from the side that chose it. [`restart`] tests
+// this, so its `None` covers all other messages on call reference 0.
 fn begins_restart(message: &Message) -> bool
     ensures { result ≡ begins_restart message.now }
 {
@@ -66,7 +67,7 @@ fn begins_restart(message: &Message) -> bool
         && message.reference == GLOBAL_CALL_REFERENCE
 }
 
-// The place of the channel that the message names.
+// Returns the place of the channel in the message.
 fn place_named(message: &Message) -> Option<u8>
     ensures named { result ≡ place_named message.now }
     ensures place { IfSome result (λ place. place < 30) }

@@ -1,4 +1,4 @@
-//! What answers a message on a call reference that names no call.
+//! The reply to a message on a call reference without a call.
 
 ghost use Rattle.std.specs.Prelude.{◌≡◌, None, option_map};
 ghost use Rattle.q931_codec.specs.Outgoing.{outgoing_of};
@@ -10,17 +10,15 @@ use q931_codec::causes::{INVALID_CALL_REFERENCE, RESPONSE_TO_STATUS_ENQUIRY};
 use q931_codec::states::NULL;
 use q931_codec::{Message, MessageKind, Outgoing};
 
-/// What answers a message on a call reference that names no leg of its line (Q.931, 5.8.3.2). On the global
-/// call reference that is nothing, whatever the message: what a RESTART asks for there
-/// [`restart`](crate::restart) tells. On every other one:
+/// Returns the reply to a message on a call reference without a leg on its line (Q.931, 5.8.3.2). There is none on the
+/// global call reference, where only [`restart`](crate::restart) reads a message. On every other one the reply is:
 ///
 /// - STATUS ENQUIRY: a STATUS with cause 30 and state 0, null;
-/// - SETUP, RELEASE COMPLETE, STATUS: nothing. A SETUP with flag 0 asks for a call instead, which is
-///   answered by the rules for that;
-/// - every other type, also an unknown one, and RESTART and RESTART ACKNOWLEDGE, which belong on the global
-///   call reference: a RELEASE COMPLETE with cause 81, invalid call reference value.
+/// - SETUP, RELEASE COMPLETE, STATUS: none. A SETUP with flag 0 requests a call, to which other rules reply;
+/// - every other type, also an unknown one, and RESTART and RESTART ACKNOWLEDGE, which belong on the global call
+///   reference: a RELEASE COMPLETE with cause 81, invalid call reference value.
 ///
-/// The answer has the message's call reference with the other flag.
+/// The reply has the message's call reference with the other flag.
 pub fn unknown_reference(message: &Message) -> Option<Outgoing<'static>>
     ensures answer { option_map outgoing_of result ≡ answer_without_call message.now }
     ensures global { message.now.reference ≡ global_call_reference → result ≡ None }
@@ -44,7 +42,7 @@ pub fn unknown_reference(message: &Message) -> Option<Outgoing<'static>>
 
 ghost use Rattle.clearing_rules.specs.UnknownReference.{message_back};
 
-// A message of this type without elements, on the call reference of the one that is answered.
+// Returns a message of this type without elements, on the call reference of the message to which it replies.
 fn message_back(message: &Message, kind: MessageKind) -> Outgoing<'static>
     ensures { outgoing_of result ≡ message_back message.now kind }
 {

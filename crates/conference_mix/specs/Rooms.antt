@@ -1,11 +1,11 @@
--- What a conference bridge gives the members of many rooms at once. Source: this exchange's own.
+-- The octets that a conference bridge sends the members of many rooms at once. Source: this project.
 use Rattle.std.specs.Prelude.{ℕ, ◌==◌, ℤ, List, Option, Some, None, map, slice_index_or, if◌then◌else◌}
 use Rattle.circuit_model.specs.FrameInput.{idle_octet}
 use Rattle.circuit_model.specs.Hears.{sum_of_values}
 use Rattle.conference_mix.specs.declared.mixer.Seated.{Seated}
 use Rattle.conference_mix.specs.Bridge.{present_octets, mixed_for}
 
--- what counts of a place in a room: the octet of its member, where the member sits in that room
+-- the octet of a place that counts in a room, if its member is in that room
 abbrev pub counted_in : ℕ → Option Seated → Option ℕ
 counted_in room None = None
 counted_in room (Some member) = if member.room == room then member.octet else None
@@ -18,7 +18,7 @@ room_row room places = map (counted_in room) places
 abbrev pub room_total : ℕ → List (Option Seated) → ℤ
 room_total room places = sum_of_values (present_octets (room_row room places))
 
--- what a place is given: its member hears the others of its room; where nobody sits it is the idle octet
+-- the octet of a place: the mix of the others in the room of its member, or the idle octet if it has no member
 abbrev pub given_to_member : List (Option Seated) → ℕ → Option Seated → ℕ
 given_to_member places k None = idle_octet
 given_to_member places k (Some member) = mixed_for k (room_row member.room places)

@@ -1,17 +1,13 @@
-//! The conference bridge: what each member of a room hears of the others.
+//! Mixes for each member of a conference room the octets of the other members.
 //!
-//! A room is a row of places, each with the octet that its member sent or none. A member hears the
-//! sum of the values of the other octets, coded once by A-law; `specs/Bridge.antt` defines it by
-//! adding up the others. The code adds up all places once, and takes each member's own value out of
-//! that total.
+//! A room is a row of places, each with the octet that its member sent, or none. A member receives the sum of the
+//! values of the other octets, coded once by A-law. The definition adds up the others (`specs/Bridge.antt`). The code
+//! adds up all places once, and subtracts each member's own value from that total.
 //!
-//! - [`mix`] writes to each place of one room what the definition says.
-//! - [`Mixer`] does so for all rooms at once: each port gets what its room alone would give it
-//!   ([`Mixer::mix`]).
-//! - The order of the places does not matter ([`law_of_order`]); a member alone hears the idle
-//!   octet, and each of two members what the other sends ([`law_of_small_rooms`]).
-//!
-//! It uses `alaw_codec` and `circuit_model`.
+//! - [`mix`] writes to each place of one room the octet that the definition gives.
+//! - [`Mixer`] mixes all rooms at once: each port gets the octet that the mix of its room gives it ([`Mixer::mix`]).
+//! - The order of the places does not matter ([`law_of_order`]). A member without others receives the idle octet, and
+//!   each of two members receives the other's octets ([`law_of_small_rooms`]).
 #![tactic(auto)]
 
 ghost use Rattle.std.specs.Prelude.{◌≡◌, ℕ, ◌*◌, ◌≤◌, length, slice_index, map, All, EachIndex, nat_abs};
@@ -25,16 +21,15 @@ use alaw_codec::{compress, expand};
 pub use laws::{law_of_order, law_of_small_rooms};
 pub use mixer::{Mixer, Seated};
 
-/// The most members that a bridge mixes: as many as two bridge lines have bearer channels. The limit
-/// is this exchange's own.
+/// The maximum number of members that a bridge mixes: the bearer channels of two bridge lines. This project sets the
+/// limit.
 pub const MAX_MEMBERS: usize = 60;
 
 /// Mixes a room: writes to each place of `out` the A-law octet of the sum of the others' values.
 ///
-/// `members` has for each place the octet that arrived there, or `None` where none counts, which adds
-/// nothing. `out` has the same places, and each is written, also where the octet is absent. The sum is
-/// exact and saturates only in its coding (ITU-T G.711 (11/88), table 1a): with 60 members it stays
-/// within 241,920. The bridge is this exchange's own.
+/// `members` has for each place the octet that arrived there, or `None` if none counts. A place without an octet adds
+/// nothing and is written too. The sum is exact and saturates only in its coding (ITU-T G.711 (11/88), table 1a). With
+/// 60 members it stays within 241,920. The values are on the stack, so that nothing allocates on an octet's path.
 pub fn mix(members: &[Option<u8>], out: &mut [u8])
     requires same { length out.old ≡ length members.now }
     requires few { length members.now ≤ most_members }
@@ -48,7 +43,7 @@ pub fn mix(members: &[Option<u8>], out: &mut [u8])
     }
 }
 
-/// Writes what each place adds to the sum, and returns the sum over all places.
+/// Writes the summand of each place, and returns the sum over all places.
 fn expand_each(members: &[Option<u8>], values: &mut [i32]) -> i32
     requires same { length values.old ≡ length members.now }
     requires few { length members.now ≤ most_members }
@@ -66,7 +61,8 @@ fn expand_each(members: &[Option<u8>], values: &mut [i32]) -> i32
     total
 }
 
-/// What a place adds to the sum: nothing where no octet is present. An idle octet would add 1.
+/// Returns the summand of a place, which is 0 if no octet is present. 60 idle octets, each of value 1, would add up to
+/// a tone.
 fn value_of(member: Option<u8>) -> i32
     ensures value { result ≡ value_of member }
     ensures within { nat_abs result ≤ 4032 }

@@ -9,28 +9,27 @@ use crate::{MAX_MEMBERS, value_of};
 use alaw_codec::CodeTable;
 use std::marker::Model;
 
-/// The room in which the free ports sit, behind those that an octet can number. Nothing is added
-/// to it, so a free port is given the code of 0, which is the idle octet.
+/// The room of the free ports, after all rooms that an octet can number. Nothing is added to it, so a free port gets
+/// the code of 0, which is the idle octet.
 const FREE: u16 = 256;
 
-/// How many rooms have a total, the room of the free ports included.
+/// The number of rooms with a total, including the room of the free ports.
 const ROOMS: usize = 257;
 
-/// A member of a room, as it sits in a port of a bridge.
+/// A member of a room, at a port of a bridge.
 #[derive(Clone, Copy)]
 pub struct Seated {
     /// The number of its room.
     pub room: u8,
-    /// What it sent, or `None` where nothing of it counts yet.
+    /// The octet that it sent, or `None` if none of it counts yet.
     pub octet: Option<u8>,
 }
 
-/// A bridge while it mixes the octets of one frame: the total of each room, and for each port the
-/// room of its member and the value that the member added there. Contracts see who sits in each
-/// port.
+/// A bridge during the mixing of one frame: the total of each room, and for each port the room of its member and the
+/// summand of the member. Contracts see the member of each port.
 ///
-/// Members are added as they are found, in any order and of any rooms. Then each hears the total of
-/// its room without its own value. The work does not depend on how the members are spread over rooms.
+/// Members are added in any order and to any rooms. Then each receives the total of its room without its own value. The
+/// work does not depend on the distribution of the members over rooms.
 #[derive(Drop)]
 pub struct Mixer {
     ports: usize,
@@ -52,7 +51,7 @@ impl Model for Mixer {
 }
 
 impl Mixer {
-    /// A bridge of n ports, each of them free.
+    /// Returns a bridge of n free ports.
     pub fn new(ports: usize) -> Mixer
         requires { ports ≤ most_members }
         ensures { result ≡ replicate ports None }
@@ -65,7 +64,7 @@ impl Mixer {
         }
     }
 
-    /// Seats a member in a free port, and adds what counts of it to its room.
+    /// Puts a member at a free port, and adds its value to its room.
     pub fn seat(&mut self, port: usize, member: Seated)
         requires port { port < length self.old }
         requires free { slice_index_or self.old port None ≡ None }
@@ -77,12 +76,11 @@ impl Mixer {
         self.own[port] = value;
     }
 
-    /// Writes to each place of `out` what the port there is given: the A-law octet of the sum of the
-    /// values that the other members of its room sent, and the idle octet where nobody sits.
+    /// Writes to each place of `out` the octet of the port there: the A-law octet of the sum of the values of the other
+    /// members of its room, or the idle octet if the port is free.
     ///
-    /// Each room sounds exactly as [`mix`](crate::mix) makes it sound alone: sums are exact, and
-    /// saturate only in their coding (ITU-T G.711 (11/88), table 1a). The bridge is this exchange's
-    /// own.
+    /// Each room gets the octets that [`mix`](crate::mix) gives it. Sums are exact and saturate only in their coding
+    /// (ITU-T G.711 (11/88), table 1a).
     pub fn mix(&self, codes: &CodeTable, out: &mut [u8])
         requires same { length out.old ≡ length self.now }
         ensures { EachIndex self.now (λ k. slice_index out.new k ≡ given_at k self.now) }
@@ -92,7 +90,7 @@ impl Mixer {
         }
     }
 
-    // The total of a port's room without what the port itself added to it.
+    // Returns the total of a port's room without the port's own summand.
     fn total_without(&self, port: usize) -> i32
         requires { port < length self.now }
         ensures { compress result ≡ given_at port self.now }

@@ -5,11 +5,12 @@ use Rattle.circuit_model.specs.Ports.{has}
 use Rattle.conference_ports.specs.Owners.{members}
 use Rattle.conference_ports.specs.declared.owner.Owner.{Owner}
 
--- where an external slot's port is in the index
+-- the place of an external slot in the index
 abbrev pub index_of : Slot → ℕ
 index_of at = 30 * at.line + at.place
 
--- the index names each member's port, no port for every other external slot, and each owner is an external slot with that port alone
+-- the index has each member's port and no port for any other external slot, and each owner is an external slot with
+-- that port only
 pub record IsIndexed (external lines : ℕ) (owners : List (Option Owner)) (ports : List (Option ℕ)) : Type 0 where
   pub few : external + lines ≤ 34
   pub owned : length owners ≡ 30 * lines

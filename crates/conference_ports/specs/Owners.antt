@@ -1,10 +1,11 @@
--- Who has which port of the conference bridges. Source: this exchange's own.
+-- The ports of the conference bridges and their members. Source: this project.
 use Rattle.std.specs.Prelude.{ℕ, ◌+◌, ◌-◌, ◌*◌, ◌<◌, ◌≤◌, List, [], ◌∷◌, map, Option, Some, None, if◌then◌else◌}
 use Rattle.circuit_model.specs.declared.channel.Slot.{Slot}
 use Rattle.circuit_model.specs.Ports.{Ports, has}
 use Rattle.conference_ports.specs.declared.owner.Owner.{Owner}
 
--- the ports of n bridge lines, which are numbered behind the external lines: for each port, by line and then by place, its owner
+-- the ports of n bridge lines, which are numbered after the external lines: for each port, by line and then by place,
+-- its owner
 pub record Bridges : Type 0 where
   pub external : ℕ
   pub lines : ℕ
@@ -15,7 +16,7 @@ abbrev pub member_of : Option Owner → Option Slot
 member_of None = None
 member_of (Some owner) = Some owner.member
 
--- which member has which port
+-- the member of each port
 abbrev pub members : List (Option Owner) → Ports
 members owners = map member_of owners
 
@@ -36,6 +37,6 @@ owners_with owner [] = []
 owners_with owner (None ∷ owners) = Some owner ∷ owners
 owners_with owner (Some other ∷ owners) = Some other ∷ owners_with owner owners
 
--- the ports of a member have no owner any more
+-- the ports of a member have no owner
 abbrev pub owners_without : Slot → List (Option Owner) → List (Option Owner)
 owners_without x owners = map (λ port. if has x (member_of port) then None else port) owners

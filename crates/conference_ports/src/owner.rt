@@ -1,8 +1,8 @@
-//! Who has a port.
+//! The owner of a port.
 
 use circuit_model::Slot;
 
-/// Who has a port: a member, and the conference room that it sits in.
+/// The owner of a port: a member, and its conference room.
 #[derive(Clone, Copy, Debug, PartialEq, Eq)]
 pub struct Owner {
     /// The conference room.

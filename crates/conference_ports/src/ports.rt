@@ -10,10 +10,9 @@ use circuit_model::Slot;
 use std::alloc::{AllocError, Global};
 use std::marker::Model;
 
-/// The ports of all bridge lines, and which member has which.
+/// The ports of all bridge lines, and their members.
 ///
-/// Contracts see the list of owners, port by port. Finding a member's port and a port's owner is
-/// one look into a table.
+/// Contracts see the list of owners, port by port. One table lookup finds a member's port, or a port's owner.
 #[derive(Drop)]
 pub struct Ports {
     external: u8,
@@ -36,8 +35,8 @@ impl Model for Ports {
 }
 
 impl Ports {
-    /// All ports free: thirty on each of n bridge lines, which are numbered from
-    /// `first_line` on, behind the external lines.
+    /// Returns 30 free ports on each of n bridge lines, which are numbered from `first_line` on, after the external
+    /// lines.
     pub fn new(alloc: Global, first_line: u8, lines: u8) -> Result<Ports, AllocError>
         requires { first_line + lines ≤ 34 }
         ensures external { IfOk result (λ p. p.external ≡ first_line) }
@@ -52,8 +51,8 @@ impl Ports {
         })
     }
 
-    /// Gives the member the lowest free port by line, then place. `None` exactly where every port
-    /// is taken; then nothing changes.
+    /// Gives the member the lowest free port by line, then place. Returns `None` and changes nothing if and only if
+    /// every port is taken.
     pub fn take(&mut self, room: u8, member: Slot) -> Option<Slot>
         requires external { IsMemberSlot self.old member }
         requires portless { port_of_member self.old.external (members self.old.owners) member ≡ None }
@@ -70,14 +69,14 @@ impl Ports {
         Some(port_at(self.external, port))
     }
 
-    /// Whether every port is taken.
+    /// Returns whether every port is taken.
     pub fn is_full(&self) -> bool
         ensures { result ≡ is_none (position is_none self.now.owners) }
     {
         lowest_free(&self.owners).is_none()
     }
 
-    /// Takes the member's port back.
+    /// Frees the member's port.
     pub fn give(&mut self, member: Slot)
         requires external { IsMemberSlot self.old member }
         requires ported { port_of_member self.old.external (members self.old.owners) member ≢ None }
@@ -92,7 +91,7 @@ impl Ports {
         }
     }
 
-    /// The member's port. `None` exactly where the member has none.
+    /// Returns the member's port. `None` if and only if the member has none.
     pub fn port_of(&self, member: Slot) -> Option<Slot>
         requires { IsMemberSlot self.now member }
         ensures { result ≡ port_of_member self.now.external (members self.now.owners) member }
@@ -101,7 +100,7 @@ impl Ports {
         Some(port_at(self.external, usize::from(port)))
     }
 
-    /// The port's room and member. `None` exactly where the port is free.
+    /// Returns the port's room and member. `None` if and only if the port is free.
     pub fn room_of(&self, port: Slot) -> Option<(u8, Slot)>
         requires { IsPortSlot self.now port }
         ensures { result ≡ option_map (λ owner. (owner.room, owner.member)) (slice_index_or self.now.owners (port_number self.now.external port) None) }
@@ -112,14 +111,14 @@ impl Ports {
     }
 }
 
-// The number of the lowest free port.
+// Returns the number of the lowest free port.
 fn lowest_free(owners: &[Option<Owner>]) -> Option<usize>
     ensures { result ≡ position is_none owners.now }
 {
     owners.iter().position(|owner| owner.is_none())
 }
 
-// The slot of a port with this number among all ports.
+// Returns the slot of the port with a number among all ports.
 fn port_at(external: u8, number: usize) -> Slot
     requires lines { external ≤ 34 }
     requires number { number < 1020 }

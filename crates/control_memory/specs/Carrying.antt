@@ -1,16 +1,16 @@
--- What a time-space-time fabric does to the octets of one frame. Source: this exchange's own.
+-- The movement of the octets of one frame through a time-space-time fabric. Source: this project.
 use Rattle.std.specs.Prelude.{◌≡◌, ℕ, ◌<◌, Option, Some, None}
 use Rattle.circuit_model.specs.declared.channel.Slot.{Slot}
 use Rattle.circuit_model.specs.FrameInput.{idle_octet}
 use Rattle.control_memory.specs.Layout.{Path, Layout, Legal, path_out, path_to}
 use Rattle.control_memory.specs.Tables.{HasTables}
 
--- the octet of the place, line or slot that a control table names, and the idle octet where it names none
+-- the octet of the place, line or slot in a control table's entry, or the idle octet if there is no entry
 abbrev pub fetched : Option ℕ → (ℕ → ℕ) → ℕ
 fetched None octet = idle_octet
 fetched (Some n) octet = octet n
 
--- the octet of the inlet of a path, and the idle octet where there is no path
+-- the octet of the inlet of a path, or the idle octet if there is no path
 abbrev pub from_inlet : Option Path → (Slot → ℕ) → ℕ
 from_inlet None octet = idle_octet
 from_inlet (Some p) octet = octet p.from
@@ -23,11 +23,11 @@ crossing layout octet line slot = from_inlet (path_out layout line slot) octet
 abbrev pub carried : Layout → (Slot → ℕ) → Slot → ℕ
 carried layout octet at = from_inlet (path_to layout at) octet
 
--- n lines send in m internal slots what their table names of the octets in their places
+-- n lines send in m internal slots the octets of their places, by their table
 abbrev pub SendsBy : ℕ → ℕ → (ℕ → ℕ → Option ℕ) → (Slot → ℕ) → (ℕ → ℕ → ℕ) → Type 0
 SendsBy lines slots places octet highway = (line slot : ℕ) → line < lines → slot < slots → highway line slot ≡ fetched (places line slot) (λ place. octet (record { line = line; place = place }))
 
--- n lines hold in m internal slots what the layout brings them
+-- n lines hold in m internal slots the octets that the layout carries to them
 abbrev pub HoldsCrossing : ℕ → ℕ → Layout → (Slot → ℕ) → (ℕ → ℕ → ℕ) → Type 0
 HoldsCrossing lines slots layout octet crossed = (line slot : ℕ) → line < lines → slot < slots → crossed line slot ≡ crossing layout octet line slot
 
@@ -42,12 +42,13 @@ pub record Wiring : Type 0 where
   pub legal : Legal lines slots layout
   pub tables : HasTables lines slots layout places crossed read
 
--- what the outgoing lines get by the table `crossed` of what the incoming lines send by `places` is what the layout brings them
+-- by the table `crossed`, the outgoing lines get the octets that the layout carries to them, if the incoming lines send
+-- by `places`
 abbrev pub BringsAcross : Wiring → Type 0
 BringsAcross w = (octet : Slot → ℕ) (highway : ℕ → ℕ → ℕ) → SendsBy w.lines w.slots w.places octet highway
     → HoldsCrossing w.lines w.slots w.layout octet (λ line slot. fetched (w.crossed line slot) (λ from. highway from slot))
 
--- and what their places then read by the table `read` is the octet of the inlet of their path
+-- by the table `read`, their places then read the octet of the inlet of their path
 abbrev pub BringsOut : Wiring → Type 0
 BringsOut w = (octet : Slot → ℕ) (held : ℕ → ℕ → ℕ) → HoldsCrossing w.lines w.slots w.layout octet held
     → (at : Slot) → at.line < w.lines → at.place < 30 → fetched (w.read at.line at.place) (held at.line) ≡ carried w.layout octet at

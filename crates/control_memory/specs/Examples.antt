@@ -10,11 +10,11 @@ at line place = record { line = line; place = place }
 abbrev pub bare : ℕ → Layout
 bare lines = replicate (30 * lines) None
 
--- both ways between two slots, on thirty internal slots
+-- both ways between two slots, on 30 internal slots
 abbrev pub nailed : ℕ → Layout → Slot → Slot → Layout
 nailed lines layout x y = connect lines 30 (connect lines 30 layout x y) y x
 
--- line 0 to the first half of line 2, line 1 to its second half, fifteen connections each
+-- line 0 to the first half of line 2, line 1 to its second half, 15 connections each
 abbrev pub halves : ℕ → Layout
 halves zero = bare 3
 halves (suc p) = nailed 3 (halves p) (at 0 p) (at 2 p)
@@ -23,12 +23,12 @@ abbrev pub both_halves : ℕ → Layout
 both_halves zero = halves 15
 both_halves (suc p) = nailed 3 (both_halves p) (at 1 p) (at 2 (p + 15))
 
--- Three lines and two internal slots, no slot common to incoming line 0 and an outgoing line. To outgoing line 0 the incoming line's chain
--- has one path and the outgoing line's three
+-- three lines and two internal slots, with no slot free in both incoming line 0 and an outgoing line; to outgoing line
+-- 0 the incoming line's chain has one path and the outgoing line's three
 abbrev pub row_shorter : Layout
 row_shorter = with_path (with_path (with_path (with_path (bare 3) (at 1 0) (at 0 0) 0) (at 1 1) (at 1 0) 1) (at 2 0) (at 1 1) 0) (at 0 0) (at 2 0) 1
 
--- so the one path moves, and the new path gets the slot that it leaves
+-- one path moves, and the new path gets the slot that it leaves
 abbrev pub row_moved : Layout
 row_moved = with_path (with_path row_shorter (at 0 0) (at 2 0) 0) (at 0 1) (at 0 1) 1
 
@@ -39,7 +39,7 @@ column_shorter = with_path (with_path (with_path (with_path (bare 3) (at 0 0) (a
 abbrev pub column_moved : Layout
 column_moved = with_path (with_path column_shorter (at 2 0) (at 0 0) 0) (at 0 1) (at 0 1) 1
 
--- to outgoing line 1 both have two, and the outgoing line's move
+-- to outgoing line 1 both have two, and the paths of the outgoing line's move
 abbrev pub same_length : Layout
 same_length = with_path (with_path (with_path (with_path (bare 3) (at 2 0) (at 1 0) 0) (at 2 1) (at 0 0) 1) (at 0 0) (at 2 0) 1) (at 1 0) (at 2 1) 0
 

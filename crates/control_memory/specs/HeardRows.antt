@@ -1,22 +1,23 @@
--- Rows of what slots hear, and which of them may hear something. Source: this exchange's own.
+-- Rows with the source of each slot's octets, and marks of the rows that may have one. Source: this project.
 use Rattle.std.specs.Prelude.{◌≡◌, ℕ, ◌+◌, ◌*◌, ◌%◌, ◌<◌, List, length, slice_index_or}
 use Rattle.std.specs.Int.{bit_at}
 use Rattle.control_memory.specs.declared.heard.Heard.{Heard}
 use Rattle.control_memory.specs.declared.heard.Heard.TheVariants.{Silent}
 
--- what a place of a line hears
+-- the source of a place of a line
 abbrev pub heard_on : List Heard → ℕ → ℕ → Heard
 heard_on heard line place = slice_index_or heard (30 * line + place) Silent
 
--- on each line whose mark is this bit, every place hears in one as in the other
+-- on each line whose mark is this bit, every place has the same source in both lists
 abbrev pub HearAlike : ℕ → ℕ → ℕ → List Heard → List Heard → Type 0
 HearAlike bit marks lines one other = (line place : ℕ) → line < lines → place < 30 → bit_at marks (line % 64) ≡ bit → heard_on one line place ≡ heard_on other line place
 
--- no place of the line hears anything
+-- every place of the line is silent
 abbrev pub IsSilent : List Heard → ℕ → Type 0
 IsSilent heard line = (place : ℕ) → place < 30 → heard_on heard line place ≡ Silent
 
--- thirty places to each of n lines; and a word of marks, a bit for each line by its number modulo 64, without which the line is silent
+-- 30 places to each of n lines; and a word of marks, a bit for each line by its number modulo 64, without which the
+-- line is silent
 pub record AreHeardOn (lines : ℕ) (heard : List Heard) (marks : ℕ) : Type 0 where
   pub size : length heard ≡ 30 * lines
   pub silent : (line : ℕ) → line < lines → bit_at marks (line % 64) ≡ 0 → IsSilent heard line

@@ -1,10 +1,11 @@
--- What a slot hears, as a number. Source: this exchange's own.
+-- The source of a slot's octets, as a number. Source: this project.
 use Rattle.std.specs.Prelude.{ℕ, ◌-◌, nat_lt, Bool, false, if◌then◌else◌}
 use Rattle.circuit_model.specs.declared.circuit.Kind.TheVariants.{Ringback, Busy}
 use Rattle.control_memory.specs.declared.heard.Heard.{Heard}
 use Rattle.control_memory.specs.declared.heard.Heard.TheVariants.{Silent, Path, Tone}
 
--- a path is its first frame's number, below 2^32; a ringing tone, a busy tone and nothing come behind it, 2^32 numbers for each tone
+-- a path is the number of its first frame, below 2^32; a ringing tone, a busy tone and silence come after it, 2^32
+-- numbers for each tone
 abbrev pub heard_in : ℕ → Heard
 heard_in number =
     if nat_lt number 4294967296 then Path number

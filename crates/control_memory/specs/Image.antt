@@ -1,4 +1,4 @@
--- The control memory of one frame. Source: this exchange's own.
+-- The control memory of one frame. Source: this project.
 use Rattle.std.specs.Prelude.{◌≡◌, ℕ, ◌+◌, ◌-◌, ◌*◌, ◌<◌, nat_lt, List, Option, None, slice_index_or, if◌then◌else◌}
 use Rattle.circuit_model.specs.declared.channel.Slot.{Slot}
 use Rattle.circuit_model.specs.Dimensions.{Dimensions}
@@ -7,8 +7,8 @@ use Rattle.control_memory.specs.declared.heard.Heard.TheVariants.{Silent}
 use Rattle.control_memory.specs.Layout.{Layout, number_of}
 use Rattle.control_memory.specs.Tables.{Table, HasSize, entry_in, HasTables, HasNoPaths}
 
--- the tables of a frame's three stages, what each slot hears, and who sits in each conference port: line after line. The conference ports are
--- the places of the bridge lines
+-- the tables of a frame's three stages, the source of each slot's octets, and the member of each conference port, line
+-- after line; the conference ports are the places of the bridge lines
 pub record Control : Type 0 where
   pub frame : ℕ
   pub external : ℕ
@@ -20,7 +20,7 @@ pub record Control : Type 0 where
   pub heard : List Heard
   pub rooms : List (Option (ℕ × ℕ))
 
--- all lines: the external ones, and behind them the bridge lines
+-- all lines: the external ones, followed by the bridge lines
 abbrev pub lines_of : Control → ℕ
 lines_of m = m.external + m.bridges
 
@@ -36,7 +36,7 @@ received m line slot = entry_in m.slots m.space line slot
 abbrev pub read : Control → ℕ → ℕ → Option ℕ
 read m line place = entry_in 30 m.outgoing line place
 
--- the three tables say the layout, and hold nothing else
+-- the three tables encode the layout, and hold nothing else
 abbrev pub HasLayout : Control → Layout → Type 0
 HasLayout m layout = HasTables (lines_of m) m.slots layout (sent m) (received m) (read m)
 
@@ -46,7 +46,7 @@ IsCleared m = HasNoPaths (lines_of m) m.slots (sent m) (received m) (read m)
 abbrev pub heard_at : Control → Slot → Heard
 heard_at m at = slice_index_or m.heard (number_of at) Silent
 
--- the number of a conference port among all ports: bridge lines come behind the external ones, and have thirty ports each
+-- the number of a conference port among all ports: bridge lines come after the external ones, and have 30 ports each
 abbrev pub port_number : ℕ → Slot → ℕ
 port_number external port = 30 * (port.line - external) + port.place
 
@@ -54,11 +54,11 @@ port_number external port = 30 * (port.line - external) + port.place
 abbrev pub port_entry : {X : Type 0} → ℕ → List (Option X) → Slot → Option X
 port_entry external entries at = if nat_lt at.line external then None else slice_index_or entries (port_number external at) None
 
--- the room of a port's member, and since when it sits there; an external slot has no room
+-- the room of a port's member, and its first frame there; an external slot has no room
 abbrev pub room_at : Control → Slot → Option (ℕ × ℕ)
 room_at m at = port_entry m.external m.rooms at
 
--- it is a control memory of an exchange of this size
+-- a control memory of an exchange of this size
 pub record IsOfSize (d : Dimensions) (image : Control) : Type 0 where
   pub external : image.external ≡ d.external
   pub bridges : image.bridges ≡ d.bridges
@@ -70,23 +70,23 @@ pub record SameSizes (a b : Control) : Type 0 where
   pub bridges : b.bridges ≡ a.bridges
   pub slots : b.slots ≡ a.slots
 
--- the three tables are as before
+-- the three tables are the same
 pub record SameTables (a b : Control) : Type 0 where
   pub incoming : b.incoming ≡ a.incoming
   pub space : b.space ≡ a.space
   pub outgoing : b.outgoing ≡ a.outgoing
 
--- what is said of each slot of n lines
+-- a property of each slot of n lines
 abbrev pub EachSlot : ℕ → (Slot → Type 0) → Type 0
 EachSlot lines Says = (at : Slot) → at.line < lines → at.place < 30 → Says at
 
--- no slot hears anything, and no port is taken
+-- every slot is silent, and every port free
 pub record IsQuiet (m : Control) : Type 0 where
   pub heard : EachSlot (lines_of m) (λ at. heard_at m at ≡ Silent)
   pub rooms : EachSlot (lines_of m) (λ at. room_at m at ≡ None)
 
--- how large the parts of a control memory are: each table has a row for every line, and its numbers are places, lines and internal slots;
--- there is a listener for every place of every line, and a port for every place of the bridge lines
+-- the sizes of the parts of a control memory: each table has a row for every line, and its numbers are places, lines
+-- and internal slots; there is an entry for every place of every line, and a port for every place of the bridge lines
 pub record IsSized (external bridges slots : ℕ) (places crossed read_slots : Table) (heard rooms : ℕ) : Type 0 where
   pub incoming : HasSize places (external + bridges) slots 30
   pub space : HasSize crossed (external + bridges) slots (external + bridges)

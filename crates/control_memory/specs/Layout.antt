@@ -1,6 +1,6 @@
--- Paths through a time-space-time fabric, and when they are legal. Source: C. Clos, "A study of non-blocking switching networks" (1953),
--- for the three stages; M. C. Paull, "Reswitching of connection networks" (1962), for legality: in Paull's matrix no symbol is
--- twice in a row or in a column.
+-- Paths through a time-space-time fabric, and when they are legal. Source: C. Clos, "A study of non-blocking switching
+-- networks" (1953), for the three stages; M. C. Paull, "Reswitching of connection networks" (1962), for legality: in
+-- Paull's matrix no symbol is twice in a row or in a column.
 use Rattle.std.specs.Prelude.{◌≡◌, ℕ, ◌+◌, ◌*◌, ◌/◌, ◌%◌, ◌<◌, ◌&&◌, ◌==◌, List, [], ◌∷◌, length, Option, Some, None, option_map, slice_index_or, find}
 use Rattle.circuit_model.specs.declared.channel.Slot.{Slot}
 use Rattle.circuit_model.specs.Circuits.{same_slot}
@@ -12,14 +12,14 @@ pub record Path : Type 0 where
   pub to : Slot
   pub slot : ℕ
 
--- slots are numbered line by line, thirty to a line
+-- slots are numbered line by line, 30 to a line
 abbrev pub number_of : Slot → ℕ
 number_of at = 30 * at.line + at.place
 
 abbrev pub slot_numbered : ℕ → Slot
 slot_numbered n = record { line = n / 30; place = n % 30 }
 
--- a layout: for each inlet, by its number, the hop of its path, or none where the inlet is free
+-- a layout: for each inlet, by its number, the hop of its path, or none if the inlet is free
 abbrev pub Layout : Type 0
 Layout = List (Option Hop)
 
@@ -56,12 +56,12 @@ IsSlot lines at = (at.line < lines) × (at.place < 30)
 abbrev pub HasPath : Layout → Slot → Slot → ℕ → Type 0
 HasPath layout from to slot = hop_of layout from ≡ Some (record { to = to; slot = slot })
 
--- the layout joins an inlet to an outlet, in whatever slot
+-- the layout joins an inlet to an outlet, in some slot
 abbrev pub Joins : Layout → Slot → Slot → Type 0
 Joins layout from to = (slot : ℕ) × HasPath layout from to slot
 
--- a legal layout on n lines and m internal slots: each outlet ends at most one path, and no two paths of an incoming line, and no two
--- of an outgoing line, share an internal slot. That an inlet begins at most one path is in the form of a layout
+-- a legal layout on n lines and m internal slots: each outlet ends at most one path, and no two paths of an incoming
+-- line, or of an outgoing line, share an internal slot; by the form of a layout an inlet begins at most one path
 pub record Legal (lines slots : ℕ) (layout : Layout) : Type 0 where
   pub inlets : length layout ≡ 30 * lines
   pub within : (from to : Slot) (slot : ℕ) → IsSlot lines from → HasPath layout from to slot → IsSlot lines to × (slot < slots)
@@ -73,8 +73,8 @@ pub record Legal (lines slots : ℕ) (layout : Layout) : Type 0 where
 abbrev pub IsBare : Layout → Type 0
 IsBare layout = (from : Slot) → hop_of layout from ≡ None
 
--- the three control tables of a layout, as lookups: the place that an incoming line sends in an internal slot, the incoming line that an
--- outgoing line gets in it, and the internal slot that a place of an outgoing line reads
+-- the three control tables of a layout, as lookups: the place that an incoming line sends in an internal slot, the
+-- incoming line that an outgoing line gets in it, and the internal slot that a place of an outgoing line reads
 abbrev pub place_sent : Layout → ℕ → ℕ → Option ℕ
 place_sent layout line slot = option_map (λ p. p.from.place) (path_in layout line slot)
 

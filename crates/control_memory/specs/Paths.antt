@@ -1,4 +1,4 @@
--- The paths of a fabric, with the control tables that carry them out. Source: this exchange's own.
+-- The paths of a fabric, with the control tables that carry them out. Source: this project.
 use Rattle.std.specs.Prelude.{ℕ, ◌≤◌}
 use Rattle.control_memory.specs.declared.ends.Ends.{Ends}
 use Rattle.control_memory.specs.Layout.{Path, Layout, Legal}
@@ -13,7 +13,7 @@ pub record Fabric : Type 0 where
 abbrev pub ends_of : Path → Ends
 ends_of p = record { from = p.from; to = p.to }
 
--- the hops are a legal layout, and the three tables are its own
+-- the hops are a legal layout, and the three tables encode it
 pub record IsTabled (lines slots : ℕ) (layout : Layout) (incoming space outgoing : Table) : Type 0 where
   pub few : lines ≤ 34
   pub legal : Legal lines slots layout

@@ -1,4 +1,4 @@
--- What the control memory of a frame shows of the circuits and conference ports at its boundary. Source: this exchange's own.
+-- The circuits and conference ports at a frame's boundary, in the control memory of the frame. Source: this project.
 use Rattle.std.specs.Prelude.{◌≡◌, ℕ, nat_lt, ◌↔◌, List, [], ◌∷◌, Contains, Option, Some, None, slice_index_or, option_and_then, if◌then◌else◌}
 use Rattle.circuit_model.specs.declared.channel.Slot.{Slot}
 use Rattle.circuit_model.specs.declared.circuit.Circuit.{Circuit}
@@ -16,7 +16,7 @@ abbrev pub to_port : Slot → Option Slot → List (Slot × Slot)
 to_port x None = []
 to_port x (Some port) = (x, port) ∷ (port, x) ∷ []
 
--- the inlets and outlets that a circuit has joined: its two slots, or its member's slot and port, both ways
+-- the inlets and outlets that a circuit joins: its two slots, or its member's slot and port, both ways
 abbrev pub joined_by : ℕ → Ports → Circuit → List (Slot × Slot)
 joined_by external ports (Pair x y since) = (x, y) ∷ []
 joined_by external ports (Member room x since) = to_port x (port_of external ports x)
@@ -26,11 +26,12 @@ joined_by external ports (Tone_circuit kind x since) = []
 abbrev pub IsNeeded : ℕ → List Circuit → Ports → Slot → Slot → Type 0
 IsNeeded external circuits ports x y = (c : Circuit) × Contains circuits c × Contains (joined_by external ports c) (x, y)
 
--- the layout joins exactly what the circuits need
+-- the layout joins an inlet to an outlet if and only if a circuit needs it
 abbrev pub JoinsCircuits : ℕ → ℕ → Layout → List Circuit → Ports → Type 0
 JoinsCircuits lines external layout circuits ports = (x y : Slot) → IsSlot lines x → Joins layout x y ↔ IsNeeded external circuits ports x y
 
--- the slot at the other end of the paths that belong to the circuit by which a slot hears: whom it hears, or its conference port
+-- the slot at the other end of the paths of the circuit by which a slot receives: the sending slot, or its conference
+-- port
 abbrev pub partner : ℕ → Ports → Option Circuit → Option Slot
 partner external ports None = None
 partner external ports (Some (Pair from to since)) = Some from
@@ -46,11 +47,11 @@ without_both layout x (Some y) = without_path (without_path layout x) y
 abbrev pub member_at : ℕ → Ports → Slot → Option Slot
 member_at external ports port = slice_index_or ports (port_number external port) None
 
--- whom a slot serves: an external slot itself, a conference port the member that has it
+-- the slot that another one serves: an external slot itself, a conference port its member
 abbrev pub served_by : ℕ → Ports → Slot → Option Slot
 served_by external ports at = if nat_lt at.line external then Some at else member_at external ports at
 
--- what a slot hears by a circuit, and the room that the circuit seats it in
+-- the source of a slot's octets by a circuit, and the room of which the circuit makes it a member
 abbrev pub heard_as : Option Circuit → Heard
 heard_as None = Silent
 heard_as (Some (Pair x y since)) = Path since

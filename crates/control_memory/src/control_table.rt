@@ -6,21 +6,21 @@ use circuit_model::PLACES;
 use std::alloc::{AllocError, Global};
 use std::marker::Model;
 
-// The byte of an entry that is not there.
+// The byte of an empty entry.
 const NONE: u8 = 0xFF;
 
-/// A control table of a switching stage: rows of numbers below a limit, some of them missing.
+/// A control table of a switching stage: rows of numbers below a limit, with empty entries.
 ///
-/// A row is one piece of memory, one byte for each entry. Beside the rows is a word of marks
-/// of the rows that may have a number.
+/// A row is one piece of memory with one byte for each entry, because a boundary copies whole tables. A word marks the
+/// rows that may have a number, so that a stage makes an unmarked row idle without reading it. Rows share a mark modulo
+/// 64, and a row keeps its mark until the table is cleared or overwritten.
 #[derive(Drop)]
 pub struct ControlTable {
     rows: u8,
     columns: u8,
     limit: u8,
     bytes: Vec<u8>,
-    // Which rows may have a number: a bit for each, by the row's number modulo 64. A row without a
-    // bit has none.
+    // The rows that may have a number: a bit for each, by the row's number modulo 64. A row without a bit has none.
     marks: u64,
 }
 
@@ -35,7 +35,7 @@ impl Model for ControlTable {
     ghost invariant = { λ t. AreBytesOf t.rows t.columns t.limit t.bytes.items t.marks };
 }
 
-/// The tables of the incoming time switch, the space switch and the outgoing time switch for n lines and m
+/// Returns the tables of the incoming time switch, the space switch and the outgoing time switch for n lines and m
 /// internal slots, without any number.
 pub(crate) fn bare_tables(
     alloc: Global,
@@ -51,7 +51,7 @@ pub(crate) fn bare_tables(
 }
 
 impl ControlTable {
-    /// A table of n rows and m columns for numbers below `limit`, without any.
+    /// Returns a table of n rows and m columns for numbers below `limit`, without any number.
     pub fn new(alloc: Global, rows: u8, columns: u8, limit: u8) -> Result<ControlTable, AllocError>
         ensures size { IfOk result (λ t. HasSize t rows columns limit) }
         ensures empty { IfOk result (λ t. Agree rows columns (entry t) nothing) }
@@ -66,7 +66,7 @@ impl ControlTable {
         })
     }
 
-    /// The number in a column of a row, if there is one.
+    /// Returns the number in a column of a row, if there is one.
     pub fn get(&self, row: u8, column: u8) -> Option<u8>
         requires row { row < self.now.rows }
         requires column { column < self.now.columns }
@@ -79,7 +79,7 @@ impl ControlTable {
         }
     }
 
-    /// The bytes of a row, one for each column: its number, or 255 where it has none.
+    /// Returns the bytes of a row, one for each column: its number, or 255 if it has none.
     pub fn row(&self, row: u8) -> &[u8]
         requires { row < self.now.rows }
         ensures { IsRow self.now.columns self.now.limit (entry self.now row) result.now }
@@ -89,8 +89,8 @@ impl ControlTable {
         &self.bytes[start..start + columns]
     }
 
-    /// Whether a row is known to have no number. It is not known of a row whose numbers were all
-    /// taken out one by one.
+    /// Returns true only if a row has no number. The result can be false for a row whose numbers were removed one by
+    /// one.
     pub fn is_bare(&self, row: u8) -> bool
         requires { row < self.now.rows }
         ensures { result ≡ true → (column : ℕ) → column < self.now.columns → entry self.now row column ≡ None }
@@ -111,7 +111,7 @@ impl ControlTable {
         self.marks |= 1 << (row % 64);
     }
 
-    /// Takes the number out of a column of a row.
+    /// Removes the number from a column of a row.
     pub(crate) fn unset(&mut self, row: u8, column: u8)
         requires row { row < self.old.rows }
         requires column { column < self.old.columns }
@@ -122,7 +122,7 @@ impl ControlTable {
         self.bytes[at] = NONE;
     }
 
-    /// Takes out every number.
+    /// Removes every number.
     pub fn clear(&mut self)
         ensures size { SameSize self.old self.new }
         ensures empty { Agree self.old.rows self.old.columns (entry self.new) nothing }
@@ -131,7 +131,7 @@ impl ControlTable {
         self.marks = 0;
     }
 
-    /// Takes over the entries of a table of the same size, in one copy.
+    /// Copies the entries of a table of the same size, in one copy.
     pub(crate) fn copy_from(&mut self, other: &ControlTable)
         requires { SameSize self.old other.now }
         ensures { self.new ≡ other.now }

@@ -1,7 +1,7 @@
-//! What a slot hears.
+//! The source of a slot's octets.
 use circuit_model::Kind;
 
-/// What a slot hears in a frame.
+/// The source of a slot's octets in a frame.
 #[derive(Clone, Copy, Debug, PartialEq, Eq)]
 pub enum Heard {
     /// Nothing: the idle octet.

@@ -1,4 +1,4 @@
-//! What each slot hears, line by line.
+//! The source of each slot's octets, line by line.
 ghost use Rattle.std.specs.Prelude.{◌≡◌, ℕ, true, ◌+◌, ◌*◌, ◌%◌, ◌<◌, ◌≤◌, IfOk, length, replicate, slice_index_or, slice_set};
 ghost use Rattle.std.specs.Int.{bit_at};
 ghost use Rattle.control_memory.specs.Layout.{number_of};
@@ -10,17 +10,17 @@ use circuit_model::{PLACES, Slot};
 use std::alloc::{AllocError, Global};
 use std::marker::Model;
 
-/// What each slot of some lines hears: a row of thirty words for each line. Contracts see the list of it,
-/// by the slot's number.
+/// The source of the octets of each slot of some lines: a row of 30 words for each line. Contracts see the list of
+/// sources, by the slot's number.
 ///
-/// Beside the rows is a word of marks of the lines that may hear something, so that a line that
-/// hears nothing costs nothing.
+/// A word marks the lines that may receive something. A silent line then costs nothing, and a boundary copies only the
+/// lines that are marked in one of the two tables.
 #[derive(Drop)]
 pub struct HeardTable {
     lines: u8,
     words: Vec<HeardWord>,
-    // Which lines may hear something: a bit for each, by the line's number modulo 64. A line without a
-    // bit hears nothing.
+    // The lines that may receive something: a bit for each, by the line's number modulo 64. A line without a bit is
+    // silent.
     marks: u64,
 }
 
@@ -37,7 +37,7 @@ impl Model for HeardTable {
 }
 
 impl HeardTable {
-    /// Nothing is heard on n lines.
+    /// Returns a table of n silent lines.
     pub fn new(alloc: Global, lines: u8) -> Result<HeardTable, AllocError>
         ensures { IfOk result (λ t. t ≡ replicate (30 * lines) Heard.Silent) }
     {
@@ -49,7 +49,7 @@ impl HeardTable {
         })
     }
 
-    /// What a slot hears.
+    /// Returns the source of a slot's octets.
     pub fn get(&self, at: Slot) -> Heard
         requires { number_of at < length self.now }
         ensures { result ≡ slice_index_or self.now (number_of at) Heard.Silent }
@@ -57,7 +57,7 @@ impl HeardTable {
         self.words[at.number()].heard()
     }
 
-    /// What each place of a line hears.
+    /// Returns the sources of a line, place by place.
     pub fn row(&self, line: u8) -> &[HeardWord]
         requires { 30 * line + 30 ≤ length self.now }
         ensures size { length result.now ≡ 30 }
@@ -67,8 +67,7 @@ impl HeardTable {
         &self.words[start..start + usize::from(PLACES)]
     }
 
-    /// Whether a line is known to hear nothing. It is not known of a line that was silenced place by
-    /// place.
+    /// Returns true only if a line is silent. The result can be false for a line that was silenced place by place.
     pub(crate) fn is_silent(&self, line: u8) -> bool
         requires { 30 * line + 30 ≤ length self.now }
         ensures { result ≡ true → IsSilent self.now line }
@@ -76,7 +75,7 @@ impl HeardTable {
         (self.marks >> (line % 64)) & 1 == 0
     }
 
-    /// Writes what the slot with a number hears.
+    /// Writes the source of the slot with a number.
     pub fn set(&mut self, number: usize, heard: Heard)
         requires { number < length self.old }
         ensures { self.new ≡ slice_set self.old number heard }
@@ -86,7 +85,7 @@ impl HeardTable {
         self.marks |= 1 << (line % 64);
     }
 
-    /// Nothing is heard on any line.
+    /// Makes every line silent.
     pub fn clear(&mut self)
         ensures size { length self.new ≡ length self.old }
         ensures silent { (k : ℕ) → slice_index_or self.new k Heard.Silent ≡ Heard.Silent }
@@ -95,7 +94,7 @@ impl HeardTable {
         self.marks = 0;
     }
 
-    /// Takes over what as many lines hear. Lines that hear nothing in both tables stay as they are.
+    /// Copies the entries of a table of the same size. Skips the lines that are silent in both tables.
     pub(crate) fn copy_from(&mut self, other: &HeardTable)
         requires { length self.old ≡ length other.now }
         ensures { self.new ≡ other.now }
@@ -110,7 +109,7 @@ impl HeardTable {
     }
 }
 
-// Writes that nothing is heard.
+// Makes the places of some words silent.
 fn silence(words: &mut [HeardWord])
     ensures size { length words.new ≡ length words.old }
     ensures silent { (k : ℕ) → slice_index_or words.new k Heard.Silent ≡ Heard.Silent }
@@ -149,7 +148,7 @@ fn copy_row(to: &mut Vec<HeardWord>, from: &[HeardWord], line: u8)
     copy_words(&mut to[start..end], &from[start..end]);
 }
 
-// Copies as many words.
+// Copies words one by one.
 fn copy_words(to: &mut [HeardWord], from: &[HeardWord])
     requires { length from.now ≡ length to.old }
     ensures { to.new ≡ from.now }

@@ -1,4 +1,4 @@
-//! What a slot hears, in one word.
+//! The source of a slot's octets, in one word.
 ghost use Rattle.std.specs.Prelude.{◌≡◌, ⊤};
 ghost use Rattle.control_memory.specs.HeardWords.{is_path_before};
 
@@ -13,11 +13,11 @@ const RINGBACK: u64 = 1 << 32;
 // The first word of busy tones.
 const BUSY: u64 = 2 << 32;
 
-// The word of a slot that hears nothing.
+// The word of a silent slot.
 const SILENT: u64 = 3 << 32;
 
-/// What a slot hears, as a number, so that a row of these is worked through without a branch. Contracts
-/// see the [`Heard`].
+/// The source of a slot's octets, as a number. One comparison finds whether a path is received yet, so a row needs no
+/// branch. Contracts see the [`Heard`].
 #[derive(Drop)]
 pub struct HeardWord {
     number: u64,
@@ -43,7 +43,7 @@ impl Clone for HeardWord {
 }
 
 impl HeardWord {
-    /// The word of what a slot hears.
+    /// Returns the word of a source.
     pub fn of(heard: Heard) -> HeardWord
         ensures { result ≡ heard }
     {
@@ -62,7 +62,7 @@ impl HeardWord {
         HeardWord { number }
     }
 
-    /// The same word.
+    /// Returns the same word.
     pub(crate) fn copied(&self) -> HeardWord
         ensures { result ≡ self.now }
     {
@@ -71,7 +71,7 @@ impl HeardWord {
         }
     }
 
-    /// What the slot hears.
+    /// Returns the source.
     pub fn heard(&self) -> Heard
         ensures { result ≡ self.now }
     {
@@ -94,7 +94,7 @@ impl HeardWord {
         }
     }
 
-    /// Whether it is a path that has existed since before a frame.
+    /// Returns whether it is a path that has existed since before a frame.
     pub fn is_path_before(&self, frame: u32) -> bool
         ensures { result ≡ is_path_before frame self.now }
     {

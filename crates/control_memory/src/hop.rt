@@ -1,7 +1,7 @@
-//! Where a path goes.
+//! The outlet and the internal slot of a path.
 use circuit_model::Slot;
 
-/// Where a path goes, and the internal slot in which it crosses.
+/// The outlet of a path, and the internal slot in which it crosses.
 #[derive(Clone, Copy, Debug, PartialEq, Eq)]
 pub struct Hop {
     /// The outlet.

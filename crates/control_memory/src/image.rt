@@ -12,8 +12,8 @@ use circuit_model::{PLACES, Slot};
 use std::alloc::{AllocError, Global};
 use std::marker::Model;
 
-/// The control memory of one frame: its number, the tables of its three stages, what each slot
-/// hears, and who sits in each conference port.
+/// The control memory of one frame: its number, the tables of its three stages, the source of each slot's octets, and
+/// the member of each conference port.
 ///
 /// Lines are counted from 0, external lines first and bridge lines after them. The places of the
 /// bridge lines are the conference ports.
@@ -26,9 +26,10 @@ pub struct Image {
     incoming: ControlTable,
     space: ControlTable,
     outgoing: ControlTable,
-    // What each slot hears, by its number.
+    // The source of each slot's octets, by its number.
     heard: HeardTable,
-    // Who sits in each port: the places of the bridge lines, line after line.
+    // The member of each port: the places of the bridge lines, line after line. External slots have no entry, because
+    // only ports are mixed for.
     rooms: Vec<Option<(u8, u32)>>,
 }
 
@@ -54,7 +55,7 @@ impl Model for Image {
 }
 
 impl Image {
-    /// The control memory of frame 0 for the given numbers of external lines, bridge lines and internal slots:
+    /// Returns the control memory of frame 0 for the given numbers of external lines, bridge lines and internal slots:
     /// no path, every slot silent, and every port free.
     pub fn new(alloc: Global, external: u8, bridges: u8, slots: u8) -> Result<Image, AllocError>
         requires lines { 1 ≤ external + bridges × (external + bridges ≤ 34) }
@@ -84,35 +85,35 @@ impl Image {
         })
     }
 
-    /// The number of the frame.
+    /// Returns the number of the frame.
     pub fn frame(&self) -> u32
         ensures { result ≡ self.now.frame }
     {
         self.frame
     }
 
-    /// How many external lines it has.
+    /// Returns the number of external lines.
     pub fn external(&self) -> u8
         ensures { result ≡ self.now.external }
     {
         self.external
     }
 
-    /// How many bridge lines it has, which come behind the external ones.
+    /// Returns the number of bridge lines, which come after the external ones.
     pub fn bridges(&self) -> u8
         ensures { result ≡ self.now.bridges }
     {
         self.bridges
     }
 
-    /// How many internal slots a frame of a line has.
+    /// Returns the number of internal slots of a frame of a line.
     pub fn slots(&self) -> u8
         ensures { result ≡ self.now.slots }
     {
         self.slots
     }
 
-    /// The place that an incoming line sends in an internal slot, if any.
+    /// Returns the place that an incoming line sends in an internal slot, if any.
     pub fn incoming(&self, line: u8, slot: u8) -> Option<u8>
         requires line { line < lines_of self.now }
         requires slot { slot < self.now.slots }
@@ -122,7 +123,7 @@ impl Image {
         self.incoming.get(line, slot)
     }
 
-    /// The incoming line whose octet an outgoing line gets in an internal slot, if any.
+    /// Returns the incoming line whose octet an outgoing line gets in an internal slot, if any.
     pub fn space(&self, line: u8, slot: u8) -> Option<u8>
         requires line { line < lines_of self.now }
         requires slot { slot < self.now.slots }
@@ -132,7 +133,7 @@ impl Image {
         self.space.get(line, slot)
     }
 
-    /// The internal slot that a place of an outgoing line reads, if any.
+    /// Returns the internal slot that a place of an outgoing line reads, if any.
     pub fn outgoing(&self, line: u8, place: u8) -> Option<u8>
         requires line { line < lines_of self.now }
         requires place { place < 30 }
@@ -142,8 +143,8 @@ impl Image {
         self.outgoing.get(line, place)
     }
 
-    /// The row of the incoming table of a line, by internal slot: the place that the line sends, or
-    /// 255 where it sends none.
+    /// Returns the row of the incoming table of a line, by internal slot: the place that the line sends, or 255 if it
+    /// sends none.
     pub fn incoming_row(&self, line: u8) -> &[u8]
         requires { line < lines_of self.now }
         ensures { IsRow self.now.slots 30 (sent self.now line) result.now }
@@ -151,8 +152,8 @@ impl Image {
         self.incoming.row(line)
     }
 
-    /// The row of the space table of an outgoing line, by internal slot: the incoming line whose
-    /// octet it gets, or 255 where it gets none.
+    /// Returns the row of the space table of an outgoing line, by internal slot: the incoming line whose octet it gets,
+    /// or 255 if it gets none.
     pub fn space_row(&self, line: u8) -> &[u8]
         requires { line < lines_of self.now }
         ensures { IsRow self.now.slots (lines_of self.now) (received self.now line) result.now }
@@ -160,8 +161,8 @@ impl Image {
         self.space.row(line)
     }
 
-    /// The row of the outgoing table of a line, by place: the internal slot that the place reads,
-    /// or 255 where it reads none.
+    /// Returns the row of the outgoing table of a line, by place: the internal slot that the place reads, or 255 if it
+    /// reads none.
     pub fn outgoing_row(&self, line: u8) -> &[u8]
         requires { line < lines_of self.now }
         ensures { IsRow 30 self.now.slots (read self.now line) result.now }
@@ -169,8 +170,8 @@ impl Image {
         self.outgoing.row(line)
     }
 
-    /// Whether an incoming line is known to send no place. It is not known of a line whose entries
-    /// were taken out one by one.
+    /// Returns true only if an incoming line sends no place. The result can be false for a line whose entries were
+    /// removed one by one.
     pub fn sends_nothing(&self, line: u8) -> bool
         requires { line < lines_of self.now }
         ensures { result ≡ true → (slot : ℕ) → slot < self.now.slots → sent self.now line slot ≡ None }
@@ -178,7 +179,7 @@ impl Image {
         self.incoming.is_bare(line)
     }
 
-    /// Whether an outgoing line is known to get no octet, as `sends_nothing` tells.
+    /// Returns true only if an outgoing line gets no octet. The result can be false, as for `sends_nothing`.
     pub fn gets_nothing(&self, line: u8) -> bool
         requires { line < lines_of self.now }
         ensures { result ≡ true → (slot : ℕ) → slot < self.now.slots → received self.now line slot ≡ None }
@@ -186,7 +187,8 @@ impl Image {
         self.space.is_bare(line)
     }
 
-    /// Whether an outgoing line is known to have no place that reads a slot, as `sends_nothing` tells.
+    /// Returns true only if an outgoing line has no place that reads a slot. The result can be false, as for
+    /// `sends_nothing`.
     pub fn reads_nothing(&self, line: u8) -> bool
         requires { line < lines_of self.now }
         ensures { result ≡ true → (place : ℕ) → place < 30 → read self.now line place ≡ None }
@@ -194,7 +196,7 @@ impl Image {
         self.outgoing.is_bare(line)
     }
 
-    /// What a slot hears.
+    /// Returns the source of a slot's octets.
     pub fn heard(&self, at: Slot) -> Heard
         requires line { at.line < lines_of self.now }
         requires place { at.place < 30 }
@@ -203,7 +205,8 @@ impl Image {
         self.heard.get(at)
     }
 
-    /// What each place of a line hears.
+    /// Returns the sources of a line, place by place. A loop over a line borrows the row once, and not an entry for
+    /// each octet.
     pub fn heard_row(&self, line: u8) -> &[HeardWord]
         requires { line < lines_of self.now }
         ensures size { length result.now ≡ 30 }
@@ -212,8 +215,7 @@ impl Image {
         self.heard.row(line)
     }
 
-    /// Whether a line is known to hear nothing. It is not known of a line that was silenced slot by
-    /// slot.
+    /// Returns true only if a line is silent. The result can be false for a line that was silenced slot by slot.
     pub fn hears_nothing(&self, line: u8) -> bool
         requires { line < lines_of self.now }
         ensures { result ≡ true → (place : ℕ) → place < 30 → heard_at self.now (record { line = line; place = place }) ≡ Heard.Silent }
@@ -221,8 +223,8 @@ impl Image {
         self.heard.is_silent(line)
     }
 
-    /// The room of the member that sits in a conference port, and the frame since which it sits
-    /// there; none where the port is free, and none for an external slot.
+    /// Returns the room of the member at a conference port, and its first frame there. `None` if the port is free, and
+    /// for an external slot.
     pub fn room(&self, port: Slot) -> Option<(u8, u32)>
         requires line { port.line < lines_of self.now }
         requires place { port.place < 30 }
@@ -234,8 +236,8 @@ impl Image {
         self.rooms[port_index(self.external, port)]
     }
 
-    /// The room of the member that sits in each conference port, and the frame since which it sits
-    /// there; none where the port is free. It has the places of the bridge lines, line after line.
+    /// Returns the room of the member at each conference port, and its first frame there. A free port has `None`. It
+    /// has the places of the bridge lines, line after line.
     pub fn seats(&self) -> &[Option<(u8, u32)>]
         ensures size { length result.now ≡ 30 * self.now.bridges }
         ensures seats { result.now ≡ self.now.rooms }
@@ -255,11 +257,11 @@ impl Image {
         vacate(&mut self.rooms);
     }
 
-    /// Begins the control memory of another frame with what each slot hears and who sits in each
-    /// port, and without paths: one copy for each of the two.
+    /// Begins the control memory of another frame with the sources of all slots and the members of all ports, and
+    /// without paths: one copy for each of the two.
     ///
-    /// `hearing` has an entry for every place of every line; `sitting` one for every conference port,
-    /// that is for every place of the bridge lines, line after line.
+    /// `hearing` has an entry for every place of every line. `sitting` has one for every conference port, that is for
+    /// every place of the bridge lines, line after line.
     pub fn begin(&mut self, frame: u32, hearing: &HeardTable, sitting: &[Option<(u8, u32)>])
         requires hearing { length hearing.now ≡ 30 * lines_of self.old }
         requires sitting { length sitting.now ≡ 30 * self.old.bridges }
@@ -274,7 +276,7 @@ impl Image {
         self.rooms.copy_from_slice(sitting);
     }
 
-    // Gives the number of a frame, and takes out every path.
+    // Sets the number of the frame, and removes every path.
     fn take_out_paths(&mut self, frame: u32)
         ensures frame { self.new.frame ≡ frame }
         ensures sizes { SameSizes self.old self.new }
@@ -308,7 +310,7 @@ impl Image {
         self.outgoing.set(to.line, to.place, slot);
     }
 
-    /// Takes over the three tables of a layout whole, one copy for each.
+    /// Copies the three tables of a layout, one copy for each.
     pub(crate) fn set_tables(
         &mut self,
         incoming: &ControlTable,
@@ -331,7 +333,7 @@ impl Image {
         self.outgoing.copy_from(outgoing);
     }
 
-    /// Writes what a slot hears.
+    /// Writes the source of a slot's octets.
     pub fn set_heard(&mut self, at: Slot, heard: Heard)
         requires line { at.line < lines_of self.old }
         requires place { at.place < 30 }
@@ -344,7 +346,7 @@ impl Image {
         self.heard.set(at.number(), heard);
     }
 
-    /// Writes that a member of a room sits in a conference port since a frame.
+    /// Writes the room and the first frame of the member at a conference port.
     pub fn set_room(&mut self, port: Slot, room: u8, since: u32)
         requires line { port.line < lines_of self.old }
         requires bridge { self.old.external ≤ port.line }
@@ -360,8 +362,8 @@ impl Image {
     }
 }
 
-/// The number of a conference port among all ports: thirty to a bridge line, and the bridge lines
-/// come behind n external ones. A table with an entry for each port has it there.
+/// Returns the number of a conference port among all ports: 30 to a bridge line, and the bridge lines come after n
+/// external ones. A table with an entry for each port uses it as its index.
 pub fn port_index(external: u8, port: Slot) -> usize
     requires { external ≤ port.line }
     ensures { result ≡ port_number external port }

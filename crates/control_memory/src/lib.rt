@@ -1,16 +1,12 @@
-//! The control memory of one frame, and the layouts of paths that it carries out.
+//! Stores the control memory of one frame, and the layouts of paths that it carries out.
 //!
-//! - [`Image`] is that memory: three control tables, what each slot hears, and who sits in each
-//!   port. Each read returns what was written, and each write says what it changes and what it
-//!   leaves.
-//! - [`PathMap`] is what any live map of paths promises: a new path joins the layout by its rule
-//!   (`layout`), its pairs are those before and the new one (`pairs`), the result is how many paths
-//!   moved (`moves`), the layout stays legal (`legal`), and the tables at a boundary say the
-//!   layout (`tables`).
-//! - [`PathTable`] keeps a layout with its tables, for any such map.
+//! - [`Image`] is the control memory: three control tables, the source of each slot's octets, and the member of each
+//!   port. Each read returns the value that was written, and each write states its change and preserves the rest.
+//! - [`PathMap`] is the contract of any live map of paths. A new path joins the layout by its rule (`layout`), and its
+//!   pairs are the earlier ones and the new one (`pairs`). The result is the number of moved paths (`moves`). The
+//!   layout stays legal (`legal`), and the tables at a boundary encode it (`tables`).
+//! - [`PathTable`] stores a layout with its tables, for any such map.
 //! - The tables of a legal layout carry its octets ([`tables_carry_their_layout`]).
-//!
-//! It uses `circuit_model`.
 #![tactic(auto)]
 
 mod control_table;

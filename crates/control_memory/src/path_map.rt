@@ -1,4 +1,4 @@
-//! What a live map of paths has to keep, whatever its fabric.
+//! The contract of a live map of paths, for any fabric.
 ghost use Rattle.std.specs.Prelude.{◌≡◌, ◌↔◌, ◌⊎◌, ◌<◌, ◌≤◌, ℕ, None, is_none};
 ghost use Rattle.std.specs.Option.{option_map};
 ghost use Rattle.circuit_model.specs.declared.channel.Slot.{Slot};
@@ -9,37 +9,37 @@ ghost use Rattle.control_memory.specs.Image.{lines_of, IsCleared, HasLayout, Sam
 use crate::image::Image;
 use circuit_model::Slot;
 
-/// A live map of the paths through the fabric: a legal layout, which new paths join by the rule of
-/// rearrangement. No call takes memory, and none is refused. After each call its layout is legal.
+/// A live map of the paths through the fabric: a legal layout, which new paths join by the rule of rearrangement. No
+/// call allocates, and none is refused. After each call its layout is legal.
 pub trait PathMap {
-    /// How many lines it has, external and bridge lines together.
+    /// The number of lines, external and bridge lines together.
     ghost width: { Self → ℕ };
 
-    /// How many internal slots it has.
+    /// The number of internal slots.
     ghost depth: { Self → ℕ };
 
-    /// How many live paths a new path moves at the most.
+    /// The maximum number of live paths that a new path moves.
     ghost bound: { Self → ℕ };
 
     /// The layout of its paths.
     ghost layout: { Self → Layout };
 
-    /// Whether no path begins at the inlet.
+    /// Returns whether no path begins at the inlet.
     fn inlet_free(&self, at: Slot) -> bool
         requires { IsSlot (width self.now) at }
         ensures free { result ≡ is_none (hop_of (layout self.now) at) }
         ensures legal { Legal (width self.now) (depth self.now) (layout self.now) };
 
-    /// Whether no path ends at the outlet.
+    /// Returns whether no path ends at the outlet.
     fn outlet_free(&self, at: Slot) -> bool
         requires { IsSlot (width self.now) at }
         ensures free { result ≡ is_none (path_to (layout self.now) at) }
         ensures legal { Legal (width self.now) (depth self.now) (layout self.now) };
 
-    /// Connects a free inlet to a free outlet: in the lowest internal slot that is free in both
-    /// lines, or after live paths were moved along the alternating chain of two slots.
+    /// Connects a free inlet to a free outlet: in the lowest internal slot that is free in both lines, or after live
+    /// paths were moved along the alternating chain of two slots.
     ///
-    /// Answers how many of the earlier paths have another internal slot now.
+    /// Returns the number of earlier paths that have another internal slot afterwards.
     fn connect(&mut self, from: Slot, to: Slot) -> u32
         requires from { IsSlot (width self.old) from }
         requires to { IsSlot (width self.old) to }
@@ -54,7 +54,7 @@ pub trait PathMap {
         ensures bound { bound self.new ≡ bound self.old }
         ensures legal { Legal (width self.new) (depth self.new) (layout self.new) };
 
-    /// Takes a path out. No other path changes its slot.
+    /// Removes a path. No other path changes its slot.
     fn disconnect(&mut self, from: Slot, to: Slot)
         requires from { IsSlot (width self.old) from }
         requires stands { Joins (layout self.old) from to }
@@ -64,13 +64,13 @@ pub trait PathMap {
         ensures bound { bound self.new ≡ bound self.old }
         ensures legal { Legal (width self.new) (depth self.new) (layout self.new) };
 
-    /// The internal slot of the path that begins at an inlet. `None` exactly where the inlet is free.
+    /// Returns the internal slot of the path that begins at an inlet. `None` if and only if the inlet is free.
     fn slot_of(&self, from: Slot) -> Option<u8>
         requires { IsSlot (width self.now) from }
         ensures slot { result ≡ option_map (λ (hop : Hop). hop.slot) (hop_of (layout self.now) from) }
         ensures legal { Legal (width self.now) (depth self.now) (layout self.now) };
 
-    /// How many internal slots there are.
+    /// Returns the number of internal slots.
     fn slots(&self) -> u8
         ensures slots { result ≡ depth self.now }
         ensures legal { Legal (width self.now) (depth self.now) (layout self.now) };

@@ -13,10 +13,10 @@ use circuit_model::{PLACES, Slot};
 use std::alloc::{AllocError, Global};
 use std::marker::Model;
 
-/// The paths of a fabric with any number of internal slots: for each inlet its hop, and beside it
-/// the three control tables of the layout, in the form of a control memory.
+/// The paths of a fabric with any number of internal slots: for each inlet its hop, and the three control tables of the
+/// layout, in the form of a control memory.
 ///
-/// Contracts see the layout. It is legal from the first call on, and no call but `new` takes memory.
+/// Contracts see the layout. It is legal from the first call on, and only `new` allocates.
 #[derive(Drop)]
 pub struct PathTable {
     lines: u8,
@@ -38,7 +38,7 @@ impl Model for PathTable {
 }
 
 impl PathTable {
-    /// No path on n lines and m internal slots.
+    /// Returns an empty layout on n lines and m internal slots.
     pub fn new(alloc: Global, lines: u8, slots: u8) -> Result<PathTable, AllocError>
         requires lines { lines ≤ 34 }
         ensures lines { IfOk result (λ t. t.lines ≡ lines) }
@@ -76,7 +76,7 @@ impl PathTable {
         self.outgoing.set(to.line, to.place, slot);
     }
 
-    /// Takes out the path that begins at an inlet, and answers its hop.
+    /// Removes the path that begins at an inlet, whose hop is `hop`.
     pub fn take(&mut self, from: Slot, hop: Hop)
         requires from { IsSlot self.old.lines from }
         requires stands { HasPath self.old.layout from hop.to hop.slot }
@@ -91,7 +91,7 @@ impl PathTable {
         self.outgoing.unset(hop.to.line, hop.to.place);
     }
 
-    /// How many internal slots it has.
+    /// Returns the number of internal slots.
     pub fn slots(&self) -> u8
         ensures slots { result ≡ self.now.slots }
         ensures legal { Legal self.now.lines self.now.slots self.now.layout }
@@ -99,7 +99,7 @@ impl PathTable {
         self.slots
     }
 
-    /// Where the path of an inlet goes, and in which internal slot; `None` where it is free.
+    /// Returns the hop of the path that begins at an inlet. `None` if the inlet is free.
     pub fn hop(&self, from: Slot) -> Option<Hop>
         requires { IsSlot self.now.lines from }
         ensures hop { result ≡ hop_of self.now.layout from }
@@ -108,7 +108,7 @@ impl PathTable {
         self.hops[from.number()]
     }
 
-    /// The internal slot of the path that ends at an outlet; `None` where it is free.
+    /// Returns the internal slot of the path that ends at an outlet. `None` if the outlet is free.
     pub fn read(&self, to: Slot) -> Option<u8>
         requires { IsSlot self.now.lines to }
         ensures slot { result ≡ slot_read self.now.layout to }
@@ -117,7 +117,7 @@ impl PathTable {
         self.outgoing.get(to.line, to.place)
     }
 
-    /// Takes out the path that an incoming line sends in an internal slot, and answers its ends.
+    /// Removes the path that an incoming line sends in an internal slot, and returns its ends.
     pub fn lift(&mut self, line: u8, slot: u8) -> Ends
         requires line { line < self.old.lines }
         requires slot { slot < self.old.slots }

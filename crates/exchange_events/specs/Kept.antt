@@ -1,10 +1,10 @@
--- What is kept of a reply until it is reported. Source: this exchange's own.
+-- A stored reply, until it is reported. Source: this project.
 use Rattle.exchange_events.specs.declared.answer.Kept.{Kept}
 use Rattle.exchange_events.specs.declared.answer.Kept.TheVariants as k
 use Rattle.exchange_events.specs.declared.reply.Reply.{Reply}
 use Rattle.exchange_events.specs.declared.reply.Reply.TheVariants as r
 
--- all of it
+-- the reply with its lists stored
 abbrev pub kept_of : Reply → Kept
 kept_of (r.Granted a b) = k.Granted a b
 kept_of r.Busy = k.Busy

@@ -1,4 +1,4 @@
--- How much one step does at the most. Source: this exchange's own.
+-- The limits of one step. Source: this project.
 use Rattle.std.specs.Prelude.{ℕ}
 
 abbrev pub most_sends : ℕ
@@ -7,10 +7,10 @@ most_sends = 64
 abbrev pub most_records : ℕ
 most_records = 64
 
--- how many changes of meters a trace has at the most
+-- the maximum number of changes of meters in a trace
 abbrev pub most_changes : ℕ
 most_changes = 65535
 
--- how many events a trace has at the most
+-- the maximum number of events of a trace
 abbrev pub most_events : ℕ
 most_events = 65535

@@ -1,11 +1,11 @@
--- What a step answers, by a short response and the outbox that it got. Source: this exchange's own.
+-- The reply of a step, by a short response and the outbox that the step got. Source: this project.
 use Rattle.exchange_events.specs.declared.outbox.Outbox.{Outbox}
 use Rattle.exchange_events.specs.declared.outbox.Response.{Response}
 use Rattle.exchange_events.specs.declared.outbox.Response.TheVariants as response
 use Rattle.exchange_events.specs.declared.reply.Reply.{Reply}
 use Rattle.exchange_events.specs.declared.reply.Reply.TheVariants.{Granted, Busy, Seated, NoPort, Freed, NotNailed, Sent, Frame}
 
--- the reply: the response, with the outbox's lists where it has lists
+-- the reply: the response, with the outbox's lists if it has lists
 abbrev pub reply_of : Response → Outbox → Reply
 reply_of (response.Granted a b) out = Granted a b
 reply_of response.Busy out = Busy

@@ -1,4 +1,4 @@
--- What every trace keeps to. Source: this exchange's own.
+-- The conditions that every trace meets. Source: this project.
 use Rattle.std.specs.Prelude.{◌≡◌, ◌≢◌, ℕ, ◌<◌, ◌≤◌, nat_lt, Bool, true, IsTrue, ◌==◌, List, [], ◌∷◌, length, All, AllPairs}
 use Rattle.std.specs.List.{list_any}
 use Rattle.circuit_model.specs.declared.channel.Slot.{Slot}
@@ -31,33 +31,35 @@ abbrev pub is_reached : ℕ → Target → Bool
 is_reached external (target.Line line) = nat_lt line external
 is_reached external (target.Room room) = true
 
--- the lines to which the numbers of a plan lead exist
+-- the numbers of a plan are routed to lines that exist
 abbrev pub IsPlanned : Setting → Type 0
 IsPlanned s = IsTrue (all_targets (is_reached s.dimensions.external) s.plan)
 
--- the last of these numbers, 0 where there is none
+-- the last of these numbers, 0 if there is none
 abbrev pub last_of : List ℕ → ℕ
 last_of [] = 0
 last_of (n ∷ []) = n
 last_of (n ∷ m ∷ ns) = last_of (m ∷ ns)
 
--- where the segments of n events end: the numbers of their last events rise, and the last one is n
+-- the ends of the segments of n events: the numbers of their last events rise from 1 on, and the last one is n; no
+-- segment is empty, since `sync` and `change` end a segment only after an event
 pub record AreSegments (events : ℕ) (ends : List ℕ) : Type 0 where
   pub some : All (λ n. 1 ≤ n) ends
   pub rising : AllPairs (λ m n. m < n) ends
   pub whole : last_of ends ≡ events
 
--- the place is one between segments: it is before the first of them, or at the end of one
+-- the place is between segments: before the first of them, or at the end of one
 abbrev pub is_between : List ℕ → ℕ → Bool
 is_between ends count = list_any (λ place. place == count) (0 ∷ ends)
 
--- where meters change: the places rise or stay as they are, and each is between segments
+-- the places at which meters change: each is between segments, and none is before the one in front of it; several
+-- changes can have one place, since each changes one meter
 pub record AreChanges (ends changes : List ℕ) : Type 0 where
   pub few : length changes ≤ most_changes
   pub rising : AllPairs (λ m n. m ≤ n) changes
   pub between : All (λ count. is_between ends count ≡ true) changes
 
--- what an exchange over a fabric of n internal slots is built with, by a trace
+-- the setting of an exchange over a fabric of n internal slots, by a trace
 abbrev pub setting_of : ℕ → Trace → Setting
 setting_of slots trace = record {
   dimensions = record { external = trace.external; bridges = trace.bridges; slots = slots };
@@ -66,8 +68,9 @@ setting_of slots trace = record {
   timers = trace.timers;
 }
 
--- an exchange of 1 to 32 external and at most 2 bridge lines and of 1 to 8 call processors; the lines of its plan exist; its events are not too
--- many, each is one of as many external lines, and each is in a segment; its meters change between segments
+-- an exchange of 1 to 32 external lines, at most 2 bridge lines and 1 to 8 call processors; the lines of its plan
+-- exist; its events are within the limit, each fits the external lines, and each is in a segment; its meters change
+-- between segments
 pub record IsSound (trace : Trace) : Type 0 where
   pub some : 1 ≤ trace.external
   pub few : trace.external ≤ 32

@@ -1,4 +1,4 @@
-//! Answers that are kept, whole.
+//! Stored answers, with their lists.
 ghost use Rattle.std.specs.Prelude.{◌≡◌, IfOk};
 ghost use Rattle.exchange_events.specs.Kept.{kept_of};
 ghost use Rattle.exchange_events.specs.Responses.{reply_of};
@@ -16,11 +16,11 @@ pub type SignalList = ListOf<Signal>;
 /// Records of calls, in order. Contracts see their list.
 pub type RecordList = ListOf<CallRecord>;
 
-/// The octets of a frame: for each external line thirty, in order of place. Contracts see their list.
+/// The octets of a frame: for each external line 30, in order of place. Contracts see their list.
 pub type Rows = ListOf<[u8; 30]>;
 
-/// A [`Reply`] with its lists on the heap, each no longer than it need be, so that replies can be kept.
-/// Each variant is the reply of that name.
+/// A [`Reply`] with its lists on the heap, each of exactly its length, so that replies can be stored. Each variant is
+/// the reply of that name.
 #[derive(Drop)]
 pub enum Kept {
     Granted(u32, u32),
@@ -32,8 +32,8 @@ pub enum Kept {
     Sent {
         /// The messages that were sent, in order.
         sends: SignalList,
-        /// Where the message made a connection or took a seat, how many live paths were moved for
-        /// the path there, and for the one back.
+        /// The numbers of live paths that moved for the path there and for the one back, if the message made a
+        /// connection or joined a room.
         moved: Option<(u32, u32)>,
         /// The records of the calls that the message began to clear, in order.
         records: RecordList,
@@ -48,25 +48,24 @@ pub enum Kept {
     },
 }
 
-/// What an event was answered, kept until it is reported.
+/// The stored answer to an event, until it is reported.
 #[derive(Drop)]
 pub struct Answer {
     /// The number of the event, counted from 1.
     pub event: u32,
-    /// What the exchange replied.
+    /// The reply of the exchange.
     pub reply: Kept,
-    /// What each external line sends where the event is a frame.
+    /// The octets that each external line sends, if the event is a frame.
     pub octets: Rows,
 }
 
 impl Answer {
-    /// Keeps what an event was answered: its number, the reply, and what each external line sends
-    /// where it is a frame. A reply without messages and records, of an event without octets, takes
-    /// no memory.
+    /// Stores the answer to an event: its number, the reply, and the octets that each external line sends if it is a
+    /// frame. A reply without messages and records, of an event without octets, allocates nothing.
     ///
     /// # Errors
     ///
-    /// [`AllocError`] where memory runs out.
+    /// Returns [`AllocError`] if an allocation fails.
     pub fn keep(
         alloc: Global,
         event: u32,
@@ -82,11 +81,11 @@ impl Answer {
 }
 
 impl Answer {
-    /// Keeps what an event was answered by a response and the outbox of its step.
+    /// Stores the answer to an event, from a response and the outbox of its step.
     ///
     /// # Errors
     ///
-    /// [`AllocError`] where memory runs out.
+    /// Returns [`AllocError`] if an allocation fails.
     pub fn keep_response(
         alloc: Global,
         event: u32,
@@ -102,7 +101,7 @@ impl Answer {
     }
 }
 
-// The answer with a kept reply.
+// Returns the answer with a stored reply.
 fn answer_of(
     alloc: Global,
     event: u32,

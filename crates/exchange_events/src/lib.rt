@@ -1,18 +1,12 @@
-//! What happens at an exchange, and what it answers: the words that its reader, its core, its printer
-//! and its meters share.
+//! Defines the events of an exchange and its replies: the types that its reader, its core, its printer and its meters
+//! share.
 //!
-//! - A [`Trace`] is what happens, event by event ([`Event`]). Every part of the exchange counts on a
-//!   sound one (`IsSound`).
-//! - A [`Reply`] is what the exchange answers to one event: what was connected, the messages that were
-//!   sent ([`Signal`]), the records of the calls that ended ([`CallRecord`]). A step puts the lists
-//!   into an [`Outbox`] that it gets, and returns a small [`Response`]; `reply_of` says which reply
-//!   the two are.
-//! - [`Answer::keep`] and [`Answer::keep_response`] keep exactly what they are given (`event`, `reply`,
-//!   `octets`).
+//! - A [`Trace`] is a list of events ([`Event`]). Every part of the exchange requires a sound one (`IsSound`).
+//! - A [`Reply`] is the result of one event: the connection, the messages that were sent ([`Signal`]), and the records
+//!   of the calls that ended ([`CallRecord`]). A step puts the lists into the [`Outbox`] that it gets, and returns a
+//!   small [`Response`]. `reply_of` gives the reply of the two.
+//! - [`Answer::keep`] and [`Answer::keep_response`] store exactly their arguments (`event`, `reply`, `octets`).
 //! - The order of the file is a lawful one ([`file_order_is_lawful`]).
-//!
-//! It uses `circuit_model`, `number_plan`, `tone_rules` and `q931_elements`, and the kit's
-//! `arrayvec`.
 #![tactic(auto)]
 
 mod answer;

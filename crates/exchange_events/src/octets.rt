@@ -4,8 +4,8 @@ ghost use Rattle.std.specs.Prelude.{◌≡◌, ◌≤◌, length};
 use arrayvec::ArrayVec;
 use std::marker::Model;
 
-/// How many octets a message has at most that takes no memory of its own. Most messages that clear a
-/// call or answer one have fewer. Source: this exchange's own.
+/// The maximum number of octets of a message that is stored without an allocation. Most messages that clear a call or
+/// reply to one are shorter. Source: this project.
 pub const FEW_OCTETS: usize = 16;
 
 /// The octets of a message from the user of a line. Contracts see their list.
@@ -14,7 +14,7 @@ pub struct Octets {
     held: Held,
 }
 
-/// Where the octets of a message are: few of them in the value itself.
+/// The storage of a message's octets: a short message is in the value itself.
 #[derive(Drop)]
 pub enum Held {
     Few(ArrayVec<u8, FEW_OCTETS>),
@@ -31,7 +31,7 @@ impl Model for Octets {
 }
 
 impl Octets {
-    /// These octets.
+    /// Takes these octets.
     pub fn of(items: Vec<u8>) -> Octets
         ensures { result ≡ items.items }
     {
@@ -40,7 +40,7 @@ impl Octets {
         }
     }
 
-    /// These octets, at most [`FEW_OCTETS`]. It takes no memory.
+    /// Copies these octets, at most [`FEW_OCTETS`], without an allocation.
     pub fn few(octets: &[u8]) -> Octets
         requires { length octets.now ≤ 16 }
         ensures { result ≡ octets.now }
@@ -54,7 +54,7 @@ impl Octets {
         }
     }
 
-    /// The octets in order.
+    /// Returns the octets in order.
     pub fn as_slice(&self) -> &[u8]
         ensures { result.now ≡ self.now }
     {

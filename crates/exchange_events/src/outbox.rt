@@ -1,4 +1,4 @@
-//! What is sent and recorded in a step, and the small answer beside it.
+//! The messages and records of a step, and the small response that goes with them.
 ghost use Rattle.std.specs.Prelude.{◌≡◌, [], None};
 ghost use Rattle.exchange_events.specs.Responses.{reply_of};
 
@@ -6,19 +6,19 @@ use crate::record::Records;
 use crate::reply::Reply;
 use crate::signal::Signals;
 
-/// What a step sends, moves and records. Each step gets it anew, so that no step pays for its room.
+/// The messages, moved paths and records of a step. Steps share one outbox, so that no step pays for its space.
 #[derive(Drop)]
 pub struct Outbox {
     /// The messages that were sent, in order.
     pub sends: Signals,
-    /// How many live paths were moved for a connection or a seat that a message made.
+    /// The numbers of live paths that moved for a message's connection or membership.
     pub moved: Option<(u32, u32)>,
     /// The records of the calls that ended, in order.
     pub records: Records,
 }
 
 impl Outbox {
-    /// Nothing yet.
+    /// Returns an empty outbox.
     pub fn new() -> Outbox
         ensures sends { result.sends ≡ [] }
         ensures moved { result.moved ≡ None }
@@ -31,7 +31,7 @@ impl Outbox {
         }
     }
 
-    /// Nothing any more.
+    /// Makes the outbox empty.
     pub fn clear(&mut self)
         ensures sends { self.new.sends ≡ [] }
         ensures moved { self.new.moved ≡ None }
@@ -59,7 +59,7 @@ pub enum Response {
 }
 
 impl Response {
-    /// The reply, with what is in the outbox.
+    /// Returns the reply, with the lists of the outbox.
     pub fn with(self, out: Outbox) -> Reply
         ensures { result ≡ reply_of self out }
     {

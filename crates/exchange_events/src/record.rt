@@ -6,10 +6,10 @@ use arrayvec::ArrayVec;
 use circuit_model::Slot;
 use std::marker::Model;
 
-/// How many calls a step ends at most. Source: this exchange's own.
+/// The maximum number of calls that a step ends. Source: this project.
 pub const MOST_RECORDS: usize = 64;
 
-/// Whom a caller was connected with, or was to be.
+/// The party that a caller was, or was to be, connected with.
 #[derive(Clone, Copy, Debug, PartialEq, Eq)]
 pub enum Party {
     /// The slot of a called user.
@@ -18,16 +18,16 @@ pub enum Party {
     Room(u8),
 }
 
-/// What is recorded of a call once its clearing has begun.
+/// The record of a call whose clearing has begun.
 #[derive(Clone, Copy, Debug, PartialEq, Eq)]
 pub struct CallRecord {
     /// The slot of the caller.
     pub caller: Slot,
-    /// Whom the caller called.
+    /// The called party.
     pub called: Party,
     /// Whether the call was answered.
     pub answered: bool,
-    /// The first frame of the conversation; of a call that wasn't answered the same as `to`.
+    /// The first frame of the conversation. For a call that was not answered it equals `to`.
     pub from: u32,
     /// The number of the next frame when the clearing began.
     pub to: u32,
@@ -64,7 +64,7 @@ impl Model for Records {
 }
 
 impl Records {
-    /// No records.
+    /// Returns no records.
     pub fn new() -> Records
         ensures { result ≡ [] }
     {
@@ -73,28 +73,28 @@ impl Records {
         }
     }
 
-    /// These records.
+    /// Takes these records.
     pub fn of(items: ArrayVec<CallRecord, MOST_RECORDS>) -> Records
         ensures { result ≡ items.items }
     {
         Records { items }
     }
 
-    /// The records in order.
+    /// Returns the records in order.
     pub fn as_slice(&self) -> &[CallRecord]
         ensures { result.now ≡ self.now }
     {
         self.items.as_slice()
     }
 
-    /// No record any more.
+    /// Removes all records.
     pub fn clear(&mut self)
         ensures { self.new ≡ [] }
     {
         self.items.clear();
     }
 
-    /// One record more.
+    /// Appends a record.
     pub fn push(&mut self, call: CallRecord)
         requires { length self.old < most_records }
         ensures { self.new ≡ self.old ++ call ∷ [] }

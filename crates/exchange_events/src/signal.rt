@@ -1,4 +1,4 @@
-//! Messages that are sent, as octets to a line.
+//! Messages to the users of lines, as octets.
 ghost use Rattle.std.specs.Prelude.{◌≡◌, ◌<◌, ◌+◌, [], ◌∷◌, ◌++◌, length};
 ghost use Rattle.exchange_events.specs.Limits.{most_sends};
 
@@ -6,7 +6,7 @@ use arrayvec::ArrayVec;
 use q931_elements::LONGEST_MESSAGE;
 use std::marker::Model;
 
-/// How many messages a step sends at most. Source: this exchange's own.
+/// The maximum number of messages that a step sends. Source: this project.
 pub const MOST_SENDS: usize = 64;
 
 /// The octets of a message that is sent. Contracts see their list.
@@ -24,21 +24,21 @@ impl Model for Encoded {
 }
 
 impl Encoded {
-    /// These octets.
+    /// Takes these octets.
     pub fn of(items: ArrayVec<u8, LONGEST_MESSAGE>) -> Encoded
         ensures { result ≡ items.items }
     {
         Encoded { octets: items }
     }
 
-    /// The octets in the order in which they are sent.
+    /// Returns the octets in the order in which they are sent.
     pub fn as_slice(&self) -> &[u8]
         ensures { result.now ≡ self.now }
     {
         self.octets.as_slice()
     }
 
-    /// The same octets once more. It takes no memory.
+    /// Returns a copy of the octets. It allocates nothing.
     pub fn copy(&self) -> Encoded
         ensures { result ≡ self.now }
     {
@@ -49,8 +49,8 @@ impl Encoded {
         copied
     }
 
-    /// Becomes the octets of another message. It takes no memory, makes the octets of the old message blank, and
-    /// touches no octet behind the longer of the two.
+    /// Copies the octets of another message. It allocates nothing, clears the octets of the old message first, and
+    /// touches no octet after the longer of the two. Most messages are far shorter than the capacity.
     pub fn copy_from(&mut self, other: &Encoded)
         ensures { self.new ≡ other.now }
     {
@@ -73,12 +73,12 @@ pub struct Signal {
 
 /// The messages that a step sends, in order, at most 64. Contracts see their list.
 ///
-/// A list that is cleared leaves its messages where they lie, and the next ones are written over them: to
-/// make one blank again would cost as much as to write it.
+/// Clearing a list leaves its messages in place, and the next ones overwrite them. Clearing the octets of one would
+/// cost as much as writing it.
 #[derive(Drop)]
 pub struct Signals {
     items: ArrayVec<Signal, MOST_SENDS>,
-    // How many of them count.
+    // The number of messages that count.
     count: usize,
 }
 
@@ -94,7 +94,7 @@ impl Model for Signals {
 }
 
 impl Signals {
-    /// No messages.
+    /// Returns no messages.
     pub fn new() -> Signals
         ensures { result ≡ [] }
     {
@@ -104,7 +104,7 @@ impl Signals {
         }
     }
 
-    /// These messages.
+    /// Takes these messages.
     pub fn of(items: ArrayVec<Signal, MOST_SENDS>) -> Signals
         ensures { result ≡ items.items }
     {
@@ -112,21 +112,21 @@ impl Signals {
         Signals { items, count }
     }
 
-    /// The messages in the order in which they are sent.
+    /// Returns the messages in the order in which they are sent.
     pub fn as_slice(&self) -> &[Signal]
         ensures { result.now ≡ self.now }
     {
         &self.items.as_slice()[..self.count]
     }
 
-    /// No message any more.
+    /// Removes all messages.
     pub fn clear(&mut self)
         ensures { self.new ≡ [] }
     {
         self.count = 0;
     }
 
-    /// One message more.
+    /// Appends a message.
     pub fn push(&mut self, signal: Signal)
         requires { length self.old < most_sends }
         ensures { self.new ≡ self.old ++ signal ∷ [] }

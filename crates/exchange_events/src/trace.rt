@@ -9,8 +9,8 @@ use circuit_model::Slot;
 use number_plan::Plan;
 use tone_rules::Tones;
 
-/// What arrives in one frame: for each external line its thirty octets in order of place, or
-/// nothing where the line is idle. Contracts see it as that list.
+/// The input of one frame: for each external line its 30 octets in order of place, or nothing if the line is idle.
+/// Contracts see it as that list.
 pub type Input = ListOf<Option<[u8; 30]>>;
 
 /// One event of a trace.
@@ -18,13 +18,13 @@ pub type Input = ListOf<Option<[u8; 30]>>;
 pub enum Event {
     /// Connect two slots, both ways.
     Nail(Slot, Slot),
-    /// Seat a slot in a conference room, 0 to 63.
+    /// Make a slot a member of a conference room, 0 to 63.
     Seat(Slot, u8),
     /// Undo the nail or the seat of a slot.
     Free(Slot),
     /// A message from the user of a line: 0 to 260 octets.
     Message(u8, Octets),
-    /// The boundary of a frame, and what arrives in it.
+    /// The boundary of a frame, and its input.
     Frame(Input),
 }
 
@@ -34,35 +34,35 @@ pub type Events = ListOf<Event>;
 /// The number of the last event of each segment that has events, rising. Contracts see their list.
 pub type Segments = ListOf<u32>;
 
-/// For each change of meters, in file order, how many events are before it. Contracts see their list.
+/// For each change of meters, in file order, the number of events before it. Contracts see their list.
 pub type Changes = ListOf<u32>;
 
-/// A trace: the sizes of the exchange, its number plan, its tones and its timers, what happens to it, and
-/// where its meters change.
+/// A trace: the sizes of the exchange, its number plan, its tones and its timers, its events, and the places at which
+/// its meters change.
 #[derive(Drop)]
 pub struct Trace {
-    /// How many external lines there are, 1 to 32.
+    /// The number of external lines, 1 to 32.
     pub external: u8,
-    /// How many conference bridge lines there are, at most 2.
+    /// The number of conference bridge lines, at most 2.
     pub bridges: u8,
-    /// How many call processors share the work, 1 to 8.
+    /// The number of call processors that share the work, 1 to 8.
     pub processors: u8,
-    /// Which numbers lead to which lines and conference rooms.
+    /// The numbers, with the lines and conference rooms to which they are routed.
     pub plan: Plan,
-    /// The octets of the tones; one that isn't given has none.
+    /// The octets of the tones. A tone that is not given has none.
     pub tones: Tones,
-    /// How long a leg waits in a state, in frames; a timer that isn't given has its usual value.
+    /// The time that a leg waits in a state, in frames. A timer that is not given has its usual value.
     pub timers: Timers,
-    /// What happens, in file order.
+    /// The events, in file order.
     pub events: Events,
-    /// Where the segments end.
+    /// The ends of the segments.
     pub segments: Segments,
-    /// Where the meters change, at most 65,535 times.
+    /// The places of the changes of meters, at most 65,535.
     pub changes: Changes,
 }
 
 impl Trace {
-    /// The event with this number, counted from 1.
+    /// Returns the event with this number, counted from 1.
     pub fn event(&self, number: u32) -> &Event
         requires { IsEvent self.now number }
         ensures { event_at self.now.events number ≡ Some result.now }

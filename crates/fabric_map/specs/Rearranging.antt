@@ -1,4 +1,4 @@
--- How the paths that move are taken out of a layout, and put back in their new slots. Source: this exchange's own.
+-- The removal of moved paths from a layout, and their new slots. Source: this project.
 use Rattle.std.specs.Prelude.{◌≡◌, ℕ, ◌<◌, ⊤, Option, Some, None, List, [], ◌∷◌}
 use Rattle.control_memory.specs.Layout.{Path, Layout, path_in, IsSlot}
 use Rattle.control_memory.specs.Connecting.{with_path, without_path, IsFree}
@@ -15,25 +15,25 @@ abbrev pub without_all : Layout → List Ends → Layout
 without_all layout [] = layout
 without_all layout (e ∷ es) = without_all (without_path layout e.from) es
 
--- each of the moves finds its path in the layout that the moves before it left, and these are the ends of the paths
+-- each of the moves finds its path in the layout after the moves before it, and these are the ends of the paths
 abbrev pub AreTaken : Layout → List Move → List Ends → Type 0
 AreTaken layout [] [] = ⊤
 AreTaken layout [] (e ∷ es) = ⊥
 AreTaken layout (v ∷ moves) [] = ⊥
 AreTaken layout (v ∷ moves) (e ∷ es) = ((p : Path) × (moving layout v ≡ Some p) × (ends_of p ≡ e)) × AreTaken (without_path layout e.from) moves es
 
--- the ends of the paths that the moves find, one after the other
+-- the ends of the paths that the moves find, in sequence
 abbrev pub taken_by : Layout → List Move → List Ends
 taken_by layout [] = []
 taken_by layout (v ∷ moves) = elim (moving layout v) as (λ _. List Ends) [ None ↦ [] | Some p ↦ ends_of p ∷ taken_by (without_path layout p.from) moves ]
 
--- the paths are put back, each in the slot that its move gives
+-- the layout with the paths set up again, each in the slot of its move
 abbrev pub laid : Layout → List Ends → List Move → Layout
 laid layout [] moves = layout
 laid layout (e ∷ es) [] = layout
 laid layout (e ∷ es) (v ∷ moves) = laid (with_path layout e.from e.to v.new) es moves
 
--- each path has room when its turn comes
+-- the slot of a move is free in both lines of its path, and so is the slot of each move after the moves before it
 pub record HasRoom (lines slots : ℕ) (layout : Layout) (e : Ends) (v : Move) : Type 0 where
   pub from : IsSlot lines e.from
   pub to : IsSlot lines e.to

@@ -1,4 +1,4 @@
-//! The live map of paths on thirty internal slots.
+//! The live map of paths on 30 internal slots.
 ghost use Rattle.std.specs.Prelude.{◌≡◌, ◌↔◌, ◌⊎◌, ℕ, ◌*◌, ◌-◌, ◌<◌, ◌≤◌, [], List, None, IfOk, length, replicate};
 ghost use Rattle.circuit_model.specs.declared.channel.Slot.{Slot};
 ghost use Rattle.control_memory.specs.Layout.{Layout, Legal, IsSlot, Joins, hop_of, path_to};
@@ -19,11 +19,11 @@ use std::alloc::{AllocError, Global};
 use std::marker::{Brand, Model};
 use std::sync::ledger::{Blank, Ledger};
 
-/// How many internal slots a frame of a line has in this fabric: as many as the line has places
-/// are enough (Slepian-Duguid).
+/// The number of internal slots of a frame of a line in this fabric. The number of places of a line is enough
+/// (Slepian-Duguid).
 pub const SLOTS: u8 = 30;
 
-/// The live map of a rearrangeable fabric: thirty internal slots, as many as a line has places.
+/// The live map of a rearrangeable fabric: 30 internal slots, one for each place of a line.
 ///
 /// Contracts see its layout.
 #[derive(Drop)]
@@ -43,7 +43,7 @@ impl Model for FabricMap {
 }
 
 impl FabricMap {
-    /// A map without paths, for n lines, external and bridge lines together.
+    /// Returns a map without paths, for n lines, external and bridge lines together.
     pub fn new(alloc: Global, lines: u8) -> Result<FabricMap, AllocError>
         requires { (0 < lines) × (lines ≤ 34) }
         ensures lines { IfOk result (λ m. m.lines ≡ lines) }
@@ -56,8 +56,8 @@ impl FabricMap {
     }
 }
 
-// Connects by the rule where paths may have to move for it. It is apart, so that the lists of
-// moves are made only where no slot is free in both lines.
+// Connects by the rule if no slot is free in both lines. A separate function holds the lists of moves, because a
+// function clears its locals whenever it is entered.
 fn connect_by_moves<L: Ledger>(memory: &mut PathMemory, from: Slot, to: Slot, blank: Blank) -> u32
     requires ledger { (blank.name ≡ L.name) × (blank.parts ≡ L.parts) × (0 < L.parts) }
     requires thirty { memory.old.slots ≡ 30 }
@@ -90,7 +90,7 @@ fn connect_by_moves<L: Ledger>(memory: &mut PathMemory, from: Slot, to: Slot, bl
     moves.len() as u32
 }
 
-// Takes the paths that move out of the layout, and lists their ends.
+// Removes the paths that move from the layout, and lists their ends.
 fn lift_all(paths: &mut PathTable, moves: &[Move], lifted: &mut ArrayVec<Ends, 66>)
     requires taken { AreTaken paths.old.layout moves.now (taken_by paths.old.layout moves.now) }
     requires legal { Legal paths.old.lines paths.old.slots paths.old.layout }
@@ -106,7 +106,7 @@ fn lift_all(paths: &mut PathTable, moves: &[Move], lifted: &mut ArrayVec<Ends, 6
     }
 }
 
-// Puts the paths back, each in the slot that its move gives.
+// Sets the paths up again, each in the slot of its move.
 fn lay_all(paths: &mut PathTable, moves: &[Move], lifted: &[Ends])
     requires same { length lifted.now ≡ length moves.now }
     requires room { CanLay paths.old.lines paths.old.slots paths.old.layout lifted.now moves.now }

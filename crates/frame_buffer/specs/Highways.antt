@@ -1,5 +1,6 @@
--- The octets on the highways of a time-space-time exchange: one for each line and internal time slot of a frame. Source: this
--- exchange's own; the terms are from C. Clos, "A study of non-blocking switching networks" (1953), carried over to time slots.
+-- The octets on the highways of a time-space-time exchange: one for each line and internal time slot of a frame.
+-- Source: this project; the terms are from C. Clos, "A study of non-blocking switching networks" (1953), carried over
+-- to time slots.
 use Rattle.std.specs.Prelude.{◌≡◌, ℕ, ◌+◌, ◌-◌, ◌*◌, ◌<◌, ◌≤◌, List, ◌++◌, length, take, drop, slice_index}
 
 -- the octets, line after line, one for each internal slot
@@ -12,12 +13,12 @@ pub record Highways : Type 0 where
 abbrev pub octet_on : Highways → ℕ → ℕ → ℕ
 octet_on h line slot = slice_index h.octets (line * h.slots + slot)
 
--- as many lines, and as many internal slots
+-- the same number of lines, and of internal slots
 pub record SameHighwaySize (a b : Highways) : Type 0 where
   pub lines : a.lines ≡ b.lines
   pub slots : a.slots ≡ b.slots
 
--- the highways with these octets over theirs, as many as there are
+-- the highways with these octets written over their first ones
 abbrev pub highways_with : Highways → List ℕ → Highways
 highways_with h ws = record { lines = h.lines; slots = h.slots; octets = take (length h.octets) (ws ++ drop (length ws) h.octets) }
 

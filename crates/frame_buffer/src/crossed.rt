@@ -10,8 +10,7 @@ use circuit_model::IDLE;
 use std::alloc::{AllocError, Global};
 use std::marker::Model;
 
-/// What the space stage has crossed: for each outgoing line an octet in every internal slot of the
-/// frame, line after line.
+/// The output of the space stage: for each outgoing line an octet in every internal slot of the frame, line after line.
 #[derive(Drop)]
 pub struct Crossed {
     lines: u8,
@@ -31,7 +30,7 @@ impl Model for Crossed {
 }
 
 impl Crossed {
-    /// Outgoing highways for n lines and m internal slots, with the idle octet everywhere.
+    /// Returns outgoing highways for n lines and m internal slots, with the idle octet everywhere.
     pub fn new(alloc: Global, lines: u8, slots: u8) -> Result<Crossed, AllocError>
         ensures lines { IfOk result (λ h. h.lines ≡ lines) }
         ensures slots { IfOk result (λ h. h.slots ≡ slots) }
@@ -45,21 +44,21 @@ impl Crossed {
         })
     }
 
-    /// How many lines it has.
+    /// Returns the number of lines.
     pub fn lines(&self) -> u8
         ensures { result ≡ self.now.lines }
     {
         self.lines
     }
 
-    /// How many internal slots a frame of a line has.
+    /// Returns the number of internal slots of a frame of a line.
     pub fn slots(&self) -> u8
         ensures { result ≡ self.now.slots }
     {
         self.slots
     }
 
-    /// The octet of a line in an internal slot.
+    /// Returns the octet of a line in an internal slot.
     pub fn get(&self, line: u8, slot: u8) -> u8
         requires line { line < self.now.lines }
         requires slot { slot < self.now.slots }
@@ -80,7 +79,7 @@ impl Crossed {
         self.octets[at] = octet;
     }
 
-    /// The octets of all lines, line after line, to be written.
+    /// Returns the octets of all lines, line after line, for writing.
     pub fn parts(&mut self) -> &mut [u8]
         ensures* writes_back { sem 𝓛 (Lends the_row (Array octet_row 0) self.entry result (highways_with self.old)) }
         ensures octets { result.now ≡ self.old.octets }
@@ -89,7 +88,7 @@ impl Crossed {
         self.octets.as_mut_slice()
     }
 
-    /// The octets of a line by internal slot.
+    /// Returns the octets of a line by internal slot.
     pub fn row(&self, line: u8) -> &[u8]
         requires { line < self.now.lines }
         ensures size { length result.now ≡ self.now.slots }

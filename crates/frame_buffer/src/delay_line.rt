@@ -11,10 +11,10 @@ use std::mem;
 
 const IDLE_ROW: [u8; 30] = [IDLE; 30];
 
-/// A delay line of two frames: what arrives in frame f leaves in frame f+2.
+/// A delay line of two frames: an octet that arrives in frame f leaves in frame f+2.
 ///
-/// In frame f read first, by `back_two`, and then `push` what arrives in f. Read after that push,
-/// it would give the octets of frame f-1.
+/// In frame f call `back_two` first, and then `push` the octets that arrive in f. Two frames of storage are then
+/// enough. After the push it would return the octets of frame f-1.
 #[derive(Drop)]
 pub struct DelayLine {
     external: u8,
@@ -34,7 +34,7 @@ impl Model for DelayLine {
 }
 
 impl DelayLine {
-    /// A line for n external lines, on which nothing has arrived yet: every slot is idle.
+    /// Returns a line for n external lines, on which nothing has arrived yet: every slot is idle.
     pub fn new(alloc: Global, external: u8) -> Result<DelayLine, AllocError>
         ensures external { IfOk result (λ d. d.external ≡ external) }
         ensures empty { IfOk result (λ d. Carries d []) }
@@ -46,8 +46,7 @@ impl DelayLine {
         })
     }
 
-    /// Takes in what arrives in one frame: for each external line its thirty octets by place, or
-    /// none, which is idle.
+    /// Stores the octets of one frame: for each external line its 30 octets by place, or none, which is idle.
     pub fn push(&mut self, input: &[Option<[u8; 30]>])
         requires { length input.now ≡ self.old.external }
         ensures external { self.new.external ≡ self.old.external }
@@ -57,8 +56,8 @@ impl DelayLine {
         take_in(&mut self.latest, input);
     }
 
-    /// The octet that arrived on a slot two frames before the next one: with f frames pushed so
-    /// far, the octet of frame f-2, and idle where there is no such frame.
+    /// Returns the octet that arrived on a slot two frames before the next one. After f pushed frames this is the octet
+    /// of frame f-2, or idle if there is no such frame.
     pub fn back_two(&self, at: Slot) -> u8
         requires line { at.line < self.now.external }
         requires place { at.place < 30 }
@@ -68,7 +67,7 @@ impl DelayLine {
     }
 }
 
-// A row of idle octets for each line.
+// Returns a row of idle octets for each line.
 fn idle_rows(alloc: Global, lines: u8) -> Result<Vec<[u8; 30]>, AllocError>
     ensures len { IfOk result (λ rows. vec_len rows ≡ lines) }
     ensures idle { IfOk result (λ rows. All (λ row. row ≡ replicate 30 idle_octet) rows.items) }
@@ -80,7 +79,7 @@ fn idle_rows(alloc: Global, lines: u8) -> Result<Vec<[u8; 30]>, AllocError>
     Ok(rows)
 }
 
-// Writes each line's octets over its row, or the idle octet where the line sends nothing.
+// Writes each line's octets over its row, or the idle octet if the line sends nothing.
 fn take_in(rows: &mut [[u8; 30]], input: &[Option<[u8; 30]>])
     requires { length rows.old ≡ length input.now }
     ensures { EachIndex rows.new (λ line. (place : ℕ) → octet_of_row rows.new line place ≡ octet_at place (line_of (slice_get input.now line))) }
@@ -90,7 +89,7 @@ fn take_in(rows: &mut [[u8; 30]], input: &[Option<[u8; 30]>])
     }
 }
 
-// What a line sends in a frame.
+// Returns the octets that a line sends in a frame.
 fn octets_sent(octets: &Option<[u8; 30]>) -> [u8; 30]
     ensures { (place : ℕ) → slice_index_or result place idle_octet ≡ octet_at place octets.now }
 {

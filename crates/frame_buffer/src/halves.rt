@@ -1,7 +1,7 @@
-//! Where the rows of some lines are worth halving.
+//! The size from which the rows of some lines are divided into halves.
 
-/// The least number of octets of which the half of some lines is worth a thread of its own.
+/// The least number of octets in a half that gets a thread.
 ///
-/// A thread that is started and joined takes as long as a stage takes for some 40,000 octets, as
-/// `bench/README.md` measures it. No highway is so large: it has at most 255 lines of 255 octets.
+/// Starting and joining a thread takes the time of a stage for some 40,000 octets, as `bench/README.md` measures it. No
+/// highway is that large: it has at most 255 lines of 255 octets.
 pub const LEAST_HALF: usize = 65_536;

@@ -10,11 +10,10 @@ use circuit_model::IDLE;
 use std::alloc::{AllocError, Global};
 use std::marker::Model;
 
-/// What the incoming time stage puts on the highways: for each incoming line an octet in every
-/// internal slot of the frame.
+/// The output of the incoming time stage: for each incoming line an octet in every internal slot of the frame.
 ///
-/// Before the rows of the lines is an idle one: what crosses where a control table names no
-/// line.
+/// An idle row comes before the rows of the lines. Its octets cross if a control table has no line. In front of the
+/// lines it leaves the borrowed rows as a suffix, so no borrower can change it.
 #[derive(Drop)]
 pub struct Highway {
     lines: u8,
@@ -49,21 +48,21 @@ impl Highway {
         })
     }
 
-    /// How many lines it has.
+    /// Returns the number of lines.
     pub fn lines(&self) -> u8
         ensures { result ≡ self.now.lines }
     {
         self.lines
     }
 
-    /// How many internal slots a frame of a line has.
+    /// Returns the number of internal slots of a frame of a line.
     pub fn slots(&self) -> u8
         ensures { result ≡ self.now.slots }
     {
         self.slots
     }
 
-    /// The octet of a line in an internal slot.
+    /// Returns the octet of a line in an internal slot.
     pub fn get(&self, line: u8, slot: u8) -> u8
         requires line { line < self.now.lines }
         requires slot { slot < self.now.slots }
@@ -84,7 +83,7 @@ impl Highway {
         self.octets[at] = octet;
     }
 
-    /// The octets of all lines, line after line, to be written.
+    /// Returns the octets of all lines, line after line, for writing.
     pub fn parts(&mut self) -> &mut [u8]
         ensures* writes_back { sem 𝓛 (Lends the_row (Array octet_row 0) self.entry result (highways_with self.old)) }
         ensures octets { result.now ≡ self.old.octets }
@@ -94,7 +93,7 @@ impl Highway {
         self.octets.slice_mut(slots..)
     }
 
-    /// A row of idle octets, and behind it the octets of all lines, line after line.
+    /// Returns a row of idle octets, followed by the octets of all lines, line after line.
     pub fn rows_behind_idle(&self) -> &[u8]
         ensures size { length result.now ≡ (self.now.lines + 1) * self.now.slots }
         ensures idle { (slot : ℕ) → slot < self.now.slots → slice_index result.now slot ≡ idle_octet }

@@ -1,14 +1,12 @@
-//! Where the octets of a frame are between two steps: speech memories, highways, a delay line.
+//! Stores the octets of a frame between two steps: speech memories, highways, a delay line.
 //!
-//! - [`FrameBuffer`] has two halves: `get` reads the one that was filled before `swap`, and
-//!   `put_line` and `make_lines_idle` fill the other (`filled`) and leave the first (`readable`).
-//! - [`Highway`] and [`Crossed`] hold an octet for each line and internal slot: a write changes
-//!   that one alone (`here`, `others`).
-//! - `parts` and `filled` hand out the rows of all lines to be written, whole or in parts (`writes_back`).
-//!   [`LEAST_HALF`] tells where halves of them are worth threads.
-//! - [`DelayLine`]'s `back_two` returns the octet of two frames before, idle where there is none.
-//!
-//! It uses `circuit_model`.
+//! - [`FrameBuffer`] has two halves. `get` reads the half that was filled before `swap`. `put_line` and
+//!   `make_lines_idle` fill the other half (`filled`) and preserve the first (`readable`).
+//! - [`Highway`] and [`Crossed`] hold an octet for each line and internal slot. A write changes that octet only
+//!   (`here`, `others`).
+//! - `parts` and `filled` lend the rows of all lines for writing, whole or in parts (`writes_back`). [`LEAST_HALF`] is
+//!   the size of a half that gets a thread.
+//! - `back_two` of [`DelayLine`] returns the octet of two frames before, or idle if there is none.
 #![tactic(auto)]
 
 mod crossed;

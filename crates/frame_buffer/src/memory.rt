@@ -1,4 +1,4 @@
-//! The speech memory, whose halves change places at each frame.
+//! The speech memory, whose halves are exchanged at each frame.
 
 ghost use Rattle.std.specs.Prelude.{◌≡◌, ℕ, ◌+◌, ◌-◌, ◌*◌, ◌<◌, ◌≤◌, length, slice_index, IfOk};
 ghost use Rattle.std.specs.Borrow.{Lends, Array, sem, u8 as octet_row};
@@ -33,7 +33,7 @@ impl Model for FrameBuffer {
 }
 
 impl FrameBuffer {
-    /// A speech memory for n lines, with the idle octet in every slot of both halves.
+    /// Returns a speech memory for n lines, with the idle octet in every slot of both halves.
     pub fn new(alloc: Global, lines: u8) -> Result<FrameBuffer, AllocError>
         ensures lines { IfOk result (λ b. b.lines ≡ lines) }
         ensures filled { IfOk result (λ b. AllIdle lines b.filled) }
@@ -47,14 +47,14 @@ impl FrameBuffer {
         })
     }
 
-    /// How many lines it has.
+    /// Returns the number of lines.
     pub fn lines(&self) -> u8
         ensures { result ≡ self.now.lines }
     {
         self.lines
     }
 
-    /// Writes the thirty octets of a line, by place, into the half that is filled.
+    /// Writes the 30 octets of a line, by place, into the half that is filled.
     pub fn put_line(&mut self, line: u8, octets: &[u8; 30])
         requires { line < self.old.lines }
         ensures lines { self.new.lines ≡ self.old.lines }
@@ -75,7 +75,7 @@ impl FrameBuffer {
         make_rows_idle(&mut self.filled, lines);
     }
 
-    /// The octets of the half that is filled, line after line and thirty to a line, to be written.
+    /// Returns the octets of the half that is filled, line after line and 30 to a line, for writing.
     pub fn filled(&mut self) -> &mut [u8]
         ensures* writes_back { sem 𝓛 (Lends the_row (Array octet_row 0) self.entry result (speech_with self.old)) }
         ensures octets { result.now ≡ self.old.filled }
@@ -84,7 +84,7 @@ impl FrameBuffer {
         self.filled.as_mut_slice()
     }
 
-    /// The thirty octets of a line, by place, in the half that is read.
+    /// Returns the 30 octets of a line, by place, in the half that is read.
     pub fn row(&self, line: u8) -> &[u8]
         requires { line < self.now.lines }
         ensures size { length result.now ≡ 30 }
@@ -94,8 +94,7 @@ impl FrameBuffer {
         &self.readable[start..start + usize::from(PLACES)]
     }
 
-    /// The octets of all lines from one on, line after line and thirty to a line, in the half that
-    /// is read.
+    /// Returns the octets of all lines from one on, line after line and 30 to a line, in the half that is read.
     pub fn rows_from(&self, line: u8) -> &[u8]
         requires { line ≤ self.now.lines }
         ensures size { length result.now ≡ (self.now.lines - line) * 30 }
@@ -104,7 +103,7 @@ impl FrameBuffer {
         &self.readable[usize::from(line) * usize::from(PLACES)..]
     }
 
-    /// The octet of a slot in the half that is read.
+    /// Returns the octet of a slot in the half that is read.
     pub fn get(&self, at: Slot) -> u8
         requires line { at.line < self.now.lines }
         requires place { at.place < 30 }
@@ -113,7 +112,7 @@ impl FrameBuffer {
         self.readable[usize::from(at.line) * usize::from(PLACES) + usize::from(at.place)]
     }
 
-    /// Exchanges the halves: what was filled is read from now on, and what was read is filled.
+    /// Exchanges the halves: the filled half is read from now on, and the read half is filled.
     pub fn swap(&mut self)
         ensures { self.new ≡ record { lines = self.old.lines; filled = self.old.readable; readable = self.old.filled } }
     {

@@ -1,4 +1,4 @@
--- What an engine of three stages holds of the frames that it has carried. Source: this exchange's own.
+-- The state of an engine of three stages after the frames that it has carried. Source: this project.
 use Rattle.std.specs.Prelude.{◌≡◌, ℕ, zero, suc, ◌+◌, ◌≤◌, ◌<◌, List}
 use Rattle.circuit_model.specs.declared.channel.Slot.{Slot}
 use Rattle.circuit_model.specs.declared.circuit.Circuit.{Circuit}
@@ -13,8 +13,8 @@ use Rattle.control_memory.specs.Carrying.{HoldsCrossing}
 use Rattle.control_memory.specs.Shown.{ShowsBy}
 use Rattle.frame_engine.specs.Frames.{AreCounted, octet_brought}
 
--- an engine: its sizes, the number of its next frame, the control memory of the frame before that, what the frame before brought to each slot,
--- and the octets that crossed in it
+-- an engine: its sizes, the number of its next frame, the control memory of the frame before that, the octets that the
+-- frame before brought to each slot, and the octets that crossed in it
 pub record Stages : Type 0 where
   pub external : ℕ
   pub bridges : ℕ
@@ -24,16 +24,16 @@ pub record Stages : Type 0 where
   pub taken : List ℕ
   pub crossed : Highways
 
--- what the frame before frame f brought; before the first frame everything is idle
+-- the octets that the frame before frame f brought; before the first frame everything is idle
 abbrev pub brought_before : ℕ → List Input → List (List Circuit) → List Ports → ℕ → Slot → ℕ
 brought_before external inputs held ports zero at = idle_octet
 brought_before external inputs held ports (suc f) at = octet_brought external inputs held ports f at
 
--- all lines of an engine: the external ones, and behind them the bridge lines
+-- all lines of an engine: the external ones, followed by the bridge lines
 abbrev pub lines_in : Stages → ℕ
 lines_in e = e.external + e.bridges
 
--- the kept control memory and the octets that crossed have a line for each of the engine's, with as many internal slots
+-- the kept control memory and the octets that crossed have each of the engine's lines, with its internal slots
 pub record HasEngineSizes (e : Stages) : Type 0 where
   pub kept_external : e.kept.external ≡ e.external
   pub kept_bridges : e.kept.bridges ≡ e.bridges
@@ -41,15 +41,17 @@ pub record HasEngineSizes (e : Stages) : Type 0 where
   pub crossed_lines : e.crossed.lines ≡ lines_in e
   pub crossed_slots : e.crossed.slots ≡ e.slots
 
--- after frame f the kept control memory shows that frame's circuits and ports, by a layout; each slot has what frame f brought; and each
--- outgoing line has, in each internal slot, the octet that the frame before brought to the inlet of the layout's path there
+-- after frame f the kept control memory shows that frame's circuits and ports, by a layout; each slot has the octet
+-- that frame f brought; and each outgoing line has, in each internal slot, the octet that the frame before brought to
+-- the inlet of the layout's path there
 pub record CarriesLast (e : Stages) (inputs : List Input) (held : List (List Circuit)) (ports : List Ports) (f : ℕ) : Type 0 where
   pub layout : Layout
   pub shows : ShowsBy layout e.kept (circuits_of held f) (ports_of ports f) f
   pub taken : EachSlot (lines_in e) (λ at. octet_in_half e.taken at ≡ octet_brought e.external inputs held ports f at)
   pub crossed : HoldsCrossing (lines_in e) e.slots layout (brought_before e.external inputs held ports f) (octet_on e.crossed)
 
--- before the first frame all is idle: the kept control memory has no path, no slot hears anything, no port is taken, and every octet is the idle one
+-- before the first frame all is idle: the kept control memory has no path, every slot is silent, no port is taken, and
+-- every octet is the idle one
 pub record IsFresh (e : Stages) : Type 0 where
   pub paths : IsCleared e.kept
   pub quiet : IsQuiet e.kept
@@ -66,7 +68,8 @@ pub record EngineCarries (e : Stages) (inputs : List Input) (held : List (List C
   pub counted : AreCounted e.next inputs held ports
   pub last : CarriesAt e inputs held ports e.next
 
--- how large the parts of an engine are: one line of each for every external and bridge line; and how often a stage halves its lines at most
+-- the sizes of the parts of an engine: one line for every external and bridge line; and the maximum number of halvings
+-- in a stage
 pub record IsBuilt (external bridges slots levels : ℕ) (kept : Control) (speech : Speech) (highway crossed : Highways) (read : Speech) : Type 0 where
   pub few : external ≤ 32
   pub few_bridges : bridges ≤ 2

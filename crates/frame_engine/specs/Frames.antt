@@ -1,4 +1,4 @@
--- The frames that an engine has carried, and what it plays. Source: this exchange's own.
+-- The frames that an engine has carried, and its output. Source: this project.
 use Rattle.std.specs.Prelude.{◌≡◌, ℕ, ◌<◌, List, [], ◌∷◌, ◌++◌, length, Option, Some, None, slice_index, slice_index_or, if◌then◌else◌, nat_lt}
 use Rattle.circuit_model.specs.declared.channel.Slot.{Slot}
 use Rattle.circuit_model.specs.declared.circuit.Kind.{Kind}
@@ -16,7 +16,8 @@ use Rattle.control_memory.specs.Shown.{member_at, Shows}
 use Rattle.tone_rules.specs.declared.tones.Tones.{Tones}
 use Rattle.tone_rules.specs.Tables.{IsGiven}
 
--- the circuits and ports of each frame come from one list of allowed commands and boundaries, which name slots of external lines alone
+-- the circuits and ports of each frame come from one list of allowed commands and boundaries, which use slots of
+-- external lines only
 pub record Come (external bridges : ℕ) (held : List (List Circuit)) (ports : List Ports) : Type 0 where
   pub commands : List Command
   pub within : AreWithin external commands
@@ -24,13 +25,14 @@ pub record Come (external bridges : ℕ) (held : List (List Circuit)) (ports : L
   pub circuits : held ≡ frames empty commands
   pub seats : ports ≡ port_frames (free_ports bridges) commands
 
--- as many frames: what arrived in each, the circuits of each, and the ports of each
+-- n frames: the input, the circuits and the ports of each
 pub record AreCounted (n : ℕ) (inputs : List Input) (held : List (List Circuit)) (ports : List Ports) : Type 0 where
   pub inputs_counted : length inputs ≡ n
   pub held_counted : length held ≡ n
   pub ports_counted : length ports ≡ n
 
--- the boundary of a frame: what arrived in each of the frames before it, their circuits and ports, and the circuits and ports that exist at it
+-- the boundary of a frame: the input of each of the frames before it, their circuits and ports, and the circuits and
+-- ports that exist at it
 pub record Boundary : Type 0 where
   pub inputs : List Input
   pub held : List (List Circuit)
@@ -38,7 +40,7 @@ pub record Boundary : Type 0 where
   pub circuits : List Circuit
   pub seats : Ports
 
--- the same, up to and with the frame that begins there
+-- the same, including the frame that begins there
 abbrev pub inputs_with : Boundary → Input → List Input
 inputs_with b input = b.inputs ++ input ∷ []
 
@@ -48,13 +50,14 @@ held_with b = b.held ++ b.circuits ∷ []
 abbrev pub ports_with : Boundary → List Ports
 ports_with b = b.ports ++ b.seats ∷ []
 
--- the frame of the control memory begins there: the frames before are carried, the control memory shows what exists, and one list of commands made it all
+-- the frame of the control memory begins there: the frames before are carried, the control memory shows the circuits
+-- and ports that exist, and one list of commands made them all
 pub record IsNext (carried : List Input → List (List Circuit) → List Ports → Type 0) (m : Control) (b : Boundary) : Type 0 where
   pub carries : carried b.inputs b.held b.ports
   pub shows : Shows m b.circuits b.seats m.frame
   pub came : Come m.external m.bridges (held_with b) (ports_with b)
 
--- what the bridge mixes for a member by the circuit by which it hears
+-- the mix for a member, by the circuit by which it receives
 abbrev pub mixed_through : List Input → List Circuit → ℕ → Option Circuit → ℕ
 mixed_through inputs circuits f None = idle_octet
 mixed_through inputs circuits f (Some (Pair x y since)) = idle_octet
@@ -65,7 +68,8 @@ abbrev pub mixed_at : List Input → List Circuit → ℕ → Option Slot → �
 mixed_at inputs circuits f None = idle_octet
 mixed_at inputs circuits f (Some member) = mixed_through inputs circuits f (heard_by circuits member)
 
--- what frame f brings to a slot: an external one the octet that arrives, a port the mix for the member that has it, every other port the idle octet
+-- the octet that frame f brings to a slot: for an external slot the octet that arrives, for a port the mix for its
+-- member, for every other port the idle octet
 abbrev pub octet_brought : ℕ → List Input → List (List Circuit) → List Ports → ℕ → Slot → ℕ
 octet_brought external inputs held ports f at =
     if nat_lt at.line external then arrives inputs f at else mixed_at inputs (circuits_of held f) f (member_at external (ports_of ports f) at)
@@ -74,10 +78,11 @@ octet_brought external inputs held ports f at =
 abbrev pub PlaysOut : ℕ → (Slot → ℕ) → List (List ℕ) → Type 0
 PlaysOut external octet out = (at : Slot) → at.line < external → at.place < 30 → slice_index (slice_index_or out at.line []) at.place ≡ octet at
 
--- out has, for each external line and place, what is played in the control memory's frame, which begins at the boundary with this input
+-- out has, for each external line and place, the octet that is output in the control memory's frame, which begins at
+-- the boundary with this input
 abbrev pub PlaysFrame : (List Input → List (List Circuit) → ℕ → Slot → ℕ) → Control → Boundary → Input → List (List ℕ) → Type 0
 PlaysFrame plays m b input out = PlaysOut m.external (plays (inputs_with b input) (held_with b) m.frame) out
 
--- each tone that a slot hears is given
+-- each tone that a slot receives is given
 abbrev pub TonesGiven : Tones → Control → Type 0
 TonesGiven tones image = EachSlot (lines_of image) (λ at. (kind : Kind) (since : ℕ) → heard_at image at ≡ Sounds kind since → IsGiven tones kind)

@@ -1,4 +1,4 @@
--- What an engine plays on a slot. Source: this exchange's own.
+-- The octet that an engine outputs on a slot. Source: this project.
 use Rattle.std.specs.Prelude.{◌≡◌, ℕ, ◌<◌, ◌-◌, Bool, false, List, slice_index, slice_index_or, if◌then◌else◌}
 use Rattle.circuit_model.specs.declared.channel.Slot.{Slot}
 use Rattle.circuit_model.specs.declared.circuit.Kind.{Kind}
@@ -10,41 +10,41 @@ use Rattle.control_memory.specs.Image.{Control, heard_at}
 use Rattle.tone_rules.specs.declared.tones.Tones.{Tones}
 use Rattle.tone_rules.specs.Tables.{IsGiven}
 
--- what is played on a slot in frame f by what it hears: nothing, the octet that was read out for the slot once its path is two frames old, or
--- the octet of a tone
+-- the octet that is output on a slot in frame f, by the source of the slot: the idle octet, the octet that was read out
+-- for the slot once its path is two frames old, or the octet of a tone
 abbrev pub played_as : (Kind → List ℕ) → ℕ → ℕ → Heard → ℕ
 played_as tones f octet Silent = idle_octet
 played_as tones f octet (Path since) = if is_through since f then octet else idle_octet
 played_as tones f octet (Tone kind since) = tone_octet (tones kind) (f - since)
 
--- whether a path is heard in frame f that is two frames old
+-- whether a path is received in frame f, because it is two frames old
 abbrev pub hears_path : ℕ → Heard → Bool
 hears_path f Silent = false
 hears_path f (Path since) = is_through since f
 hears_path f (Tone kind since) = false
 
--- the same as is played, by a path alone
+-- the octet of a path that is received, or the idle octet
 abbrev pub by_path : ℕ → ℕ → Heard → ℕ
 by_path f octet heard = if hears_path f heard then octet else idle_octet
 
--- what is played where the paths gave an octet: that one, or the octet of a tone
+-- the octet after the paths gave one: that octet, or the octet of a tone
 abbrev pub with_tone : (Kind → List ℕ) → ℕ → ℕ → Heard → ℕ
 with_tone tones f octet Silent = octet
 with_tone tones f octet (Path since) = octet
 with_tone tones f octet (Tone kind since) = tone_octet (tones kind) (f - since)
 
--- on each slot, given the tones, the control memory of the frame and the octets that were read out
+-- the output on each slot, given the tones, the control memory of the frame and the octets that were read out
 abbrev pub played_at : (Kind → List ℕ) → Control → (Slot → ℕ) → Slot → ℕ
 played_at tones m octet at = played_as tones m.frame (octet at) (heard_at m at)
 
--- a line has these thirty octets, by place
+-- a line has these 30 octets, by place
 abbrev pub HasLine : ℕ → (Slot → ℕ) → List ℕ → Type 0
 HasLine line octet octets = (place : ℕ) → place < 30 → slice_index octets place ≡ octet (record { line = line; place = place })
 
--- the octet of each place of a line follows from what the place hears
+-- the octet of each place of a line follows from the source of the place
 abbrev pub EachPlace : (ℕ → Heard → ℕ) → List Heard → List ℕ → Type 0
 EachPlace octet heard octets = (place : ℕ) → place < 30 → slice_index octets place ≡ octet place (slice_index_or heard place Silent)
 
--- each tone that a place of a line hears is given
+-- each tone that a place of a line receives is given
 abbrev pub AreGiven : Tones → List Heard → Type 0
 AreGiven tones heard = (place : ℕ) (kind : Kind) (since : ℕ) → place < 30 → slice_index_or heard place Silent ≡ Tone kind since → IsGiven tones kind

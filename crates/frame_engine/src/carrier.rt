@@ -17,9 +17,9 @@ use std::alloc::{AllocError, Global};
 use std::thread::Threads;
 use tone_rules::Tones;
 
-/// An engine: it takes the octets of each frame in, and plays what each external slot hears.
+/// An engine: it stores the octets of each frame, and outputs the octet that each external slot receives.
 pub trait Carrier: Sized + Send + Drop {
-    /// How many external lines, bridge lines and internal slots it has.
+    /// The numbers of external lines, bridge lines and internal slots.
     ghost sizes: { Self → Dimensions };
 
     /// The number of its next frame.
@@ -28,11 +28,10 @@ pub trait Carrier: Sized + Send + Drop {
     /// It carries the frames with these inputs, circuits and conference ports.
     ghost carries: { Self → List Input → List (List Circuit) → List Ports → Type 0 };
 
-    /// The octet that it plays on an external slot in a frame, given the tones and each frame's
-    /// input and circuits.
+    /// The octet that it outputs on an external slot in a frame, given the tones and each frame's input and circuits.
     ghost plays: { (Kind → List ℕ) → List Input → List (List Circuit) → ℕ → Slot → ℕ };
 
-    /// An engine for the given numbers of external lines, bridge lines and internal slots, which has carried no
+    /// Returns an engine for the given numbers of external lines, bridge lines and internal slots, which has carried no
     /// frame.
     fn new(alloc: Global, external: u8, bridges: u8, slots: u8) -> Result<Self, AllocError>
         requires external { 1 ≤ external × (external ≤ 32) }
@@ -42,10 +41,9 @@ pub trait Carrier: Sized + Send + Drop {
         ensures next { IfOk result (λ e. next e ≡ 0) }
         ensures carries { IfOk result (λ e. carries e [] [] []) };
 
-    /// Carries one frame: it takes `input` in, thirty octets for each external line or none for an
-    /// idle one, and writes what each external slot sends into `out`. The control memory is
-    /// this frame's; the engine keeps it, and hands another of the same sizes back. The work may be
-    /// shared among threads of this runtime, which are joined again.
+    /// Carries one frame: it stores `input`, 30 octets for each external line or none for an idle one, and writes the
+    /// octet that each external slot sends into `out`. The control memory is this frame's. The engine keeps it, and
+    /// returns another of the same sizes. Threads of this runtime can share the work, and are joined again.
     fn frame<R: Threads + Sync>(
         &mut self,
         rt: &R,
@@ -54,7 +52,7 @@ pub trait Carrier: Sized + Send + Drop {
         input: &[Option<[u8; 30]>],
         out: &mut [[u8; 30]],
     )
-        // The bound says so too, but what is sent to a thread may not rest on a bound of a trait's method.
+        // The bound states this too, but a proof about a thread's argument may not use a bound of a trait's method.
         requires threads { IsSync R.row }
         requires sizes { IsOfSize (sizes self.old) image.old }
         requires frame { image.old.frame ≡ next self.old }

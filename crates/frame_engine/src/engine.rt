@@ -22,20 +22,19 @@ use std::thread::Threads;
 use time_stage::{incoming_shared, outgoing_shared};
 use tone_rules::Tones;
 
-// How often a stage of a new engine halves its lines, where halves are worth threads.
+// The maximum number of halvings in a stage of a new engine, if the halves are large enough.
 const LEVELS: u8 = 3;
 
 /// The engine of a time-space-time exchange: two speech memories, the highways between the stages,
 /// the control memory of the frame that crossed last, and the A-law codes for the bridges.
 ///
-/// In each frame it reads out what crossed in the frame before, by the control memory of that
-/// frame; mixes the conference ports; lets what came in the frame before cross, by the control
-/// memory of this frame, which it keeps; and takes in what comes now. So an octet leaves two frames
-/// after it came, whether or not its path moved in between, and one that is mixed passes the stages
-/// twice. The order is this exchange's own.
+/// In each frame it reads out the octets that crossed in the frame before, by the control memory of that frame, and
+/// mixes the conference ports. Then the octets that arrived in the frame before cross, by the control memory of this
+/// frame, which it keeps. Last it stores the octets that arrive. An octet therefore leaves two frames after it arrived,
+/// whether or not its path moved in between, and a mixed octet passes the stages twice. This project chose the order.
 ///
-/// Only `new` takes memory. A frame's work is the same for all circuits: it takes no lock, and waits for
-/// nothing but the halves of its own stages, which return.
+/// Only `new` allocates. A frame's work is the same for all circuits. It takes no lock, and waits only for the halves
+/// of its stages, which return.
 #[derive(Drop)]
 pub struct Engine {
     external: u8,
@@ -70,7 +69,7 @@ impl Model for Engine {
     ghost invariant = { λ e. IsBuilt e.external e.bridges e.slots e.levels e.kept e.speech e.highway e.crossed e.read };
 }
 
-// The two speech memories. Memory may run out at each part of an engine, so the parts are made two by two.
+// Returns the two speech memories. Each part of an engine can fail to allocate, so the parts are made two by two.
 fn memories(alloc: Global, lines: u8) -> Result<(FrameBuffer, FrameBuffer), AllocError>
     ensures lines { IfOk result (λ m. (m.0.lines ≡ lines) × (m.1.lines ≡ lines)) }
     ensures idle { IfOk result (λ m. AllIdle lines m.0.readable) }
@@ -80,7 +79,7 @@ fn memories(alloc: Global, lines: u8) -> Result<(FrameBuffer, FrameBuffer), Allo
     Ok((speech, read))
 }
 
-// The highways in front of the space stage and behind it.
+// Returns the highways before and after the space stage.
 fn highways(alloc: Global, lines: u8, slots: u8) -> Result<(Highway, Crossed), AllocError>
     ensures lines { IfOk result (λ h. (h.0.lines ≡ lines) × (h.1.lines ≡ lines)) }
     ensures slots { IfOk result (λ h. (h.0.slots ≡ slots) × (h.1.slots ≡ slots)) }
@@ -92,8 +91,8 @@ fn highways(alloc: Global, lines: u8, slots: u8) -> Result<(Highway, Crossed), A
 }
 
 impl Engine {
-    /// Sets how often each stage halves its lines at most, where halves are worth threads; at 0 no stage is
-    /// shared. A new engine's stages halve theirs three times. What is played does not depend on it.
+    /// Sets the maximum number of halvings in each stage, if the halves are large enough. With 0 no stage is divided
+    /// among threads. A new engine has three. The output does not depend on it.
     pub fn halve_stages(&mut self, levels: u8)
         requires levels { levels ≤ 3 }
         ensures same { self.new ≡ self.old }

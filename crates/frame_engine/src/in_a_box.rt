@@ -1,4 +1,4 @@
-//! The engine in a box: whoever has it hands on one word.
+//! The engine in a box: moving it moves one word.
 
 ghost use Rattle.circuit_model.specs.Hears.{hears};
 ghost use Rattle.frame_engine.specs.Carries.{EngineCarries};

@@ -1,4 +1,4 @@
-//! What arrives on the external lines in a frame, written into the speech memory.
+//! Writes the octets that arrive on the external lines in a frame into the speech memory.
 
 ghost use Rattle.std.specs.Prelude.{◌≡◌, ◌<◌, ◌≤◌, length, slice_index_or};
 ghost use Rattle.circuit_model.specs.declared.channel.Slot.{Slot};
@@ -7,8 +7,8 @@ ghost use Rattle.frame_buffer.specs.Speech.{octet_in_half};
 
 use frame_buffer::FrameBuffer;
 
-// Takes the octets of n external lines in, the idle octet for a line that sends nothing. The
-// lines behind them stay.
+// Stores the octets of n external lines, or the idle octet for a line that sends nothing. The lines after them are
+// unchanged.
 pub(crate) fn take_in(input: &[Option<[u8; 30]>], external: u8, speech: &mut FrameBuffer)
     requires input { length input.now ≡ external }
     requires lines { external ≤ speech.old.lines }

@@ -1,4 +1,4 @@
-//! An engine for tests, which plays the number of the frame.
+//! An engine for tests, which outputs the number of the frame.
 
 ghost use Rattle.std.specs.Prelude.{◌≡◌, ◌+◌, ◌%◌, ◌<◌, ℕ, [], IfOk, IsOk, length, slice_index_or, replicate};
 ghost use Rattle.frame_engine.specs.Frames.{AreCounted};
@@ -9,14 +9,14 @@ use std::alloc::{AllocError, Global};
 use std::thread::Threads;
 use tone_rules::Tones;
 
-/// An engine for tests: it plays the number of the frame, modulo 256, on every slot.
+/// An engine for tests: it outputs the number of the frame, modulo 256, on every slot.
 #[derive(Drop)]
 pub struct Marker {
-    /// How many external lines it has.
+    /// The number of external lines.
     pub external: u8,
-    /// How many bridge lines it has.
+    /// The number of bridge lines.
     pub bridges: u8,
-    /// How many internal slots it has.
+    /// The number of internal slots.
     pub slots: u8,
     /// The number of its next frame.
     pub next: u32,
@@ -33,7 +33,7 @@ impl Carrier for Marker {
 
     ghost counted = { λ e inputs held ports carried. carried };
 
-    /// A marker takes no memory, so there is always one.
+    /// Returns a marker. It never fails, because a marker allocates nothing.
     fn new(_: Global, external: u8, bridges: u8, slots: u8) -> Result<Self, AllocError>
         ensures made { IsOk result }
         ensures external { IfOk result (λ e. e.external ≡ external) }

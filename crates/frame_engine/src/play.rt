@@ -1,4 +1,4 @@
-//! What each external slot sends in a frame: its path, its tone, or nothing.
+//! The octet that each external slot sends in a frame: of its path, of its tone, or idle.
 
 ghost use Rattle.std.specs.Prelude.{◌≡◌, ◌↔◌, ℕ, IsTrue, ◌<◌, ◌≤◌, length, slice_index};
 ghost use Rattle.circuit_model.specs.declared.circuit.Kind.{Kind};
@@ -15,7 +15,7 @@ use tone_rules::{Tones, tone_octet};
 
 const IDLE_LINE: [u8; 30] = [IDLE; 30];
 
-// Writes what each external slot sends.
+// Writes the octet that each external slot sends.
 pub(crate) fn play(read: &FrameBuffer, image: &Image, tones: &Tones, out: &mut [[u8; 30]])
     requires read { read.now.lines ≡ lines_of image.now }
     requires lines { lines_of image.now ≤ 255 }
@@ -29,8 +29,7 @@ pub(crate) fn play(read: &FrameBuffer, image: &Image, tones: &Tones, out: &mut [
     }
 }
 
-// Writes what one line sends, given the octets that were read out for its places. One that hears nothing
-// is idle.
+// Writes the octets that one line sends, given the octets that were read out for its places. A silent line is idle.
 fn play_line(read: &[u8], image: &Image, line: u8, tones: &Tones, octets: &mut [u8; 30])
     requires read { length read.now ≡ 30 }
     requires line { line < lines_of image.now }
@@ -44,7 +43,7 @@ fn play_line(read: &[u8], image: &Image, line: u8, tones: &Tones, octets: &mut [
     }
 }
 
-// Writes what one line sends, given what each of its places hears. Where no tone is given, none is heard.
+// Writes the octets that one line sends, given the source of each of its places. If no tone is given, none is sent.
 fn play_heard(read: &[u8], heard: &[HeardWord], tones: &Tones, frame: u32, octets: &mut [u8; 30])
     requires read { length read.now ≡ 30 }
     requires heard { length heard.now ≡ 30 }
@@ -57,15 +56,15 @@ fn play_heard(read: &[u8], heard: &[HeardWord], tones: &Tones, frame: u32, octet
     }
 }
 
-// Whether no tone is given.
+// Returns whether no tone is given.
 fn gives_none(tones: &Tones) -> bool
     ensures { IsTrue result ↔ ((kind : Kind) → ¬ IsGiven tones.now kind) }
 {
     !tones.is_given(Kind::Ringback) && !tones.is_given(Kind::Busy)
 }
 
-// Writes what a line sends by its paths. Each octet is read before it is known whether it is heard, so
-// that it is chosen by its age without a branch.
+// Writes the octets that a line sends by its paths. Each octet is read before its age is known, so that the age selects
+// it without a branch.
 fn play_paths(read: &[u8], heard: &[HeardWord], frame: u32, octets: &mut [u8; 30])
     requires read { length read.now ≡ 30 }
     requires heard { length heard.now ≡ 30 }
@@ -82,7 +81,7 @@ fn play_paths(read: &[u8], heard: &[HeardWord], frame: u32, octets: &mut [u8; 30
     }
 }
 
-// Writes the octets of the tones that are heard over what the paths gave.
+// Writes the octets of tones over the octets of the paths.
 fn play_tones(heard: &[HeardWord], tones: &Tones, frame: u32, octets: &mut [u8; 30])
     requires heard { length heard.now ≡ 30 }
     requires tones { AreGiven tones.now heard.now }

@@ -1,4 +1,4 @@
-//! What the conference ports are given in a frame: the rooms mixed.
+//! The octet that each conference port gets in a frame: the mix of its room.
 
 ghost use Rattle.std.specs.Prelude.{◌≡◌, ℕ, ◌+◌, ◌*◌, ◌≤◌, ◌<◌, None, replicate, slice_index};
 ghost use Rattle.frame_buffer.specs.Speech.{octet_in_half};
@@ -27,13 +27,13 @@ pub(crate) fn mix_ports(
     ensures ports { ArePortsFilled image.now (octet_in_half read.now.readable) speech.new.filled }
     ensures readable { speech.new.readable ≡ speech.old.readable }
 {
-    // Without a bridge nothing is made ready for a mix.
+    // Without a bridge no mixer is made.
     if image.bridges() > 0 {
         mix_bridges(read, image, codes, speech);
     }
 }
 
-// Gives each port of all bridges what it hears.
+// Gives the ports of all bridges their octets.
 fn mix_bridges(read: &FrameBuffer, image: &Image, codes: &CodeTable, speech: &mut FrameBuffer)
     requires few { image.now.bridges ≤ 2 }
     requires lines { lines_of image.now ≤ 255 }
@@ -50,7 +50,7 @@ fn mix_bridges(read: &FrameBuffer, image: &Image, codes: &CodeTable, speech: &mu
     }
 }
 
-// Writes what each port is given, port by port.
+// Writes the octet of each port, port by port.
 fn mix_all(read: &FrameBuffer, image: &Image, codes: &CodeTable, octets: &mut [u8; MAX_MEMBERS])
     requires few { image.now.bridges ≤ 2 }
     requires lines { lines_of image.now ≤ 255 }
@@ -63,7 +63,7 @@ fn mix_all(read: &FrameBuffer, image: &Image, codes: &CodeTable, octets: &mut [u
     mixer.mix(codes, &mut octets[..ports]);
 }
 
-// Seats the member of each port, with what counts of it.
+// Adds the member of each port, with the octet that counts.
 fn seat_members(read: &FrameBuffer, image: &Image, mixer: &mut Mixer)
     requires read { read.now.lines ≡ lines_of image.now }
     requires free { mixer.old ≡ replicate (30 * image.now.bridges) None }
@@ -79,7 +79,7 @@ fn seat_members(read: &FrameBuffer, image: &Image, mixer: &mut Mixer)
     }
 }
 
-// An octet that was read out, where who sent it has sat in its port for two frames.
+// Returns an octet that was read out, if its sender has had its port for two frames.
 fn octet_that_counts(octet: u8, since: u32, frame: u32) -> Option<u8>
     ensures { result ≡ octet_that_counts frame octet since }
 {
@@ -90,7 +90,7 @@ fn octet_that_counts(octet: u8, since: u32, frame: u32) -> Option<u8>
     }
 }
 
-// What the ports of one bridge line are given.
+// Returns the octets of the ports of one bridge line.
 fn line_of(octets: &[u8; MAX_MEMBERS], bridge: u8) -> [u8; 30]
     requires bridge { bridge < 2 }
     ensures { (place : ℕ) → place < 30 → slice_index result place ≡ slice_index octets.now (30 * bridge + place) }

@@ -1,4 +1,5 @@
--- From which frame on a timer of a leg may run out, place by place. Source: this exchange's own; the timers are from ITU-T Q.931 (05/98), 9.1.
+-- The first frame in which a timer of a leg can expire, place by place. Source: this project; the timers are from ITU-T
+-- Q.931 (05/98), 9.1.
 use Rattle.std.specs.Prelude.{◌≡◌, ℕ, ◌<◌, ◌≤◌, List, length, Option, None, IfSome, slice_index}
 use Rattle.call_states.specs.declared.leg.Leg.{Leg}
 use Rattle.call_timers.specs.Expiries.{due}
@@ -9,11 +10,11 @@ use Rattle.leg_table.specs.LegKeys.{leg_on}
 abbrev pub IsNotDue : Timers → ℕ → Option Leg → Type 0
 IsNotDue timers frame o = IfSome o (λ leg. due leg.state leg.resent leg.since frame timers ≡ None)
 
--- so it is of each leg at a place of a line
+-- nothing is due at the leg of a place of any line
 abbrev pub NoneDue : Timers → List (Option Leg) → ℕ → ℕ → Type 0
 NoneDue timers legs place frame = (line : ℕ) → IsNotDue timers frame (leg_on legs line place)
 
--- before the frame that is noted for a place nothing is due there
+-- before the frame that is recorded for a place nothing is due there
 pub record AreBoundsOf (timers : Timers) (legs : List (Option Leg)) (bounds : List ℕ) : Type 0 where
   pub places : length bounds ≡ 30
   pub each : (place frame : ℕ) → place < 30 → frame < slice_index bounds place → NoneDue timers legs place frame

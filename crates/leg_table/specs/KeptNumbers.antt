@@ -1,5 +1,5 @@
--- How a table of legs keeps the numbers that are pending and the messages that may be sent again: for each slot it has room for one of either, which
--- counts by the state of the slot's leg. Source: this exchange's own.
+-- The pending numbers and the messages for retransmission in a table of legs: each slot has space for one of either,
+-- which counts by the state of the slot's leg. Source: this project.
 use Rattle.std.specs.Prelude.{ℕ, ◌==◌, List, [], ◌∷◌, Option, Some, None, if◌then◌else◌}
 use Rattle.q931_codec.specs.CallStates.{overlap_sending}
 use Rattle.call_states.specs.Acts.{is_among}
@@ -18,7 +18,7 @@ abbrev pub message_in : Note → Option (List ℕ)
 message_in (Number p) = None
 message_in (Message octets) = Some octets
 
--- a number counts where the leg is in overlap sending, a message where the leg waits for the answer to it
+-- a number counts if the leg is in overlap sending, a message if the leg waits for the reply to it
 abbrev pub counting : Option Leg → Note → Option Pending
 counting None note = None
 counting (Some leg) note = if leg.state == overlap_sending then number_in note else None
@@ -27,7 +27,7 @@ abbrev pub keeping : Option Leg → Note → Option (List ℕ)
 keeping None note = None
 keeping (Some leg) note = if is_among awaiting_answer leg.state then message_in note else None
 
--- what counts at each slot
+-- the values that count at the slots
 unfoldable pub shown_all : (X : Type 0) → (Option Leg → Note → Option X) → List (Option Leg) → List Note → List (Option X)
 shown_all X shown [] notes = []
 shown_all X shown (leg ∷ legs) [] = None ∷ shown_all X shown legs []

@@ -1,4 +1,4 @@
--- What a table of legs has beside its legs. Source: this exchange's own.
+-- The keys and bounds of a table of legs. Source: this project.
 use Rattle.std.specs.Prelude.{ℕ, List, Option}
 use Rattle.call_states.specs.declared.leg.Leg.{Leg}
 use Rattle.call_timers.specs.declared.timers.Timers.{Timers}

@@ -1,12 +1,12 @@
--- The keys by which the legs of a line are found. Source: ITU-T Q.931 (05/98), 4.3, for call references and their flag; the rest is this
--- exchange's own.
+-- The keys by which the legs of a line are found. Source: ITU-T Q.931 (05/98), 4.3, for call references and their flag;
+-- the rest is this project's.
 use Rattle.std.specs.Prelude.{◌≡◌, ◌≢◌, ℕ, ◌+◌, ◌*◌, ◌^◌, ◌<◌, ◌≤◌, ◌==◌, Bool, true, false, List, length, All, IfSome, Option, Some, None, slice_index, slice_index_or, if◌then◌else◌}
 use Rattle.call_states.specs.declared.leg.Leg.{Leg}
 use Rattle.call_states.specs.declared.leg.Side.{Side}
 use Rattle.call_states.specs.declared.leg.Side.TheVariants.{Caller, Called}
 use Rattle.call_states.specs.Status.{FitsMessages}
 
--- the key of a call reference: its value, and above sixteen bits the flag that the user of the line sends with it
+-- the key of a call reference: its value, and above 16 bits the flag that the user of the line sends with it
 abbrev pub key_named : Bool → ℕ → ℕ
 key_named false reference = reference
 key_named true reference = 2 ^ 16 + reference
@@ -32,8 +32,8 @@ key_on keys line place = slice_index_or keys (32 * line + place) no_key
 abbrev pub leg_on : List (Option Leg) → ℕ → ℕ → Option Leg
 leg_on legs line place = slice_index_or legs (30 * line + place) None
 
--- n lines have thirty slots each, whose legs have numbers that a message can carry; and each line has the keys of its thirty slots, with two
--- places behind them that have no leg's
+-- n lines have 30 slots each, whose legs have numbers that a message can carry; and each line has the keys of its 30
+-- slots, followed by two places without a leg's key
 pub record AreKeysOf (lines : ℕ) (legs : List (Option Leg)) (keys : List ℕ) : Type 0 where
   pub slots : length legs ≡ 30 * lines
   pub rows : length keys ≡ 32 * lines
@@ -47,11 +47,11 @@ pub record IsRowOf (legs : List (Option Leg)) (line : ℕ) (row : List ℕ) : Ty
   pub each : (place : ℕ) → place < 30 → slice_index row place ≡ key_of (leg_on legs line place)
   pub behind : (place : ℕ) → 30 ≤ place → place < 32 → slice_index row place ≡ no_key
 
--- the bit of a place whose key this is
+-- the bit of a place that has this key
 abbrev pub hit : ℕ → ℕ → ℕ
 hit key here = if here == key then 1 else 0
 
--- a row has the key somewhere, or nowhere
+-- a row has the key at some place, or at none
 abbrev pub HasKey : List ℕ → ℕ → Type 0
 HasKey row key = (place : ℕ) × (place < 32) × (slice_index row place ≡ key)
 

@@ -1,4 +1,4 @@
-//! From which frame on a timer of a leg may run out, place by place.
+//! The first frame in which a timer of a leg can expire, place by place.
 ghost use Rattle.std.specs.Prelude.{◌≡◌, ◌<◌, ◌≤◌, ◌*◌, ℕ, length, slice_index};
 ghost use Rattle.leg_table.specs.DueBounds.{AreLower, IsNotDue};
 ghost use Rattle.leg_table.specs.LegKeys.{leg_on};
@@ -7,20 +7,20 @@ use call_states::Leg;
 use call_timers::{Timers, first_due};
 use circuit_model::PLACES;
 
-/// How many places a line has.
+/// The number of places of a line.
 pub(crate) const BOUNDS: usize = 30;
 
 /// The bound of a place at which no leg has a timer.
 pub(crate) const NEVER: u32 = u32::MAX;
 
-/// The frame before which nothing is due of a leg.
+/// Returns the frame before which nothing is due at a leg.
 pub(crate) fn due_from(leg: Leg, timers: &Timers) -> u32
     ensures { (frame : ℕ) → frame < result → IsNotDue timers.now frame (Some leg) }
 {
     first_due(leg.state, leg.resent, leg.since, timers)
 }
 
-/// Lets the bound of a place be this frame, where it is a later one.
+/// Lowers the bound of a place to this frame, if the bound is later.
 pub(crate) fn lower(bounds: &mut [u32; BOUNDS], place: u8, frame: u32)
     requires place { place < 30 }
     ensures places { length bounds.new ≡ length bounds.old }
@@ -33,7 +33,7 @@ pub(crate) fn lower(bounds: &mut [u32; BOUNDS], place: u8, frame: u32)
     }
 }
 
-/// The frame before which nothing is due of the legs at a place of n lines.
+/// Returns the frame before which nothing is due at the legs at a place of n lines.
 pub(crate) fn due_from_at(legs: &[Option<Leg>], lines: u8, place: u8, timers: &Timers) -> u32
     requires place { place < 30 }
     requires size { length legs.now ≡ 30 * lines }

@@ -1,4 +1,4 @@
-//! The legs by the slots that they hold, with what finds them.
+//! The legs by the slots that they hold, with the keys and bounds that find them.
 ghost use Rattle.std.specs.Prelude.{◌≡◌, ◌+◌, ◌*◌, ◌<◌, ◌≤◌, false, length, replicate, slice_set, slice_index_or, All, IfOk, IfSome, None, Some};
 ghost use Rattle.control_memory.specs.Layout.{number_of};
 ghost use Rattle.call_states.specs.Status.{FitsMessages};
@@ -16,8 +16,8 @@ use std::marker::Model;
 /// The legs by the slots that they hold. Contracts see for each external slot, by its number, the leg that
 /// holds it.
 ///
-/// Beside the legs is a row of keys for each line, by which a message finds its leg in one pass without a
-/// branch, and for each place a frame before which no leg there is due.
+/// Each line has a row of keys, by which a message finds its leg in one pass without a branch. Each place has a frame
+/// before which no leg there is due. Contracts see neither, so a proof about a table of legs does not mention keys.
 #[derive(Drop)]
 pub(crate) struct KeyedLegs {
     lines: u8,
@@ -25,7 +25,8 @@ pub(crate) struct KeyedLegs {
     // The key of the leg at each place of each line.
     keys: Vec<u32>,
     timers: Timers,
-    // For each place, a frame before which nothing is due of the legs there.
+    // For each place, a frame before which nothing is due at the legs there. Storing a leg lowers it, and a scan of the
+    // legs there raises it, so each scan is paid by a leg that was stored.
     bounds: [u32; BOUNDS],
 }
 
@@ -42,7 +43,7 @@ impl Model for KeyedLegs {
 }
 
 impl KeyedLegs {
-    /// No legs on the slots of n external lines, in an exchange with these timers.
+    /// Returns a table without legs on the slots of n external lines, in an exchange with these timers.
     pub(crate) fn new(alloc: Global, external: u8, timers: Timers) -> Result<KeyedLegs, AllocError>
         ensures { IfOk result (λ t. t ≡ replicate (30 * external) None) }
     {
@@ -56,7 +57,7 @@ impl KeyedLegs {
         })
     }
 
-    /// The leg that holds the slot with a number.
+    /// Returns the leg that holds the slot with a number.
     pub(crate) fn at(&self, number: usize) -> Option<Leg>
         ensures found { result ≡ slice_index_or self.now number None }
         ensures inside { IfSome result (λ _. number < length self.now) }
@@ -68,7 +69,7 @@ impl KeyedLegs {
         }
     }
 
-    /// Lets a leg hold a slot, in place of any other.
+    /// Stores a leg at a slot, instead of any other.
     #[inline(always)]
     pub(crate) fn put(&mut self, x: Slot, leg: Leg)
         requires inside { number_of x < length self.old }
@@ -81,7 +82,7 @@ impl KeyedLegs {
         self.keys[key_index(x)] = key_of(leg);
     }
 
-    /// Lets no leg hold a slot.
+    /// Removes the leg of a slot.
     pub(crate) fn remove(&mut self, x: Slot)
         requires inside { number_of x < length self.old }
         requires place { x.place < 30 }
@@ -91,7 +92,7 @@ impl KeyedLegs {
         self.keys[key_index(x)] = NO_KEY;
     }
 
-    /// Whether a leg at this place may be due in a frame, by these timers.
+    /// Returns whether a leg at this place may be due in a frame, by these timers.
     pub(crate) fn may_be_due(&self, place: u8, frame: u32, timers: &Timers) -> bool
         requires place { place < 30 }
         ensures { result ≡ false → NoneDue timers.now self.now place frame }
@@ -102,7 +103,7 @@ impl KeyedLegs {
         self.bounds[usize::from(place)] <= frame
     }
 
-    /// Looks at the legs at a place, and notes the first frame in which one of them may be due.
+    /// Scans the legs at a place, and records the first frame in which one of them may be due.
     pub(crate) fn settle(&mut self, place: u8)
         requires place { place < 30 }
         ensures { self.new ≡ self.old }
@@ -111,7 +112,7 @@ impl KeyedLegs {
         self.bounds[usize::from(place)] = first;
     }
 
-    /// The keys of a line's legs.
+    /// Returns the keys of a line's legs.
     pub(crate) fn row(&self, line: u8) -> &[u32]
         requires { 30 * line + 30 ≤ length self.now }
         ensures row { IsRowOf self.now line result.now }
@@ -122,7 +123,7 @@ impl KeyedLegs {
     }
 }
 
-// Where the key of a slot is.
+// Returns the place of a slot's key.
 fn key_index(x: Slot) -> usize
     ensures { result ≡ 32 * x.line + x.place }
 {

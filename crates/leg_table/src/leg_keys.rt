@@ -1,12 +1,11 @@
-//! The keys by which the legs of a line are found, and looks at a row of them.
+//! The keys by which the legs of a line are found, and scans of a row of them.
 ghost use Rattle.std.specs.Prelude.{◌≡◌, ℕ, ◌+◌, ◌^◌, ◌<◌, length, slice_index};
 ghost use Rattle.std.specs.Int.{bit_at};
 ghost use Rattle.leg_table.specs.LegKeys.{key_by, key_named, hit, HasKey, LacksKey};
 
 use call_states::{Leg, Side};
 
-/// How many keys the row of a line has: one a slot, and two more, so that a loop over them
-/// is made vector code.
+/// The number of keys in the row of a line: one a slot, and two more, so that a loop over them becomes vector code.
 pub(crate) const ROW: usize = 32;
 
 /// The key of no leg.
@@ -15,7 +14,7 @@ pub(crate) const NO_KEY: u32 = 1 << 17;
 // The key of the call reference value 0 with the flag of a called leg.
 const CALLED: u32 = 1 << 16;
 
-/// The key of a call reference with the flag that the user of a line sends with it.
+/// Returns the key of a call reference with the flag that the user of a line sends with it.
 pub(crate) fn key_named(flag: bool, reference: u16) -> u32
     ensures { result ≡ key_named flag reference }
 {
@@ -23,7 +22,7 @@ pub(crate) fn key_named(flag: bool, reference: u16) -> u32
     if flag { CALLED + value } else { value }
 }
 
-/// The key of a leg: the messages that are for it have it too.
+/// Returns the key of a leg, which the messages for it have too.
 pub(crate) fn key_of(leg: Leg) -> u32
     ensures { result ≡ key_by leg.side leg.reference }
 {
@@ -33,7 +32,7 @@ pub(crate) fn key_of(leg: Leg) -> u32
     }
 }
 
-/// The places of a row that have a key, each a bit of a word.
+/// Returns the places of a row that have a key, each a bit of a word.
 pub(crate) fn places_with(row: &[u32], key: u32) -> u32
     requires row { length row.now ≡ 32 }
     ensures { (place : ℕ) → place < 32 → bit_at result place ≡ hit key (slice_index row.now place) }
@@ -47,7 +46,7 @@ pub(crate) fn places_with(row: &[u32], key: u32) -> u32
     places
 }
 
-/// The call reference values below 32 that called legs have, each a bit of a word.
+/// Returns the call reference values below 32 that called legs have, each a bit of a word.
 pub(crate) fn references_in(row: &[u32]) -> u32
     requires row { length row.now ≡ 32 }
     ensures used { (reference : ℕ) → reference < 32 → bit_at result reference ≡ 1 → HasKey row.now (2 ^ 16 + reference) }

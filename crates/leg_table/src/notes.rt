@@ -1,13 +1,13 @@
-//! What is kept at a slot beside its leg.
+//! The data of a slot in addition to its leg.
 
 use call_states::Pending;
 use exchange_events::Encoded;
 
-/// What is kept at a slot beside its leg: a number that is pending, or a message that may be sent again. No
-/// leg has both.
+/// The data of a slot in addition to its leg: a pending number, or a message that may be retransmitted. No leg has
+/// both.
 #[derive(Clone, Debug, Drop)]
 pub enum Note {
-    /// A number that is dialled in parts, as far as it was dialled.
+    /// A number in overlap sending, so far.
     Number(Pending),
     /// The octets of a message.
     Message(Encoded),

@@ -23,13 +23,13 @@ use q931_codec::states::{CALL_PRESENT, OVERLAP_SENDING, RELEASE_REQUEST};
 use std::alloc::{AllocError, Global};
 use std::marker::Model;
 
-/// The legs of all calls, by the slots that they hold. Contracts see for each external slot, by its
-/// number, the leg that holds it, the number that is pending there, and the message that is kept there.
+/// The legs of all calls, by the slots that they hold. Contracts see for each external slot, by its number, the leg
+/// that holds it, the number that is pending there, and the message that is stored there.
 #[derive(Drop)]
 pub struct LegTable {
     legs: KeyedLegs,
-    // What is kept at each slot. It counts by the state of the slot's leg, so that nothing is cleared when the
-    // leg leaves that state.
+    // The data of each slot, whose space is reserved before the first event. It counts by the state of the slot's leg,
+    // so a leg that leaves the state clears nothing.
     notes: Vec<Note>,
 }
 
@@ -46,7 +46,7 @@ impl Model for LegTable {
 }
 
 impl LegTable {
-    /// No legs on the slots of n external lines, in an exchange with these timers.
+    /// Returns a table without legs on the slots of n external lines, in an exchange with these timers.
     pub fn new(alloc: Global, external: u8, timers: Timers) -> Result<LegTable, AllocError>
         ensures { IfOk result (λ t. t ≡ no_legs external) }
     {
@@ -57,7 +57,7 @@ impl LegTable {
         })
     }
 
-    /// The leg that holds a slot.
+    /// Returns the leg that holds a slot.
     pub fn at(&self, x: Slot) -> Option<Leg>
         ensures found { result ≡ leg_at self.now x }
         ensures inside { IfSome result (λ _. number_of x < length self.now.held) }
@@ -66,21 +66,21 @@ impl LegTable {
         self.legs.at(x.number())
     }
 
-    /// The number that is pending at a slot.
+    /// Returns the number that is pending at a slot.
     pub fn pending(&self, x: Slot) -> Option<&Pending>
         ensures { option_copied result ≡ pending_at self.now x }
     {
         number_at(&self.legs, &self.notes, x.number())
     }
 
-    /// The message that is kept at a slot, to be sent again.
+    /// Returns the message that is stored at a slot for retransmission.
     pub fn kept(&self, x: Slot) -> Option<&Encoded>
         ensures { option_copied result ≡ kept_at self.now x }
     {
         message_at(&self.legs, &self.notes, x.number())
     }
 
-    /// Lets a leg hold a slot, in place of any other; no number is pending there then, and no message kept.
+    /// Stores a leg at a slot, instead of any other. No number is pending there then, and no message stored.
     pub fn put(&mut self, x: Slot, leg: Leg)
         requires inside { number_of x < length self.old.held }
         requires place { x.place < 30 }
@@ -92,7 +92,7 @@ impl LegTable {
         self.legs.put(x, leg);
     }
 
-    /// Lets a leg hold a slot, in place of any other, and wait there with its number.
+    /// Stores a leg at a slot, instead of any other, which waits there with its number.
     pub fn wait(&mut self, x: Slot, leg: Leg, pending: Pending)
         requires inside { number_of x < length self.old.held }
         requires place { x.place < 30 }
@@ -104,7 +104,7 @@ impl LegTable {
         self.legs.put(x, leg);
     }
 
-    /// Lets a leg hold a slot, in place of any other, and keeps there the message whose answer it waits for.
+    /// Stores a leg at a slot, instead of any other, with the message whose reply it waits for.
     pub fn expect(&mut self, x: Slot, leg: Leg, message: &Encoded)
         requires inside { number_of x < length self.old.held }
         requires place { x.place < 30 }
@@ -116,8 +116,8 @@ impl LegTable {
         self.legs.put(x, leg);
     }
 
-    /// Lets a leg hold a slot, in place of any other, and go on to wait for the answer to the message that is
-    /// kept there.
+    /// Stores a leg at a slot, instead of any other, which still waits for the reply to the message that is stored
+    /// there.
     pub fn expect_still(&mut self, x: Slot, leg: Leg)
         requires inside { number_of x < length self.old.held }
         requires place { x.place < 30 }
@@ -128,7 +128,7 @@ impl LegTable {
         self.legs.put(x, leg);
     }
 
-    /// Lets no leg hold a slot; no number is pending there then, and no message kept.
+    /// Removes the leg of a slot. No number is pending there then, and no message stored.
     pub fn remove(&mut self, x: Slot)
         requires inside { number_of x < length self.old.held }
         requires place { x.place < 30 }
@@ -137,7 +137,7 @@ impl LegTable {
         self.legs.remove(x);
     }
 
-    /// Whether a leg at this place may be due in a frame, by these timers.
+    /// Returns whether a leg at this place may be due in a frame, by these timers.
     pub fn may_be_due(&self, place: u8, frame: u32, timers: &Timers) -> bool
         requires place { place < 30 }
         ensures { result ≡ false → NoneDue timers.now self.now.held place frame }
@@ -145,8 +145,8 @@ impl LegTable {
         self.legs.may_be_due(place, frame, timers)
     }
 
-    /// Looks at the legs at a place, and notes the first frame in which one of them may be due: before it
-    /// nothing is looked at.
+    /// Scans the legs at a place, and records the first frame in which one of them may be due. Before it no leg is
+    /// examined.
     pub fn settle(&mut self, place: u8)
         requires place { place < 30 }
         ensures { self.new ≡ self.old }
@@ -154,7 +154,7 @@ impl LegTable {
         self.legs.settle(place);
     }
 
-    /// The leg of a line that a message with this flag and call reference value is for.
+    /// Returns the leg of a line that a message with this flag and call reference value is for.
     pub fn named(&self, line: u8, flag: bool, reference: u16) -> Option<Held>
         requires line { 30 * line + 30 ≤ length self.now.held }
         ensures { result ≡ leg_named self.now line flag reference }
@@ -167,7 +167,7 @@ impl LegTable {
         self.held(Slot { line, place })
     }
 
-    // The leg that holds a slot, with the slot.
+    // Returns the leg that holds a slot, with the slot.
     fn held(&self, slot: Slot) -> Option<Held>
         ensures { result ≡ held_at self.now slot }
     {
@@ -175,19 +175,20 @@ impl LegTable {
         Some(Held { slot, leg })
     }
 
-    /// The call reference value of a new called leg of a line: the lowest from 1 up that none of the
-    /// line's called legs has.
+    /// Returns the call reference value of a new called leg of a line: the lowest from 1 up that none of the line's
+    /// called legs has. It finds the values in use from the keys, once a call. A stored list would need a search for
+    /// another leg with the same value whenever a leg goes.
     pub fn new_reference(&self, line: u8) -> u16
         requires line { 30 * line + 30 ≤ length self.now.held }
         ensures reference { result ≡ new_reference self.now line }
         ensures few { result ≤ 31 }
     {
         let used = references_in(self.row(line));
-        // No call has the value 0; and where the first thirty are used, it is the next.
+        // No call has the value 0. If the first 30 are used, the result is the next.
         (!(used | 1) | 1 << 31).trailing_zeros() as u16
     }
 
-    // The keys of a line's legs.
+    // Returns the keys of a line's legs.
     fn row(&self, line: u8) -> &[u32]
         requires { 30 * line + 30 ≤ length self.now.held }
         ensures row { IsRowOf self.now.held line result.now }
@@ -197,7 +198,7 @@ impl LegTable {
     }
 }
 
-// What is pending at a slot with this number: what is kept there counts in overlap sending alone.
+// Returns the number that is pending at the slot with this number. Its data counts in overlap sending only.
 fn number_at<'a>(legs: &KeyedLegs, notes: &'a [Note], number: usize) -> Option<&'a Pending>
     requires { length notes.now ≡ length legs.now }
     ensures { option_copied result ≡ slice_index_or (counting_all legs.now notes.now) number None }
@@ -212,7 +213,7 @@ fn number_at<'a>(legs: &KeyedLegs, notes: &'a [Note], number: usize) -> Option<&
     }
 }
 
-// Which message is kept at a slot with this number: it counts where the leg waits for the answer to it.
+// Returns the message that is stored at the slot with this number. It counts if the leg waits for the reply to it.
 fn message_at<'a>(legs: &KeyedLegs, notes: &'a [Note], number: usize) -> Option<&'a Encoded>
     requires { length notes.now ≡ length legs.now }
     ensures { option_copied result ≡ slice_index_or (keeping_all legs.now notes.now) number None }
@@ -227,14 +228,14 @@ fn message_at<'a>(legs: &KeyedLegs, notes: &'a [Note], number: usize) -> Option<
     }
 }
 
-// Whether a leg in this state waits for the answer to a message that is kept.
+// Returns whether a leg in this state waits for the reply to a stored message.
 fn awaits_answer(state: u8) -> bool
     ensures { result ≡ is_among awaiting_answer state }
 {
     matches!(state, CALL_PRESENT | RELEASE_REQUEST)
 }
 
-// Keeps something at a slot.
+// Stores the data of a slot.
 fn keep(notes: &mut Vec<Note>, x: Slot, note: Note)
     requires { number_of x < length notes.old.items }
     ensures items { notes.new.items ≡ slice_set notes.old.items (number_of x) note }
@@ -243,7 +244,8 @@ fn keep(notes: &mut Vec<Note>, x: Slot, note: Note)
     notes[x.number()] = note;
 }
 
-// Keeps a message at a slot, over the one that lies there where that is one.
+// Stores a message at a slot. It overwrites an earlier message, because a new one would move the capacity of the
+// longest message.
 fn keep_message(notes: &mut Vec<Note>, x: Slot, message: &Encoded)
     requires { number_of x < length notes.old.items }
     ensures items { notes.new.items ≡ slice_set notes.old.items (number_of x) (A_note.Message message.now) }

@@ -1,4 +1,4 @@
--- The number plan: its numbers in the order of their digits, and what digits lead to. Source: this exchange's own.
+-- The number plan: its numbers in the order of their digits, and the targets of digits. Source: this project.
 use Rattle.std.specs.Prelude.{◌≡◌, ℕ, nat_le, Bool, true, false, IsTrue, not, ◌==◌, ◌&&◌, ◌||◌, if◌then◌else◌, List, [], ◌∷◌, length, Some}
 use Rattle.std.specs.List.{list_all, list_any, slice_get}
 use Rattle.std.specs.Char.{is_ascii_digit}
@@ -13,7 +13,7 @@ use Rattle.number_plan.specs.declared.target.Found.TheVariants as answer
 
 -- ---- digits, as IA5 characters
 
--- what a number of a plan may be: 1 to 20 digits 0 to 9
+-- a number of a plan: 1 to 20 digits 0 to 9
 abbrev pub is_number : List ℕ → Bool
 is_number digits = nat_le 1 (length digits) && nat_le (length digits) 20 && list_all is_ascii_digit digits
 
@@ -23,7 +23,8 @@ begins [] digits = true
 begins (d ∷ front) [] = false
 begins (d ∷ front) (e ∷ digits) = d == e && begins front digits
 
--- the first place in which two strings of digits differ decides which is lower; they are equal where one begins the other
+-- the first place in which two strings of digits differ decides which is lower; they are equal if one begins the other;
+-- in a plan this is an order, and one binary search finds the number that begins the digits or begins with them
 abbrev pub side_by_side : List ℕ → List ℕ → Ordering
 side_by_side [] others = Equal
 side_by_side (d ∷ digits) [] = Equal
@@ -39,7 +40,7 @@ abbrev pub in_order : List Number → Bool
 in_order [] = true
 in_order (n ∷ ns) = list_all (precedes n) ns && in_order ns
 
--- the plan with one more number, in its place
+-- the plan with an additional number, in its place
 abbrev pub with_number : List Number → Number → List Number
 with_number [] n = n ∷ []
 with_number (m ∷ ms) n = if precedes n m then n ∷ m ∷ ms else m ∷ with_number ms n
@@ -52,18 +53,18 @@ AreApart plan = (j k : ℕ) (m n : Number) → slice_get plan j ≡ Some m → s
 abbrev pub is_number_taken : List Number → List ℕ → Bool
 is_number_taken plan digits = list_any (λ n. begins n.digits digits || begins digits n.digits) plan
 
--- ---- what digits lead to
+-- ---- the target of digits
 
 abbrev pub found_at : Target → Found
 found_at (target.Line line) = answer.Line line
 found_at (target.Room room) = answer.Room room
 
--- the target of the number that begins the digits, More where a number begins with them, and else Nothing
+-- the target of the number that begins the digits, More if a number begins with them, and otherwise Nothing
 abbrev pub found_for : List Number → List ℕ → Found
 found_for [] digits = answer.Nothing
 found_for (n ∷ ns) digits = if begins n.digits digits then found_at n.target else if begins digits n.digits then answer.More else found_for ns digits
 
--- a number of the plan begins the digits, and it leads to this target
+-- a number of the plan begins the digits, and is routed to this target
 pub record LeadsTo (plan : List Number) (digits : List ℕ) (goal : Target) : Type 0 where
   pub place : ℕ
   pub number : Number
@@ -71,7 +72,7 @@ pub record LeadsTo (plan : List Number) (digits : List ℕ) (goal : Target) : Ty
   pub is_begun : IsTrue (begins number.digits digits)
   pub target_is : number.target ≡ goal
 
--- the digits are the beginning of a number of the plan, and not the whole of it
+-- the digits are a proper prefix of a number of the plan
 pub record IsUnfinishedNumber (plan : List Number) (digits : List ℕ) : Type 0 where
   pub place : ℕ
   pub number : Number
@@ -87,14 +88,14 @@ IsUnknown plan digits = is_number_taken plan digits ≡ false
 abbrev pub all_targets : (Target → Bool) → List Number → Bool
 all_targets test plan = list_all (λ n. test n.target) plan
 
--- what digits lead to passes this test, where it is a line or a room
+-- the target of the digits passes this test, if it is a line or a room
 abbrev pub PassesTest : (Target → Bool) → Found → Type 0
 PassesTest test (answer.Line line) = test (target.Line line) ≡ true
 PassesTest test (answer.Room room) = test (target.Room room) ≡ true
 PassesTest test answer.More = Unit {0}
 PassesTest test answer.Nothing = Unit {0}
 
--- and so does the target of each number of the plan
+-- the target of each number of the plan passes this test
 abbrev pub AllPass : (Target → Bool) → List Number → Type 0
 AllPass test plan = all_targets test plan ≡ true
 

@@ -1,4 +1,4 @@
--- What a search of a plan for digits finds.
+-- The result of a search of a plan for digits.
 use Rattle.std.specs.Prelude.{◌≡◌, ℕ, ◌<◌, ◌≤◌, List, length}
 use Rattle.std.specs.List.{AllWithin, HoldsAt}
 use Rattle.std.specs.declared.cmp.Ordering.TheVariants.{Less, Equal, Greater}

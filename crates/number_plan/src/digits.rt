@@ -1,13 +1,14 @@
-//! The digits of a number, and how two numbers compare side by side.
+//! The digits of a number, and the comparison of two numbers digit by digit.
 
 use arrayvec::ArrayVec;
 use std::cmp::Ordering;
 use std::marker::Model;
 
-/// The most digits of a number. Source: this exchange's own.
+/// The maximum number of digits of a number. Source: this project.
 pub const LONGEST_NUMBER: usize = 20;
 
-/// The digits of a number, as IA5 characters (ITU-T Q.931, 4.5.8). Contracts see their list.
+/// The digits of a number, as IA5 characters (ITU-T Q.931, 4.5.8), the form of a called party number and of a trace.
+/// Contracts see their list.
 #[derive(Debug, Drop)]
 pub struct Digits {
     octets: ArrayVec<u8, LONGEST_NUMBER>,
@@ -24,7 +25,7 @@ impl Model for Digits {
 impl Digits {
     ghost use Rattle.std.specs.Prelude.{◌≡◌, ◌≤◌, length};
 
-    /// These digits.
+    /// Copies these digits.
     pub fn of(digits: &[u8]) -> Digits
         requires { length digits.now ≤ 20 }
         ensures { result ≡ digits.now }
@@ -36,7 +37,7 @@ impl Digits {
         Digits { octets }
     }
 
-    /// The digits in order.
+    /// Returns the digits in order.
     pub fn as_slice(&self) -> &[u8]
         ensures { result.now ≡ self.now }
     {
@@ -49,7 +50,7 @@ ghost use Rattle.std.specs.List.{list_all};
 ghost use Rattle.std.specs.Char.{is_ascii_digit};
 ghost use Rattle.number_plan.specs.Plan.{is_number, side_by_side};
 
-/// Whether these are 1 to 20 digits `0` to `9`, as a number of a plan has them.
+/// Returns whether these are 1 to 20 digits `0` to `9`, which a number of a plan has.
 pub fn is_number(digits: &[u8]) -> bool
     ensures { result ≡ is_number digits.now }
 {
@@ -62,8 +63,8 @@ fn are_decimal(digits: &[u8]) -> bool
     digits.iter().all(|digit| digit.is_ascii_digit())
 }
 
-// How two strings of digits compare: by the first place in which they differ, and `Equal`
-// where one begins the other.
+// Compares two strings of digits by the first place in which they differ. The result is `Equal` if one begins the
+// other.
 pub(crate) fn side_by_side(one: &[u8], other: &[u8]) -> Ordering
     ensures { result ≡ side_by_side one.now other.now }
 {

@@ -1,15 +1,13 @@
-//! The number plan: which digits lead to which line or conference room.
+//! Routes digits to a line or a conference room, by a number plan.
 //!
-//! No number of a plan begins another one, so digits lead to one of them at most, and it is known
-//! at each digit whether the number is whole. The plan is kept in the order of its digits, and a
-//! look is one binary search.
+//! No number of a plan begins another one. Digits are therefore routed to one number at most, and each digit shows
+//! whether the number is complete. The plan is in the order of its digits, so no result depends on the order in which
+//! numbers were added, and a lookup is one binary search.
 //!
-//! - [`Plan`]'s `add` refuses a number exactly where it equals, begins or continues a held one
-//!   (`prefix`), or where 256 are held (`too_many`); then the plan is as it was (`refused`).
-//! - `look` returns the line or the room to which the digits lead (`line`, `room`), `More` exactly
-//!   where they begin a held number (`more`), and else `Nothing` (`nothing`).
-//!
-//! It uses the kit's `arrayvec` and `thiserror` alone.
+//! - `add` of [`Plan`] refuses a number if and only if it equals, begins or continues a number of the plan (`prefix`),
+//!   or the plan has 256 (`too_many`). The plan is then unchanged (`refused`).
+//! - `look` returns the line or the room to which the digits are routed (`line`, `room`), `More` if and only if they
+//!   begin a number of the plan (`more`), and otherwise `Nothing` (`nothing`).
 #![tactic(auto)]
 
 mod digits;

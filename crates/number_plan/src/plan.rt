@@ -7,28 +7,28 @@ use std::cmp::Ordering;
 use std::marker::Model;
 use thiserror::Error;
 
-/// The most numbers of a plan. Source: this exchange's own.
+/// The maximum number of numbers of a plan. Source: this project.
 pub const MOST_NUMBERS: usize = 256;
 
-/// A number and where it leads.
+/// A number and its target.
 #[derive(Debug, Drop)]
 pub struct Number {
     /// The digits.
     pub digits: Digits,
-    /// Where the number leads.
+    /// The target of the number.
     pub target: Target,
 }
 
-/// Why a number can't be added to a plan.
+/// The reason for which a number cannot be added to a plan.
 #[derive(Clone, Copy, Debug, PartialEq, Eq, Error)]
 pub enum PlanFault {
-    /// The number equals, begins or continues one that is held.
+    /// The number equals, begins or continues a number of the plan.
     #[error("the number equals, begins or continues another")]
     Prefix = 1,
-    /// 256 numbers are held.
+    /// The plan has 256 numbers.
     #[error("the plan is full")]
     TooMany = 2,
-    /// Memory ran out.
+    /// An allocation failed.
     #[error("out of memory")]
     Memory = 3,
 }
@@ -67,7 +67,7 @@ impl Plan {
     ghost use Rattle.number_plan.specs.Plan.{side_by_side, in_order, with_number, found_for, is_number_taken, is_number, AreApart, LeadsTo, IsUnfinishedNumber, IsUnknown};
     ghost use Rattle.number_plan.specs.Search.{IsBesideAt, IsPlaceFor};
 
-    /// A plan without numbers.
+    /// Returns a plan without numbers.
     pub fn new(alloc: Global) -> Plan
         ensures { result ≡ [] }
     {
@@ -76,15 +76,15 @@ impl Plan {
         }
     }
 
-    /// Adds a number of 1 to 20 digits `0` to `9`, as [`is_number`](crate::is_number) tells.
+    /// Adds a number of 1 to 20 digits `0` to `9`, which [`is_number`](crate::is_number) tests.
     ///
     /// # Errors
     ///
-    /// - [`PlanFault::Prefix`] exactly where the number equals, begins or continues one that is held.
-    /// - [`PlanFault::TooMany`] exactly where it doesn't, and 256 numbers are held.
-    /// - [`PlanFault::Memory`] where memory runs out.
+    /// - [`PlanFault::Prefix`] if and only if the number equals, begins or continues a number of the plan.
+    /// - [`PlanFault::TooMany`] if and only if it does not, and the plan has 256 numbers.
+    /// - [`PlanFault::Memory`] if the allocation fails.
     ///
-    /// The plan stays as it was then.
+    /// With each error the plan is unchanged.
     pub fn add(&mut self, digits: &[u8], target: Target) -> Result<(), PlanFault>
         requires { IsTrue (is_number digits.now) }
         ensures added { OnOk result (self.new ≡ with_number self.old (record { digits = digits.now; target = target })) }
@@ -103,7 +103,7 @@ impl Plan {
         }
     }
 
-    /// What the digits lead to.
+    /// Returns the target of the digits.
     pub fn look(&self, digits: &[u8]) -> Found
         ensures found { result ≡ found_for self.now digits.now }
         ensures line { (l : ℕ) → (result ≡ Found.Line l) ↔ LeadsTo self.now digits.now (Target.Line l) }
@@ -132,7 +132,8 @@ impl Plan {
         }
     }
 
-    // Where a number begins the digits or begins with them, or else where the digits have their place.
+    // Returns the place of a number that begins the digits or begins with them, or otherwise the place of the digits as
+    // an error.
     fn search(&self, digits: &[u8]) -> Result<usize, usize>
         ensures beside { IfOk result (IsBesideAt self.now digits.now) }
         ensures taken { IfOk result (λ _. IsTrue (is_number_taken self.now digits.now)) }

@@ -1,6 +1,6 @@
-//! Where a number leads, and what a look for digits finds.
+//! The target of a number, and the result of a lookup of digits.
 
-/// Where a number leads.
+/// The target of a number.
 #[derive(Clone, Copy, Debug, PartialEq, Eq)]
 pub enum Target {
     /// This line.
@@ -9,14 +9,14 @@ pub enum Target {
     Room(u8),
 }
 
-/// What a plan answers for digits.
+/// The result of a lookup of digits in a plan.
 #[derive(Clone, Copy, Debug, PartialEq, Eq)]
 pub enum Found {
-    /// A number of the plan begins the digits, and leads to this line.
+    /// A number of the plan begins the digits, and is routed to this line.
     Line(u8),
-    /// A number of the plan begins the digits, and leads to this conference room.
+    /// A number of the plan begins the digits, and is routed to this conference room.
     Room(u8),
-    /// The digits are the beginning of a number of the plan, and not the whole of it.
+    /// The digits are a proper prefix of a number of the plan.
     More,
     /// No number of the plan begins the digits or begins with them.
     Nothing,

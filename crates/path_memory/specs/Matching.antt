@@ -1,5 +1,5 @@
--- A layout and Paull's matrix of it. Source: M. C. Paull, "Reswitching of connection networks" (1962): the cell of an incoming and an
--- outgoing line holds the internal slots of the paths between them.
+-- A layout and Paull's matrix of it. Source: M. C. Paull, "Reswitching of connection networks" (1962): the cell of an
+-- incoming and an outgoing line holds the internal slots of the paths between them.
 use Rattle.std.specs.Prelude.{◌≡◌, ℕ, option_map}
 use Rattle.control_memory.specs.Layout.{Layout, path_in}
 use Rattle.paull_matrix.specs.Matrix.{Matrix, row_slot}

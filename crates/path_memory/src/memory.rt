@@ -16,10 +16,10 @@ use std::alloc::{AllocError, Global};
 use std::marker::{Brand, Model};
 use std::sync::ledger::{Blank, Ledger};
 
-/// The live paths of a fabric, and which internal slots they leave free in each line.
+/// The live paths of a fabric, and the internal slots that they leave free in each line.
 ///
-/// Contracts see the layout. Both parts are open to a fabric that moves paths, which writes them one
-/// after the other: the proof asks that they agree again before the whole is used.
+/// Contracts see the layout. Both parts are open to a fabric that moves paths, which writes them in sequence. Its proof
+/// shows that they agree again before the whole is used.
 #[derive(Drop)]
 pub struct PathMemory {
     /// The internal slots that each line uses, as Paull's matrix.
@@ -40,8 +40,8 @@ impl Model for PathMemory {
 }
 
 impl PathMemory {
-    /// No path on n lines, external and bridge lines together, and m internal slots. The
-    /// only error is running out of memory.
+    /// Returns a memory without paths on n lines, external and bridge lines together, and m internal slots. The only
+    /// error is a failed allocation.
     pub fn new(alloc: Global, lines: u8, slots: u8) -> Result<PathMemory, AllocError>
         requires lines { (0 < lines) × (lines ≤ 34) }
         requires slots { (0 < slots) × (slots ≤ 59) }
@@ -55,7 +55,7 @@ impl PathMemory {
         })
     }
 
-    /// Whether no path begins at the inlet.
+    /// Returns whether no path begins at the inlet.
     pub fn inlet_free(&self, at: Slot) -> bool
         requires { IsSlot self.now.lines at }
         ensures free { result ≡ is_none (hop_of self.now.layout at) }
@@ -64,7 +64,7 @@ impl PathMemory {
         self.paths.hop(at).is_none()
     }
 
-    /// Whether no path ends at the outlet.
+    /// Returns whether no path ends at the outlet.
     pub fn outlet_free(&self, at: Slot) -> bool
         requires { IsSlot self.now.lines at }
         ensures free { result ≡ is_none (path_to self.now.layout at) }
@@ -73,8 +73,8 @@ impl PathMemory {
         self.paths.read(at).is_none()
     }
 
-    /// Connects a free inlet to a free outlet in the lowest internal slot that is free in both lines,
-    /// and answers the slot. `None`, with nothing changed, exactly where there is none.
+    /// Connects a free inlet to a free outlet in the lowest internal slot that is free in both lines, and returns the
+    /// slot. Returns `None` and changes nothing if and only if there is none.
     pub fn connect_in_common_slot(&mut self, from: Slot, to: Slot) -> Option<u8>
         requires from { IsSlot self.old.lines from }
         requires to { IsSlot self.old.lines to }
@@ -93,7 +93,7 @@ impl PathMemory {
         Some(slot)
     }
 
-    /// Takes a path out. No other path changes its slot.
+    /// Removes a path. No other path changes its slot.
     pub fn disconnect(&mut self, from: Slot, to: Slot)
         requires from { IsSlot self.old.lines from }
         requires stands { Joins self.old.layout from to }
@@ -109,7 +109,7 @@ impl PathMemory {
         self.paths.take(from, hop);
     }
 
-    /// The internal slot of the path that begins at an inlet. `None` exactly where the inlet is free.
+    /// Returns the internal slot of the path that begins at an inlet. `None` if and only if the inlet is free.
     pub fn slot_of(&self, from: Slot) -> Option<u8>
         requires { IsSlot self.now.lines from }
         ensures slot { result ≡ option_map (λ (hop : Hop). hop.slot) (hop_of self.now.layout from) }
@@ -118,7 +118,7 @@ impl PathMemory {
         self.paths.hop(from).map(|hop| hop.slot)
     }
 
-    /// How many internal slots there are.
+    /// Returns the number of internal slots.
     pub fn slots(&self) -> u8
         ensures slots { result ≡ self.now.slots }
         ensures legal { Legal self.now.lines self.now.slots self.now.layout }
@@ -141,7 +141,7 @@ impl PathMemory {
     }
 }
 
-// The lowest slot that is free in a row and in a column, by a counter of its own.
+// Returns the lowest slot that is free in a row and in a column. It counts its lookup on a separate counter.
 fn common_slot<L: Ledger>(matrix: &PaullMatrix, i: u8, j: u8, blank: Blank) -> Option<u8>
     requires ledger { (blank.name ≡ L.name) × (blank.parts ≡ L.parts) × (0 < L.parts) }
     requires row { i < matrix.now.lines }

@@ -1,7 +1,7 @@
--- Paull's matrix as a value (M. C. Paull, "Reswitching of connection networks", Bell System Technical Journal 41, 1962).
--- A row is for a switch of the first stage, here an incoming line, and a column for a switch of the third stage, here an
--- outgoing line. The entries in the cell of a row and a column are the switches of the middle stage over which paths lead
--- from the one to the other. A middle switch is an internal time slot here.
+-- Paull's matrix as a value (M. C. Paull, "Reswitching of connection networks", Bell System Technical Journal 41,
+-- 1962). A row is a switch of the first stage, here an incoming line, and a column a switch of the third stage, here an
+-- outgoing line. The entries in the cell of a row and a column are the switches of the middle stage over which paths
+-- lead from one to the other. A middle switch is an internal time slot here.
 use Rattle.std.specs.Prelude.{◌≡◌, refl, ℕ, ◌<◌, ◌≤◌, Bool, false, ◌&&◌, Option, Some, None, is_some, is_none, nat_eq}
 use Rattle.std.specs.declared.cmp.Ordering.{Ordering}
 use Rattle.std.specs.Ordering.{nat_cmp, ordering_then}
@@ -13,7 +13,8 @@ use Rattle.paull_matrix.specs.Numbers.{lowest, count_below}
 abbrev pub by_row_and_slot : ℕ × ℕ → ℕ × ℕ → Ordering
 by_row_and_slot p q = ordering_then (nat_cmp p.0 q.0) (nat_cmp p.1 q.1)
 
--- as many rows as columns, the slots from 0 up, and the column of the path that each row has in a slot
+-- the number of rows, which is the number of columns; the number of slots; and the column of the path that each row has
+-- in a slot
 pub record Matrix : Type 0 where
   pub lines : ℕ
   pub slots : ℕ
@@ -61,7 +62,7 @@ lowest_in_column m j = lowest (is_free_in_column m j) m.slots
 abbrev pub lowest_in_both : Matrix → ℕ → ℕ → Option ℕ
 lowest_in_both m i j = lowest (λ s. is_free_in_row m i s && is_free_in_column m j s) m.slots
 
--- how many paths row i has, column j, and the cell of the two
+-- the number of paths of row i, of column j, and of their cell
 abbrev pub paths_of_row : Matrix → ℕ → ℕ
 paths_of_row m i = count_below (λ s. is_some (row_slot m i s)) m.slots
 
@@ -71,7 +72,7 @@ paths_of_column m j = count_below (λ s. is_some (column_slot m j s)) m.slots
 abbrev pub paths_of_cell : Matrix → ℕ → ℕ → ℕ
 paths_of_cell m i j = count_below (has_path m i j) m.slots
 
--- the matrix with one path more, and with one path less
+-- the matrix with an additional path, and with a path removed
 abbrev pub with_path : Matrix → ℕ → ℕ → ℕ → Matrix
 with_path m i j s = record m { columns = insert m.columns (i, s) j }
 
@@ -81,7 +82,8 @@ without_path m i s = record m { columns = remove m.columns (i, s) }
 abbrev pub SameSizes : Matrix → Matrix → Type 0
 SameSizes m n = (n.lines ≡ m.lines) × (n.slots ≡ m.slots)
 
--- No column has a slot twice. No row has, since a row has one column in a slot. Each path lies within the matrix
+-- no column has a slot twice, and each path lies within the matrix; no row has a slot twice, since a row has one column
+-- in a slot
 pub record IsLegal (m : Matrix) : Type 0 where
   pub column_once : (i k s j : ℕ) → row_slot m i s ≡ Some j → row_slot m k s ≡ Some j → i ≡ k
   pub row_within : (i s j : ℕ) → row_slot m i s ≡ Some j → i < m.lines

@@ -1,4 +1,4 @@
--- The numbers below a bound that pass a test: the lowest of them, and how many there are.
+-- The numbers below a bound that pass a test: the lowest, and the number of them.
 use Rattle.std.specs.Prelude.{ℕ, Bool, Option, find, count_by}
 use Rattle.std.specs.List.{range_with_len}
 
@@ -6,6 +6,6 @@ use Rattle.std.specs.List.{range_with_len}
 abbrev pub lowest : (ℕ → Bool) → ℕ → Option ℕ
 lowest passes bound = find passes (range_with_len 0 bound)
 
--- how many numbers below the bound pass
+-- the number of numbers below the bound that pass
 abbrev pub count_below : (ℕ → Bool) → ℕ → ℕ
 count_below passes bound = count_by passes (range_with_len 0 bound)

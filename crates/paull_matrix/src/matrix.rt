@@ -1,6 +1,6 @@
-//! The matrix, kept as a table of the columns by row and slot. A table of the rows by column and slot
-//! and a word of used slots for each line are its indexes. A look reads one entry, and the lowest free
-//! slot is the lowest clear bit of a word.
+//! The matrix, stored as a table of the columns by row and slot. A table of the rows by column and slot and a word of
+//! used slots for each line are its indexes. A lookup reads one entry, a path writes four, and the lowest free slot is
+//! the lowest clear bit of a word.
 
 ghost use Rattle.std.specs.Prelude.{◌≡◌, ◌<◌, ◌≤◌, ◌+◌, ◌*◌, Some, None, IfOk, length};
 ghost use Rattle.paull_matrix.specs.Marks.{lacks, marked, unmarked};
@@ -24,11 +24,11 @@ use std::alloc::{AllocError, Global};
 use std::marker::Model;
 use std::sync::ledger::Ledger;
 
-/// The paths of a three-stage switch: each has a row (its incoming line), a column (its outgoing
-/// line) and an internal slot. There are as many rows as columns, 1 to 34, and 1 to 59 slots.
+/// The paths of a three-stage switch: each has a row (its incoming line), a column (its outgoing line) and an internal
+/// slot. There are 1 to 34 rows, the same number of columns, and 1 to 59 slots.
 ///
-/// No slot is in a row or in a column twice. No call but `new` takes memory. Contracts see the
-/// matrix as its sizes and the map from a row and a slot to the column.
+/// No slot is in a row or in a column twice. Only `new` allocates. Contracts see the matrix as its sizes and the map
+/// from a row and a slot to the column.
 #[derive(Drop)]
 pub struct PaullMatrix {
     lines: u8,
@@ -53,8 +53,8 @@ impl Model for PaullMatrix {
 }
 
 impl PaullMatrix {
-    /// An empty matrix of `lines` rows and columns and `slots` slots. It reserves the room for all
-    /// the paths that it can hold. The only error is running out of memory.
+    /// Returns an empty matrix of `lines` rows and columns and `slots` slots. It reserves the memory for all the paths
+    /// that it can hold. The only error is a failed allocation.
     pub fn new(alloc: Global, lines: u8, slots: u8) -> Result<PaullMatrix, AllocError>
         requires lines { (0 < lines) × (lines ≤ 34) }
         requires slots { (0 < slots) × (slots ≤ 59) }
@@ -72,7 +72,7 @@ impl PaullMatrix {
         })
     }
 
-    /// The column of the path of row `i` in slot `s`, `None` exactly where there is no such path.
+    /// Returns the column of the path of row `i` in slot `s`. `None` if and only if there is no such path.
     pub fn row_slot<L: Ledger>(&self, i: u8, s: u8, steps: &mut Steps<L>) -> Option<u8>
         requires row { i < self.now.lines }
         requires slot { s < self.now.slots }
@@ -84,7 +84,7 @@ impl PaullMatrix {
         self.columns[place_of(self.slots, i, s)]
     }
 
-    /// The row of the path of column `j` in slot `s`, `None` exactly where there is no such path.
+    /// Returns the row of the path of column `j` in slot `s`. `None` if and only if there is no such path.
     pub fn column_slot<L: Ledger>(&self, j: u8, s: u8, steps: &mut Steps<L>) -> Option<u8>
         requires column { j < self.now.lines }
         requires slot { s < self.now.slots }
@@ -96,8 +96,8 @@ impl PaullMatrix {
         self.rows[place_of(self.slots, j, s)]
     }
 
-    /// The lowest slot that is missing both in row `i` and in column `j`, `None` exactly where every
-    /// slot is in one of them.
+    /// Returns the lowest slot that is missing both in row `i` and in column `j`. `None` if and only if every slot is
+    /// in one of them.
     pub fn common_free<L: Ledger>(&self, i: u8, j: u8, steps: &mut Steps<L>) -> Option<u8>
         requires row { i < self.now.lines }
         requires column { j < self.now.lines }
@@ -110,7 +110,7 @@ impl PaullMatrix {
         lowest_missing(used, self.slots)
     }
 
-    /// The lowest slot that is missing in row `i`, which has fewer paths than there are slots.
+    /// Returns the lowest slot that is missing in row `i`, which has fewer paths than there are slots.
     pub fn free_in_row<L: Ledger>(&self, i: u8, steps: &mut Steps<L>) -> u8
         requires row { i < self.now.lines }
         requires room { paths_of_row self.now i < self.now.slots }
@@ -125,7 +125,7 @@ impl PaullMatrix {
         }
     }
 
-    /// The lowest slot that is missing in column `j`, which has fewer paths than there are slots.
+    /// Returns the lowest slot that is missing in column `j`, which has fewer paths than there are slots.
     pub fn free_in_column<L: Ledger>(&self, j: u8, steps: &mut Steps<L>) -> u8
         requires column { j < self.now.lines }
         requires room { paths_of_column self.now j < self.now.slots }
@@ -158,7 +158,7 @@ impl PaullMatrix {
         mark(&mut self.column_words, j, s);
     }
 
-    /// Takes out the path of row `i` and column `j` that is in slot `s`.
+    /// Removes the path of row `i` and column `j` that is in slot `s`.
     pub fn lift(&mut self, i: u8, j: u8, s: u8)
         requires stands { row_slot_of self.old i s ≡ Some j }
         ensures lifted { self.new ≡ without_path self.old i s }
@@ -173,7 +173,7 @@ impl PaullMatrix {
     }
 }
 
-/// The lowest slot whose bit is clear in a word, `None` exactly where each is set.
+/// Returns the lowest slot whose bit is clear in a word. `None` if and only if each is set.
 fn lowest_missing(word: u64, slots: u8) -> Option<u8>
     requires few { slots ≤ 59 }
     ensures lowest { result ≡ lowest (lacks word) slots }
@@ -204,7 +204,7 @@ fn unmark(words: &mut Vec<u64>, line: u8, s: u8)
     words[usize::from(line)] &= !(1 << s);
 }
 
-/// The place of a line and a slot in a table, where each line has `slots` places.
+/// Returns the place of a line and a slot in a table in which each line has `slots` places.
 fn place_of(slots: u8, line: u8, s: u8) -> usize
     ensures { result ≡ line * slots + s }
 {

@@ -1,12 +1,12 @@
-//! The counter of looks at a matrix.
+//! The counter of lookups in a matrix.
 
 ghost use Rattle.std.specs.Prelude.{◌≡◌, ◌+◌, ◌<◌};
 
 use std::marker::Model;
 use std::sync::ledger::{Blank, Book, Ledger, Share};
 
-/// How many looks were made at a matrix. Contracts see it as that number, which only looks raise. It
-/// takes no bytes, so a program can't read it.
+/// The number of lookups in a matrix. Only contracts see it, and only lookups raise it. It takes no bytes, so a program
+/// cannot read it.
 #[derive(Drop)]
 pub struct Steps<L: Ledger> {
     book: Book<L>,
@@ -24,7 +24,7 @@ impl<L: Ledger> Model for Steps<L> {
 }
 
 impl<L: Ledger> Steps<L> {
-    /// A counter at 0, of a ledger of its own.
+    /// Returns a counter at 0, with its own ledger.
     pub fn new(blank: Blank) -> Steps<L>
         requires name { blank.name ≡ L.name }
         requires parts { (blank.parts ≡ L.parts) × (0 < L.parts) }
@@ -34,7 +34,7 @@ impl<L: Ledger> Steps<L> {
         Steps { book, share }
     }
 
-    /// One look more.
+    /// Counts one lookup.
     pub(crate) fn tick(&mut self)
         ensures { self.new ≡ self.old + 1 }
     {

@@ -1,5 +1,5 @@
--- The states of a call at the network side of an interface, by their call state values (ITU-T Q.931 (05/98), 2.1.2 and 4.5.7).
--- Those in which this exchange keeps a leg of a call, and the null state.
+-- The states of a call at the network side of an interface, by their call state values (ITU-T Q.931 (05/98), 2.1.2 and
+-- 4.5.7): the states of this exchange's legs, and the null state.
 use Rattle.std.specs.Prelude.{ℕ}
 
 abbrev pub null : ℕ

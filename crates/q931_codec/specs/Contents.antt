@@ -1,4 +1,4 @@
--- What the contents of information elements mean (ITU-T Q.931 (05/98), 4.5).
+-- The meaning of the contents of information elements (ITU-T Q.931 (05/98), 4.5).
 use Rattle.std.specs.Prelude.{ℕ, ◌%◌, Bool, false, ◌&&◌, ◌||◌, ◌==◌, not, nat_lt, nat_le, if◌then◌else◌, List, [], ◌∷◌, length, drop, map, Option, Some, None, is_some, unwrap_or, option_and_then, option_map}
 use Rattle.std.specs.List.{list_all}
 use Rattle.std.specs.Char.{is_ascii_digit}
@@ -20,7 +20,7 @@ abbrev pub cause_after_recommendation : List ℕ → Option ℕ
 cause_after_recommendation [] = None
 cause_after_recommendation (recommendation ∷ rest) = cause_value rest
 
--- a location, a recommendation where the location's top bit is 0, and the value
+-- a location, a recommendation if the location's top bit is 0, and the value
 abbrev pub cause_of : List ℕ → Option ℕ
 cause_of [] = None
 cause_of (location ∷ rest) = if nat_lt location 0x80 then cause_after_recommendation rest else cause_value rest
@@ -50,12 +50,12 @@ one_channel octet channel =
     if octet == 0xA9 && is_bearer_channel channel then Exclusive channel
     else (if octet == 0xA1 && is_bearer_channel channel then Preferred channel else Invalid)
 
--- behind octet 3: that a B-channel is named by its number (83), and the number, whose top bit doesn't count
+-- after octet 3: the octet of a B-channel by its number (83), and the number, whose top bit does not count
 abbrev pub numbered_channel : ℕ → List ℕ → ChannelIdentification
 numbered_channel octet (units ∷ channel ∷ []) = if units == 0x83 then one_channel octet (channel % 0x80) else Invalid
 numbered_channel octet _ = Invalid
 
--- A3 asks for any channel, whatever follows it
+-- A3 requests any channel, whatever follows it
 abbrev pub channel_of : List ℕ → ChannelIdentification
 channel_of [] = Invalid
 channel_of (octet ∷ rest) = if octet == 0xA3 then Any else numbered_channel octet rest
@@ -74,7 +74,8 @@ restart_in elements = option_and_then first_octet (first_of identifier.restart_i
 
 -- ---- bearer capability (4.5.5)
 
--- octets 3 and 4: speech (80), 3.1 kHz audio (90) or unrestricted digital information (88), in circuit mode at 64 kbit/s (90)
+-- octets 3 and 4: speech (80), 3.1 kHz audio (90) or unrestricted digital information (88), in circuit mode at 64
+-- kbit/s (90)
 abbrev pub is_carried : List ℕ → Bool
 is_carried (capability ∷ mode ∷ rest) = mode == 0x90 && (capability == 0x80 || capability == 0x90 || capability == 0x88)
 is_carried _ = false
@@ -88,14 +89,14 @@ bearer_of contents =
 abbrev pub bearer_in : List InformationElement → Option (List ℕ)
 bearer_in elements = first_of identifier.bearer_capability elements
 
--- ---- sending complete (4.5.27): nothing more of the called number comes
+-- ---- sending complete (4.5.27): the called number is complete
 
 abbrev pub complete_in : List InformationElement → Bool
 complete_in elements = is_some (first_of identifier.sending_complete elements)
 
 -- ---- called party number (4.5.8)
 
--- its contents as they were received, where there is one
+-- its contents as received, if there is one
 abbrev pub called_received : List InformationElement → Option (List ℕ)
 called_received elements = first_of identifier.called_party_number elements
 
@@ -103,17 +104,17 @@ called_received elements = first_of identifier.called_party_number elements
 abbrev pub is_called_number : List ℕ → Bool
 is_called_number contents = nat_le 1 (length contents) && nat_le (length contents) 21
 
--- IA5 characters without their top bits, where all of them are digits 0 to 9
+-- IA5 characters without their top bits, if all of them are digits 0 to 9
 abbrev pub decimal_digits : List ℕ → Option (List ℕ)
 decimal_digits octets = let digits = map (λ octet. octet % 0x80) octets in if list_all is_ascii_digit digits then Some digits else None
 
--- the digits of a called party number: none where it has no octet
+-- the digits of a called party number: none if it has no octet
 abbrev pub dialled_digits : List ℕ → Option (List ℕ)
 dialled_digits contents = decimal_digits (drop 1 contents)
 
--- ---- what is passed on from the calling to the called user as it was received
+-- ---- contents that pass unchanged from the calling to the called user
 
--- contents of at most n octets; else nothing
+-- contents of at most n octets; otherwise none
 abbrev pub contents_passed_on : ℕ → List ℕ → List ℕ
 contents_passed_on most contents = if nat_le (length contents) most then contents else []
 

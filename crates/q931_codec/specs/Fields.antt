@@ -7,7 +7,7 @@ use Rattle.q931_codec.specs.declared.message.Message.{Message}
 use Rattle.q931_codec.specs.Contents.{cause_in, call_state_in, channel_in, restart_in}
 use Rattle.q931_codec.specs.Outgoing.{OutgoingMessage}
 
--- what empty contents mean, and others
+-- no contents if they are empty, otherwise the contents
 abbrev pub contents_given : List ℕ → Option (List ℕ)
 contents_given [] = None
 contents_given (octet ∷ octets) = Some (octet ∷ octets)

@@ -5,7 +5,7 @@ use Rattle.q931_codec.specs.declared.kind.MessageKind.{MessageKind}
 use Rattle.q931_codec.specs.declared.message.Message.{Message}
 use Rattle.q931_codec.specs.MessageType.{type_of, IsKind}
 
--- The flag is the top bit of the first octet, the call reference value the other fifteen bits (4.3).
+-- the flag is the top bit of the first octet, and the call reference value the other 15 bits (4.3)
 abbrev pub reference_octets : Bool → ℕ → List ℕ
 reference_octets flag value = ((if flag then 0x80 else 0) + value / 0x100) ∷ value % 0x100 ∷ []
 

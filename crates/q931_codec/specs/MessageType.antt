@@ -40,7 +40,7 @@ kind_among (k ∷ ks) octet = if octet == type_of k then k else kind_among ks oc
 abbrev pub kind_of : ℕ → MessageKind
 kind_of octet = kind_among named_kinds octet
 
--- an unknown type is none of those with a name
+-- an unknown type is not the octet of a type with a name
 abbrev pub IsKind : MessageKind → Type 0
 IsKind k = kind_of (type_of k) ≡ k
 

@@ -1,4 +1,4 @@
--- Outgoing messages and how they are encoded (ITU-T Q.931 (05/98), 4.5).
+-- Outgoing messages and their encoding (ITU-T Q.931 (05/98), 4.5).
 use Rattle.std.specs.Prelude.{ℕ, ◌+◌, ◌^◌, ◌<◌, ◌≤◌, Bool, true, false, IsTrue, List, [], ◌∷◌, ◌++◌, length, map, Option, Some, None, IfSome}
 use Rattle.std.specs.List.{flat_map}
 use Rattle.q931_elements.specs.Grammar.{Item, SingleOctet, VariableLength, element_of, octets_of_all}
@@ -10,7 +10,7 @@ use Rattle.q931_codec.specs.MessageType.{IsNamed}
 use Rattle.q931_codec.specs.Contents.{is_bearer_channel}
 use Rattle.q931_codec.specs.Grammar.{header}
 
--- an outgoing message without where its octets lie in memory
+-- an outgoing message without the positions of its octets in memory
 pub record OutgoingMessage : Type 0 where
   pub flag : Bool
   pub reference : ℕ
@@ -64,7 +64,7 @@ bare flag reference kind = record {
   high = [];
 }
 
--- what can be encoded
+-- a message that can be encoded
 pub record IsWritable (m : OutgoingMessage) : Type 0 where
   pub reference : m.reference < 2 ^ 15
   pub kind : IsNamed m.kind
@@ -84,12 +84,12 @@ abbrev pub cause_contents : Option ℕ → List ℕ
 cause_contents None = []
 cause_contents (Some value) = 0x82 ∷ (0x80 + value) ∷ []
 
--- ITU-T coding and the state (4.5.7); and the class of what is restarted (4.5.25)
+-- ITU-T coding and the state (4.5.7); and the class of the restart (4.5.25)
 abbrev pub one_octet : Option ℕ → List ℕ
 one_octet None = []
 one_octet (Some octet) = octet ∷ []
 
--- primary rate interface, this channel alone; a B-channel by its number; the number (4.5.13)
+-- primary rate interface, this channel only; a B-channel by its number; the number (4.5.13)
 abbrev pub channel_contents : Option ℕ → List ℕ
 channel_contents None = []
 channel_contents (Some channel) = 0xA9 ∷ 0x83 ∷ (0x80 + channel) ∷ []

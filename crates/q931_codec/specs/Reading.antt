@@ -1,4 +1,4 @@
--- What a receiver makes of octets, from the first octet on. A law says that it is the grammar's.
+-- The receiver's reading of octets, from the first octet on. By a theorem it is the grammar's.
 use Rattle.std.specs.Prelude.{◌≡◌, ◌≢◌, ℕ, ◌+◌, ◌*◌, ◌%◌, ◌<◌, List, [], ◌∷◌, length, Result, Ok, Err, ◌==◌, nat_le, if◌then◌else◌}
 use Rattle.q931_elements.specs.Reading.{elements_of}
 use Rattle.q931_codec.specs.declared.message.Message.{Message}

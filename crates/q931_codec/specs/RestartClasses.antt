@@ -1,4 +1,4 @@
--- What a restart is of: the octets of a restart indicator, the top bit and a class (ITU-T Q.931 (05/98), 4.5.25).
+-- The classes of restart: the octets of a restart indicator, the top bit and a class (ITU-T Q.931 (05/98), 4.5.25).
 use Rattle.std.specs.Prelude.{ℕ}
 
 abbrev pub indicated_channels : ℕ

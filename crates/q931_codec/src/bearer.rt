@@ -1,9 +1,9 @@
-//! The bearer service that a received message asks for, and the compatibilities that go with it.
+//! The bearer service that a received message requests, and its compatibilities.
 
 use crate::codes::{BEARER_CAPABILITY, HIGH_LAYER_COMPATIBILITY, LOW_LAYER_COMPATIBILITY};
 use crate::message::Message;
 
-/// What a bearer capability (Q.931, 4.5.5) asks for.
+/// The bearer service that a bearer capability (Q.931, 4.5.5) requests.
 #[derive(Clone, Copy, Debug, PartialEq, Eq)]
 pub enum BearerCapability {
     /// Speech, 3.1 kHz audio or unrestricted digital information, in circuit mode at 64 kbit/s: a
@@ -19,7 +19,7 @@ impl BearerCapability {
     ghost use Rattle.std.specs.Prelude.{◌≡◌};
     ghost use Rattle.q931_codec.specs.Contents.{bearer_of};
 
-    /// What the contents of a bearer capability ask for.
+    /// Returns the bearer service that the contents of a bearer capability request.
     pub fn of(contents: &[u8]) -> BearerCapability
         ensures { result ≡ bearer_of contents.now }
     {
@@ -38,15 +38,15 @@ impl<'a> Message<'a> {
     ghost use Rattle.std.specs.Option.{option_copied};
     ghost use Rattle.q931_codec.specs.Contents.{bearer_in, low_layer_in, high_layer_in};
 
-    /// The contents of the first bearer capability (4.5.5), `None` where there is none.
+    /// Returns the contents of the first bearer capability (4.5.5). `None` if there is none.
     pub fn bearer(&self) -> Option<&'a [u8]>
         ensures { option_copied result ≡ bearer_in self.now.elements }
     {
         self.elements.first(BEARER_CAPABILITY)
     }
 
-    /// The contents of the first low layer compatibility (4.5.19) where they have at most 16 octets,
-    /// else none.
+    /// Returns the contents of the first low layer compatibility (4.5.19) if they have at most 16 octets, otherwise
+    /// none.
     pub fn low_layer(&self) -> &'a [u8]
         ensures { result.now ≡ low_layer_in self.now.elements }
     {
@@ -56,8 +56,8 @@ impl<'a> Message<'a> {
         }
     }
 
-    /// The contents of the first high layer compatibility (4.5.17) where they have at most 3 octets,
-    /// else none.
+    /// Returns the contents of the first high layer compatibility (4.5.17) if they have at most 3 octets, otherwise
+    /// none.
     pub fn high_layer(&self) -> &'a [u8]
         ensures { result.now ≡ high_layer_in self.now.elements }
     {
@@ -71,7 +71,7 @@ impl<'a> Message<'a> {
 ghost use Rattle.std.specs.Prelude.{◌≡◌};
 ghost use Rattle.q931_codec.specs.Contents.{contents_passed_on};
 
-// What is passed on to the called user as it was received, where it isn't too long.
+// Returns the contents that pass unchanged to the called user, if they are not too long.
 pub(crate) fn contents_passed_on(contents: &[u8], most: usize) -> &[u8]
     ensures { result.now ≡ contents_passed_on most contents.now }
 {

@@ -6,7 +6,7 @@ pub const UNALLOCATED_NUMBER: u8 = 1;
 /// Normal call clearing.
 pub const NORMAL_CALL_CLEARING: u8 = 16;
 
-/// User busy. The exchange never gives it by itself: a user does, and the other one hears busy tone.
+/// User busy. The exchange only passes it on from a user, and the other user hears busy tone.
 pub const USER_BUSY: u8 = 17;
 
 /// No user responding.

@@ -1,19 +1,20 @@
-//! What a received message says of causes, call states, channels and restarts.
+//! The causes, call states, channels and restarts of a received message. Their meaning is here because several crates
+//! use it.
 
 use crate::codes::{CALL_STATE, CAUSE, CHANNEL_IDENTIFICATION, RESTART_INDICATOR};
 use crate::message::Message;
 
-/// What a channel identification (Q.931, 4.5.13) of a primary rate interface asks for. Its channels are
-/// 1 to 15 and 17 to 31.
+/// The channel that a channel identification (Q.931, 4.5.13) of a primary rate interface requests. Its channels are 1
+/// to 15 and 17 to 31.
 #[derive(Clone, Copy, Debug, PartialEq, Eq)]
 pub enum ChannelIdentification {
     /// Any channel.
     Any,
-    /// This channel where it is idle, else another.
+    /// This channel if it is idle, otherwise another.
     Preferred(u8),
     /// This channel and no other.
     Exclusive(u8),
-    /// A form that this exchange doesn't read.
+    /// A form that this exchange does not read.
     Invalid,
 }
 
@@ -21,9 +22,9 @@ impl<'a> Message<'a> {
     ghost use Rattle.std.specs.Prelude.{◌≡◌};
     ghost use Rattle.q931_codec.specs.Contents.{cause_in, call_state_in, channel_in, restart_in};
 
-    /// The cause value (Q.931, 4.5.12) of the first cause, `None` where there is none or its value
-    /// isn't there. Octet 3 has the location, octet 3a is there only where the extension bit of octet 3
-    /// is 0, and octet 4 has the value in its low seven bits.
+    /// Returns the cause value (Q.931, 4.5.12) of the first cause. `None` if there is no cause or it has no value.
+    /// Octet 3 has the location, octet 3a is there only if the extension bit of octet 3 is 0, and octet 4 has the value
+    /// in its low seven bits.
     pub fn cause(&self) -> Option<u8>
         ensures { result ≡ cause_in self.now.elements }
     {
@@ -34,8 +35,8 @@ impl<'a> Message<'a> {
         }
     }
 
-    /// The call state value (4.5.7) of the first call state, the low six bits of its first octet.
-    /// `None` where there is no such octet.
+    /// Returns the call state value (4.5.7) of the first call state, the low six bits of its first octet. `None` if
+    /// there is no such octet.
     pub fn call_state(&self) -> Option<u8>
         ensures { result ≡ call_state_in self.now.elements }
     {
@@ -45,14 +46,14 @@ impl<'a> Message<'a> {
         }
     }
 
-    /// What the first channel identification asks for, `None` where there is none.
+    /// Returns the channel that the first channel identification requests. `None` if there is none.
     pub fn channel(&self) -> Option<ChannelIdentification>
         ensures { result ≡ channel_in self.now.elements }
     {
         Some(channel_of(self.elements.first(CHANNEL_IDENTIFICATION)?))
     }
 
-    /// The first octet of the first restart indicator (4.5.25), `None` where there is none.
+    /// Returns the first octet of the first restart indicator (4.5.25). `None` if there is none.
     pub fn restart_indicator(&self) -> Option<u8>
         ensures { result ≡ restart_in self.now.elements }
     {
@@ -63,8 +64,8 @@ impl<'a> Message<'a> {
 ghost use Rattle.std.specs.Prelude.{◌≡◌};
 ghost use Rattle.q931_codec.specs.Contents.{channel_of, is_bearer_channel};
 
-// Octet 3 asks for any channel, or for one channel of a primary rate interface by its number, and then
-// octet 3.2 says that the number is a B-channel's.
+// Returns the channel that the contents request. Octet 3 requests any channel, or one channel of a primary rate
+// interface by its number. Octet 3.2 then states that the number is a B-channel's.
 fn channel_of(contents: &[u8]) -> ChannelIdentification
     ensures { result ≡ channel_of contents.now }
 {

@@ -1,4 +1,4 @@
-//! How an outgoing message is written.
+//! The encoding of an outgoing message.
 
 ghost use Rattle.std.specs.Prelude.{◌≡◌, ◌+◌, ◌^◌, ◌<◌, ◌≤◌, IsTrue, List, [], ◌++◌, length, IfSome};
 ghost use Rattle.q931_elements.specs.Grammar.{octets_of_all};
@@ -71,7 +71,7 @@ fn complete(writer: &mut Writer, complete: bool)
     }
 }
 
-// The element with these contents, where there are some.
+// Writes the element with these contents, if there are any.
 fn element(writer: &mut Writer, code: u8, contents: &[u8])
     requires { length writer.old + 2 + length contents.now ≤ longest_message }
     ensures octets { writer.new ≡ writer.old ++ octets_of_all (item_of_row (code, contents.now)) }
@@ -82,7 +82,7 @@ fn element(writer: &mut Writer, code: u8, contents: &[u8])
     }
 }
 
-// The element of one octet, where there is one.
+// Writes the element of one octet, if there is one.
 fn octet(writer: &mut Writer, code: u8, octet: Option<u8>)
     requires { length writer.old + 3 ≤ longest_message }
     ensures octets { writer.new ≡ writer.old ++ octets_of_all (item_of_row (code, one_octet octet)) }
@@ -104,8 +104,8 @@ fn cause(writer: &mut Writer, value: Option<u8>)
     }
 }
 
-// Octet 3 names a primary rate interface and this channel alone, octet 3.2 that the number of a
-// B-channel follows.
+// Writes the channel. Octet 3 has a primary rate interface and this channel only, and octet 3.2 states that the number
+// of a B-channel follows.
 fn channel(writer: &mut Writer, channel: Option<u8>)
     requires room { length writer.old + 5 ≤ longest_message }
     requires channel { IfSome channel (λ c. IsTrue (is_bearer_channel c)) }
@@ -117,7 +117,7 @@ fn channel(writer: &mut Writer, channel: Option<u8>)
     }
 }
 
-// Progress description 8: in-band information or an appropriate pattern is now available.
+// Writes progress description 8: in-band information or an appropriate pattern is now available.
 fn progress(writer: &mut Writer, progress: bool)
     requires { length writer.old + 4 ≤ longest_message }
     ensures octets { writer.new ≡ writer.old ++ octets_of_all (item_of_row (identifier.progress_indicator, progress_contents progress)) }

@@ -10,7 +10,7 @@ pub enum MessageKind {
     CallProceeding,
     /// PROGRESS (3.1.8).
     Progress,
-    /// SETUP (3.1.14): asks for a call.
+    /// SETUP (3.1.14): requests a call.
     Setup,
     /// CONNECT (3.1.3): the called user has accepted the call.
     Connect,
@@ -20,9 +20,9 @@ pub enum MessageKind {
     ConnectAcknowledge,
     /// USER INFORMATION (3.3.13).
     UserInformation,
-    /// DISCONNECT (3.1.5): asks for the call to be cleared.
+    /// DISCONNECT (3.1.5): requests that the call be cleared.
     Disconnect,
-    /// RESTART (3.4.1): asks for a channel or an interface to be made idle.
+    /// RESTART (3.4.1): requests that a channel or an interface be made idle.
     Restart,
     /// RELEASE (3.1.9): the sender has released the channel and is to release the call reference.
     Release,
@@ -34,14 +34,13 @@ pub enum MessageKind {
     Facility,
     /// NOTIFY (3.1.7).
     Notify,
-    /// STATUS ENQUIRY (3.1.17): asks for a STATUS.
+    /// STATUS ENQUIRY (3.1.17): requests a STATUS.
     StatusEnquiry,
     /// INFORMATION (3.1.6).
     Information,
-    /// STATUS (3.1.16): tells the sender's call state.
+    /// STATUS (3.1.16): reports the sender's call state.
     Status,
-    /// Any other octet. A kind that [`read`](crate::read) gives is `Unknown` only where it has no name
-    /// above.
+    /// Any other octet. A kind from [`read`](crate::read) is `Unknown` only if it has no name above.
     Unknown(u8),
 }
 

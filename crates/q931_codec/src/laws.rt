@@ -1,4 +1,4 @@
-// Laws about the definitions alone: these functions do nothing, and their contracts are the laws.
+// Theorems on the definitions only: these functions do nothing, and their contracts are the theorems.
 ghost use Rattle.std.specs.Prelude.{◌≡◌, ℕ, List};
 ghost use Rattle.q931_codec.specs.CallStates as state;
 ghost use Rattle.q931_codec.specs.Causes as cause;
@@ -21,12 +21,12 @@ use crate::states::{
     INCOMING_CALL_PROCEEDING, NULL, OUTGOING_CALL_PROCEEDING, OVERLAP_SENDING, RELEASE_REQUEST,
 };
 
-/// A string of octets is at most one message.
+/// A string of octets is one message at most.
 pub fn one_message()
     ensures { (octets : List ℕ) (one other : Message) → IsMessage octets one → IsMessage octets other → one ≡ other }
 {}
 
-/// Each field of an outgoing message is read again from what was written.
+/// Reading a written message gives each field of the outgoing message.
 pub fn written_fields_are_read()
     ensures { (m : OutgoingMessage) → IsWritable m → HasFields (message_at_receiver m) m }
 {}

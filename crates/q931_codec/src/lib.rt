@@ -1,16 +1,13 @@
-//! Messages of ITU-T Q.931 (05/98) as octets, read and written.
+//! Reads and writes the octets of messages of ITU-T Q.931 (05/98).
 //!
-//! - [`read`] takes a message apart without copying it, exactly where its header is there (`found`,
-//!   `only`), and else says why not (`discriminator`, `short`, `reference_length`). No octets are
-//!   two messages ([`one_message`]).
-//! - [`Message`]'s `cause`, `call_state`, `channel` and the like return what the first element of a
-//!   kind says.
-//! - [`write`] has one spelling of each message (`encoded`), of 107 octets at most (`fits`), which
-//!   reads back (`read_back`, [`written_fields_are_read`]).
+//! - [`read`] parses a message without copying it, if and only if its header is there (`found`, `only`). Otherwise it
+//!   returns the reason (`discriminator`, `short`, `reference_length`). No string of octets is two messages
+//!   ([`one_message`]).
+//! - `cause`, `call_state`, `channel` and the like of [`Message`] return the value in the first element of a kind.
+//! - [`write`] has one encoding of each message (`encoded`), of 107 octets at most (`fits`). Reading it gives the
+//!   message again (`read_back`, [`written_fields_are_read`]).
 //!
 //! Nothing here allocates.
-//!
-//! It uses `q931_elements`, and the kit's `arrayvec` and `thiserror`.
 #![tactic(auto)]
 
 mod bearer;

@@ -1,29 +1,28 @@
-//! A message as it is read, and why octets are none.
+//! A received message, and the reasons for which octets are not a message.
 
 use crate::codes::{PROTOCOL_DISCRIMINATOR, REFERENCE_LENGTH};
 use crate::kind::MessageKind;
 use q931_elements::Elements;
 use thiserror::Error;
 
-/// Why a received message is ignored: it changes no call, and gets no answer.
+/// The reason for which a received message is ignored: it changes no call, and gets no reply.
 #[derive(Clone, Copy, Debug, PartialEq, Eq, Error)]
 pub enum Discard {
-    /// The protocol discriminator doesn't name user-network call control (Q.931, 5.8.1).
+    /// The protocol discriminator is not user-network call control (Q.931, 5.8.1).
     #[error("another protocol discriminator")]
     Discriminator = 1,
     /// The message ends before its message type (5.8.2).
     #[error("the message is too short")]
     Short = 2,
-    /// The call reference hasn't two octets. Q.931 (4.3) has others too, which this exchange ignores.
+    /// The call reference does not have two octets. Q.931 (4.3) has other lengths too, which this exchange ignores.
     #[error("a call reference of another length")]
     ReferenceLength = 3,
 }
 
-/// A message as it was received. Contracts see `elements` as the list of its information elements.
+/// A received message. Contracts see `elements` as the list of its information elements.
 #[derive(Clone, Debug, Drop)]
 pub struct Message<'a> {
-    /// The call reference flag (Q.931, 4.3): true where the message goes to the side that chose the
-    /// call reference value.
+    /// The call reference flag (Q.931, 4.3): true if the message goes to the side that chose the call reference value.
     pub flag: bool,
     /// The call reference value (4.3), below 32,768.
     pub reference: u16,
@@ -42,15 +41,15 @@ ghost use Rattle.q931_codec.specs.Reading.{HasOtherDiscriminator, IsShort, HasOt
 ///
 /// # Errors
 ///
-/// - [`Discard::Discriminator`] where there is a first octet, and it isn't 08.
-/// - [`Discard::ReferenceLength`] where the first octet is 08, and there is a second that isn't 02.
-/// - [`Discard::Short`] where the octets are none, 08 alone, or 08 02 and fewer than three others.
+/// - [`Discard::Discriminator`] if there is a first octet, and it is not 08.
+/// - [`Discard::ReferenceLength`] if the first octet is 08, and there is a second that is not 02.
+/// - [`Discard::Short`] if there are no octets, only 08, or 08 02 and fewer than three others.
 pub fn read(octets: &[u8]) -> Result<Message<'_>, Discard>
-    // What is read is in the grammar, and what is in the grammar is read.
+    // Octets are read as a message if and only if it is in the grammar.
     ensures found { IfOk result (λ m. IsMessage octets.now m) }
     ensures only { (m : Message) → IsMessage octets.now m → result ≡ Ok m }
 
-    // Each reason comes exactly where it holds.
+    // Each reason is returned if and only if it holds.
     ensures discriminator { IsErrOf result Discard.Discriminator ↔ HasOtherDiscriminator octets.now }
     ensures short { IsErrOf result Discard.Short ↔ IsShort octets.now }
     ensures reference_length { IsErrOf result Discard.ReferenceLength ↔ HasOtherReferenceLength octets.now }

@@ -1,9 +1,9 @@
-//! A message that is to be sent.
+//! A message to be sent.
 
 use crate::kind::MessageKind;
 
-/// A message that is to be sent. An element is written where its field has something: an empty slice,
-/// `None` and `false` leave it out.
+/// A message to be sent. An element is written if its field has a value: an empty slice, `None` and `false` leave it
+/// out.
 #[derive(Clone, Copy, Debug)]
 pub struct Outgoing<'a> {
     /// The call reference flag (Q.931, 4.3): true towards the side that chose the value.
@@ -20,7 +20,7 @@ pub struct Outgoing<'a> {
     pub cause: Option<u8>,
     /// The call state value (4.5.7), below 64.
     pub state: Option<u8>,
-    /// The bearer channel, 1 to 15 or 17 to 31: a channel identification (4.5.13) of that channel alone.
+    /// The bearer channel, 1 to 15 or 17 to 31: a channel identification (4.5.13) of that channel only.
     pub channel: Option<u8>,
     /// A progress indicator (4.5.23): in-band information is now available.
     pub progress: bool,
@@ -40,8 +40,8 @@ impl<'a> Outgoing<'a> {
     ghost use Rattle.std.specs.Prelude.{◌≡◌};
     ghost use Rattle.q931_codec.specs.Outgoing.{outgoing_of, bare};
 
-    /// A message without elements, to which the fields that are wanted are added, as in
-    /// `Outgoing { cause: Some(16), ..Outgoing::new(flag, reference, MessageKind::Release) }`.
+    /// Returns a message without elements, to which fields are added, as in `Outgoing { cause: Some(16),
+    /// ..Outgoing::new(flag, reference, MessageKind::Release) }`.
     pub fn new(flag: bool, reference: u16, kind: MessageKind) -> Outgoing<'a>
         ensures { outgoing_of result ≡ bare flag reference kind }
     {

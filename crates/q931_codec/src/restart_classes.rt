@@ -1,7 +1,7 @@
-//! What a restart is of: the octets of a restart indicator (Q.931, 4.5.25), each with the top bit set and
-//! the class in the low three.
+//! The classes of restart: the octets of a restart indicator (Q.931, 4.5.25), each with the top bit set and the class
+//! in the low three.
 
-/// The channels that the channel identification of the message names.
+/// The channels in the channel identification of the message.
 pub const INDICATED_CHANNELS: u8 = 0x80;
 
 /// All channels of the interface whose D-channel carries the message.

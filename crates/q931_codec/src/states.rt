@@ -1,25 +1,25 @@
-//! The states of a call at the network side of an interface (Q.931, 2.1.2), by their call state values
-//! (4.5.7). Here are those in which this exchange keeps a leg of a call, and the null state.
+//! The states of a call at the network side of an interface (Q.931, 2.1.2), by their call state values (4.5.7): the
+//! states of this exchange's legs, and the null state. They are octets, because a STATUS can carry any octet.
 
 /// Null: there is no call.
 pub const NULL: u8 = 0;
 
-/// Overlap sending: the caller has yet to send the rest of the number.
+/// Overlap sending: the caller has not sent the whole number yet.
 pub const OVERLAP_SENDING: u8 = 2;
 
-/// Outgoing call proceeding: the caller was informed that nothing more is needed to set up the call.
+/// Outgoing call proceeding: the caller was informed that the number is complete.
 pub const OUTGOING_CALL_PROCEEDING: u8 = 3;
 
 /// Call delivered: the caller was informed that the called user is being alerted.
 pub const CALL_DELIVERED: u8 = 4;
 
-/// Call present: the called user was sent a SETUP, and has not answered it.
+/// Call present: the called user was sent a SETUP, and has not replied to it.
 pub const CALL_PRESENT: u8 = 6;
 
 /// Call received: the called user is being alerted.
 pub const CALL_RECEIVED: u8 = 7;
 
-/// Incoming call proceeding: the called user has all that is needed to set up the call.
+/// Incoming call proceeding: the called user has all the information to set up the call.
 pub const INCOMING_CALL_PROCEEDING: u8 = 9;
 
 /// Active: the call is answered.

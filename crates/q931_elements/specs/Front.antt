@@ -1,4 +1,4 @@
--- Elements and beginnings of the code without where they lie in memory.
+-- Elements, and the first item of octets, without their positions in memory.
 use Rattle.q931_elements.specs.InformationElement.{InformationElement}
 use Rattle.q931_elements.specs.Reading.{Front, Whole, LockingShift, NonLockingShift, Unfinished}
 use Rattle.q931_elements.specs.declared.front.Element.{Element}

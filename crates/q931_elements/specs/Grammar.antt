@@ -1,11 +1,11 @@
--- The octets behind a message's header, as a whole (ITU-T Q.931 (05/98), 4.5.1 to 4.5.4).
--- All of them are pieces one after the other and then a tail. This exchange reads codeset 0 alone.
+-- The octets after a message's header, as a whole (ITU-T Q.931 (05/98), 4.5.1 to 4.5.4): consecutive pieces and then a
+-- tail. This project reads codeset 0 only.
 use Rattle.std.specs.Prelude.{◌≡◌, ℕ, ◌<◌, ◌≤◌, ◌⊎◌, List, [], ◌∷◌, ◌++◌, length}
 use Rattle.std.specs.List.{AllByRecursion, flat_map}
 use Rattle.q931_elements.specs.InformationElement.{InformationElement}
 
--- The two formats: a single octet, whose top bit is 1, and an identifier, whose top bit is 0, with a
--- length and as many octets of contents (4.5.1).
+-- the two formats: a single octet, whose top bit is 1, and an identifier, whose top bit is 0, with a length and that
+-- number of octets of contents (4.5.1)
 pub data Item : Type 0 where
   SingleOctet : ℕ → Item
   VariableLength : ℕ → List ℕ → Item
@@ -51,7 +51,7 @@ present_elements [] = []
 present_elements (Present item ∷ pieces) = element_of item ∷ present_elements pieces
 present_elements (Shifted shift item ∷ pieces) = present_elements pieces
 
--- no octet, or a variable length element that is cut short
+-- no octet, or a truncated variable length element
 abbrev pub IsUnfinishedElement : List ℕ → Type 0
 IsUnfinishedElement [] = Unit {0}
 IsUnfinishedElement (code ∷ []) = code < 0x80
@@ -71,11 +71,11 @@ pub record IsElementList (octets : List ℕ) (elements : List InformationElement
   pub octets_are : octets ≡ octets_of_pieces pieces ++ tail
   pub elements_are : elements ≡ present_elements pieces
 
--- ---- written elements: these are pieces too, and no shift is among them
+-- ---- written elements: these are pieces too, and none of them is a shift
 
 abbrev pub IsPresent : Item → Type 0
 IsPresent item = IsPiece (Present item)
 
--- the octets of elements that follow each other
+-- the octets of consecutive elements
 abbrev pub octets_of_all : List Item → List ℕ
 octets_of_all items = flat_map octets_of items

@@ -1,7 +1,7 @@
--- Information elements without where they lie in memory (ITU-T Q.931 (05/98), 4.5.1).
+-- Information elements without their positions in memory (ITU-T Q.931 (05/98), 4.5.1).
 use Rattle.std.specs.Prelude.{ℕ, List, [], ◌∷◌, Option, Some, None, ◌==◌, if◌then◌else◌}
 
--- an identifier and the contents; a single octet information element is an identifier alone
+-- an identifier and the contents; a single octet information element is only an identifier
 pub record InformationElement : Type 0 where
   pub code : ℕ
   pub contents : List ℕ

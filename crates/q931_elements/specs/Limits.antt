@@ -1,4 +1,4 @@
--- The bound on what this exchange writes. Source: this exchange's own.
+-- The bound on the messages that the exchange writes. Source: this project.
 use Rattle.std.specs.Prelude.{ℕ}
 
 -- the greatest number of octets of a message

@@ -1,8 +1,8 @@
--- The elements as they are found from the beginning. A law says that this is the grammar's one reading.
+-- The elements, found from the first octet on. By a theorem this is the grammar's one reading.
 use Rattle.std.specs.Prelude.{ℕ, zero, suc, List, [], ◌∷◌, length, take, drop, nat_lt, if◌then◌else◌}
 use Rattle.q931_elements.specs.InformationElement.{InformationElement}
 
--- what is at the beginning
+-- the item, tail or shift that the octets begin with
 pub data Front : Type 0 where
   Whole : InformationElement → List ℕ → Front
   LockingShift : Front
@@ -24,7 +24,7 @@ front_in (octet ∷ rest) =
     else (if nat_lt octet 0xA0 then NonLockingShift rest
     else Whole (record { code = octet; contents = [] }) rest)))
 
--- the octets behind one item, none where it is cut short
+-- the octets after one item; none if it is truncated
 abbrev pub after_contents : List ℕ → List ℕ
 after_contents [] = []
 after_contents (len ∷ rest) = drop len rest

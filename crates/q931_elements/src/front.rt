@@ -1,12 +1,11 @@
-//! What is at the beginning of the octets behind a header.
+//! The first item of the octets after a header.
 
 ghost use Rattle.std.specs.Prelude.{◌≡◌, []};
 ghost use Rattle.q931_elements.specs.Reading.{front_in, variable_front, after_item, Whole};
 ghost use Rattle.q931_elements.specs.Front.{front_of};
 
-/// An information element as it was received: its identifier octet, and its contents without the
-/// length octet (Q.931, 4.5.1). A single octet information element has no contents, and `code` is that
-/// whole octet.
+/// A received information element: its identifier octet, and its contents without the length octet (Q.931, 4.5.1). A
+/// single octet information element has no contents, and `code` is the whole octet.
 #[derive(Clone, Copy, Debug)]
 pub struct Element<'a> {
     /// The identifier, octet 1 of the element.
@@ -15,7 +14,7 @@ pub struct Element<'a> {
     pub contents: &'a [u8],
 }
 
-// What is at the beginning of the octets that are left.
+// The item, tail or shift that the remaining octets begin with.
 #[derive(Clone, Copy)]
 pub(crate) enum Front<'a> {
     Whole(Element<'a>, &'a [u8]),
@@ -44,7 +43,7 @@ pub(crate) fn look(octets: &[u8]) -> Front<'_>
     }
 }
 
-// The element of this code, from its length octet on.
+// Returns the element of this code, from its length octet on.
 fn variable_length(code: u8, octets: &[u8]) -> Front<'_>
     ensures { front_of result ≡ variable_front code octets.now }
 {
@@ -61,7 +60,7 @@ fn variable_length(code: u8, octets: &[u8]) -> Front<'_>
     }
 }
 
-// The octets behind the item that a non-locking shift hides.
+// Returns the octets after the item that a non-locking shift hides.
 pub(crate) fn past(octets: &[u8]) -> &[u8]
     ensures { result.now ≡ after_item octets.now }
 {

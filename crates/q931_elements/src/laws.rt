@@ -1,4 +1,4 @@
-// Laws about the grammar alone: these functions do nothing, and their contracts are the laws.
+// Theorems on the grammar only: these functions do nothing, and their contracts are the theorems.
 ghost use Rattle.std.specs.Prelude.{◌≡◌, ℕ, List, map};
 ghost use Rattle.std.specs.List.{AllByRecursion};
 ghost use Rattle.q931_elements.specs.InformationElement.{InformationElement};
@@ -10,12 +10,12 @@ pub fn one_reading()
     ensures { (octets : List ℕ) (one other : List InformationElement) → IsElementList octets one → IsElementList octets other → one ≡ other }
 {}
 
-/// Each string of octets has a list of information elements, the one that `elements_of` computes.
+/// Each string of octets has a list of information elements, which `elements_of` computes.
 pub fn each_string_is_read()
     ensures { (octets : List ℕ) → IsElementList octets (elements_of octets) }
 {}
 
-/// Elements that are written one after the other are read as these elements.
+/// Reading consecutive written elements gives the same elements.
 pub fn written_is_read()
     ensures { (items : List Item) → AllByRecursion IsPresent items → IsElementList (octets_of_all items) (map element_of items) }
 {}

@@ -1,4 +1,4 @@
-//! The information elements of a message, found one after the other.
+//! The information elements of a message, found in sequence.
 
 use crate::front::{Element, Front, look, past};
 use std::alloc::AllocError;
@@ -6,12 +6,11 @@ use std::marker::Model;
 
 /// The information elements of a message, in the order in which they were received.
 ///
-/// This exchange reads codeset 0 alone (Q.931, 4.5.2). So a non-locking shift hides the one item behind
-/// it, be that an element or another shift octet (4.5.4), and a locking shift hides all that follows
-/// (4.5.3). A variable length element whose length says more octets than there are is dropped. Every
-/// string of octets has a list, and reading it takes one pass over them.
+/// Only codeset 0 is read (Q.931, 4.5.2). A non-locking shift hides the next item, an element or another shift octet
+/// (4.5.4). A locking shift hides all that follows (4.5.3). A variable length element is dropped if its length exceeds
+/// the remaining octets. Every string of octets has a list, and reading it takes one pass.
 ///
-/// Contracts see an `Elements` as the list of the elements that it has left to give.
+/// Contracts see an `Elements` as the list of its remaining elements, so that it can be cloned.
 #[derive(Debug, Drop)]
 pub struct Elements<'a> {
     rest: &'a [u8],
@@ -34,7 +33,7 @@ impl<'a> Elements<'a> {
     ghost use Rattle.q931_elements.specs.InformationElement.{first_of};
     ghost use Rattle.q931_elements.specs.Reading.{elements_of};
 
-    /// The elements of these octets, which are those after a message's header.
+    /// Returns the elements of the octets after a message's header.
     pub fn new(octets: &'a [u8]) -> Elements<'a>
         ensures grammar { IsElementList octets.entry.now result }
         ensures computed { result ≡ elements_of octets.entry.now }
@@ -43,8 +42,8 @@ impl<'a> Elements<'a> {
         Elements { rest: octets }
     }
 
-    /// The contents of the first of the elements that are left with this identifier, `None` where none
-    /// of them has it. A repeated element is ignored (5.8.5.2).
+    /// Returns the contents of the first remaining element with this identifier. `None` if no element has it. A
+    /// repeated element is ignored (5.8.5.2).
     pub fn first(&self, code: u8) -> Option<&'a [u8]>
         ensures first { option_copied result ≡ first_of code self.now }
         ensures none { IsNone result ↔ All (λ e. e.code ≢ code) self.now }
@@ -99,7 +98,7 @@ ghost use Rattle.std.specs.Prelude.{◌≡◌, [], ◌∷◌, MatchOption};
 ghost use Rattle.q931_elements.specs.Front.{element_of};
 ghost use Rattle.q931_elements.specs.Reading.{elements_of};
 
-// The first element, and the octets after it.
+// Returns the first element, and the octets after it.
 fn next_of(octets: &[u8]) -> Option<(Element<'_>, &[u8])>
     ensures { MatchOption result (elements_of octets.now ≡ []) (λ found. elements_of octets.now ≡ element_of found.0 ∷ elements_of found.1.now) }
 {

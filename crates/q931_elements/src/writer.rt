@@ -1,12 +1,12 @@
-//! A message as it is written, octet by octet and element by element.
+//! A message in writing, octet by octet and element by element.
 
 use arrayvec::ArrayVec;
 use std::marker::Model;
 
-/// The greatest number of octets that this exchange writes into one message.
+/// The greatest number of octets of a message that the exchange writes.
 pub const LONGEST_MESSAGE: usize = 112;
 
-/// Writes a message from its first octet on. Contracts see it as the octets that it has written.
+/// Writes a message from its first octet on. Contracts see its octets so far.
 #[derive(Debug, Drop)]
 pub struct Writer {
     octets: ArrayVec<u8, LONGEST_MESSAGE>,
@@ -24,7 +24,7 @@ impl Writer {
     ghost use Rattle.std.specs.Prelude.{◌≡◌, ◌+◌, ◌≤◌, List, [], ◌∷◌, ◌++◌, length};
     ghost use Rattle.q931_elements.specs.Limits.{longest_message};
 
-    /// A writer that has written nothing, with room for the longest message.
+    /// Returns an empty writer, with capacity for the longest message.
     pub fn new() -> Writer
         ensures empty { result ≡ [] }
         ensures room { LONGEST_MESSAGE ≡ longest_message }
@@ -34,7 +34,8 @@ impl Writer {
         }
     }
 
-    /// Writes one octet: one of the header, or a single octet information element (Q.931, 4.5.1).
+    /// Writes one octet: one of the header, or a single octet information element (Q.931, 4.5.1). One call for both has
+    /// one contract.
     pub fn single(&mut self, code: u8)
         requires { length self.old + 1 ≤ longest_message }
         ensures { self.new ≡ self.old ++ code ∷ [] }
@@ -55,7 +56,7 @@ impl Writer {
         }
     }
 
-    /// The octets that were written.
+    /// Returns the octets that were written.
     pub fn finish(self) -> ArrayVec<u8, LONGEST_MESSAGE>
         ensures { result.items ≡ self }
     {

@@ -1,7 +1,8 @@
--- How room is made in Paull's matrix for one path more, by moving live paths along the shorter of two alternating chains.
--- The rule and its chains are from M. C. Paull, "Reswitching of connection networks", Bell System Technical Journal 41 (1962); in terms
--- of graphs the chains are Kempe's. That the chain from a column never comes to the row that room is made in is what proves the
--- Slepian-Duguid theorem: as many slots are enough as a line has places. That the shorter is taken is this exchange's own.
+-- The rule by which Paull's matrix makes room for another path: live paths move along the shorter of two alternating
+-- chains. Source: M. C. Paull, "Reswitching of connection networks", Bell System Technical Journal 41 (1962), for the
+-- rule and its chains; in terms of graphs the chains are Kempe's. The chain from a column never reaches the row in
+-- which room is made. This proves the Slepian-Duguid theorem: the slots need only be the same number as the places of a
+-- line. The choice of the shorter chain is this project's.
 use Rattle.std.specs.Prelude.{◌≡◌, ℕ, zero, suc, ◌-◌, ◌*◌, ◌++◌, Bool, nat_lt, length, if◌then◌else◌, Option, Some, None, unwrap_or, List, [], ◌∷◌, ◌≢◌, All, AllPairs}
 use Rattle.paull_matrix.specs.Matrix.{Matrix, row_slot, column_slot, lowest_in_row, lowest_in_column, lowest_in_both, with_path, without_path}
 use Rattle.rearrange_chain.specs.declared.moves.Move.{Move}
@@ -11,7 +12,7 @@ pub data End : Type 0 where
   Row : ℕ → End
   Column : ℕ → End
 
--- the line at the other end of the path that a row or a column has in a slot
+-- the line at the other end of the path of a row or a column in a slot
 abbrev pub far_line : Matrix → End → ℕ → Option ℕ
 far_line m (Row i) s = row_slot m i s
 far_line m (Column j) s = column_slot m j s
@@ -26,13 +27,15 @@ abbrev pub move_of : End → ℕ → ℕ → ℕ → Move
 move_of (Row i) line old new = record { row = i; column = line; old = old; new = new }
 move_of (Column j) line old new = record { row = line; column = j; old = old; new = new }
 
--- The alternating chain from a row or a column: its path in slot a, then the path in b at that path's other end, then one in a again, and
--- so on, for at most n paths. Each path of the chain takes the other slot. What is at the other end of a path is looked up.
+-- the alternating chain from a row or a column: its path in slot a, then the path in b at that path's other end, then
+-- one in a again, and so on, for at most n paths; each path of the chain takes the other slot, and a lookup gives the
+-- line at the other end of a path
 abbrev pub chain : (End → ℕ → Option ℕ) → ℕ → End → ℕ → ℕ → List Move
 chain look zero end a b = []
 chain look (suc n) end a b = elim (look end a) [ None ↦ [] | Some line ↦ move_of end line a b ∷ chain look n (far_end end line) b a ]
 
--- moves that are listed already, and behind them the moves of the chain from a column, for at most twice as many in all as there are lines
+-- moves that are listed already, followed by the moves of the chain from a column, at most twice the number of lines in
+-- all
 abbrev pub with_chain : Matrix → List Move → ℕ → ℕ → ℕ → List Move
 with_chain m moves j a b = moves ++ chain (far_line m) (2 * m.lines - length moves) (Column j) a b
 
@@ -45,7 +48,7 @@ abbrev pub placed : Matrix → List Move → Matrix
 placed m [] = m
 placed m (v ∷ moves) = placed (with_path m v.row v.column v.new) moves
 
--- the matrix after moves that are made at once
+-- the matrix after simultaneous moves
 abbrev pub exchanged : Matrix → List Move → Matrix
 exchanged m moves = placed (lifted m moves) moves
 
@@ -63,15 +66,15 @@ column_chain m i j = chain (far_line m) (2 * m.lines) (Column j) (slot_a m i) (s
 abbrev pub row_chain : Matrix → ℕ → ℕ → List Move
 row_chain m i j = chain (far_line m) (2 * m.lines) (Row i) (slot_b m j) (slot_a m i)
 
--- the row's chain is taken where it is strictly shorter than the column's
+-- the row's chain is taken if it is strictly shorter than the column's
 abbrev pub is_shorter : List Move → List Move → Bool
 is_shorter by_row by_column = nat_lt (length by_row) (length by_column)
 
 abbrev pub shorter : List Move → List Move → List Move
 shorter by_row by_column = if is_shorter by_row by_column then by_row else by_column
 
--- The rule: a slot that is missing in both is taken, the lowest, and nothing moves. Where there is none, the paths of the shorter chain
--- exchange a and b; the new path takes b with the row's chain, and a with the column's
+-- the rule: the lowest slot that is missing in both is taken, and nothing moves; if there is none, the paths of the
+-- shorter chain exchange a and b, and the new path takes b with the row's chain and a with the column's
 abbrev pub slot_by : Matrix → ℕ → ℕ → Option ℕ → ℕ
 slot_by m i j (Some common) = common
 slot_by m i j None = if is_shorter (row_chain m i j) (column_chain m i j) then slot_b m j else slot_a m i
@@ -86,8 +89,8 @@ slot_for m i j = slot_by m i j (lowest_in_both m i j)
 abbrev pub moves_for : Matrix → ℕ → ℕ → List Move
 moves_for m i j = moves_by m i j (lowest_in_both m i j)
 
--- The moves are what differs between two matrices: no path moves twice, each is in its old slot before and in its new one after, a path
--- that does not move stays, and nothing else is there after
+-- the moves are the difference between two matrices: no path moves twice, each is in its old slot before and in its new
+-- one after, a path that does not move stays, and nothing else is there after
 pub record ChangesBy (before after : Matrix) (moves : List Move) : Type 0 where
   pub once : AllPairs (λ u v. ¬ ((u.row ≡ v.row) × (u.old ≡ v.old))) moves
   pub turned : All (λ v. v.old ≢ v.new) moves

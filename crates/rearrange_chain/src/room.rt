@@ -34,25 +34,22 @@ use paull_matrix::{PaullMatrix, Steps};
 use std::mem;
 use std::sync::ledger::Ledger;
 
-/// Makes room for a path of row `i` and column `j`, which each have fewer paths than slots, and
-/// answers a slot that is free in both afterwards. `moves` comes empty, and lists the moves made.
+/// Makes room for a path of row `i` and column `j`, which each have fewer paths than slots. Returns a slot that is free
+/// in both afterwards. `moves` is empty before the call, and lists the moves after it.
 ///
-/// Where a slot is free in both already, the lowest one is answered and nothing moves. Else let `a`
-/// be the lowest slot that is free in the row, and `b` the lowest that is free in the column. The
-/// path of the column in `a`, the path in `b` of the row where that one ends, the next one in `a`
-/// and so on form the column's chain; the row's chain begins with the path of the row in `b`. The
-/// two share no row and no column, so with r lines the shorter has at most r - 1 paths. The paths
-/// of the row's chain, where it is strictly shorter, and else of the column's, exchange `a`
-/// and `b`, and are listed in the order of their chain. With the row's chain `b` is answered, with
-/// the column's `a`.
+/// If a slot is free in both already, it returns the lowest one and moves nothing. Otherwise let `a` be the lowest slot
+/// that is free in the row, and `b` the lowest that is free in the column. The column's chain is the path of the column
+/// in `a`, the path in `b` of the row at its end, the next one in `a` and so on. The row's chain begins with the path
+/// of the row in `b`. The two share no row and no column, so with r lines the shorter has at most r - 1 paths. The
+/// paths of the row's chain, if it is strictly shorter, and otherwise of the column's, exchange `a` and `b`. They are
+/// listed in the order of their chain. The result is `b` with the row's chain, and `a` with the column's.
 ///
-/// Source: M. C. Paull, "Reswitching of connection networks", Bell System Technical Journal 41
-/// (1962), for the chain and the exchange; the Slepian-Duguid theorem, that a row and a column with
-/// room each can always be given a slot, is what is proved of it. That the lowest slots are taken,
-/// and that a tie goes to the column, are this exchange's own rules.
+/// Source: M. C. Paull, "Reswitching of connection networks", Bell System Technical Journal 41 (1962), for the chain
+/// and the exchange. The contract proves the Slepian-Duguid theorem: a row and a column with room each can always be
+/// given a slot. This project chooses the lowest slots, and the column's chain in a tie.
 ///
-/// `steps` counts the looks at the matrix: one for a common slot, one for `a`, one for `b`, one for
-/// each path of the two chains, and one at the end of each. Writes are not counted.
+/// `steps` counts the lookups in the matrix: one for a common slot, one for `a`, one for `b`, one for each path of the
+/// two chains, and one at the end of each. Writes are not counted.
 pub fn make_room<L: Ledger>(
     matrix: &mut PaullMatrix,
     i: u8,
@@ -93,8 +90,8 @@ pub fn make_room<L: Ledger>(
     slot
 }
 
-/// Takes the row's chain in place of the column's where it is strictly shorter, and answers the slot
-/// that the chain taken frees in both lines.
+/// Replaces the column's chain by the row's if the row's is strictly shorter, and returns the slot that the chosen
+/// chain frees in both lines.
 fn take_shorter(moves: &mut ArrayVec<Move, 66>, by_row: &mut ArrayVec<Move, 66>, a: u8, b: u8) -> u8
     ensures moves { moves.new.items ≡ shorter by_row.old.items moves.old.items }
     ensures slot { result ≡ if is_shorter by_row.old.items moves.old.items then b else a }
@@ -107,8 +104,8 @@ fn take_shorter(moves: &mut ArrayVec<Move, 66>, by_row: &mut ArrayVec<Move, 66>,
     }
 }
 
-/// Lists the moves of the chain from row `i`, whose paths leave the slots `b` and `a` in turn: after
-/// its first path it goes on as a chain from that path's column.
+/// Lists the moves of the chain from row `i`, whose paths leave the slots `b` and `a` in turn. After its first path it
+/// is a chain from that path's column.
 fn walk_from_row<L: Ledger>(
     matrix: &PaullMatrix,
     i: u8,
@@ -137,9 +134,8 @@ fn walk_from_row<L: Ledger>(
     walk(matrix, column, a, b, moves, steps);
 }
 
-/// Lists, behind the moves that are listed already, the moves of the chain from column `j`, whose paths
-/// leave the slots `a` and `b` in turn: from a column to a row in `a`, and on to the next column in
-/// `b`.
+/// Appends to the listed moves the moves of the chain from column `j`, whose paths leave the slots `a` and `b` in turn:
+/// from a column to a row in `a`, and on to the next column in `b`.
 fn walk<L: Ledger>(
     matrix: &PaullMatrix,
     j: u8,
@@ -176,7 +172,7 @@ fn walk<L: Ledger>(
     }
 }
 
-/// Takes every path that moves out of its old slot.
+/// Removes every path that moves from its old slot.
 fn lift_all(matrix: &mut PaullMatrix, moves: &[Move])
     requires stand { CanLift matrix.old moves.now }
     ensures lifted { matrix.new ≡ lifted matrix.old moves.now }

@@ -1,27 +1,29 @@
--- What the space stage of a time-space-time fabric does. Source: this exchange's own; in each internal time slot the stage is a crossbar
+-- The space stage of a time-space-time fabric. Source: this project; in each internal time slot the stage is a crossbar
 -- whose crosspoints the control memory sets.
 use Rattle.std.specs.Prelude.{◌≡◌, ℕ, ◌+◌, ◌*◌, ◌<◌, List, slice_index}
 use Rattle.frame_buffer.specs.Highways.{Highways, octet_on, RowsHold, AreFilled}
 use Rattle.control_memory.specs.Image.{Control, received}
 use Rattle.control_memory.specs.Carrying.{fetched}
 
--- an outgoing line gets in an internal slot the octet of the incoming line that its table names, and the idle octet where it names none
+-- the octet that an outgoing line gets in an internal slot: the octet of the incoming line in its table's entry, or the
+-- idle octet if there is no entry
 abbrev pub gets : Control → Highways → ℕ → ℕ → ℕ
 gets control from line slot = fetched (received control line slot) (λ l. octet_on from l slot)
 
--- each outgoing line of a part that begins with line `first` has in its row what it gets
+-- each outgoing line of a part that begins with line `first` has in its row the octets that it gets
 abbrev pub IsCrossedPart : Control → Highways → ℕ → List ℕ → Type 0
 IsCrossedPart control from first part = RowsHold control.slots (gets control from) first part
 
--- so has each of them that has its row in n octets
+-- each outgoing line whose row is in n octets has in it the octets that it gets
 abbrev pub AreCrossed : Control → Highways → ℕ → ℕ → List ℕ → Type 0
 AreCrossed control from first octets part = AreFilled control.slots (gets control from) first octets part
 
--- so has every outgoing line
+-- every outgoing line has the octets that it gets
 abbrev pub IsCrossed : Control → Highways → Highways → Type 0
 IsCrossed control from to = (line slot : ℕ) → line < to.lines → slot < to.slots → octet_on to line slot ≡ gets control from line slot
 
--- where the row of each incoming line begins among rows behind an idle one, by the byte that names it; the idle row begins where no line is named
+-- the start of each incoming line's row among rows that begin with an idle one, by the line's byte; a byte without a
+-- line gives the start of the idle row
 pub record AreStarts (lines_in slots : ℕ) (starts : List ℕ) : Type 0 where
   pub lines : (line : ℕ) → line < lines_in → slice_index starts line ≡ (line + 1) * slots
   pub idle : slice_index starts 255 ≡ 0

@@ -1,4 +1,4 @@
-//! The crossbar of the space stage, one outgoing line after the other.
+//! The crossbar of the space stage, one outgoing line after another.
 
 ghost use Rattle.std.specs.Prelude.{◌≡◌, ℕ, ◌<◌, length, slice_index};
 ghost use Rattle.frame_buffer.specs.Highways.{SameHighwaySize, IsPart};
@@ -8,8 +8,9 @@ ghost use Rattle.space_stage.specs.Crossing.{gets, IsCrossedPart, IsCrossed, Are
 use control_memory::Image;
 use frame_buffer::{Crossed, Highway, make_idle};
 
-/// Crosses one frame: in each internal slot each outgoing line gets the octet of the incoming line
-/// that the control memory names, and the idle octet where it names none.
+/// Crosses one frame: in each internal slot each outgoing line gets the octet of the incoming line in its control
+/// table's entry, or the idle octet if there is no entry. Every octet is written, so nothing of an earlier frame
+/// remains.
 pub fn cross(highway: &Highway, image: &Image, crossed: &mut Crossed)
     requires lines { highway.now.lines ≡ lines_of image.now }
     requires slots { highway.now.slots ≡ image.now.slots }
@@ -21,8 +22,8 @@ pub fn cross(highway: &Highway, image: &Image, crossed: &mut Crossed)
     cross_part(highway, image, slots, 0, crossed.parts());
 }
 
-/// Crosses one frame to some outgoing lines: `part` has their rows, of `slots` octets each, from the row of
-/// line `first` on. They get the octets that [`cross`] gives these lines.
+/// Crosses one frame to some outgoing lines: `part` has their rows, of `slots` octets each, from the row of line
+/// `first` on. They get the octets that [`cross`] gives these lines.
 pub fn cross_part(highway: &Highway, image: &Image, slots: u8, first: u8, part: &mut [u8])
     requires lines { highway.now.lines ≡ lines_of image.now }
     requires highway { highway.now.slots ≡ slots }
@@ -52,8 +53,8 @@ pub fn cross_part(highway: &Highway, image: &Image, slots: u8, first: u8, part: 
     }
 }
 
-// Finds where the row of each incoming line begins among the rows of a highway, by the byte of a
-// control table that names the line. A byte that names none is 255, where the idle row begins.
+// Finds the start of each incoming line's row in a highway, by the line's byte in a control table. The byte 255 gives
+// the start of the idle row. With this list, made once a frame, an octet costs one lookup and no test.
 fn find_starts(highway: &Highway, starts: &mut [u16; 256])
     requires { slice_index starts.old 255 ≡ 0 }
     ensures { AreStarts highway.now.lines highway.now.slots starts.new }
@@ -66,7 +67,8 @@ fn find_starts(highway: &Highway, starts: &mut [u16; 256])
     }
 }
 
-// Gathers the octets of one outgoing line from the incoming ones.
+// Gathers the octets of one outgoing line from the incoming ones, entry by entry. Runs of a fixed length take fewer
+// instructions, but a sixth more time.
 fn gather_row(highway: &Highway, starts: &[u16; 256], image: &Image, line: u8, row: &mut [u8])
     requires lines { highway.now.lines ≡ lines_of image.now }
     requires starts { AreStarts highway.now.lines highway.now.slots starts.now }

@@ -1,14 +1,11 @@
-//! The space stage of the fabric: in each internal slot it takes octets from incoming to outgoing
-//! highways.
+//! Moves octets from incoming to outgoing highways in each internal slot: the space stage of the fabric.
 //!
-//! [`cross`] gives each outgoing line, in each internal slot, the octet of the incoming line that
-//! the control memory names there, and the idle octet where it names none (`octets`).
-//! [`cross_part`] does so for some outgoing lines, and writes their rows (`octets`).
-//! [`cross_shared`] does so by halves of the lines, in threads of their own where that pays, and
-//! [`cross_by_halves`] where they have as many octets as the caller says: they have the clauses of
-//! [`cross`]. None says that the halves ran at once.
-//!
-//! It uses `circuit_model`, `frame_buffer` and `control_memory`.
+//! - [`cross`] gives each outgoing line, in each internal slot, the octet of the incoming line in the control table, or
+//!   the idle octet if the table has no entry (`octets`).
+//! - [`cross_part`] crosses to some outgoing lines, and writes their rows (`octets`).
+//! - [`cross_shared`] and [`cross_by_halves`] have the clauses of [`cross`]. They divide the lines by halves, and a
+//!   half of enough octets gets a thread. The caller of [`cross_by_halves`] sets that number. No clause states that the
+//!   halves ran in parallel.
 #![tactic(auto)]
 
 mod crossbar;

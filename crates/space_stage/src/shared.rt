@@ -1,4 +1,4 @@
-//! The crossing shared by halves of the lines.
+//! The crossing, divided among threads by halves of the lines.
 
 ghost use Rattle.std.specs.Prelude.{◌≡◌, ◌≤◌, length};
 ghost use Rattle.std.specs.Thread.{IsSync};
@@ -11,9 +11,8 @@ use control_memory::Image;
 use frame_buffer::{Crossed, Highway, LEAST_HALF};
 use std::thread::{Threads, join_mut};
 
-/// Crosses one frame as `cross` does, by halves of the lines: they are halved `levels` times, and the
-/// halves joined. A half is worth a thread of its own from [`LEAST_HALF`] octets on; where the first
-/// half of all lines has fewer, this is `cross`.
+/// Crosses one frame as `cross` does, by halves of the lines: they are halved `levels` times, and the halves joined. A
+/// half of at least [`LEAST_HALF`] octets gets a thread. If the first half of all lines has fewer, this is `cross`.
 pub fn cross_shared<R: Threads + Sync>(
     rt: &R,
     highway: &Highway,
@@ -36,8 +35,8 @@ pub fn cross_shared<R: Threads + Sync>(
     }
 }
 
-/// Crosses one frame as `cross_shared` does, where a half is worth a thread of its own from n
-/// octets on: with none, each half has one. For tests and measures.
+/// Crosses one frame as `cross_shared` does, with a thread for a half of at least n octets. With n = 0 each half has a
+/// thread. For tests and measurements.
 pub fn cross_by_halves<R: Threads + Sync>(
     rt: &R,
     highway: &Highway,
@@ -59,7 +58,7 @@ pub fn cross_by_halves<R: Threads + Sync>(
     cross_halves(rt, highway, image, slots, 0, end, part, levels, least);
 }
 
-// Crosses to the lines from `first` up to `end`, by halves where they have at least n octets.
+// Crosses to the lines from `first` up to `end`, by halves if they have at least n octets.
 fn cross_halves<R: Threads + Sync>(
     rt: &R,
     highway: &Highway,

@@ -1,16 +1,17 @@
--- A strict-sense non-blocking fabric. Source: C. Clos, "A study of non-blocking switching networks", Bell System Technical Journal 32 (1953):
--- where two lines of n places have at most n-1 other paths each, 2n-1 internal slots always leave one free in both.
+-- A strict-sense non-blocking fabric. Source: C. Clos, "A study of non-blocking switching networks", Bell System
+-- Technical Journal 32 (1953): if two lines of n places have at most n-1 other paths each, one of 2n-1 internal slots
+-- is always free in both.
 use Rattle.std.specs.Prelude.{◌≡◌, ℕ, ◌<◌}
 use Rattle.circuit_model.specs.declared.channel.Slot.{Slot}
 use Rattle.control_memory.specs.Layout.{Legal}
 use Rattle.control_memory.specs.Connecting.{connect, with_path, moved}
 use Rattle.control_memory.specs.Paths.{Fabric}
 
--- how many live paths a new path moves at the most, on n lines
+-- the maximum number of live paths that a new path moves, on n lines
 abbrev pub most_moves : ℕ → ℕ
 most_moves lines = 0
 
--- a legal layout on fifty-nine internal slots
+-- a legal layout on 59 internal slots
 pub record Strict (f : Fabric) : Type 0 where
   pub slots : f.slots ≡ 59
   pub legal : Legal f.lines f.slots f.layout

@@ -1,18 +1,15 @@
-//! The live map of the paths through a strict-sense non-blocking fabric, as a `PathMap`: with
-//! fifty-nine internal slots no path is ever moved.
+//! Connects and releases the live paths through a strict-sense non-blocking fabric, as a `PathMap`: with 59 internal
+//! slots no path ever moves.
 //!
 //! - `connect` of [`StrictMap`] never refuses: the new path gets the lowest internal slot that is
 //!   free in both lines (`layout`), and no live path moves (`moves`, `few`).
-//! - `disconnect` takes a path out and moves no other (`layout`). After each call the layout is
-//!   legal (`legal`).
-//! - [`nothing_moves`] says it of layouts: a new path moves nothing by the rule of every fabric
-//!   (`unmoved`), and gets a slot of its own (`slot`).
+//! - `disconnect` removes a path and moves no other (`layout`). After each call the layout is legal (`legal`).
+//!   `PathMap` has the clauses of these calls.
+//! - [`nothing_moves`] states the same of layouts: by the rule of every fabric a new path moves no other (`unmoved`),
+//!   and gets its own slot (`slot`).
 //!
 //! Source: C. Clos, "A study of non-blocking switching networks", Bell System Technical Journal 32
 //! (1953): with n places on each of two lines, 2n-1 slots are enough.
-//!
-//! It uses `circuit_model`, `control_memory` and `path_memory`, and its proofs on
-//! `paull_matrix`.
 #![tactic(auto)]
 
 mod laws;

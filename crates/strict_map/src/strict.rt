@@ -1,4 +1,4 @@
-//! The live map of paths on fifty-nine internal slots.
+//! The live map of paths on 59 internal slots.
 ghost use Rattle.std.specs.Prelude.{◌≡◌, ◌*◌, ◌<◌, ◌≤◌, None, IfOk, replicate};
 
 use circuit_model::Slot;
@@ -7,11 +7,11 @@ use path_memory::PathMemory;
 use std::alloc::{AllocError, Global};
 use std::marker::Model;
 
-/// How many internal slots a frame of a line has in this fabric: one more than the other paths of an
-/// incoming and an outgoing line of thirty places each can use (Clos).
+/// The number of internal slots of a frame of a line in this fabric. The other paths of an incoming and an outgoing
+/// line of 30 places each can use all but one (Clos).
 pub const SLOTS: u8 = 59;
 
-/// The live map of a strict-sense non-blocking fabric: fifty-nine internal slots, and no path moves.
+/// The live map of a strict-sense non-blocking fabric: 59 internal slots, and no path moves.
 ///
 /// Contracts see its layout.
 #[derive(Drop)]
@@ -31,8 +31,8 @@ impl Model for StrictMap {
 }
 
 impl StrictMap {
-    /// A map without paths, for n lines, external and bridge lines together. The only error is running
-    /// out of memory.
+    /// Returns a map without paths, for n lines, external and bridge lines together. The only error is a failed
+    /// allocation.
     pub fn new(alloc: Global, lines: u8) -> Result<StrictMap, AllocError>
         requires { (0 < lines) × (lines ≤ 34) }
         ensures lines { IfOk result (λ m. m.lines ≡ lines) }
@@ -65,6 +65,8 @@ impl PathMap for StrictMap {
     }
 
     fn connect(&mut self, from: Slot, to: Slot) -> u32 {
+        // There is always a common slot: the other paths of the two lines use at most 58 of the 59. The proof shows
+        // that the second arm is unreachable.
         match self.memory.connect_in_common_slot(from, to) {
             Some(_) => 0,
             None => unreachable!(),

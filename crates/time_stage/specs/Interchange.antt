@@ -1,4 +1,4 @@
--- What the time stages of a time-space-time fabric do. Source: this exchange's own; each is a time slot interchanger, which reads its
+-- The time stages of a time-space-time fabric. Source: this project; each is a time slot interchanger, which reads its
 -- speech memory at random, in the order that its control memory gives.
 use Rattle.std.specs.Prelude.{◌≡◌, ℕ, ◌<◌, List}
 use Rattle.circuit_model.specs.declared.channel.Slot.{Slot}
@@ -8,19 +8,21 @@ use Rattle.control_memory.specs.Layout.{Layout, Legal}
 use Rattle.control_memory.specs.Image.{Control, lines_of, sent, read, EachSlot, HasLayout}
 use Rattle.control_memory.specs.Carrying.{carried, fetched}
 
--- an incoming line sends in an internal slot the octet of the place that its table names, and the idle octet where it names none
+-- the octet that an incoming line sends in an internal slot: the octet of the place in its table's entry, or the idle
+-- octet if there is no entry
 abbrev pub sends : Control → Speech → ℕ → ℕ → ℕ
 sends control speech line slot = fetched (sent control line slot) (λ place. octet_in_half speech.readable (record { line = line; place = place }))
 
--- a place of an outgoing line reads the octet of the internal slot that its table names, and the idle octet where it names none
+-- the octet that a place of an outgoing line reads: the octet of the internal slot in its table's entry, or the idle
+-- octet if there is no entry
 abbrev pub reads : Control → Highways → ℕ → ℕ → ℕ
 reads control crossed line place = fetched (read control line place) (octet_on crossed line)
 
--- these octets have in their rows, of m each, what the lines from `first` on send
+-- these octets have in their rows, of m each, the octets that the lines from `first` on send
 abbrev pub AreSent : ℕ → Control → Speech → ℕ → ℕ → List ℕ → Type 0
 AreSent slots control speech first octets part = AreFilled slots (sends control speech) first octets part
 
--- n octets have in their rows of thirty what the lines from `first` on read
+-- n octets have in their rows of 30 the octets that the lines from `first` on read
 abbrev pub AreRead : Control → Highways → ℕ → ℕ → List ℕ → Type 0
 AreRead control crossed first octets part = AreFilled 30 (reads control crossed) first octets part
 
@@ -28,11 +30,12 @@ AreRead control crossed first octets part = AreFilled 30 (reads control crossed)
 abbrev pub IsSent : Control → Speech → Highways → Type 0
 IsSent control speech highway = (line slot : ℕ) → line < highway.lines → slot < highway.slots → octet_on highway line slot ≡ sends control speech line slot
 
--- every outgoing line has in every place of the half that is filled what its table reads
+-- every outgoing line has in every place of the half that is filled the octet that the place reads
 abbrev pub IsRead : Control → Highways → Speech → Type 0
 IsRead control crossed out = (at : Slot) → at.line < out.lines → at.place < 30 → octet_in_half out.filled at ≡ reads control crossed at.line at.place
 
--- by whatever legal layout has the tables of the control memory, each outlet has the octet of the inlet of its path, and every other slot is idle
+-- by each legal layout with the tables of the control memory, each outlet has the octet of the inlet of its path, and
+-- every other slot is idle
 abbrev pub IsCarried : Control → (Slot → ℕ) → (Slot → ℕ) → Type 0
 IsCarried control from to =
     (layout : Layout) → Legal (lines_of control) control.slots layout → HasLayout control layout → EachSlot (lines_of control) (λ at. to at ≡ carried layout from at)

@@ -1,4 +1,4 @@
-//! All three stages in a row: what reaches each outlet under a legal layout.
+//! All three stages in sequence: the octet of each outlet under a legal layout.
 
 ghost use Rattle.std.specs.Prelude.{◌≡◌, ◌<◌};
 ghost use Rattle.frame_buffer.specs.Speech.{octet_in_half};
@@ -10,11 +10,11 @@ use crate::interchange::{incoming, outgoing};
 use control_memory::Image;
 use frame_buffer::{Crossed, FrameBuffer, Highway};
 
-/// The three stages in a row, under one control memory: where its tables say a legal
-/// layout, each outlet gets the octet of the inlet of its path, and every other slot is idle.
+/// Carries one frame through all three stages, under one control memory. If its tables encode a legal layout, each
+/// outlet gets the octet of the inlet of its path, and every other slot is idle.
 ///
-/// This is the theorem of the three stages, for tests and measures. An engine does not call it: it
-/// reads out by the control memory of the frame before, between two crossings.
+/// This is the theorem of the three stages, for tests and measurements. An engine does not call it, since it reads out
+/// by the control memory of the frame before, between two crossings.
 pub fn carry(
     buffer: &FrameBuffer,
     image: &Image,

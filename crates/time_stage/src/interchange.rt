@@ -10,9 +10,9 @@ use circuit_model::PLACES;
 use control_memory::Image;
 use frame_buffer::{Crossed, FrameBuffer, Highway, make_idle};
 
-/// The incoming time stage of one frame: each line sends in each internal slot the octet of the
-/// place that the control memory names, out of the half of the buffer that is read, and the idle
-/// octet where it names none.
+/// Performs the incoming time stage of one frame: each line sends in each internal slot the octet of the place in its
+/// control table's entry, out of the half of the buffer that is read. It sends the idle octet if there is no entry.
+/// Every octet is written, so nothing of an earlier frame remains.
 pub fn incoming(buffer: &FrameBuffer, image: &Image, highway: &mut Highway)
     requires buffer { buffer.now.lines ≡ lines_of image.now }
     requires lines { highway.old.lines ≡ lines_of image.now }
@@ -24,8 +24,8 @@ pub fn incoming(buffer: &FrameBuffer, image: &Image, highway: &mut Highway)
     send_part(buffer, image, slots, 0, highway.parts());
 }
 
-// What some lines send, from line `first` on: `part` holds their rows, of `slots` octets each. All of them are
-// made idle at once, since most lines may send nothing.
+// Writes the octets that some lines send, from line `first` on: `part` holds their rows, of `slots` octets each. All of
+// them are made idle at once, since most lines may send nothing.
 pub(crate) fn send_part(buffer: &FrameBuffer, image: &Image, slots: u8, first: u8, part: &mut [u8])
     requires buffer { buffer.now.lines ≡ lines_of image.now }
     requires slots { image.now.slots ≡ slots }
@@ -53,7 +53,7 @@ pub(crate) fn send_part(buffer: &FrameBuffer, image: &Image, slots: u8, first: u
     }
 }
 
-// What one line sends.
+// Writes the octets that one line sends.
 fn send_row(buffer: &FrameBuffer, image: &Image, line: u8, store: &mut Store, row: &mut [u8])
     requires buffer { buffer.now.lines ≡ lines_of image.now }
     requires line { line < lines_of image.now }
@@ -65,9 +65,9 @@ fn send_row(buffer: &FrameBuffer, image: &Image, line: u8, store: &mut Store, ro
     store.fetch(image.incoming_row(line), row);
 }
 
-/// The outgoing time stage of one frame: each place of a line reads the octet of the internal slot
-/// that the control memory names, and the idle octet where it names none. It writes the half of
-/// `out` that is filled, which is played once the halves are swapped.
+/// Performs the outgoing time stage of one frame: each place of a line reads the octet of the internal slot in its
+/// control table's entry, or the idle octet if there is no entry. It writes the half of `out` that is filled, which is
+/// output once the halves are swapped.
 ///
 /// `table` is the control memory by which the octets were crossed.
 pub fn outgoing(crossed: &Crossed, table: &Image, out: &mut FrameBuffer)
@@ -81,7 +81,7 @@ pub fn outgoing(crossed: &Crossed, table: &Image, out: &mut FrameBuffer)
     read_part(crossed, table, 0, out.filled());
 }
 
-// What some lines read, from line `first` on: `part` holds their rows, of thirty octets each.
+// Writes the octets that some lines read, from line `first` on: `part` holds their rows, of 30 octets each.
 pub(crate) fn read_part(crossed: &Crossed, table: &Image, first: u8, part: &mut [u8])
     requires crossed { crossed.now.lines ≡ lines_of table.now }
     requires slots { crossed.now.slots ≡ table.now.slots }
@@ -109,7 +109,7 @@ pub(crate) fn read_part(crossed: &Crossed, table: &Image, first: u8, part: &mut 
     }
 }
 
-// What one line reads.
+// Writes the octets that one line reads.
 fn read_row(crossed: &Crossed, table: &Image, line: u8, store: &mut Store, row: &mut [u8])
     requires crossed { crossed.now.lines ≡ lines_of table.now }
     requires slots { crossed.now.slots ≡ table.now.slots }

@@ -1,16 +1,13 @@
-//! The time stages of the fabric, on both sides of the space stage: each fetches the octets of its
-//! lines in the order that the control memory gives.
+//! Fetches the octets of each line in the order that the control memory gives: the time stages on both sides of the
+//! space stage.
 //!
-//! - [`incoming`] fills each internal slot with the octet of the place that its table names,
-//!   [`outgoing`] each place with the octet of its internal slot, and both with the idle octet where
-//!   none is named (`octets`). [`incoming_shared`] and [`outgoing_shared`] do so by halves of the lines,
-//!   in threads of their own where that pays, [`incoming_by_halves`] and [`outgoing_by_halves`] where the
-//!   halves have as many octets as the caller says, all with the same clauses. None says that the halves
-//!   ran at once.
-//! - [`carry`] is all three stages in a row: under any legal layout each path's outlet gets the
-//!   octet of its inlet, and every other place the idle octet (`octets`).
-//!
-//! It uses `circuit_model`, `frame_buffer`, `control_memory` and `space_stage`.
+//! - [`incoming`] fills each internal slot with the octet of the place in its table. [`outgoing`] fills each place with
+//!   the octet of its internal slot. Both write the idle octet if the table has no entry (`octets`).
+//! - [`incoming_shared`], [`outgoing_shared`], [`incoming_by_halves`] and [`outgoing_by_halves`] have the same clauses.
+//!   They divide the lines by halves, and a half of enough octets gets a thread. The caller of the last two sets that
+//!   number. No clause states that the halves ran in parallel.
+//! - [`carry`] is all three stages in sequence: under any legal layout each path's outlet gets the octet of its inlet,
+//!   and every other place the idle octet (`octets`).
 #![tactic(auto)]
 
 mod fabric;

@@ -1,4 +1,4 @@
-//! The two time stages shared by halves of the lines.
+//! The two time stages, divided among threads by halves of the lines.
 
 ghost use Rattle.std.specs.Prelude.{◌≡◌, ◌≤◌, length};
 ghost use Rattle.std.specs.Thread.{IsSync};
@@ -12,9 +12,9 @@ use control_memory::Image;
 use frame_buffer::{Crossed, FrameBuffer, Highway, LEAST_HALF};
 use std::thread::{Threads, join_mut};
 
-/// The incoming time stage of one frame as `incoming` does it, by halves of the lines: they are halved
-/// `levels` times, and the halves joined. A half is worth a thread of its own from [`LEAST_HALF`] octets
-/// on; where the first half of all lines has fewer, this is `incoming`.
+/// Performs the incoming time stage of one frame, by halves of the lines: they are halved `levels` times, and the
+/// halves joined. A half of at least [`LEAST_HALF`] octets gets a thread. If the first half of all lines has fewer,
+/// this is `incoming`.
 pub fn incoming_shared<R: Threads + Sync>(
     rt: &R,
     buffer: &FrameBuffer,
@@ -37,8 +37,8 @@ pub fn incoming_shared<R: Threads + Sync>(
     }
 }
 
-/// The incoming time stage of one frame as `incoming_shared` does it, where a half is worth a thread of
-/// its own from n octets on: with none, each half has one. For tests and measures.
+/// Performs the incoming time stage of one frame, with a thread for a half of at least n octets. With n = 0 each half
+/// has a thread. For tests and measurements.
 pub fn incoming_by_halves<R: Threads + Sync>(
     rt: &R,
     buffer: &FrameBuffer,
@@ -60,7 +60,7 @@ pub fn incoming_by_halves<R: Threads + Sync>(
     send_halves(rt, buffer, image, slots, 0, end, part, levels, least);
 }
 
-// What the lines from `first` up to `end` send, by halves where they have at least n octets.
+// Writes the octets that the lines from `first` up to `end` send, by halves if they have at least n octets.
 fn send_halves<R: Threads + Sync>(
     rt: &R,
     buffer: &FrameBuffer,
@@ -106,9 +106,9 @@ fn send_halves<R: Threads + Sync>(
     );
 }
 
-/// The outgoing time stage of one frame as `outgoing` does it, by halves of the lines: they are halved
-/// `levels` times, and the halves joined. A half is worth a thread of its own from [`LEAST_HALF`] octets
-/// on; where the first half of all lines has fewer, this is `outgoing`.
+/// Performs the outgoing time stage of one frame, by halves of the lines: they are halved `levels` times, and the
+/// halves joined. A half of at least [`LEAST_HALF`] octets gets a thread. If the first half of all lines has fewer,
+/// this is `outgoing`.
 pub fn outgoing_shared<R: Threads + Sync>(
     rt: &R,
     crossed: &Crossed,
@@ -132,8 +132,8 @@ pub fn outgoing_shared<R: Threads + Sync>(
     }
 }
 
-/// The outgoing time stage of one frame as `outgoing_shared` does it, where a half is worth a thread of
-/// its own from n octets on: with none, each half has one. For tests and measures.
+/// Performs the outgoing time stage of one frame, with a thread for a half of at least n octets. With n = 0 each half
+/// has a thread. For tests and measurements.
 pub fn outgoing_by_halves<R: Threads + Sync>(
     rt: &R,
     crossed: &Crossed,
@@ -154,7 +154,7 @@ pub fn outgoing_by_halves<R: Threads + Sync>(
     read_halves(rt, crossed, table, 0, end, out.filled(), levels, least);
 }
 
-// What the lines from `first` up to `end` read, by halves where they have at least n octets.
+// Writes the octets that the lines from `first` up to `end` read, by halves if they have at least n octets.
 fn read_halves<R: Threads + Sync>(
     rt: &R,
     crossed: &Crossed,

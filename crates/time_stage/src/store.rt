@@ -1,4 +1,4 @@
-//! The octets of one line while a time stage fetches them in another order.
+//! The octets of one line, which a time stage fetches in another order.
 
 ghost use Rattle.std.specs.Prelude.{◌≡◌, ℕ, ◌<◌, ◌≤◌, length, slice_index};
 ghost use Rattle.circuit_model.specs.FrameInput.{idle_octet};
@@ -6,10 +6,10 @@ ghost use Rattle.circuit_model.specs.FrameInput.{idle_octet};
 use circuit_model::IDLE;
 use std::marker::Model;
 
-// The octets of one line where a time stage reads them, in the order that a control table gives.
+// The octets of one line, which a time stage reads in the order that a control table gives.
 //
-// It has an octet for each value of a byte, and the last one is idle. So each byte of a table is
-// the number of an octet: one that names nothing is 255.
+// It has an octet for each value of a byte, and the last one is idle. Each byte of a table is therefore the number of
+// an octet, with no test, no mask and no bound on the slots. A byte without a place or slot is 255.
 #[derive(Drop)]
 pub(crate) struct Store {
     octets: [u8; 256],
@@ -33,7 +33,7 @@ impl Store {
         }
     }
 
-    // Takes the octets of a line in.
+    // Copies the octets of a line.
     pub(crate) fn load(&mut self, row: &[u8])
         requires { length row.now ≤ 255 }
         ensures row { (at : ℕ) → at < length row.now → slice_index self.new at ≡ slice_index row.now at }
@@ -42,7 +42,7 @@ impl Store {
         self.octets[..row.len()].copy_from_slice(row);
     }
 
-    // Writes into each entry of a row the octet that the table's byte there names.
+    // Writes into each entry of a row the octet with the number in the table's byte there.
     pub(crate) fn fetch(&self, table: &[u8], row: &mut [u8])
         requires { length table.now ≡ length row.old }
         ensures size { length row.new ≡ length row.old }

@@ -1,10 +1,10 @@
--- The octets of the tones. Source: this exchange's own; ITU-T Q.35 names the tones.
+-- The octets of the tones. Source: this project; ITU-T Q.35 names the tones.
 use Rattle.std.specs.Prelude.{ℕ, ◌<◌, List, length}
 use Rattle.circuit_model.specs.declared.circuit.Kind.{Kind}
 use Rattle.circuit_model.specs.declared.circuit.Kind.TheVariants.{Ringback, Busy}
 use Rattle.tone_rules.specs.declared.tones.Tones.{Tones}
 
--- the octets of a kind of tone; none where the tone isn't given
+-- the octets of a kind of tone; none if the tone is not given
 abbrev pub table_of : Tones → Kind → List ℕ
 table_of tones Ringback = tones.ringback
 table_of tones Busy = tones.busy

@@ -1,4 +1,4 @@
-// Laws about the definitions alone: these functions do nothing, and their contracts are the laws.
+// Theorems on the definitions only: these functions do nothing, and their contracts are the theorems.
 ghost use Rattle.std.specs.Prelude.{◌≡◌, [], ◌∷◌, ℕ, Some, None, IfSome};
 ghost use Rattle.circuit_model.specs.declared.circuit.Kind.TheVariants.{Ringback, Busy};
 ghost use Rattle.q931_codec.specs.CallStates.{active, call_delivered, call_received, disconnect_indication};
@@ -7,7 +7,7 @@ ghost use Rattle.tone_rules.specs.declared.tones.Tones.{Tones};
 ghost use Rattle.tone_rules.specs.Tables.{IsGiven};
 ghost use Rattle.tone_rules.specs.CallTones.{tone_for, tone_given};
 
-/// Which tone is heard when, in a few states. The octets of the tones are worked ones.
+/// The tones of a few states, with worked octets.
 pub fn worked_tones()
     ensures alerting { (cause : ℕ) → tone_for call_delivered cause ≡ Some Ringback }
     ensures busy { tone_for disconnect_indication user_busy ≡ Some Busy }

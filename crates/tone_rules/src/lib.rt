@@ -1,13 +1,10 @@
-//! The tones of a call: which one a leg hears in its state, and their octets.
+//! Gives the tone that a leg hears in its state, and the octets of the tones.
 //!
-//! - [`tone_for`] returns the tone of a state and a cause: ringing tone in call delivered, busy
-//!   tone where a leg was cleared with user busy. [`tone_given`] returns it where its octets are
-//!   given (`tone`, `octets`).
-//! - [`tone_octet`] returns the octets of a tone in order, over and over.
+//! - [`tone_for`] returns the tone of a state and a cause: ringing tone in call delivered, busy tone if a leg was
+//!   cleared with user busy. [`tone_given`] returns it if its octets are given (`tone`, `octets`).
+//! - [`tone_octet`] returns the octets of a tone in order, again and again.
 //!
 //! Nothing here allocates.
-//!
-//! It uses `circuit_model` and `q931_codec`.
 #![tactic(auto)]
 
 mod call_tones;

@@ -7,8 +7,7 @@ ghost use Rattle.circuit_model.specs.Hears.{tone_octet};
 use crate::tones::Tones;
 use circuit_model::Kind;
 
-/// The octet of a given tone after it has sounded for n frames: the table is played over and
-/// over, from its first octet on.
+/// Returns the octet of a given tone after it has sounded for n frames: the table is repeated, from its first octet on.
 pub fn tone_octet(tones: &Tones, kind: Kind, frames: u32) -> u8
     requires { IsGiven tones.now kind }
     ensures { result ≡ tone_octet (table_of tones.now kind) frames }

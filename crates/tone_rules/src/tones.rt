@@ -8,7 +8,7 @@ use circuit_model::Kind;
 use std::alloc::Global;
 use std::marker::Model;
 
-/// The octets of a tone, one for each frame, played over and over. Contracts see their list.
+/// The octets of a tone, one for each frame, which repeat. Contracts see their list.
 #[derive(Drop)]
 pub struct ToneOctets {
     octets: Vec<u8>,
@@ -23,21 +23,21 @@ impl Model for ToneOctets {
 }
 
 impl ToneOctets {
-    /// These octets.
+    /// Takes these octets.
     pub fn of(items: Vec<u8>) -> ToneOctets
         ensures { result ≡ items.items }
     {
         ToneOctets { octets: items }
     }
 
-    /// The octets in order.
+    /// Returns the octets in order.
     pub fn as_slice(&self) -> &[u8]
         ensures { result.now ≡ self.now }
     {
         self.octets.as_slice()
     }
 
-    /// The octet of the tone after it has sounded for n frames.
+    /// Returns the octet of the tone after it has sounded for n frames.
     pub fn octet(&self, frames: u32) -> u8
         requires { 0 < length self.now }
         ensures { result ≡ tone_octet self.now frames }
@@ -47,7 +47,7 @@ impl ToneOctets {
     }
 }
 
-/// The tones that a trace gives; one that isn't given has no octets.
+/// The tones that a trace gives. A tone that is not given has no octets.
 #[derive(Drop)]
 pub struct Tones {
     /// Ringing tone: the called party is being alerted.
@@ -61,7 +61,7 @@ impl Tones {
     ghost use Rattle.tone_rules.specs.Tables.{IsGiven};
     ghost use Rattle.tone_rules.specs.CallTones.{is_given};
 
-    /// Whether the trace gives a tone: a tone that isn't given has no octets.
+    /// Returns whether the trace gives a tone. A tone that is not given has no octets.
     pub fn is_given(&self, kind: Kind) -> bool
         ensures given { IsTrue result ↔ IsGiven self.now kind }
         ensures computed { result ≡ is_given self.now kind }
@@ -73,7 +73,7 @@ impl Tones {
         !tone.as_slice().is_empty()
     }
 
-    /// No tone is given.
+    /// Returns tones of which none is given.
     pub fn none(alloc: Global) -> Tones
         ensures ringback { result.ringback ≡ [] }
         ensures busy { result.busy ≡ [] }
