@@ -7,8 +7,8 @@ use crate::worked::Placed;
 use exchange_events::{Outbox, Response};
 use std::alloc::{AllocError, Global};
 
-/// A store for the events that a worker processed. It receives each of them and stores what its type is for. The events
-/// of several workers are merged by their places in the history.
+/// A store for the events that a worker processed. It receives each of them and stores the form of its type, such as a
+/// report line or a whole answer. The events of several workers are merged by their places in the history.
 pub trait Keeper: Sized + Send + Drop {
     /// It stores these answers, each with its place, in order.
     ghost holds: { Self → List Placed → Type 0 };

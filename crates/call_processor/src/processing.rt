@@ -115,7 +115,7 @@ pub fn process<B: Switchboard, G: Gate, R: Wait>(
     ensures seated { B.seated board.now result.seat }
     ensures passed { B.keeps result.seat ≡ false }
     ensures works { HasAnswered B.known (B.board board.now) (part_of trace.now segment (Processor processor)) (B.known seat) result }
-    // An event that is no frame has no octets.
+    // An event that is not a frame has no octets.
     ensures octets { All (λ p. p.answer.octets ≡ []) result.answers.items }
 {
     let cx = RunContext {

@@ -48,7 +48,7 @@ pub struct Workplace<K> {
 /// The result of one worker's part of a segment at a workplace.
 #[derive(Drop)]
 pub struct Finished<T, K> {
-    /// The worker's seat.
+    /// The workplace. Its keeper has the worker's events, in the order of its part.
     pub seat: T,
     /// The workplace. Its keeper keeps the worker's events, in the order of its part.
     pub workplace: Workplace<K>,

@@ -5,11 +5,9 @@
 //! buffer grows. It stores the place, the line and the records of each answer (`line_of`). A run of lines moves to
 //! another list with one copy of its text, of its records and of its marks.
 //!
-//! Its type states what it lists ([`ListingKind`]): with [`ReportLines`] it has lines, and with [`NoLines`] it has only
-//! records. [`LineList::text`] returns the text of its lines and [`LineList::records`] their records (`text`,
-//! `records`).
-//!
-//! It uses `exchange_events`, `report_text`, `call_processor` and `call_profile`.
+//! Its type states the contents that it lists ([`ListingKind`]): with [`ReportLines`] it has lines, and with
+//! [`NoLines`] it has only records. [`LineList::text`] returns the text of its lines and [`LineList::records`] their
+//! records (`text`, `records`).
 #![tactic(auto)]
 
 mod lines;

@@ -196,7 +196,8 @@ impl Lines {
     }
 }
 
-// Appends the line of an event, if lines are listed, its records and its mark. An error leaves the buffers unchanged.
+// Appends the line of an event if lines are listed, and its records and its mark. An error leaves the buffers
+// unchanged.
 fn append_event(
     buffers: &mut Buffers,
     listing: Listing,
