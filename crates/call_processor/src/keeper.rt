@@ -21,8 +21,8 @@ pub trait Keeper: Sized + Send + Drop {
     fn clear(&mut self)
         ensures { holds self.new [] };
 
-    /// Appends one event: its place in the history, its number, the response and the outbox of its step, and for a frame
-    /// the octets that each external line is sent.
+    /// Appends one event: its place in the history, its number, the response and the outbox of its step, and for a
+    /// frame the octets that each external line is sent.
     ///
     /// # Errors
     ///

@@ -56,8 +56,9 @@ pub(crate) fn do_event<B: Switchboard, G: Gate, K: Keeper, R: Wait>(
     keeper.keep(cx.alloc, place, event, response, &desk.out, &[])
 }
 
-// Processes the events of one call processor in one segment in order, until an allocation fails. It looks at every
-// event of the segment: there are at most nine workers, and no list is stored. Unless the gate may hold a thread, it keeps each turn for `MAX_TURN_EVENTS` events. The caller must release the last turn.
+// Processes the events of one call processor in one segment in order, until an allocation fails. It tests every event
+// of the segment: there are at most nine workers, and no list is stored. Unless the gate may hold a thread, it keeps
+// each turn for `MAX_TURN_EVENTS` events. The caller must release the last turn.
 fn do_events<B: Switchboard, G: Gate, K: Keeper, R: Wait>(
     cx: &RunContext<B, G, R>,
     seat: &mut B::Seat,

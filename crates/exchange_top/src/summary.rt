@@ -1,4 +1,4 @@
-//! What the command `gen` writes of its run.
+//! The output of the command `gen`.
 ghost use Rattle.std.specs.Prelude.{◌≡◌, [], ◌++◌, count_by, map, IfOk};
 ghost use Rattle.std.specs.List.{concat};
 ghost use Rattle.exchange_top.specs.Summary.{is_frame, summary_text};
@@ -27,7 +27,7 @@ pub fn summary(
     Ok(text)
 }
 
-// How many of the events are frames.
+// The number of frames among the events.
 fn frames_in(events: &[Event]) -> usize
     ensures { result ≡ count_by is_frame events.now }
 {

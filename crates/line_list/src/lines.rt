@@ -57,8 +57,8 @@ pub struct Buffers {
 /// Lines, each with its place in the history and with the records of the calls that ended. The model is their list.
 #[derive(Drop)]
 pub struct Lines {
-    // The lines that were moved to another list, and then the others. A mark has the length of its line, not its end, so
-    // a run is appended unchanged, and nothing is shifted.
+    // The lines that were moved to another list, and then the others. A mark has the length of its line, not its end,
+    // so a run is appended unchanged, and nothing is shifted.
     buffers: Buffers,
     // The extent of the lines that were moved.
     handed: Extent,
