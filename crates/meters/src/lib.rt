@@ -1,21 +1,41 @@
-//! Meters: what notes the calls of a run, and what it says of them afterwards.
+//! Meters: summaries of the calls of a run.
 //!
-//! - A [`Meter`] notes one record after the other: it represents its list with that record added
-//!   (`stands`, `text`), or memory ran out and it is as it was (`kept`). `summary` appends its
-//!   text.
-//! - [`CallDetail`], [`PegCount`] and [`HoldingTime`] say what `specs/` defines of the list
-//!   ([`law_of_texts`]); none of them runs out of memory at a record (`done`).
-//! - [`append_summaries`] appends the texts of several meters in order (`texts`), or leaves the
-//!   text as it was (`kept`).
+//! - A [`Meter`] records one call after another. It then represents its list with that call added (`stands`, `text`),
+//!   or an allocation failed and it is unchanged (`kept`). `summary` appends its text.
+//! - The texts of [`CallDetail`], [`PegCount`] and [`HoldingTime`] are those that `specs/` defines for the list
+//!   ([`law_of_texts`]). None of them allocates for a call, so none fails (`done`).
+//! - [`append_summaries`] appends the texts of several meters in order (`texts`), or leaves the text unchanged
+//!   (`kept`).
 //!
-//! Meters may be changed in the middle of a run: what a change takes out and puts in, what each meter
-//! notes in its time and what is written is defined here (`specs/Changing.antt`, [`law_of_changes`],
-//! [`worked_changes`]).
+//! Meters can be changed during a run. The active meters after each change, the calls that each records and the text
+//! that is written are defined here (`specs/Changing.antt`, [`law_of_changes`], [`worked_changes`]).
 //!
-//! A program may hand in meters of its own, in boxes beside these: `calls_to_line` and `keeper` of
-//! `text_tests` are two.
+//! A program can have its own meter: a type that implements [`Meter`], in a box next to these. Its contract states
+//! which lists of calls it represents (`stands`), and its text after further calls (`text`). The contracts of its two
+//! calls use these two. This one counts the calls to one line, here without its clauses:
 //!
-//! It uses `circuit_model` and `exchange_events`, and the kit's `itoa`.
+//!     impl Meter for CallsToLine {
+//!         ghost stands = { λ count calls. IsCountOf calls count };
+//!         ghost text = { to_text_with };
+//!         fn note(&mut self, told: &CallRecord) -> Result<(), AllocError> {
+//!             if is_to(self.line, told.called) {
+//!                 self.calls = self.calls.saturating_add(1);
+//!             }
+//!             Ok(())
+//!         }
+//!         fn summary(&self, out: &mut Vec<u8>) -> Result<(), AllocError> {
+//!             let line = line_of(*out.allocator(), self.line, self.calls)?;
+//!             out.extend_from_slice(line.as_bytes())
+//!         }
+//!     }
+//!
+//! The whole of it is in `calls_to_line` of `text_tests`, where the tests pass two of them after a peg count. A program
+//! passes its meters to `exchange_top::exchange` in `meters`, or in `spare` for a change. `meters.push(Box::new(alloc,
+//! CallsToLine::new(12))?)?` adds one after the others. `library_example` is a whole program with its own meter.
+//!
+//! A meter that allocates needs an `impl Model` that omits its memory, so that a failed `push` leaves it equal:
+//! contracts see `keeper` of `text_tests` as the list of its records. A failed `note` leaves a meter equal, not only
+//! with an equal text.
 #![tactic(auto)]
 
 mod call_detail;
