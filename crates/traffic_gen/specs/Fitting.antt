@@ -1,4 +1,4 @@
--- What the lines of a generated trace keep to: they name the lines, places and rooms of the exchange that its header describes.
+-- The lines of a generated trace fit its exchange: they refer to the lines, places and rooms that its header describes.
 use Rattle.std.specs.Prelude.{◌≡◌, ◌≢◌, ℕ, ◌+◌, ◌<◌, ◌≤◌, Bool, true, false, ◌&&◌, nat_lt, nat_le, List, [], ◌∷◌, length, if◌then◌else◌}
 use Rattle.std.specs.List.{list_all}
 use Rattle.traffic_gen.specs.Lines.{Line, Part, Header, ToLine, ToRoom, Nail, Message, Frame, Sync}
@@ -31,7 +31,7 @@ pub record FitsPart (part : Part) : Type 0 where
   pub each : list_all is_octet part.octets ≡ true
   pub thirty : length part.octets ≡ 30
 
--- one line sends octets, or two do
+-- one line sends octets, or two lines do
 abbrev pub FitsParts : List Part → Type 0
 FitsParts [] = ⊥
 FitsParts (one ∷ []) = FitsPart one
@@ -64,7 +64,7 @@ is_event (Message line octets) = true
 is_event (Frame parts) = true
 is_event Sync = false
 
--- how many of the lines are events
+-- the number of events among the lines
 abbrev pub event_count : List Line → ℕ
 event_count [] = 0
 event_count (line ∷ lines) = (if is_event line then 1 else 0) + event_count lines

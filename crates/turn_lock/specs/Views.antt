@@ -1,5 +1,5 @@
--- The views of the seats at a lock, in the order in which the seats were made. A seat that was joined leaves a spent view, which has no
--- setting. The definitions below speak only of live views.
+-- The views of the seats at a lock, in the order in which the seats were made. A seat that was joined leaves a spent
+-- view, which has no setting. The definitions below speak only of live views.
 use Rattle.std.specs.Prelude.{◌≡◌, ◌≢◌, ℕ, ◌+◌, IsTrue, is_some, List, [], ◌∷◌, slice_index, Option, Some, None}
 use mathlib.Core.Option.{some}
 use lib.ListN.{get_elem?}
@@ -20,13 +20,13 @@ IsServed Idle = ⊥
 IsServed (Waits u) = ⊥
 IsServed (Served u) = Unit {0}
 
--- how many tickets a seat holds
+-- the number of tickets that a seat holds
 abbrev pub tickets_of : Stage → ℕ
 tickets_of Idle = 0
 tickets_of (Waits u) = 1
 tickets_of (Served u) = 1
 
--- P holds of the setting, which is there
+-- there is a setting, and P holds of it
 abbrev pub Under : {C : Type 0} → Option C → (C → Type 0) → Type 0
 Under None P = ⊥
 Under (Some c) P = P c
@@ -49,7 +49,7 @@ module _ {C : Type 0} where
   abbrev pub Each : List (View C) → (View C → Type 0) → Type 0
   Each views P = (j : ℕ) (v : View C) → Sits views j v → P v
 
-  -- R holds of each two live views, both ways
+  -- R holds of each two live views, in both orders
   abbrev pub Pairs : (View C → View C → Type 0) → List (View C) → Type 0
   Pairs R views = (i j : ℕ) (v w : View C) → Sits views i v → Sits views j w → i ≢ j → R v w
 

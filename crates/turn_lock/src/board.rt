@@ -23,7 +23,7 @@ pub struct View<C> {
     /// `None` if the seat was joined.
     pub setting: Option<C>,
     pub budget: u64,
-    /// What the seat knows.
+    /// The knowledge of the seat.
     pub known: Known,
     pub stage: Stage,
     /// The event of the last step that began.

@@ -3,11 +3,11 @@
 //! A *ticket lock* works like the counter of a shop, where the wall shows two numbers: the next ticket to be drawn, and
 //! the ticket that is served. A customer draws a ticket, which raises the first number by 1, and waits until the second
 //! number is the ticket's. After the service, the second number rises by 1. (J. M. Mellor-Crummey and M. L. Scott,
-//! "Algorithms for scalable synchronization on shared-memory multiprocessors", ACM Transactions on Computer Systems
-//! 9 (1), 1991, section 2.2; an older relative is L. Lamport's bakery algorithm, Communications of the ACM 17 (8), 1974.)
+//! "Algorithms for scalable synchronization on shared-memory multiprocessors", ACM Transactions on Computer Systems 9
+//! (1), 1991, section 2.2; an older relative is L. Lamport's bakery algorithm, Communications of the ACM 17 (8), 1974.)
 //!
-//! A ticket gives its seat a *turn* of one or more steps. A step that keeps the turn leaves out `pass`, and the next step
-//! of the seat begins with `renew` instead of `draw` and `look`. Each call is a sequence of moves:
+//! A ticket gives its seat a *turn* of one or more steps. A step that keeps the turn leaves out `pass`, and the next
+//! step of the seat begins with `renew` instead of `draw` and `look`. Each call is a sequence of moves:
 //!
 //! | Call | Move | One step on | Effect | Seen by other threads |
 //! |---|---|---|---|---|
@@ -23,8 +23,9 @@
 //! | | pass | an addition to the served ticket | no seat owns the slot | yes: the turn of the next ticket begins |
 //! | `release` | pass | the same | the same, between two steps | yes |
 //!
-//! A waiting seat repeats `look`, and sleeps between two looks until a turn is passed. No other move is repeated. A seat
-//! that is dropped keeps its steps, so the lock cannot be closed. If that seat has kept the turn, all others wait forever.
+//! A waiting seat repeats `look`, and sleeps between two looks until a turn is passed. No other move is repeated. A
+//! seat that is dropped keeps its steps, so the lock cannot be closed. If that seat has kept the turn, all others wait
+//! forever.
 ghost use Rattle.std.specs.Prelude.{◌≡◌, ℕ, ◌+◌, ◌-◌, ◌<◌, ◌++◌, [], ◌∷◌, ◌≤◌, length, Some, None, true, false, IfOk, IfErr, IsTrue};
 ghost use Rattle.turn_lock.specs.declared.board.Stage.TheVariants.{Idle, Waits, Served};
 ghost use Rattle.seat_history.specs.Histories.{StartsWith};
@@ -121,8 +122,8 @@ impl<S: Stepper> Board<S> {
         self.cut::<Brand>(seat, turns, baton)
     }
 
-    // Join and meet: seat 0 takes over another seat and keeps its entries, and learns that both histories are prefixes of
-    // the one that it has seen.
+    // Join and meet: seat 0 takes over another seat and keeps its entries, and learns that both histories are prefixes
+    // of the one that it has seen.
     pub(crate) fn join(&self, seat: &mut Token<S>, other: Token<S>)
         requires lock { (seat.old.table_id ≡ self.now.table.shared.table_id) × (other.table_id ≡ self.now.table.shared.table_id) }
         requires chief { IsFree seat.old.me × (seat.old.me.0.known.number ≡ 0) }
@@ -171,8 +172,8 @@ impl<S: Stepper> Board<S> {
     }
 
     // Waits between two looks. The next seat in turn spins at first, because a turn can be short. Otherwise the thread
-    // sleeps until a turn is passed: if threads outnumber processors, a scheduler runs a woken thread sooner than one that
-    // yields. Returns the number of spins so far.
+    // sleeps until a turn is passed: if threads outnumber processors, a scheduler runs a woken thread sooner than one
+    // that yields. Returns the number of spins so far.
     fn pause<R: Wait>(&self, rt: &R, serving: u64, ahead: u64, spins: u32) -> u32 {
         if ahead == 1 && spins < MAX_SPINS {
             hint::spin_loop();
@@ -220,8 +221,8 @@ impl<S: Stepper> Board<S> {
             .fetch_add::<Append<S>>(seat, NEXT_PLACE, 1)
     }
 
-    // Pass: the turn of the next ticket begins. A wake is a system call, and is needed only if that ticket is drawn: a seat
-    // that draws it later finds its turn at its first look.
+    // Pass: the turn of the next ticket begins. A wake is a system call, and is needed only if that ticket is drawn: a
+    // seat that draws it later finds its turn at its first look.
     pub(crate) fn pass(&self, seat: &mut Token<S>)
         requires lock { seat.old.table_id ≡ self.now.table.shared.table_id }
         requires keeps { HasKept S.setting S.journal S.room seat.old.me }
