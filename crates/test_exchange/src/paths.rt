@@ -23,27 +23,27 @@ struct Path {
 /// is always free on both.
 #[derive(Drop)]
 pub(crate) struct Paths {
-    // How many internal slots each line has.
+    // The number of internal slots of each line.
     slots: u8,
     paths: Vec<Path>,
     pub(crate) chains: Chains,
 }
 
-/// How often paths were moved for a new one, by the chain that was taken.
+/// The number of times that paths were moved for a new one, by the chain that was exchanged.
 #[derive(Clone, Copy, Default)]
 pub struct Chains {
-    /// That from the incoming line.
+    /// The chain from the incoming line.
     pub incoming: u32,
-    /// That to the outgoing line, which had fewer paths.
+    /// The chain to the outgoing line, which had fewer paths.
     pub outgoing: u32,
-    /// That to the outgoing line, where both had as many.
+    /// The chain to the outgoing line, where both had the same number.
     pub tied: u32,
-    /// The most paths that were moved for one.
+    /// The maximum number of paths that were moved for one.
     pub longest: u32,
 }
 
 impl Chains {
-    /// Counts what others count too.
+    /// Adds the counts of another run.
     pub fn add(&mut self, other: &Chains) {
         self.incoming = self.incoming.saturating_add(other.incoming);
         self.outgoing = self.outgoing.saturating_add(other.outgoing);
@@ -51,7 +51,7 @@ impl Chains {
         self.longest = self.longest.max(other.longest);
     }
 
-    // Counts a chain that was taken, of n paths from the incoming line and m to the outgoing line.
+    // Counts an exchanged chain, where n paths were from the incoming line and m to the outgoing line.
     fn count(&mut self, incoming: usize, outgoing: usize) {
         let taken = if incoming < outgoing {
             &mut self.incoming
@@ -92,7 +92,7 @@ impl Paths {
         Ok(0)
     }
 
-    /// Takes away the paths from and to a slot.
+    /// Releases the paths from and to a slot.
     pub(crate) fn clear(&mut self, x: Slot) {
         self.paths.retain(|path| path.from != x && path.to != x);
     }
@@ -188,7 +188,7 @@ impl Paths {
             .position(|path| path.to.line == line && path.internal == internal)
     }
 
-    // How many paths have another internal slot than they had.
+    // The number of paths whose internal slot has changed.
     fn moved_since(&self, before: &[Path]) -> u32 {
         let mut moved = 0u32;
         for (now, then) in self.paths.iter().zip(before) {
