@@ -13,14 +13,13 @@ struct Path {
 
 /// The layout of the paths, as a list.
 ///
-/// A path joins by Paull's rule: it gets the lowest internal slot that is free on both lines. Where
-/// there is none, let `a` be the lowest slot that is free on the incoming line and `b` the lowest that
-/// is free on the outgoing line. One chain starts with the path to the outgoing line in `a`, another with
-/// the path from the incoming line in `b`. Both go on from a path in `a` with the path from the same
-/// incoming line in `b`, and from a path in `b` with the path to the same outgoing line in `a`. The paths
-/// of one chain exchange `a` and `b`: of that from the incoming line where it has fewer paths, and then
-/// the new path gets `b`; else of that to the outgoing line, and it gets `a`. With 59 internal slots one
-/// is always free on both.
+/// A path joins by Paull's rule: it gets the lowest internal slot that is free on both lines. If there is none, let `a`
+/// be the lowest slot that is free on the incoming line and `b` the lowest that is free on the outgoing line. One chain
+/// starts with the path to the outgoing line in `a`, another with the path from the incoming line in `b`. Both go on
+/// from a path in `a` with the path from the same incoming line in `b`, and from a path in `b` with the path to the
+/// same outgoing line in `a`. The paths of one chain exchange `a` and `b`. If the chain from the incoming line has
+/// fewer paths, it is that one, and the new path gets `b`. Otherwise it is the chain to the outgoing line, and the new
+/// path gets `a`. With 59 internal slots one is always free on both.
 #[derive(Drop)]
 pub(crate) struct Paths {
     // The number of internal slots of each line.

@@ -1,6 +1,5 @@
-// Calls that may be refused memory, and what they were to change: it is as it was then, and the call
-// does its work once it is made again. One request of these tests may be refused, whichever it is
-// (`.ci/memory --calls`).
+// Calls whose allocation may fail: their subject is then unchanged, and the call succeeds when it is repeated. Any one
+// request of these tests can be refused (`.ci/memory --calls`).
 use crate::keeper::Keeper;
 use circuit_model::Slot;
 use exchange_events::{Answer, CallRecord, Party, Reply};
@@ -10,7 +9,7 @@ use report_text::append_answer;
 use std::alloc::Global;
 use std::test::Fail;
 
-// Whether a number is added that the plan does not know, at once or at the second time.
+// Whether a number is added that the plan does not have, at once or at the second time.
 fn adds(plan: &mut Plan, digits: &[u8], line: u8) -> bool {
     if !is_number(digits) {
         return false;
@@ -39,7 +38,7 @@ fn appends(out: &mut Vec<u8>, answer: &Answer) -> bool {
         || (out.len() == before && append_answer(out, answer).is_ok())
 }
 
-// An answer without lists, which asks for no memory.
+// An answer without lists, which requests no memory.
 fn granted(alloc: Global, event: u32) -> Option<Answer> {
     Answer::keep(alloc, event, &Reply::Granted(0, 62), &[]).ok()
 }
@@ -70,7 +69,7 @@ fn record(cause: u8, answered: bool) -> CallRecord {
     }
 }
 
-// Whether a meter notes a call, at once or at the second time.
+// Whether a meter records a call, at once or at the second time.
 fn notes<M: Meter>(meter: &mut M, call: &CallRecord) -> bool {
     meter.note(call).is_ok() || meter.note(call).is_ok()
 }

@@ -1,17 +1,17 @@
-// What traces say. Other inputs are in the tables of examples/.
+// The contents of traces. Other inputs are in the tables of `examples/`.
 use circuit_model::Slot;
 use exchange_events::{Event, Trace};
 use number_plan::Found;
 use std::test::Fail;
 use trace_text::read_trace;
 
-// What comes before a case, so that the case is line 2 of an exchange of one line.
+// The lines before a case, so that the case is line 2 of an exchange of one line.
 const HEADER: &str = "exchange 1 1 0 1\n";
 
 // Thirty octets, with digits of both cases.
 const OCTETS: &str = "00010203040506070809a0B1c2D3e4F5FFfF0123456789abcdefABCDEF55";
 
-// The trace that a text is. That it has no clause keeps the grammar out of the tests.
+// The trace of a text. It has no clause, so that the tests do not depend on the grammar.
 fn read(rt: &HostRuntime, text: &str) -> Result<Trace, Fail> {
     Ok(
         read_trace(rt.alloc(), text.as_bytes())
@@ -33,7 +33,7 @@ fn tones_have_their_octets(rt: HostRuntime) -> Result<(), Fail> {
     Ok(())
 }
 
-// Whether the segments end behind these events.
+// Whether the segments end after these events.
 fn ends_at(trace: &Trace, ends: &[u32]) -> bool {
     trace.segments.as_slice() == ends
 }
@@ -69,7 +69,7 @@ fn has_sizes(trace: &Trace, external: u8, bridges: u8, processors: u8) -> bool {
     trace.external == external && trace.bridges == bridges && trace.processors == processors
 }
 
-// Whether the first two lines alone send these octets.
+// Whether only the first two lines send, with these octets.
 fn sends(input: &[Option<[u8; 30]>], first: Option<[u8; 30]>, second: Option<[u8; 30]>) -> bool {
     let [one, other] = input else {
         return false;

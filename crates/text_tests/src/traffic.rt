@@ -1,4 +1,4 @@
-// Traces beside the traces of a program outside, and Adler-32 sums of its octets by zlib.
+// Traces compared with those of another program, and with Adler-32 sums of its octets by zlib.
 use std::alloc::{AllocError, Global};
 use std::test::Fail;
 use traffic_gen::generate;
@@ -11,7 +11,7 @@ const LINES: [(u64, usize, &str); 15] = [
     (0, 10, "nail 0/11 6/11"),
     (0, 89, "nail 3/31 4/31"),
     (0, 90, "sync"),
-    // Line 7 calls line 3, and both speak.
+    // Line 7 calls line 3, and both send.
     (0, 91, "M 7 080200010504038090A37003803233"),
     (0, 93, "M 3 0802800107"),
     (
@@ -36,7 +36,7 @@ const LINES: [(u64, usize, &str); 15] = [
     ),
 ];
 
-// A seed and a number of calls, and how many octets the trace has, and what they sum up to.
+// A seed and a number of calls, and the number of octets of the trace and their sum.
 const SUMS: [(u64, u32, usize, u32); 7] = [
     (0, 1, 1764, 979084483),
     (6, 1, 1533, 2721345699),

@@ -1,4 +1,4 @@
-//! A-law octets and values, beside another program's.
+//! A-law octets and values, compared with another program's.
 use alaw_codec::{CodeTable, compress, expand};
 use std::alloc::AllocError;
 
@@ -97,8 +97,8 @@ fn octets_decode_as_elsewhere(rt: HostRuntime) {
     assert!(rt; decode_so(&DECODED));
 }
 
-/// Values that the standard leaves open, and their octets here: a decision value is the lower end of
-/// its interval, below zero too, and the highest interval has no end.
+/// Values that the standard leaves open, and their octets here: a decision value is the lower end of its interval, also
+/// below zero, and the highest interval has no end.
 static LEFT_OPEN: [(i32, u8); 5] = [
     (-64, 0x75),
     (9000, 0xAA),

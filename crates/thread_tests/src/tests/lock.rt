@@ -10,8 +10,8 @@ use std::thread::Threads;
 use sum::Sum;
 use turn_lock::TurnLock;
 
-/// What came of a run: whether each step was answered as it should be, none where one found no turn or no baton;
-/// what seat 0 has after the joins, and the journal.
+/// The result of a run: whether each step had the expected result, or `None` if one found no turn or no baton; the
+/// turns and the baton of seat 0 after the joins, and the journal.
 #[derive(Drop)]
 struct Run {
     answered: Option<bool>,
@@ -20,8 +20,8 @@ struct Run {
     journal: Vec<(u32, u32)>,
 }
 
-// Seat 0 gives turns to seat 1, and turns and the baton to seat 2. The steps are made in their order, each a seat's number and an event, and then
-// the others are joined, seat 2 first where `swapped`.
+// Seat 0 gives turns to seat 1, and turns and the baton to seat 2. The steps are made in their order, each a seat's
+// number and an event, and then the others are joined, seat 2 first if `swapped` is true.
 fn three_seats<R: Wait>(
     rt: &R,
     alloc: Global,
@@ -82,7 +82,7 @@ fn in_threads<R: Threads + Wait + Sync>(
     Some(lock.close(zero).into_journal())
 }
 
-// Each seat's steps are in the journal in their order, each once, and nothing else does.
+// Whether each seat's steps are in the journal in their order, each once, and nothing else is.
 fn has_all(journal: &[(u32, u32)], seats: u32, count: u32) -> bool {
     for seat in 0..seats {
         let mut last = 0;
@@ -109,8 +109,8 @@ fn has_whole_turns(journal: &[(u32, u32)], count: u32, turn: u32) -> bool {
         || one.1.checked_rem(turn) == Some(0))
 }
 
-// Whether these steps are answered so, are in the journal in their order, and leave seat 0 n turns and the baton. None answered: a step
-// finds no turn or no baton.
+// Whether these steps have these results, are in the journal in their order, and leave seat 0 n turns and the baton.
+// Without results, a step finds no turn or no baton.
 fn comes_out<R: Wait>(
     rt: &R,
     alloc: Global,
@@ -156,7 +156,7 @@ fn seats_step_in_turn(rt: HostRuntime) -> Result<(), Fail> {
     let steps = [(0, 5), (1, 7), (0, 1)];
     let answers = [(0, 5), (1, 12), (2, 13)];
     assert!(rt; comes_out(&rt, rt.alloc(), [2, 2, 0], &steps, false, &answers, 1));
-    // The baton is seat 2's, who steps the reserved event; seat 0 may not.
+    // Seat 2 has the baton and steps the reserved event; seat 0 may not.
     assert!(rt; comes_out(&rt, rt.alloc(), [1, 1, 1], &[(2, 0)], false, &[(0, 0)], 2));
     assert!(rt; comes_out(&rt, rt.alloc(), [1, 1, 1], &[(0, 0)], false, &[], 0));
     // A second step of one turn.

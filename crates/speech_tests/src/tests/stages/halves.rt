@@ -1,5 +1,5 @@
-//! Stages that are shared by halves of their lines, beside one call: that halves in threads of their own
-//! come to an end, with what one call gives.
+//! Stages whose lines are divided by halves, compared with one call: halves in their own threads end, with the result
+//! of one call.
 ghost use Rattle.std.specs.Prelude.{◌≡◌, ◌≤◌, ◌<◌};
 ghost use Rattle.frame_buffer.specs.Highways.{SameHighwaySize};
 ghost use Rattle.control_memory.specs.Image.{lines_of};
@@ -16,14 +16,14 @@ use time_stage::{
     incoming, incoming_by_halves, incoming_shared, outgoing, outgoing_by_halves, outgoing_shared,
 };
 
-/// How a stage is done.
+/// The way in which a stage is computed.
 #[derive(Clone, Copy)]
 pub(super) enum Way {
     /// By one call.
     Plain,
-    /// By halves, where they are worth threads.
+    /// By halves, if they are worth threads.
     Shared,
-    /// By halves, each in a thread of its own.
+    /// By halves, each in its own thread.
     Halved,
 }
 
@@ -95,7 +95,7 @@ fn fill(octets: &mut [u8]) {
     }
 }
 
-// What the lines send, what crosses to them, and what they read, one after the other.
+// The octets that the lines send, those that cross to them, and those that they read, in sequence.
 fn carried(
     rt: &(impl Threads + Sync),
     alloc: Global,
@@ -170,7 +170,7 @@ fn shared_stages_carry_what_plain_ones_do(rt: HostRuntime) -> Result<(), Fail> {
     Ok(())
 }
 
-// Whether each line gets by itself what it gets by one call for all lines.
+// Whether each line gets by itself the octets that it gets by one call for all lines.
 fn gets_alike(highway: &Highway, image: &Image, crossed: &Crossed) -> bool
     requires lines { highway.now.lines ≡ lines_of image.now }
     requires slots { (highway.now.slots ≡ 59) × (image.now.slots ≡ 59) }
@@ -186,7 +186,7 @@ fn gets_alike(highway: &Highway, image: &Image, crossed: &Crossed) -> bool
     true
 }
 
-// Whether each of n lines gets by itself what it gets with the others.
+// Whether each of n lines gets by itself the octets that it gets with the others.
 fn cross_alike(alloc: Global, lines: u8) -> Result<bool, AllocError>
     requires lines { (1 ≤ lines) × (lines ≤ 34) }
 {
