@@ -12,7 +12,7 @@ use Rattle.exchange_events.specs.Sound.{IsPlanned}
 use Rattle.call_control.specs.Standing.{Holds}
 use Rattle.call_profile.specs.World.{World}
 
--- map and legs are this world's, in which circuits and legs are consistent, and the lines of the plan exist
+-- map and legs hold this exchange state, in which circuits and legs are consistent, and the lines of the plan exist
 pub record IsAtWork (s : Setting) (map : Connections) (legs : Legs) (w : World) : Type 0 where
   pub holds : Holds s.dimensions map legs w
   pub planned : IsPlanned s

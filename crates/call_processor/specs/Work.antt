@@ -58,7 +58,7 @@ abbrev pub answered_events : List Placed → List ℕ
 answered_events answers = map (λ (p : Placed). p.answer.event) answers
 
 -- from v to w a prefix of the part was processed, all of it if the part is whole; each processed event was answered,
--- except perhaps the last one of an incomplete part, and each answer follows the earlier ones in the history
+-- except perhaps the last one if the part is incomplete, and each answer follows the earlier ones in the history
 pub record Works (board : Board) (part : List ℕ) (v : Known) (answers : List Placed) (whole : Bool) (w : Known) : Type 0 where
   pub done : List ℕ
   pub first : (rest : List ℕ) × (part ≡ done ++ rest)

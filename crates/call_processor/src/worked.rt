@@ -35,8 +35,8 @@ pub struct Framed<T, C> {
     pub tool: Tool,
 }
 
-/// The buffers of a worker, which serve one part of a segment after another. Each worker clears what the one before it
-/// left there. `K` is the type of the keeper.
+/// The buffers of a worker, which serve consecutive parts of segments. Each worker clears the data of the one before.
+/// `K` is the type of the keeper.
 #[derive(Drop)]
 pub struct Workplace<K> {
     /// The desk of commands and messages.

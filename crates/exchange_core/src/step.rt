@@ -136,7 +136,7 @@ impl<'t, P: PathMap> Core<'t, P> {
         ensures few { MovesAtMost self.old.bound (reply_of result desk.new.out) }
         ensures shows { (e : An_event) → IsNumbered self.old.trace event e → ShowsWorld (world_of self.old) e desk.new.tool }
         ensures tool { (e : An_event) → IsNumbered self.old.trace event e → IsToolFor (setting self.old).dimensions e desk.new.tool }
-        // The step consumes what was parsed ahead, so the desk can serve any event next.
+        // A step consumes the message that was parsed ahead, so the desk can serve any event next.
         ensures ahead { desk.new.ahead ≡ None }
     {
         desk.out.clear();

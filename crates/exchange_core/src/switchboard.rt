@@ -90,7 +90,7 @@ pub trait Switchboard: Sync {
         requires ahead { IsReadAt (board self.now).trace event desk.old.ahead }
         ensures seated { seated self.now seat.new }
         ensures done { HasTakenTurn (board self.now) (known seat.old) (known seat.new) result.0 event (reply_of result.1 desk.new.out) desk.new.tool }
-        // The step consumes what was parsed ahead, so the desk can serve any event next.
+        // A step consumes the message that was parsed ahead, so the desk can serve any event next.
         ensures ahead { desk.new.ahead ≡ None }
         // No other seat processed an event since this one kept the turn.
         ensures kept { IsTrue (keeps seat.old) → before result.0 (known seat.new).seen ≡ (known seat.old).seen }

@@ -55,7 +55,7 @@ pub data IsUnchecked (bytes : List ℕ) (number : ℕ) (why : Reason) : Type 0 w
   Too_much : most_checked < length bytes → number ≡ 0 → why ≡ reason.Limit → IsUnchecked bytes number why
   No_trace : length bytes ≤ most_checked → (trace report : List ℕ) → IsDivided bytes trace report → IsRefused trace number why → IsUnchecked bytes number why
 
--- ---- what is said of it
+-- ---- the verdict
 
 -- the number of internal slots of a strict fabric, and of the other
 abbrev pub slots_of : Bool → ℕ

@@ -27,7 +27,7 @@ status_of ended.WriteFailed = 4
 status_of ended.OutOfMemory = 5
 status_of (ended.Invalid line) = 6
 
--- ---- what a call is asked for
+-- ---- the command of a call
 
 -- the command runs this trace, which is all of the input, on a strict fabric or on the other
 pub record IsTraceRead (arguments : List (List ℕ)) (input : Stream) (strict : Bool) (trace : Trace) : Type 0 where
@@ -43,7 +43,7 @@ pub record IsTraceGenerated (arguments : List (List ℕ)) (trace : Trace) : Type
   pub asked : IsGeneration arguments seed calls
   pub generated : IsTrafficOf seed calls trace
 
--- ---- what is found where no trace is run
+-- ---- the finding of a call without a run
 
 -- all of the input was read, and its report is the report of its trace in a lawful order
 pub record IsReportValid (arguments : List (List ℕ)) (input : Stream) : Type 0 where
@@ -157,7 +157,7 @@ HasEnded arguments input x ended.WriteFailed = HasWriteFailed arguments input x
 HasEnded arguments input x ended.OutOfMemory = HasRunOutOfMemory arguments input x
 HasEnded arguments input x (ended.Invalid line) = IsReportRejected arguments input x line
 
--- ---- what the arguments and the input decide
+-- ---- the required ending for the arguments and the input
 
 -- the required ending for these arguments, and for an input with these bytes left
 pub data IsDue (arguments : List (List ℕ)) (left : Option (List ℕ)) (due : Ending) : Type 0 where
@@ -172,7 +172,7 @@ pub data IsDue (arguments : List (List ℕ)) (left : Option (List ℕ)) (due : E
 abbrev pub EndsAs : Ending → ℕ → Type 0
 EndsAs due status = (status ≡ status_of due) ⊎ (status ≡ status_of ended.ReadFailed) ⊎ (status ≡ status_of ended.WriteFailed) ⊎ (status ≡ status_of ended.OutOfMemory)
 
--- ---- how the parts of a call end, whatever arguments ask for them
+-- ---- the endings of the parts of a call, for any arguments that request them
 
 abbrev pub RunEnds : Bool → Stream → Parties → Ending → Type 0
 RunEnds strict input x ending = (arguments : List (List ℕ)) → IsRunOn arguments strict → HasEnded arguments input x ending

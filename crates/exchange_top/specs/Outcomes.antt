@@ -57,7 +57,7 @@ abbrev pub NotesAll : {M : Type 0} → (M → List CallRecord → Type 0) → (M
 NotesAll {M} stands text plays l slots trace order =
     (old spare new new_spare : List M) → AreLeft stands text old spare new new_spare (story plays l slots trace order) → AreTold stands text old new (calls_told slots trace order) × (new_spare ≡ spare)
 
--- ---- what every ending has in common
+-- ---- the parts that every ending has in common
 
 -- the engine that a call returns has these dimensions, and carries the frames of the exchange state
 abbrev pub HandsOut : {E : Type 0} → (E → Dimensions) → Carrying E → Option E → Dimensions → World → Type 0
@@ -93,7 +93,7 @@ pub record IsIdle (x : Parties) : Type 0 where
   pub meters : x.meters.left []
   pub engine : x.no_engine
 
--- ---- how far a run came
+-- ---- the progress of a run
 
 -- every event of the trace was processed, in a lawful order; no new path moved more live paths than the fabric allows;
 -- and the meters are the result of the run's story, each with the calls of its active period

@@ -116,7 +116,7 @@ fn divided(bytes: &[u8]) -> (&[u8], &[u8])
     (bytes, &[])
 }
 
-// The first line, and what follows it.
+// The first line, and the octets after it.
 fn first_line(bytes: &[u8]) -> (&[u8], &[u8])
     ensures { IsFirstLine bytes.now result.0.now result.1.now }
 {

@@ -21,7 +21,7 @@ pub fn strict_runs_move_nothing()
 {}
 
 /// If the trace changes no meters, the text of a run is its report, if lines are listed. The active and spare meters
-/// are those of the caller, and each active meter recorded the calls that ended.
+/// are the same as before the run, and each active meter recorded the calls that ended.
 pub fn law_of_unchanged_meters<M: Meter>()
     ensures text { (plays : Plays) (l : Listing) (slots : ℕ) (trace : Trace) (order : List ℕ) (old spare : List M) → trace.changes ≡ []
         → steps_text M.text (story plays l slots trace order) (handed_in old spare) ≡ listed l (report plays slots trace order) }

@@ -2,7 +2,7 @@
 //!
 //! - [`generated`] returns the trace that `traffic_gen` generates from a seed.
 //! - [`law_of_generated_traces`]: each seed and number of calls has exactly one trace (`some`, `one`). It has the
-//!   contents of the drawn lines (`told`). Its exchange and its number of events are those of the definition (`sizes`,
+//!   contents of the drawn lines (`told`). The definition states its exchange and its number of events (`sizes`,
 //!   `events`), and no meter is changed in it (`changes`).
 #![tactic(auto)]
 

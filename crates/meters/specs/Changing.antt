@@ -10,7 +10,7 @@ pub data Step : Type 0 where
   Event_done : List ℕ → List CallRecord → Step
   Meters_changed : Step
 
--- ---- where meters are changed
+-- ---- the places of the changes
 
 -- the changes of meters after n events
 abbrev pub changes_at : List ℕ → ℕ → List Step

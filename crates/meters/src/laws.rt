@@ -25,9 +25,9 @@ pub fn worked_texts()
     ensures full { register_value (2 ^ 64 + 5) ≡ 18446744073709551615 }
 {}
 
-/// The text of consecutive steps, and the meters after them, are composed of those of the first steps and of the others
-/// (`texts`, `meters`). If no meter is changed, the text has the lines of the events, each meter records all of their
-/// calls, and the spare meters are unchanged (`lines`, `times`, `noted`).
+/// The text of consecutive steps, and the meters after them, are composed from the first steps and the others (`texts`,
+/// `meters`). If no meter is changed, the text has the lines of the events, each meter records all of their calls, and
+/// the spare meters are unchanged (`lines`, `times`, `noted`).
 pub fn law_of_changes<M: Meter>()
     ensures texts { (xs ys : List Step) (s : Metering M) → steps_text M.text (xs ++ ys) s ≡ steps_text M.text xs s ++ steps_text M.text ys (after_steps xs s) }
     ensures meters { (xs ys : List Step) (s : Metering M) → after_steps (xs ++ ys) s ≡ after_steps ys (after_steps xs s) }

@@ -109,8 +109,8 @@ fn room_mix(inputs: &Rows<Option<[u8; 30]>>, circuits: &[Circuit], room: u8, y: 
     octet_of_value(sum)
 }
 
-/// The value that a circuit adds to the mix: that of the octet that its slot sent two frames before, if it is another
-/// member of the room who is heard, and 0 otherwise.
+/// The value that a circuit adds to the mix: the value of the octet that its slot sent two frames before, if it is
+/// another member of the room whom `y` hears, and 0 otherwise.
 fn value_in_mix(inputs: &Rows<Option<[u8; 30]>>, circuit: Circuit, room: u8, y: Slot, g: u32) -> i32
     ensures { result ≡ value_in_mix inputs.now room y g circuit }
 {

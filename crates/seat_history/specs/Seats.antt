@@ -35,7 +35,7 @@ after_join seat other = record seat { left = seat.left + other.left; baton = sea
 abbrev pub HasJoinedAll : Known → Type 0
 HasJoinedAll seat = seat.made ≡ length seat.kept
 
--- the number is the seat's, or that of a seat that it joined
+-- the number is the seat's, or a joined seat's
 abbrev pub Accounts : Known → ℕ → Type 0
 Accounts seat n = IsTrue (nat_eq n seat.number || list_any (nat_eq n) (map (λ (k : JoinedSeat). k.number) seat.kept))
 

@@ -23,8 +23,8 @@ pub record IsComplete {T E K : Type 0} (g : Gathered T E K) : Type 0 where
   pub jobs : HasRoom g.crew.jobs
   pub done : HasRoom g.crew.done
 
--- From v to w all workers processed their whole parts, the machine is ready for the next frame, and the used workplaces
--- hold answers that are, once merged, those of the new history.
+-- From v to w all workers processed their whole parts, and the machine is ready for the next frame. The used workplaces
+-- hold answers that are, once merged, the answers to the new events of the history.
 pub record AllDone {T E K : Type 0} (holds : K → List Placed → Type 0) (plays : Plays) (carries : Carrying E) (next : E → ℕ) (sizes : E → Dimensions) (board : Board) (trace : Trace) (segment : ℕ) (v w : Known) (g : Gathered T E K) : Type 0 where
   pub whole : RanWhole trace segment v w
   pub long : HasGrown trace segment v w

@@ -23,7 +23,7 @@ fn next_run<K: Keeper>(used: &[Workplace<K>]) -> Option<(usize, u32, u32)>
     found
 }
 
-// The earlier of what was found and an event of workplace i, with the first place of all others.
+// The earlier of the result so far and an event of workplace i, with the first place of all others.
 fn earlier(found: Option<(usize, u32, u32)>, i: usize, place: u32) -> (usize, u32, u32)
     ensures { result ≡ first_of_two found i place }
 {

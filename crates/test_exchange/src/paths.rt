@@ -96,8 +96,8 @@ impl Paths {
         self.paths.retain(|path| path.from != x && path.to != x);
     }
 
-    // The internal slot for a path from one line to another, free on both once the paths of the chain
-    // have moved. None where a line has no free slot at all.
+    // The internal slot for a path from one line to another, free on both once the paths of the chain have moved.
+    // `None` if a line has no free slot at all.
     fn make_room(&mut self, alloc: Global, from: u8, to: u8) -> Result<Option<u8>, AllocError> {
         if let Some(internal) = self.common_free(from, to) {
             return Ok(Some(internal));

@@ -4,7 +4,7 @@
 //!
 //! They are separate from the crates that they test, so that none of these is proved a second time with its tests. The
 //! refusals of traces and of arguments are in the tables of `examples/`. The crate guarantees nothing; its meters are
-//! proved as those of any program.
+//! proved as any program's meters.
 #![tactic(auto)]
 
 #[cfg(test)]

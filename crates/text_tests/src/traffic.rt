@@ -1,4 +1,4 @@
-// Traces compared with those of another program, and with Adler-32 sums of its octets by zlib.
+// Traces compared with another program's traces, and with Adler-32 sums of its octets by zlib.
 use std::alloc::{AllocError, Global};
 use std::test::Fail;
 use traffic_gen::generate;

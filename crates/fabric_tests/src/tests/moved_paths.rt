@@ -6,7 +6,7 @@ use control_memory::PathMap;
 use fabric_map::FabricMap;
 use std::alloc::AllocError;
 
-// Connects where both ends are free.
+// Connects two slots if both are free.
 fn connect_free(map: &mut FabricMap, from: Slot, to: Slot) -> Option<u32>
     requires lines { map.old.lines ≡ 2 }
     requires from { (from.line < 2) × (from.place < 30) }

@@ -17,7 +17,8 @@ enum Step {
 
 use Step::{Frames, Message};
 
-/// A worked example: its timers, its steps, and the lines of the report except those of frames without messages.
+/// A worked example: its timers, its steps, and the lines of the report, without the lines of frames that send no
+/// message.
 struct Worked {
     /// The frames of T302, T303, T305, T308 and T310.
     timers: [u32; 5],
