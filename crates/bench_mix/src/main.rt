@@ -19,9 +19,9 @@ fn mix(codes: &CodeTable, octets: &[Option<u8>; MAX_MEMBERS], out: &mut [u8; MAX
     mixer.mix(codes, out);
 }
 
-/// Folds the octets that place 0 hears in n rounds into a number.
+/// Folds the octets that place 0 receives in n rounds into a number.
 ///
-/// In each round one member repeats the octet that it heard, so no round can be left out.
+/// In each round one member repeats the octet that it received, so no round can be left out.
 fn sum_heard(codes: &CodeTable, rounds: u32) -> u32 {
     let mut octets = [Some(0x2A); MAX_MEMBERS];
     let mut out = [0; MAX_MEMBERS];

@@ -15,12 +15,12 @@ use Rattle.exchange_events.specs.Orders.{Frame_worker, Processor}
 use Rattle.call_processor.specs.Frames.{HasFrame, Plays}
 use Rattle.call_processor.specs.Parts.{part_of}
 
--- the answer to an event at its place, from the response and the outbox of its step and the octets that each line is
+-- the answer to an event at its position, from the response and the outbox of its step and the octets that each line is
 -- sent
 abbrev pub placed : ℕ → ℕ → Response → Outbox → List (List ℕ) → Placed
 placed place event response outbox octets = record { place = place; answer = record { event = event; reply = kept_of (reply_of response outbox); octets = octets } }
 
--- the place of the first of these answers
+-- the position of the first of these answers
 abbrev pub first_place : List Placed → Option ℕ
 first_place [] = None
 first_place (p ∷ ps) = Some p.place
@@ -29,12 +29,12 @@ first_place (p ∷ ps) = Some p.place
 abbrev pub IsKept : {K : Type 0} → (K → List Placed → Type 0) → Placed → K → K → Type 0
 IsKept holds p before after = (answers : List Placed) → holds before answers → holds after (answers ++ p ∷ [])
 
--- there is no answer, or the first one comes at this place or after it
+-- there is no answer, or the first one comes at this position or after it
 abbrev pub BeginsFrom : ℕ → List Placed → Type 0
 BeginsFrom below answers = (place : ℕ) → first_place answers ≡ Some place → below ≤ place
 
 -- The first answers of a keeper moved to the end of another: the first one, and the next ones as long as they come
--- before a place.
+-- before a position.
 pub record HandsOn {K : Type 0} (holds : K → List Placed → Type 0) (below : ℕ) (answers others : List Placed) (from to : K) : Type 0 where
   pub run : List Placed
   pub rest : List Placed
@@ -50,7 +50,7 @@ pub record StillHolds {K : Type 0} (holds : K → List Placed → Type 0) (answe
   pub more : List Placed
   pub held : holds k (answers ++ more)
 
--- the first answers moved to the end of another list, as long as they come before a place
+-- the first answers moved to the end of another list, as long as they come before a position
 pub record HandsBelow (below : ℕ) (answers others from to : List Placed) : Type 0 where
   pub run : List Placed
   pub parts : answers ≡ run ++ from
@@ -59,7 +59,7 @@ pub record HandsBelow (below : ℕ) (answers others from to : List Placed) : Typ
 
 -- ---- one event, and a part of a segment
 
--- The seat processed the event and stored it: its answer follows all earlier ones, at the place of the seat's last
+-- The seat processed the event and stored it: its answer follows all earlier ones, at the position of the seat's last
 -- entry, and has octets as required.
 pub record HasKept {K : Type 0} (holds : K → List Placed → Type 0) (board : Board) (seat : Known) (event : ℕ) (octets : Placed → Type 0) (before after : K) : Type 0 where
   pub answer : Placed

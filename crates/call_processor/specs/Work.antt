@@ -45,7 +45,8 @@ pub record DidEvent (v : Known) (event : ℕ) (w : Known) : Type 0 where
   pub turn : 0 < v.left
   pub exact : w.own ≡ entries_of w.number w.seen
 
--- the answer has the place of the seat's entry for its event, and the exchange's reply at the history before that entry
+-- the answer has the position of the seat's entry for its event, and the exchange's reply at the history before that
+-- entry
 pub record IsAnswer (board : Board) (seat : Known) (p : Placed) : Type 0 where
   pub reply : Reply
   pub entry : slice_get seat.seen p.place ≡ Some (seat.number, p.answer.event)

@@ -8,9 +8,9 @@ use exchange_events::{Outbox, Response};
 use std::alloc::{AllocError, Global};
 
 /// A store for the events that a worker processed. It receives each of them and stores the form of its type, such as a
-/// report line or a whole answer. The events of several workers are merged by their places in the history.
+/// report line or a whole answer. The events of several workers are merged by their positions in the history.
 pub trait Keeper: Sized + Send + Drop {
-    /// It stores these answers, each with its place, in order.
+    /// It stores these answers, each with its position, in order.
     ghost holds: { Self → List Placed → Type 0 };
 
     /// An empty keeper of the same kind.
@@ -21,7 +21,7 @@ pub trait Keeper: Sized + Send + Drop {
     fn clear(&mut self)
         ensures { holds self.new [] };
 
-    /// Appends one event: its place in the history, its number, the response and the outbox of its step, and for a
+    /// Appends one event: its position in the history, its number, the response and the outbox of its step, and for a
     /// frame the octets that each external line is sent.
     ///
     /// # Errors
@@ -47,11 +47,11 @@ pub trait Keeper: Sized + Send + Drop {
     fn cut(&mut self, count: usize)
         ensures { (answers more : List Placed) → holds self.old (answers ++ more) → length answers ≡ count → holds self.new answers };
 
-    /// The place of its first event.
+    /// The position of its first event.
     fn first_place(&self) -> Option<u32>
         ensures { (answers : List Placed) → holds self.now answers → result ≡ first_place answers };
 
-    /// Moves its first event to the end of another keeper, and the next ones as long as they come before the place
+    /// Moves its first event to the end of another keeper, and the next ones as long as they come before the position
     /// `below`.
     ///
     /// # Errors

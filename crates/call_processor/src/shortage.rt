@@ -1,7 +1,8 @@
 //! The signal between the workers of a segment.
 use std::sync::atomic::{AtomicU64, Ordering};
 
-/// A flag that is set when an allocation of a worker fails, so that the other workers can stop. Nothing is proved of it.
+/// A flag that is set when an allocation of a worker fails, so that the other workers can stop. Nothing is proved of
+/// it.
 #[derive(Drop)]
 pub struct Shortage {
     // 0, or 1 once an allocation has failed.

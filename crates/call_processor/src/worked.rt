@@ -4,10 +4,10 @@ use exchange_core::{Desk, Tool};
 use exchange_events::Answer;
 use std::alloc::{AllocError, Global};
 
-/// An answer, and the place of its entry in the history, counted from 0.
+/// An answer, and the position of its entry in the history, counted from 0.
 #[derive(Drop)]
 pub struct Placed {
-    /// The place of its entry in the history.
+    /// The position of its entry in the history.
     pub place: u32,
     /// The answer to the event.
     pub answer: Answer,

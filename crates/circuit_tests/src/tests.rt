@@ -22,11 +22,11 @@ enum Step {
     Clear(Slot),
     /// Clears a slot and connects it with another one, as when a call is answered.
     Answer(Slot, Slot),
-    /// The circuit by which a slot hears.
+    /// The circuit by which a slot receives.
     Circuit(Slot),
     /// A boundary.
     Frame,
-    /// The octet that a slot hears in the last frame.
+    /// The octet that a slot receives in the last frame.
     Hears(Slot),
     /// The member at a port in the last frame.
     Sits(Slot),

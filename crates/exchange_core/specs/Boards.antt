@@ -55,11 +55,11 @@ ShowsAt board history n tool = (e : Event) → IsNumbered board.trace n e → Sh
 
 -- ---- a turn
 
--- A seat has processed an event of the board's trace in its turn, at place n of the history. It has one turn less, and
--- its entry follows the history before it and is among its own entries. If it held the baton, it had seen each frame of
--- that history. The knowledge of seat 0 adds up, and if all other seats are joined, no other seat processed an event in
--- between. The reply is the exchange's after that history, with bounded numbers of moves. If the event is a frame, the
--- tool shows the exchange state after that history.
+-- A seat has processed an event of the board's trace in its turn, at position n of the history. It has one turn less,
+-- and its entry follows the history before it and is among its own entries. If it held the baton, it had seen each
+-- frame of that history. The knowledge of seat 0 adds up, and if all other seats are joined, no other seat processed an
+-- event in between. The reply is the exchange's after that history, with bounded numbers of moves. If the event is a
+-- frame, the tool shows the exchange state after that history.
 pub record HasTakenTurn (board : Board) (old new : Known) (n event : ℕ) (answer : Reply) (memory : Tool) : Type 0 where
   pub sound : IsSound board.trace
   pub seat : new ≡ after_step (before n new.seen) event old

@@ -34,7 +34,8 @@ pub trait Switchboard: Sync {
     /// The seat is of this board.
     ghost seated: { Self → Self.Seat → Type 0 };
 
-    /// Makes a new seat from seat 0, with `budget` of its turns, and with the baton if `baton` is true.
+    /// Makes a new seat from seat 0, with `budget` of its turns, and with the baton if `baton` is true. Seat 0 makes
+    /// fewer than 2^32 seats, so no number repeats.
     fn split(&self, seat: &mut Self::Seat, budget: u32, baton: bool) -> Self::Seat
         requires seated { seated self.now seat.old }
         requires chief { (known seat.old).number ≡ 0 }
@@ -48,7 +49,7 @@ pub trait Switchboard: Sync {
         ensures free { (keeps seat.new ≡ false) × (keeps result ≡ false) };
 
     /// Processes one event of the trace, by its number, counted from 1, after it has waited for the seat's turn.
-    /// Returns the event's place in the history, counted from 0, and the exchange's reply.
+    /// Returns the event's position in the history, counted from 0, and the exchange's reply.
     ///
     /// A frame requires the baton and a control memory of the exchange's size, into which its boundary is written. The
     /// other events need neither.
@@ -115,6 +116,6 @@ pub trait Switchboard: Sync {
         ensures settled { Settled (turns_of (board self.now)) (known seat.new) }
         ensures free { keeps seat.new ≡ false };
 
-    /// The trace of a board that has a seat is sound.
+    /// The trace of a board that has a seat is sound, so a worker knows this before its first call.
     ghost sound_trace: { (x : Self) (s : Self.Seat) → seated x s → IsSound (board x).trace };
 }

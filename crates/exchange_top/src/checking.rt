@@ -51,7 +51,8 @@ pub fn check<S: Source, K: Sink, R: Threads + Sync>(
     }
 }
 
-// Returns the finding on an input, and the line that reports it.
+// Returns the finding on an input, and the line that reports it. If the trace is refused, the report is not read,
+// because the refusal names the wrong line of the trace.
 fn found<R: Threads + Sync>(
     rt: &R,
     alloc: Global,

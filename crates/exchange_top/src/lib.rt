@@ -1,5 +1,5 @@
-//! The whole exchange, from arguments and trace bytes to report bytes, over any engine that carries octets, any gate
-//! and any meters, on 30 or 59 internal slots; and the verdict on a report.
+//! The whole exchange, from arguments and trace bytes to report bytes, and the verdict on a report. It works with any
+//! engine that carries octets, any gate and any meters, on 30 or 59 internal slots.
 //!
 //! The main theorem is the clause `ends` of [`exchange`], which has one definition for each ending (`HasEnded`). If
 //! `run` returns status 0, the input was a trace and its events were processed in a lawful order. The output is exactly

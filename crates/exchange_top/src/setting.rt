@@ -24,11 +24,13 @@ pub struct Metering {
     pub spare: VecDeque<Box<dyn Meter>>,
 }
 
-/// The text of a run that is not yet written.
+/// The text of a run that is not yet written. The lines of a complete segment move to it, so a segment that fails
+/// leaves it unchanged.
 #[derive(Drop)]
 pub struct Pending<L> {
-    /// The lines of events.
+    /// The lines of events, with the records of their calls.
     pub lines: LineList<L>,
-    /// The texts of the meters that were removed after these events.
+    /// The texts of the meters that were removed after these events. They are separate, because each line of the list
+    /// belongs to an event.
     pub said: Vec<u8>,
 }

@@ -19,8 +19,8 @@ pub trait Gate: Sync {
         true
     }
 
-    /// Whether a call can wait for another thread. If so, no worker keeps the turn from one event to the next, because a
-    /// worker that waits with the turn stops all others.
+    /// Whether a call can wait for another thread. If so, no worker keeps the turn from one event to the next, because
+    /// a worker that waits with the turn stops all others.
     fn may_hold(&self) -> bool {
         true
     }

@@ -34,10 +34,10 @@ pub record AreMarked (text : List ℕ) (records : List CallRecord) (marks : List
   pub octets : length text ≡ handed.octets + octets_in (drop handed.lines marks)
   pub calls : length records ≡ handed.records + records_in (drop handed.lines marks)
 
--- each line comes before a place
+-- each line comes before a position
 abbrev pub AreBefore : ℕ → List Mark → Type 0
 AreBefore below marks = All (λ (m : Mark). m.place < below) marks
 
--- there is no line, or the first one comes at this place or after it
+-- there is no line, or the first one comes at this position or after it
 abbrev pub BeginFrom : ℕ → List Mark → Type 0
 BeginFrom below marks = All (λ (m : Mark). below ≤ m.place) (take 1 marks)

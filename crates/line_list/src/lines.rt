@@ -14,10 +14,10 @@ use report_text::append_line;
 use std::alloc::{AllocError, Global};
 use std::marker::Model;
 
-/// The mark of a line: the place of its event in the history, and the number of its octets and of its records.
+/// The mark of a line: the position of its event in the history, and the number of its octets and of its records.
 #[derive(Clone, Copy, Debug, PartialEq, Eq)]
 pub struct Mark {
-    /// The place of its event in the history.
+    /// The position of its event in the history.
     pub place: u32,
     /// The number of octets of the line.
     pub octets: usize,
@@ -54,7 +54,7 @@ pub struct Buffers {
     pub marks: Vec<Mark>,
 }
 
-/// Lines, each with its place in the history and with the records of the calls that ended. The model is their list.
+/// Lines, each with its position in the history and with the records of the calls that ended. The model is their list.
 #[derive(Drop)]
 pub struct Lines {
     // The lines that were moved to another list, and then the others. A mark has the length of its line, not its end,
@@ -102,7 +102,7 @@ impl Lines {
         self.handed = NONE;
     }
 
-    /// Appends the line of an event at its place in the history, from the response and the outbox of its step. If
+    /// Appends the line of an event at its position in the history, from the response and the outbox of its step. If
     /// nothing is listed, the line is empty.
     ///
     /// # Errors
@@ -152,7 +152,7 @@ impl Lines {
         self.buffers.marks.truncate(end.lines);
     }
 
-    /// The place of the first line.
+    /// The position of the first line.
     pub fn first_place(&self) -> Option<u32>
         ensures { result ≡ first_line self.now }
     {
@@ -162,7 +162,7 @@ impl Lines {
         }
     }
 
-    /// Moves the first line to the end of others, and the next ones as long as they come before the place `below`.
+    /// Moves the first line to the end of others, and the next ones as long as they come before the position `below`.
     ///
     /// # Errors
     ///
@@ -314,7 +314,7 @@ fn append_marked(
     done
 }
 
-// The items from one place to another.
+// The items from one position to another.
 fn between<T>(items: &Vec<T>, start: usize, end: usize) -> &[T]
     requires order { start ≤ end }
     requires within { end ≤ length items.now.items }
@@ -331,7 +331,7 @@ fn marks_left(marks: &Vec<Mark>, handed: usize) -> &[Mark]
     &marks.as_slice()[handed..]
 }
 
-// The length of the first run: the first line, and the next ones as long as they come before a place.
+// The length of the first run: the first line, and the next ones as long as they come before a position.
 fn run_length(marks: &[Mark], below: u32) -> usize
     ensures within { result ≤ length marks.now }
     ensures some { 0 < length marks.now → 0 < result }

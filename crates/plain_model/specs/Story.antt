@@ -37,7 +37,7 @@ pub record GoesOn (commands : List Command) (arrived : List Input) (s : Story) :
   pub command : (c : Command) → ¬ (c ≡ Frame) → IsStoryOf (commands ++ c ∷ []) arrived (after_command s c)
   pub boundary : (input : Input) → IsStoryOf (commands ++ Frame ∷ []) (arrived ++ input ∷ []) (after_frame s input)
 
--- the slots of the story hear the octets that these commands and inputs define
+-- the slots of the story receive the octets that these commands and inputs define
 abbrev pub HearsAs : List Command → List Input → Story → Type 0
 HearsAs commands arrived s =
     (tones : Kind → List ℕ) (f : ℕ) (y : Slot) → hears tones s.inputs s.held f y ≡ hears tones arrived (frames empty commands) f y

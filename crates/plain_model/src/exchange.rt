@@ -1,4 +1,4 @@
-//! An exchange that stores everything, and looks up the octet that a slot hears.
+//! An exchange that stores everything, and looks up the octet that a slot receives.
 
 use crate::hearing::octet_heard;
 use crate::names::remove_naming;
@@ -8,7 +8,7 @@ use std::alloc::{AllocError, Global};
 use std::marker::Model;
 
 /// An exchange that stores all octets that arrived and all circuits that existed, and looks up the octet that a slot
-/// hears.
+/// receives.
 ///
 /// It requires nothing of its commands: the caller checks that slots are idle, and that there is a port for each
 /// member.
@@ -131,7 +131,7 @@ impl Exchange {
         Ok(())
     }
 
-    /// The octet that a slot hears in frame `f`, for these octets of the two tones.
+    /// The octet that a slot receives in frame `f`, for these octets of the two tones.
     pub fn octet_heard(&self, ringback: &[u8], busy: &[u8], f: u32, y: Slot) -> u8
         ensures { result ≡ hears (tones_of ringback.now busy.now) self.now.inputs self.now.held f y }
     {

@@ -1,4 +1,4 @@
-//! The octet that a slot hears, by walking over lists.
+//! The octet that a slot receives, by walking over lists.
 
 ghost use Rattle.std.specs.Prelude.{◌≡◌, ◌≤◌, slice_get};
 ghost use Rattle.circuit_model.specs.Circuits.{listener, heard_by};
@@ -11,7 +11,7 @@ use crate::alaw::{expand_by_search, octet_of_value};
 use crate::rows::Rows;
 use circuit_model::{Circuit, IDLE, Kind, Slot};
 
-/// The circuit by which a slot hears: the first that is for it, or none.
+/// The circuit by which a slot receives: the first that is for it, or none.
 pub fn find_heard(circuits: &[Circuit], x: Slot) -> Option<Circuit>
     ensures { result ≡ heard_by circuits.now x }
 {
@@ -21,7 +21,7 @@ pub fn find_heard(circuits: &[Circuit], x: Slot) -> Option<Circuit>
         .find(|circuit| x == listener_of(*circuit))
 }
 
-/// The slot that hears something by a circuit.
+/// The slot that receives something by a circuit.
 fn listener_of(circuit: Circuit) -> Slot
     ensures { result ≡ listener circuit }
 {
@@ -56,8 +56,8 @@ fn octet_of_place(octets: Option<[u8; 30]>, place: u8) -> u8
     }
 }
 
-/// The octet that slot `y` hears in frame `f`, from the octets of the two tones and, for each frame, its input and the
-/// circuits that existed in it.
+/// The octet that slot `y` receives in frame `f`, from the octets of the two tones and, for each frame, its input and
+/// the circuits that existed in it.
 pub fn octet_heard(
     ringback: &[u8],
     busy: &[u8],
@@ -110,7 +110,7 @@ fn room_mix(inputs: &Rows<Option<[u8; 30]>>, circuits: &[Circuit], room: u8, y: 
 }
 
 /// The value that a circuit adds to the mix: the value of the octet that its slot sent two frames before, if it is
-/// another member of the room whom `y` hears, and 0 otherwise.
+/// another member of the room whom `y` receives, and 0 otherwise.
 fn value_in_mix(inputs: &Rows<Option<[u8; 30]>>, circuit: Circuit, room: u8, y: Slot, g: u32) -> i32
     ensures { result ≡ value_in_mix inputs.now room y g circuit }
 {

@@ -1,5 +1,5 @@
-//! The tests of the reference models: worked exchanges and calls, whose octets were found by hand, the expiry of
-//! timers, the coverage of the drawn traces, and the lawfulness of orders.
+//! The tests of the reference models: worked exchanges and calls, whose octets were found by hand, expired timers,
+//! drawn traces, and lawful orders.
 //!
 //! They are separate from the crates that they test, so that each of those is proved once. The crate guarantees
 //! nothing.

@@ -14,7 +14,7 @@ use Rattle.exchange_events.specs.declared.signal.Signal.{Signal}
 use Rattle.exchange_events.specs.Kept.{kept_of}
 use Rattle.exchange_events.specs.Responses.{reply_of}
 
--- the thirty octets of a line, in order of place
+-- the 30 octets of a line, in order of place
 unfoldable pub line_octets : (Slot → ℕ) → ℕ → List ℕ
 line_octets octet line = map (λ place. octet (record { line = line; place = place })) (range_with_len 0 30)
 

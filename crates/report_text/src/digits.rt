@@ -1,7 +1,6 @@
 // Rows of octets, and their hexadecimal digits.
 //
-// The octets of a line are processed as a row of 32, so that loops of fixed length become vector code. Far more octets
-// of frames than of messages are printed.
+// The octets of a line are processed as a row of 32, so that loops of fixed length become vector code.
 ghost use Rattle.std.specs.Prelude.{◌≡◌, ◌==◌, ◌++◌, ◌-◌, ◌<◌, ◌≤◌, length, drop, slice_index, replicate};
 ghost use Rattle.std.specs.List.{list_all};
 ghost use Rattle.hex.specs.Hex.{encode_upper, upper_digits};

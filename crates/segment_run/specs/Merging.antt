@@ -1,4 +1,4 @@
--- The answers of several workers, merged by place. Source: defined by this project.
+-- The answers of several workers, merged by position. Source: defined by this project.
 use Rattle.std.specs.Prelude.{◌≡◌, ◌≢◌, ℕ, ◌<◌, ◌≤◌, ◌⊎◌, nat_lt, if◌then◌else◌, List, [], ◌∷◌, ◌++◌, length, slice_get, AllPairs, Option, Some, None}
 use Rattle.call_processor.specs.declared.worked.Placed.{Placed}
 use Rattle.call_processor.specs.declared.worked.Workplace.{Workplace}
@@ -18,7 +18,7 @@ abbrev pub IsOneOf : {X : Type 0} → X → List X → Type 0
 IsOneOf x [] = ⊥
 IsOneOf x (y ∷ ys) = (y ≡ x) ⊎ IsOneOf x ys
 
--- the answers of each part rise, and no two of different parts are at one place
+-- the answers of each part rise, and no two of different parts are at one position
 abbrev pub AreApart : List (List Placed) → Type 0
 AreApart [] = Unit {0}
 AreApart (ps ∷ parts) = IsRising ps × ((p q : Placed) → IsOneOf p ps → IsOneOf q (all_of parts) → q.place ≢ p.place) × AreApart parts
@@ -48,9 +48,9 @@ pub record AddsMerged {K : Type 0} (holds : K → List Placed → Type 0) (kept 
   pub merged : IsMerged parts answers
   pub held : holds k (kept ++ answers)
 
--- The one of the first n workplaces with number k has the first event of all, at the place `first`. The events of the
--- others come after it, and none comes before the place `below`. If there is no such workplace, none of them has an
--- event.
+-- The one of the first n workplaces with number k has the first event of all, at the position `first`. The events of
+-- the others come after it, and none comes before the position `below`. If there is no such workplace, none of them has
+-- an event.
 abbrev pub IsNextRun : {K : Type 0} → (K → List Placed → Type 0) → List (Workplace K) → ℕ → Option (ℕ × ℕ × ℕ) → Type 0
 IsNextRun holds used n None = (j : ℕ) (w : Workplace _) (ps : List Placed) → j < n → slice_get used j ≡ Some w → holds w.keeper ps → first_place ps ≡ None
 IsNextRun holds used n (Some (k, first, below)) = (k < n)

@@ -55,7 +55,7 @@ pub record Ran (trace : Trace) (segment : ℕ) (v w : Known) : Type 0 where
 abbrev pub RanWhole : Trace → ℕ → Known → Known → Type 0
 RanWhole trace segment v w = (worker : Worker) → of_worker trace worker (new_events v w) ≡ part_of trace segment worker
 
--- the answer is to the history's event at this place: it has the exchange's reply after the history before it; for a
+-- the answer is to the history's event at this position: it has the exchange's reply after the history before it; for a
 -- frame it has the octets that the engine outputs, and otherwise none
 pub record IsAnswered (plays : Plays) (tones : Kind → List ℕ) (board : Board) (history : List Entry) (place : ℕ) (a : Answer) : Type 0 where
   pub reply : Reply

@@ -5,8 +5,8 @@
 //! ([`FEWEST_BESIDE`]). Its contract is the same in both cases:
 //!
 //! - The history grows only by events of the segment (`ran`), and on success by all of them (`whole`).
-//! - A keeper has their answers after its earlier answers. Each is the exchange's at its place of the history, with the
-//!   octets that the engine outputs (`answered`).
+//! - A keeper has their answers after its earlier answers. Each is the exchange's at its position of the history, with
+//!   the octets that the engine outputs (`answered`).
 //! - The machine is ready for the next frame (`whole`).
 //!
 //! A [`Workroom`] has the buffers of the workers, which serve one segment after another. [`run_segment`] runs one

@@ -74,7 +74,7 @@ fn has_all_nails(journal: &[(u32, u32)]) -> bool {
     journal.len() == 60 && has_every_second(journal, 0, 1) && has_every_second(journal, 1, 2)
 }
 
-// Whether the events of a seat, in the order of the journal, are every second one from `first` on, thirty in all.
+// Whether the events of a seat, in the order of the journal, are every second one from `first` on, 30 in all.
 fn has_every_second(journal: &[(u32, u32)], seat: u32, first: u32) -> bool {
     let mut next = first;
     for &(by, event) in journal {

@@ -4,7 +4,7 @@ ghost use Rattle.std.specs.Prelude.{◌<◌, IfSome};
 
 use circuit_model::PLACES;
 
-// The channel numbers of a line's thirty places: its time slots except 0 and 16 (ITU-T Q.931, 4.5.13).
+// The channel numbers of a line's 30 places: its time slots except 0 and 16 (ITU-T Q.931, 4.5.13).
 const CHANNELS: [u8; 30] = [
     1, 2, 3, 4, 5, 6, 7, 8, 9, 10, 11, 12, 13, 14, 15, 17, 18, 19, 20, 21, 22, 23, 24, 25, 26, 27,
     28, 29, 30, 31,

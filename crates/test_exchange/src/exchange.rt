@@ -201,7 +201,7 @@ impl PlainExchange {
         }
     }
 
-    /// The octet that a slot hears in a frame.
+    /// The octet that a slot receives in a frame.
     pub fn octet_heard(&self, frame: u32, at: Slot) -> u8 {
         let tones = &self.tones;
         self.circuits.octet_heard(tones.ringback.as_slice(), tones.busy.as_slice(), frame, at)
@@ -312,7 +312,7 @@ impl PlainExchange {
         self.ports.give(x);
     }
 
-    // The circuit at a slot. A circuit between two slots has both directions, so each of its slots hears something.
+    // The circuit at a slot. A circuit between two slots has both directions, so each of its slots receives something.
     fn circuit_of(&self, x: Slot) -> Option<Circuit> {
         find_heard(self.circuits.circuits(), x)
     }

@@ -4,7 +4,7 @@
 //! moved paths, the messages that are sent, the call records. It walks over lists of legs, paths, ports and numbers,
 //! and in a frame over the legs whose timers have expired. It has its own code for messages of ITU-T Q.931 (05/98), its
 //! own call table and its own number plan, because two independent programs are worth comparing. Circuits, and the
-//! octets that their slots hear, come from `plain_model`.
+//! octets that their slots receive, come from `plain_model`.
 //!
 //! It is proved safe, and each call returns. No clause states its results, which the tests compare.
 #![tactic(auto)]

@@ -12,7 +12,7 @@ struct Port {
     at: Slot,
 }
 
-/// The members at the conference ports, as a list. The bridge lines come after the external ones, and each has thirty
+/// The members at the conference ports, as a list. The bridge lines come after the external ones, and each has 30
 /// ports.
 #[derive(Drop)]
 pub(crate) struct Ports {

@@ -130,7 +130,7 @@ impl PlainRun {
         }
     }
 
-    // Appends the messages that are sent in a frame, and the octets that the lines hear in it.
+    // Appends the messages that are sent in a frame, and the octets that the lines receive in it.
     fn tell_frame(&mut self, frame: u32, sent: &Sent) -> Result<(), AllocError> {
         self.records.extend_from_slice(sent.records.as_slice())?;
         write!(self.report, "frame {frame}")?;
@@ -145,7 +145,7 @@ impl PlainRun {
         self.moved = self.moved.saturating_add(there).saturating_add(back);
     }
 
-    // Appends the octets that a line hears in a frame, unless all are idle.
+    // Appends the octets that a line receives in a frame, unless all are idle.
     fn line(&mut self, frame: u32, line: u8) -> Result<(), AllocError> {
         let mut octets = [IDLE; 30];
         for place in 0..PLACES {

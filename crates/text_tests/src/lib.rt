@@ -1,6 +1,5 @@
-//! Tests of the texts: the contents of traces, generated traces, lines of answers, lines and reports that are read
-//! back, the summaries of meters, the in-memory streams, and the state after a failed allocation. Two meters of a
-//! program are with them.
+//! Tests of the texts: traces, reports, answers, meters, in-memory streams, and the state after a failed allocation.
+//! Two meters of a program are with them.
 //!
 //! They are separate from the crates that they test, so that none of these is proved a second time with its tests. The
 //! refusals of traces and of arguments are in the tables of `examples/`. The crate guarantees nothing; its meters are

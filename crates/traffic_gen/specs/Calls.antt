@@ -51,7 +51,7 @@ abbrev pub far_line : ℕ → Callee → Option ℕ
 far_line caller (callee.Line line) = if line == caller then None else Some line
 far_line caller callee.Room = None
 
--- the octets of a line in a frame: thirty draws
+-- the octets of a line in a frame: 30 draws
 abbrev pub part_drawn : ℕ → ℕ → Part
 part_drawn line state = record { line = line; octets = octets_drawn 30 state }
 

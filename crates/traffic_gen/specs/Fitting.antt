@@ -25,7 +25,7 @@ pub record FitsMessage (line : ℕ) (octets : List ℕ) : Type 0 where
   pub each : list_all is_octet octets ≡ true
   pub most : length octets ≤ 15
 
--- one of the eight lines sends thirty octets
+-- one of the eight lines sends 30 octets
 pub record FitsPart (part : Part) : Type 0 where
   pub line_is : part.line < 8
   pub each : list_all is_octet part.octets ≡ true
@@ -38,7 +38,7 @@ FitsParts (one ∷ []) = FitsPart one
 FitsParts (one ∷ other ∷ []) = FitsPart one × FitsPart other × (other.line ≢ one.line)
 FitsParts (one ∷ other ∷ third ∷ parts) = ⊥
 
--- two different lines are nailed at one of the upper twenty places
+-- two different lines are nailed at one of the upper 20 places
 pub record FitsNail (one other place : ℕ) : Type 0 where
   pub one_is : one < 4
   pub other_is : (4 ≤ other) × (other < 8)

@@ -1,5 +1,6 @@
--- The lines of a generated trace, and the text of each: words and decimal numbers, with one space between them. The
--- form of a trace is defined by this project.
+-- The lines of a generated trace, and the text of each: words and decimal numbers, with one space between them. A line
+-- is data with one function for its text, so that facts are proved line by line. The form of a trace is defined by this
+-- project.
 use Rattle.std.specs.Prelude.{ℕ, ◌+◌, List, ◌++◌, codes, decimal, nat_lt, if◌then◌else◌}
 use Rattle.std.specs.List.{flat_map}
 use Rattle.hex.specs.Hex.{encode_upper}

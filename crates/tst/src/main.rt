@@ -1,10 +1,13 @@
-//! A digital telephone exchange as a filter: `run` reads a trace of events on standard input and writes the report of
-//! the run to standard output; `run --strict` does the same on a fabric that never moves a path; `gen SEED CALLS`
-//! writes the summary of a generated trace; `check` reads a trace and a report, and writes the verdict on the report.
+//! A digital telephone exchange as a filter from standard input to standard output.
 //!
-//! It makes the standard source and sink, three meters and three spare ones. It calls `exchange_top::exchange` with the
-//! engine of three stages in a box, and ends with its status. The guarantee is that call's, because `main` has no
-//! contract. Nothing is proved about standard input and output, so the tests here run whole traces over in-memory
+//! - `run` reads a trace of events and writes the report of its run. `run --strict` does the same on a fabric that
+//!   never moves a path.
+//! - `gen SEED CALLS` writes the summary of a generated trace.
+//! - `check` reads a trace and a report, and writes the verdict on the report.
+//!
+//! The program makes the standard source and sink, three meters and three spare ones. It calls `exchange_top::exchange`
+//! with the engine of three stages in a box, and ends with its status. The guarantee is that call's, because `main` has
+//! no contract. Nothing is proved about standard input and output, so the tests here run whole traces over in-memory
 //! streams.
 #![tactic(auto)]
 

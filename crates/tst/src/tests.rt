@@ -106,7 +106,7 @@ pub(crate) fn ran_at<C: Carrier, G: Gate>(
 pub(crate) enum Kind {
     /// The details of the last call.
     LastCall,
-    /// The details of the last twenty calls.
+    /// The details of the last 20 calls.
     Calls,
     Peg,
     Holding,

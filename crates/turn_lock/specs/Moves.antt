@@ -1,4 +1,4 @@
--- The view after each of the ten moves, and what its seat learns. Source: defined by this project.
+-- The view after each of the ten moves, and the knowledge that its seat gains. Source: defined by this project.
 use Rattle.std.specs.Prelude.{◌≡◌, ◌≢◌, ℕ, ◌-◌, ◌<◌, ◌^◌, Bool, true, false, IsTrue, List, [], ◌∷◌, ◌++◌, length, Option, Some, None}
 use Rattle.std.specs.List.{AllByRecursion as Every}
 use Rattle.atomic_table.specs.Table.{Me, Step}
@@ -117,8 +117,8 @@ module _ {S C : Type 0} where
   abbrev pub IsRenew : ℕ → Step (Option S) → Me (Option S) (View C) → ℕ → Me (Option S) (View C) → Type 0
   IsRenew event st m n m' = (m' ≡ (view_after_renew event m.0, m.1)) × (m.0.known.own ≡ entries_of m.0.known.number m.0.known.seen) × (length m.0.known.seen < m.0.budget)
 
-  -- append: the entry of the step is appended to the history, at the place that was found; the view of seat 0 accounts
-  -- for the history
+  -- append: the entry of the step is appended to the history, at the position that was found; the view of seat 0
+  -- accounts for the history
   abbrev pub IsAppend : Step (Option S) → Me (Option S) (View C) → ℕ → Me (Option S) (View C) → Type 0
   IsAppend st m n m' = (m' ≡ (view_after_append m.0, m.1)) × (n ≡ length m.0.known.seen) × (m.0.known.number ≡ 0 → KnowsAll (view_after_append m.0))
 
@@ -126,7 +126,7 @@ module _ {S C : Type 0} where
   abbrev pub IsPass : Step (Option S) → Me (Option S) (View C) → ℕ → Me (Option S) (View C) → Type 0
   IsPass st m n m' = m' ≡ (view_after_pass m.0, [])
 
-  -- meet: both old histories begin what the seat has seen
+  -- meet: both old histories are prefixes of the one that the seat has seen
   abbrev pub IsMeet : Step (Option S) → Me (Option S) (View C) → ℕ → Me (Option S) (View C) → Type 0
   IsMeet st m n m' = (m' ≡ (view_after_meet m.0, m.1)) × StartsWith m.0.known.seen m.0.first × StartsWith m.0.known.seen m.0.second × KnowsAll m.0
 

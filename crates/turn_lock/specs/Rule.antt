@@ -1,4 +1,4 @@
--- The rule of the lock: what holds between any two moves. It has seven parts. Source: defined by this project. The two
+-- The rule of the lock: the invariant between any two moves, in seven parts. Source: defined by this project. The two
 -- ticket words make a ticket lock: J. M. Mellor-Crummey and M. L. Scott, "Algorithms for scalable synchronization on
 -- shared-memory multiprocessors", ACM Transactions on Computer Systems 9 (1), 1991, section 2.2.
 use Rattle.std.specs.Prelude.{◌≡◌, ◌≢◌, ℕ, ◌+◌, ◌<◌, ◌≤◌, ◌^◌, IsTrue, List, length, Option, Some}

@@ -41,7 +41,7 @@ weigh None n = 0
 weigh (Some c) n = n
 
 module _ {C : Type 0} where
-  -- a live view is at this place
+  -- a live view is at this position
   abbrev pub Sits : List (View C) → ℕ → View C → Type 0
   Sits views j v = (get_elem? views j ≡ some v) × IsLive v.setting
 
@@ -71,6 +71,6 @@ module _ {X V : Type 0} where
   abbrev pub now_serving : State X V → ℕ
   now_serving s = slice_index s.words 16
 
-  -- the word with the place of the next entry
+  -- the word with the position of the next entry
   abbrev pub next_place : State X V → ℕ
   next_place s = slice_index s.words 32

@@ -1,5 +1,5 @@
 //! The views of the seats of a lock, and the rule of the table that they share. Word 0 is the next ticket to be drawn,
-//! word 16 the served ticket, and word 32 the place of the next entry. Slot 0 holds the state.
+//! word 16 the served ticket, and word 32 the position of the next entry. Slot 0 holds the state.
 ghost use Rattle.std.specs.Prelude.{ℕ, Bool, false};
 
 use crate::stepper::Stepper;

@@ -79,8 +79,8 @@ impl<S: Stepper> TurnLock<S> {
         Ok((TurnLock { board }, seat))
     }
 
-    /// Steps the state by an event in the turn of the seat, and returns the place of this step in the history and the
-    /// reply. Waits for the turn, unless the seat kept it. Does not allocate. A reserved event requires the baton.
+    /// Steps the state by an event in the turn of the seat, and returns the position of this step in the history and
+    /// the reply. Waits for the turn, unless the seat kept it. Does not allocate. A reserved event requires the baton.
     ///
     /// If `keep` is true, the seat keeps the turn and its next step does not wait. No other seat steps until this one
     /// passes the turn, by a step with `keep` false, or by [`Seat::release`], [`Seat::split`], [`Seat::join`] or
@@ -196,7 +196,7 @@ impl<S: Stepper> Seat<S> {
     }
 
     /// Makes a new seat, which gets `budget` steps of seat 0, and the baton if `baton` is true. Seat 0 passes the turn
-    /// first, if it kept it.
+    /// first, if it kept it. It makes fewer than 2^32 seats, so no number repeats.
     pub fn split(&mut self, lock: &TurnLock<S>, budget: u32, baton: bool) -> Seat<S>
         requires of { IsSeatOf lock.now self.old }
         requires chief { self.old.known.number ≡ 0 }

@@ -19,7 +19,7 @@
 //! | | renew | a load of the served ticket | the seat, which kept its ticket, has one step less and the next event | no |
 //! | | take | an exchange of the slot | the state leaves the slot, and is stepped | no: the seat owns the slot |
 //! | | give | an exchange of the slot | the state returns to the slot | no |
-//! | | append | an addition to the place of the next entry | the history has the entry | no: waiting seats load only the served ticket |
+//! | | append | an addition to the position of the next entry | the history has the entry | no: waiting seats load only the served ticket |
 //! | | pass | an addition to the served ticket | no seat owns the slot | yes: the turn of the next ticket begins |
 //! | `release` | pass | the same | the same, between two steps | yes |
 //!
@@ -44,7 +44,7 @@ use std::marker::Brand;
 use std::snapshot::Snapshot;
 use std::sync::Wait;
 
-// The words: the next ticket, the served ticket, and the place of the next entry in the history. No move touches the
+// The words: the next ticket, the served ticket, and the position of the next entry in the history. No move touches the
 // words between them, so each has a cache line of its own: a draw does not delay the looks of waiting seats, and these
 // do not delay the seat that has the turn.
 const NEXT_TICKET: usize = 0;
@@ -207,7 +207,7 @@ impl<S: Stepper> Board<S> {
         reply
     }
 
-    // Append: the history has the entry of the step. Returns the place of the entry.
+    // Append: the history has the entry of the step. Returns the position of the entry.
     fn append(&self, seat: &mut Token<S>) -> u64
         requires lock { seat.old.table_id ≡ self.now.table.shared.table_id }
         requires turn { IsLive seat.old.me.0.setting × ((t : ℕ) × (seat.old.me.0.stage ≡ Served t)) × (seat.old.me.0.due ≡ 1) }
@@ -276,7 +276,7 @@ impl<S: Stepper> Board<S> {
     }
 
     // The moves of a step but pass, so that the seat has the turn afterwards. If it kept the turn before (`keeps`), the
-    // step draws no ticket and does not wait. Returns the place of the entry in the history, and the reply.
+    // step draws no ticket and does not wait. Returns the position of the entry in the history, and the reply.
     pub(crate) fn step<R: Wait>(
         &self,
         rt: &R,

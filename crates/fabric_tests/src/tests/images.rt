@@ -93,7 +93,7 @@ const TONE: Heard = Heard::Tone {
     since: 1,
 };
 
-// Whether the tables of a map with one path are complete, and the circuits that slots hear are unchanged.
+// Whether the tables of a map with one path are complete, and the circuits of the slots are unchanged.
 fn are_taken_over(image: &Image) -> bool
     requires sizes { (image.now.external ≡ 1) × (image.now.bridges ≡ 0) × (image.now.slots ≡ 30) }
 {

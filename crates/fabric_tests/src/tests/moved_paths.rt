@@ -1,4 +1,4 @@
-//! Paths on thirty internal slots.
+//! Paths on 30 internal slots.
 ghost use Rattle.std.specs.Prelude.{◌≡◌, ◌<◌};
 
 use circuit_model::Slot;

@@ -50,7 +50,7 @@ fn take(
     }
 }
 
-/// Processes the steps, and returns whether lines hear the octets of a table of frames, lines and octets.
+/// Processes the steps, and returns whether lines receive the octets of a table of frames, lines and octets.
 fn are_heard(
     rt: &impl Abort,
     alloc: Global,

@@ -17,15 +17,15 @@ const FAR: Slot = Slot { line: 1, place: 29 };
 
 const RINGING: Slot = Slot { line: 1, place: 1 };
 
-/// A frame over two external lines, and the octets that are heard in it. There is a path from NEAR to FAR since frame
-/// 0, and RINGING has a tone since frame 1.
+/// A frame over two external lines, and the octets that are received in it. There is a path from NEAR to FAR since
+/// frame 0, and RINGING has a tone since frame 1.
 #[derive(Clone, Copy)]
 struct Turn {
     /// The internal slot of the path.
     slot: u8,
     /// The octet that the first line sends in each place.
     sent: u8,
-    /// The octets that FAR and RINGING hear.
+    /// The octets that FAR and RINGING receive.
     heard: (u8, u8),
 }
 
@@ -45,7 +45,7 @@ fn show(image: &mut Image, frame: u32, slot: u8)
     }
 }
 
-// Carries a frame, and returns the octets that FAR and RINGING hear in it.
+// Carries a frame, and returns the octets that FAR and RINGING receive in it.
 fn carry(
     rt: &(impl Threads + Sync),
     engine: &mut Engine,
@@ -156,7 +156,7 @@ const TURNS: [Turn; 6] = [
     },
 ];
 
-// Whether the frames are heard as required, with an engine that has carried none.
+// Whether the frames have the expected octets, with an engine that has carried none.
 fn are_heard(
     rt: &(impl Threads + Sync),
     engine: &mut Engine,

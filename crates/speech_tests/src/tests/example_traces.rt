@@ -14,7 +14,7 @@ use std::test::Fail;
 use std::thread::Threads;
 use tone_rules::Tones;
 
-/// A trace of six frames on three lines, each with thirty internal slots.
+/// A trace of six frames on three lines, each with 30 internal slots.
 #[derive(Clone, Copy)]
 enum Trace {
     /// `examples/rearrangement`: two paths move before frame 3.
@@ -23,7 +23,7 @@ enum Trace {
     LoudRoom,
 }
 
-/// The octets that are heard in a frame with an even number in `examples/rearrangement`.
+/// The octets of the lines in a frame with an even number in `examples/rearrangement`.
 const EVEN: [[u8; 30]; 3] = [
     [
         0x80, 0x82, 0x84, 0x86, 0x88, 0x8A, 0x8C, 0x8E, 0x90, 0x92, 0x94, 0x96, 0x98, 0x9A, 0x9C,
@@ -39,7 +39,7 @@ const EVEN: [[u8; 30]; 3] = [
     ],
 ];
 
-/// The octets that are heard in a frame with an odd number.
+/// The octets of the lines in a frame with an odd number.
 const ODD: [[u8; 30]; 3] = [
     [
         0x81, 0x83, 0x85, 0x87, 0x89, 0x8B, 0x8D, 0x8F, 0x91, 0x93, 0x95, 0x97, 0x99, 0x9B, 0x9D,
@@ -55,7 +55,7 @@ const ODD: [[u8; 30]; 3] = [
     ],
 ];
 
-/// The octets that are heard in the last frame but two, in which the newest path carries too.
+/// The octets of the lines in the last frame but two, in which the newest path carries too.
 const LAST: [[u8; 30]; 3] = [
     [
         0x81, 0x83, 0x85, 0x87, 0x89, 0x8B, 0x8D, 0x8F, 0x91, 0x93, 0x95, 0x97, 0x99, 0x9B, 0x9D,
@@ -71,10 +71,10 @@ const LAST: [[u8; 30]; 3] = [
     ],
 ];
 
-/// A line on which nothing is heard.
+/// The octets of a silent line.
 const SILENT: [u8; 30] = [IDLE; 30];
 
-/// A line that hears the loudest positive octet in the first place.
+/// The octets of a line that receives the loudest positive octet in the first place.
 const LOUD: [u8; 30] = [
     0xAA, IDLE, IDLE, IDLE, IDLE, IDLE, IDLE, IDLE, IDLE, IDLE, IDLE, IDLE, IDLE, IDLE, IDLE, IDLE,
     IDLE, IDLE, IDLE, IDLE, IDLE, IDLE, IDLE, IDLE, IDLE, IDLE, IDLE, IDLE, IDLE, IDLE,
@@ -95,7 +95,7 @@ fn join(image: &mut Image, near: Slot, far: Slot, there: u8, back: u8, since: u3
     image.set_heard(far, Heard::Path { since });
 }
 
-// Writes the paths of lines 0 and 1 to line 2 and back, thirty of each. After the move, two of those back are in other
+// Writes the paths of lines 0 and 1 to line 2 and back, 30 of each. After the move, two of those back are in other
 // internal slots, and lines 0 and 1 are joined too.
 fn lay_pairs(image: &mut Image, moved: bool)
     requires sizes { (image.old.external ≡ 3) × (image.old.bridges ≡ 1) × (image.old.slots ≡ 30) }
@@ -168,7 +168,7 @@ fn sent(trace: Trace, frame: u32, line: u8) -> [u8; 30] {
     octets
 }
 
-// The octets that the lines hear in a frame of the trace's report.
+// The octets that the lines receive in a frame of the trace's report.
 fn reported(trace: Trace, frame: u32) -> [[u8; 30]; 3] {
     match (trace, frame) {
         (Trace::Rearrangement, 2 | 4) => EVEN,
@@ -189,7 +189,7 @@ fn sent_by_all(trace: Trace, frame: u32) -> [[u8; 30]; 3] {
     ]
 }
 
-// Carries a frame, and returns whether the lines hear the octets of the report.
+// Carries a frame, and returns whether the lines receive the octets of the report.
 fn hears_as_reported(
     rt: &(impl Threads + Sync),
     engine: &mut Engine,

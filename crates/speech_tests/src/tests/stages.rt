@@ -189,7 +189,7 @@ fn octets_pass_stage_by_stage(rt: HostRuntime) -> Result<(), Fail> {
     Ok(())
 }
 
-// Whether the slots of the two lines hear the octets of their paths, and no other slot hears one of these octets.
+// Whether the slots of the two lines receive the octets of their paths, and no other slot receives one of these octets.
 fn have_reached(out: &FrameBuffer) -> bool
     requires lines { out.now.lines ≡ 2 }
 {
