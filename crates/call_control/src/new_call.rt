@@ -34,7 +34,7 @@ pub(crate) struct Caller {
     pub slot: Slot,
     /// Its call reference value.
     pub reference: u16,
-    /// Whether no reply to its SETUP was sent yet. The first reply names the channel of its call.
+    /// Whether no reply to its SETUP was sent yet. The first reply states the channel of its call.
     pub first: bool,
 }
 
@@ -139,7 +139,7 @@ impl<P: PathMap> CallControl<P> {
     }
 }
 
-// Sends CALL PROCEEDING to a caller. As the first reply it names the channel.
+// Sends CALL PROCEEDING to a caller. As the first reply it states the channel.
 fn send_proceeding(out: &mut Outbox, caller: Caller, leg: &Leg)
     requires place { caller.slot.place < 30 }
     requires room { length out.old.sends < most_sends }
@@ -185,7 +185,7 @@ fn called_leg(reference: u16, caller: Slot) -> Leg
     }
 }
 
-// The SETUP ACKNOWLEDGE that names the caller's channel and requests further digits.
+// The SETUP ACKNOWLEDGE that states the caller's channel and requests further digits.
 fn setup_acknowledge(x: Slot, leg: &Leg) -> Outgoing<'static>
     requires place { x.place < 30 }
     ensures { outgoing_of result ≡ setup_acknowledge x leg.now }
@@ -193,7 +193,7 @@ fn setup_acknowledge(x: Slot, leg: &Leg) -> Outgoing<'static>
     with_channel(x, message_to(leg, MessageKind::SetupAcknowledge))
 }
 
-// A message that names the channel of the user's call.
+// A message that states the channel of the user's call.
 fn with_channel(x: Slot, message: Outgoing<'static>) -> Outgoing<'static>
     requires place { x.place < 30 }
     ensures { outgoing_of result ≡ with_channel x (outgoing_of message.entry) }

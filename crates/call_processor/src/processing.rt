@@ -23,7 +23,7 @@ use std::alloc::{AllocError, Global};
 use std::sync::Wait;
 
 /// The greatest number of events in one turn of a call processor. A pass wakes a waiting thread through the scheduler,
-/// which takes as long as many events. A waiting worker waits for at most one turn of each other worker.
+/// which takes the time of many events. A waiting worker waits for at most one turn of each other worker.
 pub const MAX_TURN_EVENTS: u32 = 512;
 
 // Processes one event of a call processor in a turn of the seat, and keeps the turn if `keep` is true. The desk holds

@@ -339,7 +339,7 @@ fn a_member_sits_in_the_lowest_free_port(rt: HostRuntime) -> Result<(), Fail> {
     Ok(())
 }
 
-// Thirty members, and one more that finds no port until one of them is cleared.
+// All 30 members of a bridge line, and one more that finds no port until one of them is cleared.
 fn around_a_full_line(alloc: Global) -> Result<Vec<(Step, Told)>, AllocError> {
     let mut steps = Vec::new(alloc);
     for place in 0..30 {

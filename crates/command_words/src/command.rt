@@ -37,8 +37,8 @@ pub enum WordsFault {
 /// Parses the arguments: the first is the name of the command, and the others are its arguments.
 ///
 /// The commands are `run` and `check`, each with the flag `--strict` at most once, and `gen SEED CALLS`. Each number
-/// has one to ten decimal digits without a leading zero, except `0` itself. An argument `--` ends the options, so a
-/// flag after it is none. A request for help is not a command. These are clap's rules.
+/// has one to ten decimal digits without a leading zero, except `0` itself. An argument `--` ends the options, so
+/// `--strict` after it is not a flag. A request for help is not a command. These are clap's rules.
 ///
 /// # Errors
 ///

@@ -37,7 +37,7 @@ world_at board history = world_after board.slots board.trace (order_of history)
 abbrev pub IsFrame : Trace → ℕ → Type 0
 IsFrame trace n = (input : Input) × IsNumbered trace n (Frame input)
 
--- no entry is a frame
+-- no entry belongs to a frame
 abbrev pub NoFrames : Trace → List Entry → Type 0
 NoFrames trace history = HasNone (IsFrame trace) history
 

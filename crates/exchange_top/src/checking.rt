@@ -51,7 +51,7 @@ pub fn check<S: Source, K: Sink, R: Threads + Sync>(
     }
 }
 
-// Returns the finding on an input, and the line that reports it. If the trace is refused, the report is not read,
+// Returns the finding on an input, and the line that reports it. If the trace is refused, the report is not verified,
 // because the refusal names the wrong line of the trace.
 fn found<R: Threads + Sync>(
     rt: &R,

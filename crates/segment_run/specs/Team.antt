@@ -23,8 +23,8 @@ unfoldable pub loads_below : Trace → ℕ → ℕ → ℕ
 loads_below trace segment zero = 0
 loads_below trace segment (suc n) = loads_below trace segment n + load trace segment n
 
--- a new seat that seat 0 made when it knew v: with this number and n turns, the history that v has seen, and no entry
--- of its own
+-- a new seat that seat 0 made when it knew v: with this number and n turns, the history that v has seen, and no own
+-- entry
 pub record IsNew (v : Known) (number turns : ℕ) (w : Known) : Type 0 where
   pub number_is : w.number ≡ number
   pub turns_are : w.left ≡ turns

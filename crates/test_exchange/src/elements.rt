@@ -4,7 +4,7 @@ ghost use Rattle.std.specs.Prelude.{◌<◌, ◌+◌, IfSome, length};
 
 use crate::types::{CALL_STATE, CAUSE, NORMAL_CLEARING};
 
-/// A message as it was received (ITU-T Q.931 (05/98), section 4).
+/// A received message (ITU-T Q.931 (05/98), section 4).
 #[derive(Clone, Copy)]
 pub(crate) struct Received<'a> {
     /// The flag of the call reference: set towards the side that chose the reference.

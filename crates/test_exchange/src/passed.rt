@@ -12,8 +12,8 @@ use crate::writing::{add_channel, add_element, bare_message};
 use circuit_model::Slot;
 use std::alloc::{AllocError, Global};
 
-/// The contents of the elements that are passed from a caller to the called user, as they were received; empty if there
-/// is no such element.
+/// The contents of the elements that are passed from a caller to the called user unchanged; empty if there is no such
+/// element.
 #[derive(Drop)]
 pub(crate) struct Passed {
     /// The caller's slot.
@@ -75,7 +75,7 @@ fn contents_of(alloc: Global, setup: &Received, code: u8) -> Result<Vec<u8>, All
     Vec::from_slice(alloc, setup.find(code).unwrap_or(&[]))
 }
 
-// Passes an element on as it was received, unless it is empty or too long.
+// Passes an element on unchanged, unless it is empty or too long.
 fn pass_on(octets: &mut Vec<u8>, code: u8, contents: &[u8], longest: u8) -> Result<(), AllocError> {
     if contents.is_empty() || contents.len() > usize::from(longest) {
         return Ok(());

@@ -8,7 +8,7 @@ use trace_text::read_trace;
 // The lines before a case, so that the case is line 2 of an exchange of one line.
 const HEADER: &str = "exchange 1 1 0 1\n";
 
-// Thirty octets, with digits of both cases.
+// The 30 octets of a line, with digits of both cases.
 const OCTETS: &str = "00010203040506070809a0B1c2D3e4F5FFfF0123456789abcdefABCDEF55";
 
 // The trace of a text. It has no clause, so that the tests do not depend on the grammar.

@@ -17,8 +17,8 @@ const ROOM_OF_A_CALL: usize = 520;
 
 /// Generates the trace of a seed with n calls, 1 to 2000, as octets: lines, each with a line feed at its end.
 ///
-/// The exchange has eight external lines, one bridge line and four call processors. Twenty places of the lines 0 to 3
-/// are nailed to the lines 4 to 7. Then each call is set up, lasts one to three frames, and is cleared by its caller
+/// The exchange has eight external lines, one bridge line and four call processors. The lines 0 to 3 are nailed to the
+/// lines 4 to 7 at 20 places of each. Then each call is set up, lasts one to three frames, and is cleared by its caller
 /// before the next one begins.
 ///
 /// # Errors

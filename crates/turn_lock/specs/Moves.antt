@@ -122,7 +122,7 @@ module _ {S C : Type 0} where
   abbrev pub IsAppend : Step (Option S) → Me (Option S) (View C) → ℕ → Me (Option S) (View C) → Type 0
   IsAppend st m n m' = (m' ≡ (view_after_append m.0, m.1)) × (n ≡ length m.0.known.seen) × (m.0.known.number ≡ 0 → KnowsAll (view_after_append m.0))
 
-  -- pass: the slot is no seat's
+  -- pass: no seat owns the slot
   abbrev pub IsPass : Step (Option S) → Me (Option S) (View C) → ℕ → Me (Option S) (View C) → Type 0
   IsPass st m n m' = m' ≡ (view_after_pass m.0, [])
 

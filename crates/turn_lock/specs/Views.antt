@@ -58,7 +58,7 @@ module _ {C : Type 0} where
   total f [] = 0
   total f (v ∷ vs) = weigh v.setting (f v) + total f vs
 
-  -- it is no seat's turn
+  -- no seat has the turn
   abbrev pub NoneServed : List (View C) → Type 0
   NoneServed views = (j : ℕ) (v : View C) → Sits views j v → IsServed v.stage → ⊥
 

@@ -45,8 +45,8 @@ use std::snapshot::Snapshot;
 use std::sync::Wait;
 
 // The words: the next ticket, the served ticket, and the position of the next entry in the history. No move touches the
-// words between them, so each has a cache line of its own: a draw does not delay the looks of waiting seats, and these
-// do not delay the seat that has the turn.
+// words between them, so each has its own cache line. A draw does not delay the looks of waiting seats, and these do
+// not delay the seat that has the turn.
 const NEXT_TICKET: usize = 0;
 
 const NOW_SERVING: usize = 16;
