@@ -1,4 +1,4 @@
--- The contents of a requested call, wherever its octets are in memory. Source: defined by this project.
+-- The contents of a requested call, wherever its octets are in memory. Source: this project.
 use Rattle.call_states.specs.declared.pending.Pending.{Pending}
 use Rattle.call_control.specs.declared.asked.Asked.{Asked}
 

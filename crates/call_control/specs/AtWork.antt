@@ -1,4 +1,4 @@
--- An exchange at work. Source: defined by this project.
+-- An exchange at work. Source: this project.
 use Rattle.std.specs.Prelude.{◌≡◌, List}
 use Rattle.number_plan.specs.declared.plan.Number.{Number}
 use Rattle.tone_rules.specs.declared.tones.Tones.{Tones}

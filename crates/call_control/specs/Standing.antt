@@ -1,4 +1,4 @@
--- The exchange state that a map of circuits and a table of legs hold. Source: defined by this project.
+-- The exchange state that a map of circuits and a table of legs hold. Source: this project.
 use Rattle.std.specs.Prelude.{◌≡◌, ℕ, List, Option}
 use Rattle.circuit_map.specs.Connections.{Connections, Represents}
 use Rattle.circuit_model.specs.declared.channel.Slot.{Slot}

@@ -1,4 +1,4 @@
--- A segment that seat 0 processes without other seats, in file order. Source: defined by this project.
+-- A segment that seat 0 processes without other seats, in file order. Source: this project.
 use Rattle.std.specs.Prelude.{◌≡◌, ℕ, Bool, IsTrue, List, [], ◌∷◌, ◌++◌}
 use Rattle.circuit_model.specs.declared.circuit.Kind.{Kind}
 use Rattle.seat_history.specs.declared.known.Known.{Known}

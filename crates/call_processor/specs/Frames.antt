@@ -1,4 +1,4 @@
--- The frames that a frame worker's engine carries, and the octets that it outputs. Source: defined by this project.
+-- The frames that a frame worker's engine carries, and the octets that it outputs. Source: this project.
 use Rattle.std.specs.Prelude.{◌≡◌, ℕ, List, [], length}
 use Rattle.circuit_model.specs.declared.circuit.Circuit.{Circuit}
 use Rattle.circuit_model.specs.declared.circuit.Kind.{Kind}

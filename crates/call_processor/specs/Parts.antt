@@ -1,4 +1,4 @@
--- The events of a segment that each worker processes. Source: defined by this project.
+-- The events of a segment that each worker processes. Source: this project.
 use Rattle.std.specs.Prelude.{ℕ, ◌&&◌, nat_eq, Bool, true, false, List, length, filter, Option, Some, None}
 use Rattle.exchange_events.specs.declared.trace.Event.{Event}
 use Rattle.exchange_events.specs.declared.trace.Trace.{Trace}

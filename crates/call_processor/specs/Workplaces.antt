@@ -1,4 +1,4 @@
--- The result of a part of a segment at a workplace. Source: defined by this project.
+-- The result of a part of a segment at a workplace. Source: this project.
 use Rattle.std.specs.Prelude.{ℕ, IsTrue, List}
 use Rattle.seat_history.specs.declared.known.Known.{Known}
 use Rattle.exchange_core.specs.Boards.{Board}

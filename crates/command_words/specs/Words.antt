@@ -1,5 +1,5 @@
--- The commands of the command line. Source: defined by this project. The arguments after the first are read as clap's
--- contract of `try_get_matches_from` states for a simple command.
+-- The commands of the command line. Source: this project. The arguments after the first are read as clap's contract of
+-- `try_get_matches_from` states for a simple command.
 use Rattle.std.specs.Prelude.{◌≤◌, ⊤, true, false, Bool, List, [], ◌∷◌, codes, Option, Some, None, ◌==◌, if◌then◌else◌}
 use Rattle.std.specs.Str.{bytes_eq}
 use Rattle.clap.specs.Words.{App, Kinds, Rule, Text, fault_of, first_of, matches_of, new_app, new_rule, with_rule}

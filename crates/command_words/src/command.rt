@@ -8,7 +8,7 @@ use clap::error::ErrorKind;
 use clap::{ArgMatches, Error};
 use std::alloc::Global;
 
-/// The maximum number of calls of a generated trace. Source: defined by this project.
+/// The maximum number of calls of a generated trace. Source: this project.
 const MOST_CALLS: u32 = 2000;
 
 /// The command of the arguments.

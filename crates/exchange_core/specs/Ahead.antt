@@ -1,4 +1,4 @@
--- The part of an event that is parsed before its turn. Source: defined by this project.
+-- The part of an event that is parsed before its turn. Source: this project.
 use Rattle.std.specs.Prelude.{◌≡◌, ℕ, Bool, false, List, Option, is_some, IfSome}
 use Rattle.number_plan.specs.declared.plan.Number.{Number}
 use Rattle.exchange_events.specs.declared.trace.Event.{Event}

@@ -1,4 +1,4 @@
--- The map of paths with which an exchange starts. Source: defined by this project.
+-- The map of paths with which an exchange starts. Source: this project.
 use Rattle.std.specs.Prelude.{◌≡◌, ◌≤◌, ◌*◌, ℕ, None, replicate}
 use Rattle.control_memory.specs.Layout.{Layout}
 

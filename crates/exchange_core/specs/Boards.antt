@@ -1,5 +1,5 @@
 -- The setting of a switchboard and its reply at a history. A seat is the right to process a number of events of a
--- trace; all seats of a board share one history. Source: defined by this project.
+-- trace; all seats of a board share one history. Source: this project.
 use Rattle.std.specs.Prelude.{◌≡◌, ℕ, ◌+◌, ◌<◌, IsTrue, List, length}
 use Rattle.circuit_model.specs.FrameInput.{Input}
 use Rattle.seat_history.specs.declared.known.Known.{Known}

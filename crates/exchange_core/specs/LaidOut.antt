@@ -1,5 +1,4 @@
--- The paths after a list of events. Source: defined by this project; legality is M. C. Paull's (control_memory,
--- Layout).
+-- The paths after a list of events. Source: this project; legality is M. C. Paull's (control_memory, Layout).
 use Rattle.std.specs.Prelude.{ℕ, List}
 use Rattle.control_memory.specs.Layout.{Legal}
 use Rattle.control_memory.specs.Shown.{JoinsCircuits}

@@ -1,4 +1,4 @@
--- The output of a step in addition to its reply. Source: defined by this project.
+-- The output of a step in addition to its reply. Source: this project.
 use Rattle.std.specs.Prelude.{Option, Some, None}
 use Rattle.control_memory.specs.Image.{Control}
 use Rattle.exchange_core.specs.declared.tool.Tool.{Tool}

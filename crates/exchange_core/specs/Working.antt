@@ -1,4 +1,4 @@
--- The state of a core, as contracts see it. Source: defined by this project.
+-- The state of a core, as contracts see it. Source: this project.
 use Rattle.std.specs.Prelude.{◌≡◌, ℕ, ◌≤◌, List, length, map, Some, All}
 pub use Rattle.seat_history.specs.Histories.{Entry}
 use Rattle.circuit_map.specs.Connections.{Connections}

@@ -1,4 +1,4 @@
--- The changes of meters at one place of a run. Source: defined by this project.
+-- The changes of meters at one place of a run. Source: this project.
 use Rattle.std.specs.Prelude.{◌≡◌, ◌≢◌, ℕ, ◌-◌, ◌<◌, ◌≤◌, List, [], ◌∷◌, ◌++◌, length, replicate, slice_index_or, take}
 use Rattle.exchange_events.specs.declared.record.CallRecord.{CallRecord}
 use Rattle.meters.specs.Changing.{AreChangedBy, AreMetered, IsPast, Metering, Meters_changed, after_steps, changes_at}

@@ -1,4 +1,4 @@
--- A report that is read with its trace, and the verdict on it. Source: defined by this project.
+-- A report that is read with its trace, and the verdict on it. Source: this project.
 use Rattle.std.specs.Prelude.{ℕ, Bool, true, false, List, [], ◌∷◌, ◌++◌, ◌≡◌, ◌≢◌, ◌⊎◌, ◌<◌, ◌≤◌, All, codes, length}
 use Rattle.exchange_events.specs.declared.trace.Trace.{Trace}
 use Rattle.trace_text.specs.declared.fault.Reason.{Reason}

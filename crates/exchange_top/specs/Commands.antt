@@ -1,4 +1,4 @@
--- The commands, and the fabric that each requests. Source: defined by this project.
+-- The commands, and the fabric that each requests. Source: this project.
 use Rattle.std.specs.Prelude.{ℕ, Bool, true, false, List, Some, None, String, map, string_bytes, ◌+◌, ◌≡◌, ◌⊎◌}
 use Rattle.std.specs.declared.option.Option.{Option}
 use Rattle.exchange_events.specs.declared.trace.Trace.{Trace}

@@ -1,4 +1,4 @@
--- The endings of a call, with one definition for each. Source: defined by this project.
+-- The endings of a call, with one definition for each. Source: this project.
 use Rattle.std.specs.Prelude.{ℕ, Bool, false, List, [], Some, ◌≡◌, ◌⊎◌}
 use Rattle.std.specs.declared.option.Option.{Option}
 use Rattle.exchange_events.specs.declared.trace.Trace.{Trace}

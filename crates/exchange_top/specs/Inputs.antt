@@ -1,4 +1,4 @@
--- The input of a call, which is read to its end or up to a limit. Source: defined by this project.
+-- The input of a call, which is read to its end or up to a limit. Source: this project.
 use Rattle.std.specs.Prelude.{ℕ, List, length, ◌+◌, ◌≤◌}
 use Rattle.std.specs.Io.KnownBytes.{Consumes, IsAtEnd}
 use Rattle.std.specs.declared.option.Option.{Option}

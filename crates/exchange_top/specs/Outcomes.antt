@@ -1,4 +1,4 @@
--- The progress of a run, its output, the records of its meters, and the engine. Source: defined by this project.
+-- The progress of a run, its output, the records of its meters, and the engine. Source: this project.
 use Rattle.std.specs.Prelude.{◌≡◌, ◌⊎◌, ⊤, ℕ, List, Some, None, [], ◌++◌, All, IfSome}
 use Rattle.std.specs.Io.KnownBytes.{Appends}
 use Rattle.std.specs.declared.option.Option.{Option}

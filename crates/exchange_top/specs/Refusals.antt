@@ -1,5 +1,4 @@
--- The lines that end a call without a run, and the ways in which such a line is written. Source: defined by this
--- project.
+-- The lines that end a call without a run, and the ways in which such a line is written. Source: this project.
 use Rattle.std.specs.Prelude.{ℕ, List, [], codes, decimal, ◌++◌, ◌≡◌}
 use Rattle.trace_text.specs.declared.fault.Reason.{Reason}
 use Rattle.trace_text.specs.declared.fault.Reason.TheVariants as reason

@@ -1,4 +1,4 @@
--- A run of a trace, segment by segment. Source: defined by this project.
+-- A run of a trace, segment by segment. Source: this project.
 use Rattle.std.specs.Prelude.{◌≡◌, ◌++◌, ℕ, List, All, Result, Ok, Err, None, Some, map}
 use Rattle.tone_rules.specs.Tables.{table_of}
 use Rattle.seat_history.specs.declared.known.Known.{Known}

@@ -1,4 +1,4 @@
--- The story of a run: its events, and the changes of its meters between them. Source: defined by this project.
+-- The story of a run: its events, and the changes of its meters between them. Source: this project.
 use Rattle.std.specs.Prelude.{ℕ, List, [], ◌∷◌, ◌++◌}
 use Rattle.tone_rules.specs.Tables.{table_of}
 use Rattle.exchange_events.specs.declared.trace.Event.{Event}

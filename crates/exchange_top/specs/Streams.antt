@@ -1,5 +1,5 @@
--- A source and a sink before and after a call, and the bytes that were moved if a read or a write failed. Source:
--- defined by this project.
+-- A source and a sink before and after a call, and the bytes that were moved if a read or a write failed. Source: this
+-- project.
 use Rattle.std.specs.Prelude.{ℕ, ◌≤◌, List, length, take}
 use Rattle.std.specs.Io.KnownBytes.{Appends, Consumes, Keeps}
 use Rattle.std.specs.declared.option.Option.{Option}

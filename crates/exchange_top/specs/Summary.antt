@@ -1,4 +1,4 @@
--- The output of the command `gen`. Source: defined by this project.
+-- The output of the command `gen`. Source: this project.
 use Rattle.std.specs.Prelude.{ℕ, ◌++◌, Bool, true, false, List, length, count_by, codes, decimal}
 use Rattle.exchange_events.specs.declared.trace.Event.{Event}
 use Rattle.exchange_events.specs.declared.trace.Event.TheVariants.{Nail, Seat, Free, Message, Frame}

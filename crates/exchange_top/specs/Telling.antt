@@ -1,4 +1,4 @@
--- The calls that the meters of a run record. Source: defined by this project.
+-- The calls that the meters of a run record. Source: this project.
 use Rattle.std.specs.Prelude.{◌≡◌, ℕ, List, [], ◌∷◌, ◌++◌, map}
 use Rattle.std.specs.List.{AllZip, concat}
 use Rattle.exchange_events.specs.declared.answer.Answer.{Answer}

@@ -1,4 +1,4 @@
--- The trace of a seed and a number of calls. Source: defined by this project.
+-- The trace of a seed and a number of calls. Source: this project.
 use Rattle.std.specs.Prelude.{◌≡◌, ℕ, List, map}
 use Rattle.exchange_events.specs.declared.trace.Trace.{Trace}
 use Rattle.trace_text.specs.declared.said.Said.{Said}

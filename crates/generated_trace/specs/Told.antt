@@ -1,4 +1,4 @@
--- The contents of the lines of a generated trace. Source: defined by this project.
+-- The contents of the lines of a generated trace. Source: this project.
 use Rattle.std.specs.Prelude.{ℕ, List, fold, replicate, slice_set, Some, None}
 use Rattle.circuit_model.specs.declared.channel.Slot.{Slot}
 use Rattle.circuit_model.specs.FrameInput.{Input}

@@ -1,4 +1,4 @@
--- The calls that were cleared with one cause, and a count of them. Source: defined by this project.
+-- The calls that were cleared with one cause, and a count of them. Source: this project.
 use Rattle.std.specs.Prelude.{◌≡◌, ℕ, ◌+◌, ◌==◌, List, ◌++◌, codes, decimal}
 use Rattle.std.specs.List.{count_by}
 use Rattle.exchange_events.specs.declared.record.CallRecord.{CallRecord}

@@ -1,4 +1,4 @@
--- The lines of events, stored until they are written. Source: defined by this project.
+-- The lines of events, stored until they are written. Source: this project.
 use Rattle.std.specs.Prelude.{◌≡◌, ℕ, ◌<◌, ◌≤◌, List, [], ◌∷◌, ◌++◌, length, drop, All, Option, Some, None}
 use Rattle.exchange_events.specs.declared.record.CallRecord.{CallRecord}
 use Rattle.report_text.specs.Report.{answer_line}

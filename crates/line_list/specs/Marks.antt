@@ -1,4 +1,4 @@
--- Lines in one text, each with its mark. Source: defined by this project.
+-- Lines in one text, each with its mark. Source: this project.
 use Rattle.std.specs.Prelude.{◌≡◌, ℕ, ◌+◌, ◌<◌, ◌≤◌, List, [], ◌∷◌, length, take, drop, All}
 use Rattle.exchange_events.specs.declared.record.CallRecord.{CallRecord}
 use Rattle.line_list.specs.declared.lines.Mark.{Mark}

@@ -1,5 +1,4 @@
--- A meter before and after it recorded calls, by the calls that it represents and its text. Source: defined by this
--- project.
+-- A meter before and after it recorded calls, by the calls that it represents and its text. Source: this project.
 use Rattle.std.specs.Prelude.{◌≡◌, ℕ, List, ◌++◌}
 use Rattle.exchange_events.specs.declared.record.CallRecord.{CallRecord}
 

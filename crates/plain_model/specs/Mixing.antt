@@ -1,4 +1,4 @@
--- The value that each circuit adds to a room's mix. Source: defined by this project.
+-- The value that each circuit adds to a room's mix. Source: this project.
 use Rattle.std.specs.Prelude.{ℕ, ◌-◌, ℤ, pos, List, if◌then◌else◌}
 use Rattle.circuit_model.specs.declared.channel.Slot.{Slot}
 use Rattle.circuit_model.specs.declared.circuit.Circuit.{Circuit}

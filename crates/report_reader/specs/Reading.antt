@@ -1,4 +1,4 @@
--- The parser of a report's line, from its start. Source: defined by this project.
+-- The parser of a report's line, from its start. Source: this project.
 use Rattle.std.specs.Prelude.{ℕ, zero, suc, ◌+◌, ◌-◌, ◌*◌, ◌^◌, ◌==◌, ◌&&◌, ◌||◌, not, nat_lt, nat_le, Bool, List, [], ◌∷◌, ◌++◌, length, replicate, codes, Option, Some, None, option_map, option_and_then, if◌then◌else◌}
 use Rattle.std.specs.Char.{is_ascii_digit}
 use Rattle.circuit_model.specs.FrameInput.{idle_octet}

@@ -1,4 +1,4 @@
--- The answers that the lines of a report encode. Source: defined by this project.
+-- The answers that the lines of a report encode. Source: this project.
 use Rattle.std.specs.Prelude.{◌≡◌, ℕ, ◌+◌, ◌^◌, ◌<◌, ◌≤◌, ◌==◌, Bool, false, not, List, [], ◌∷◌, ◌++◌, length, codes, All, IfSome, None, ⊤}
 use Rattle.std.specs.List.{last_or, list_all}
 use Rattle.circuit_model.specs.FrameInput.{idle_octet}

@@ -1,4 +1,4 @@
--- The text of a report, line by line. Source: defined by this project.
+-- The text of a report, line by line. Source: this project.
 use Rattle.std.specs.Prelude.{ℕ, ◌+◌, ◌==◌, List, [], ◌∷◌, ◌++◌, length, map, codes, decimal, slice_index, slice_index_or, if◌then◌else◌, Option, Some, None}
 use Rattle.std.specs.List.{list_all, range_with_len}
 use Rattle.hex.specs.Hex.{encode_upper}

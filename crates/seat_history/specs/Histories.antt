@@ -1,4 +1,4 @@
--- Histories: the processed events in order, each with the seat that processed it. Source: defined by this project.
+-- Histories: the processed events in order, each with the seat that processed it. Source: this project.
 use Rattle.std.specs.Prelude.{◌≡◌, ℕ, List, ◌++◌, length, take, drop, nat_lt, nat_eq, if◌then◌else◌, filter, All}
 
 -- the number of a seat, and the event that it processed

@@ -1,4 +1,4 @@
--- The knowledge of a lock seat, and its change by each call. Source: defined by this project.
+-- The knowledge of a lock seat, and its change by each call. Source: this project.
 use Rattle.std.specs.Prelude.{◌≡◌, ◌≢◌, ℕ, ◌+◌, ◌-◌, ◌≤◌, ◌||◌, nat_eq, Bool, true, false, IsTrue, if◌then◌else◌, List, [], ◌∷◌, ◌++◌, map, length, All, AllPairs}
 use Rattle.std.specs.List.{list_any}
 use Rattle.seat_history.specs.declared.known.JoinedSeat.{JoinedSeat}

@@ -1,4 +1,4 @@
--- The segments whose workers run in threads. Source: defined by this project.
+-- The segments whose workers run in threads. Source: this project.
 use Rattle.std.specs.Prelude.{ℕ, ◌+◌, ◌-◌, max, List, [], ◌∷◌}
 
 -- the number of events of all workers together

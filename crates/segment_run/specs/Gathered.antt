@@ -1,4 +1,4 @@
--- The results of all workers of a segment, once their seats are joined. Source: defined by this project.
+-- The results of all workers of a segment, once their seats are joined. Source: this project.
 use Rattle.std.specs.Prelude.{◌≡◌, ℕ, ◌+◌, ◌≤◌, IsTrue, List, length, map, vec_capacity}
 use Rattle.exchange_events.specs.declared.trace.Trace.{Trace}
 use Rattle.seat_history.specs.declared.known.Known.{Known}

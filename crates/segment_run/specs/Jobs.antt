@@ -1,4 +1,4 @@
--- The jobs of a segment's workers, and their results. Source: defined by this project.
+-- The jobs of a segment's workers, and their results. Source: this project.
 use Rattle.std.specs.Prelude.{◌≡◌, ℕ, ◌+◌, ◌<◌, ◌≤◌, List, [], length, map, All, vec_len, vec_capacity}
 use Rattle.std.specs.List.{AllZip}
 use Rattle.circuit_model.specs.declared.circuit.Kind.{Kind}

@@ -1,4 +1,4 @@
--- The contents of a workroom between two segments. Source: defined by this project.
+-- The contents of a workroom between two segments. Source: this project.
 use Rattle.std.specs.Prelude.{◌≡◌, ◌≤◌, [], vec_capacity}
 use Rattle.std.specs.declared.alloc.Global.{Global}
 use Rattle.std.specs.declared.vec.Vec.{Vec}

@@ -1,5 +1,4 @@
--- A run of a segment, from the knowledge of seat 0 before it to its knowledge after it. Source: defined by this
--- project.
+-- A run of a segment, from the knowledge of seat 0 before it to its knowledge after it. Source: this project.
 use Rattle.std.specs.Prelude.{◌≡◌, ℕ, ◌+◌, ◌<◌, ◌≤◌, ◌^◌, IsTrue, List, [], ◌++◌, length, map, filter, slice_get, Some, All}
 use Rattle.circuit_model.specs.declared.circuit.Kind.{Kind}
 use Rattle.circuit_model.specs.FrameInput.{Input}

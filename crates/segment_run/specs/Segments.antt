@@ -1,4 +1,4 @@
--- The progress of a run in the segments of a trace. Source: defined by this project.
+-- The progress of a run in the segments of a trace. Source: this project.
 use Rattle.std.specs.Prelude.{ℕ, ◌<◌, List, ◌∷◌, slice_index, All, Contains}
 use Rattle.exchange_events.specs.declared.trace.Trace.{Trace}
 use Rattle.exchange_events.specs.Orders.{IsEvent, IsLawfulPrefix, segment_of}

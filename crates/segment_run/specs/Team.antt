@@ -1,4 +1,4 @@
--- The workers of a segment, their seats and their answers. Source: defined by this project.
+-- The workers of a segment, their seats and their answers. Source: this project.
 use Rattle.std.specs.Prelude.{◌≡◌, ℕ, zero, suc, ◌+◌, ◌≤◌, ◌||◌, nat_lt, Bool, false, if◌then◌else◌, List, [], ◌∷◌, length}
 use Rattle.exchange_events.specs.declared.trace.Trace.{Trace}
 use Rattle.exchange_events.specs.Orders.{Worker, Processor, Frame_worker}

@@ -1,4 +1,4 @@
--- A switchboard over a lock: the lock's setting is the board. Source: defined by this project.
+-- A switchboard over a lock: the lock's setting is the board. Source: this project.
 use Rattle.std.specs.Prelude.{◌≡◌, ℕ, List}
 use Rattle.seat_history.specs.Histories.{Entry}
 use Rattle.exchange_events.specs.declared.reply.Reply.{Reply}

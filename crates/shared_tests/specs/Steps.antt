@@ -1,4 +1,4 @@
--- The knowledge of a seat after a step. Source: defined by this project.
+-- The knowledge of a seat after a step. Source: this project.
 use Rattle.std.specs.Prelude.{◌≡◌, ◌+◌, ◌≤◌, length}
 use Rattle.seat_history.specs.declared.known.Known.{Known}
 

@@ -1,4 +1,4 @@
--- The calls to one line, and a count of them: an example of a program's own meter. Source: defined by this project.
+-- The calls to one line, and a count of them: an example of a program's own meter. Source: this project.
 use Rattle.std.specs.Prelude.{◌≡◌, ℕ, ◌+◌, ◌==◌, Bool, false, List, ◌++◌, codes, decimal}
 use Rattle.std.specs.List.{count_by}
 use Rattle.exchange_events.specs.declared.record.Party.{Party}

@@ -1,4 +1,4 @@
--- The rule on a seat's entries in the history. Source: defined by this project.
+-- The rule on a seat's entries in the history. Source: this project.
 use Rattle.std.specs.Prelude.{◌≡◌, ◌≢◌, ℕ, List, [], ◌∷◌}
 use Rattle.std.specs.List.{AllByRecursion as Every}
 use Rattle.seat_history.specs.declared.known.JoinedSeat.{JoinedSeat}

@@ -1,4 +1,4 @@
--- A lock and its seats, as a caller knows them. Source: defined by this project.
+-- A lock and its seats, as a caller knows them. Source: this project.
 use Rattle.std.specs.Prelude.{◌≡◌, ℕ, Bool, Option, Some}
 use Rattle.atomic_table.specs.Seated.{TableId}
 use Rattle.seat_history.specs.declared.known.Known.{Known}

@@ -1,4 +1,4 @@
--- The view after each of the ten moves, and the knowledge that its seat gains. Source: defined by this project.
+-- The view after each of the ten moves, and the knowledge that its seat gains. Source: this project.
 use Rattle.std.specs.Prelude.{◌≡◌, ◌≢◌, ℕ, ◌-◌, ◌<◌, ◌^◌, Bool, true, false, IsTrue, List, [], ◌∷◌, ◌++◌, length, Option, Some, None}
 use Rattle.std.specs.List.{AllByRecursion as Every}
 use Rattle.atomic_table.specs.Table.{Me, Step}

@@ -1,6 +1,6 @@
--- The rule of the lock: the invariant between any two moves, in seven parts. Source: defined by this project. The two
--- ticket words make a ticket lock: J. M. Mellor-Crummey and M. L. Scott, "Algorithms for scalable synchronization on
--- shared-memory multiprocessors", ACM Transactions on Computer Systems 9 (1), 1991, section 2.2.
+-- The rule of the lock: the invariant between any two moves, in seven parts. Source: this project. The two ticket words
+-- make a ticket lock: J. M. Mellor-Crummey and M. L. Scott, "Algorithms for scalable synchronization on shared-memory
+-- multiprocessors", ACM Transactions on Computer Systems 9 (1), 1991, section 2.2.
 use Rattle.std.specs.Prelude.{◌≡◌, ◌≢◌, ℕ, ◌+◌, ◌<◌, ◌≤◌, ◌^◌, IsTrue, List, length, Option, Some}
 use Rattle.std.specs.List.{AllByRecursion as Every}
 use mathlib.Core.Option.{none, some}

@@ -1,6 +1,6 @@
 -- Waiting for a turn, which is one or more steps under one ticket. No definition here guarantees that a seat is ever
--- served, because the seat that has the turn need not pass it. Source: defined by this project; "first come, first
--- served" is a term of Mellor-Crummey and Scott (`Rule.antt`).
+-- served, because the seat that has the turn need not pass it. Source: this project; "first come, first served" is a
+-- term of Mellor-Crummey and Scott (`Rule.antt`).
 use Rattle.std.specs.Prelude.{ℕ, ◌+◌, ◌<◌}
 use Rattle.atomic_table.specs.Table.{State}
 use Rattle.turn_lock.specs.declared.board.View.{View}
