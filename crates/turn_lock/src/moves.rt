@@ -9,18 +9,18 @@
 //! A ticket gives its seat a *turn* of one or more steps. A step that keeps the turn leaves out `pass`, and the next
 //! step of the seat begins with `renew` instead of `draw` and `look`. Each call is a sequence of moves:
 //!
-//! | Call | Move | One step on | Effect | Seen by other threads |
+//! | Call | Move | One step | Effect | Seen by other threads |
 //! |---|---|---|---|---|
-//! | `split` | split | a load of the next ticket | a new seat gets some of the steps, and the baton if requested | no |
-//! | `join` | join | a load of the next ticket | seat 0 has the longer of two histories, and keeps the entries of the other seat | no |
-//! | | meet | a load of the next ticket | seat 0 learns that both histories are prefixes of the one that it has seen | no |
-//! | `step` | draw | an addition to the next ticket | the seat has one step less, and a ticket for its event | yes: the next seat draws a later ticket |
-//! | | look | a load of the served ticket | if it is the ticket of the seat, the seat has seen the whole history and owns the slot | no |
-//! | | renew | a load of the served ticket | the seat, which kept its ticket, has one step less and the next event | no |
-//! | | take | an exchange of the slot | the state leaves the slot, and is stepped | no: the seat owns the slot |
-//! | | give | an exchange of the slot | the state returns to the slot | no |
-//! | | append | an addition to the position of the next entry | the history has the entry | no: waiting seats load only the served ticket |
-//! | | pass | an addition to the served ticket | no seat owns the slot | yes: the turn of the next ticket begins |
+//! | `split` | split | loads the next ticket | a new seat gets some of the steps, and the baton if requested | no |
+//! | `join` | join | loads the next ticket | seat 0 has the longer history, and the entries of the other seat | no |
+//! | | meet | loads the next ticket | seat 0 learns that both histories are prefixes of the one it has seen | no |
+//! | `step` | draw | adds to the next ticket | the seat has one step less, and a ticket | yes: the next ticket is later |
+//! | | look | loads the served ticket | if it is its own, the seat has seen the whole history and owns the slot | no |
+//! | | renew | loads the served ticket | the seat, which kept its ticket, has one step less and the next event | no |
+//! | | take | exchanges the slot | the state leaves the slot, and is stepped | no: the seat owns the slot |
+//! | | give | exchanges the slot | the state returns to the slot | no |
+//! | | append | adds to the next position | the history has the entry | no: waiting seats load only the served ticket |
+//! | | pass | adds to the served ticket | no seat owns the slot | yes: the turn of the next ticket begins |
 //! | `release` | pass | the same | the same, between two steps | yes |
 //!
 //! A waiting seat repeats `look`, and sleeps between two looks until a turn is passed. No other move is repeated. A
