@@ -1,9 +1,9 @@
 //! The exchange without its octets: the state after each event of a trace, and the reply to it.
 //!
-//! - [`Core`]'s `step` and `work` return the reply that the rules give in the exchange state of the journal (`reply`),
-//!   replace that state by the next one (`world`) and add an entry to the journal (`journal`). The control memory of a
-//!   frame shows the state before the frame (`shows`). A step moves at most the number of live paths that the fabric
-//!   guarantees (`few`). After each step the paths join exactly the existing circuits (`laid`, `joins`).
+//! - [`Core`]'s `step` and `work` return the reply that the rules give in the exchange state of the journal (`reply`).
+//!   They replace that state by the next one (`world`), and add an entry to the journal (`journal`). The control memory
+//!   of a frame shows the state before the frame (`shows`). A step moves at most the number of live paths that the
+//!   fabric guarantees (`few`). After each step the paths join exactly the existing circuits (`laid`, `joins`).
 //! - [`Switchboard`] is the interface of an exchange that many callers share. A caller can pass a [`Desk`], at which a
 //!   message is parsed before its turn (`look_ahead`). `shared_exchange` implements the interface.
 //!

@@ -105,8 +105,8 @@ pub record AreMetered {M : Type 0} (stands : M → List CallRecord → Type 0) (
   pub on : AllZip (HasNoted stands text) s.on meters
   pub spares : spare ≡ s.spare
 
--- n changes were made to these active and spare meters, and the summaries of the removed meters were appended to a
--- text, for every state of the meters that a run can reach
+-- n changes were made to these active and spare meters, for every state of the meters that a run can reach, and the
+-- summaries of the removed meters were appended to a text
 pub record AreChangedBy {M : Type 0} (stands : M → List CallRecord → Type 0) (text : M → List CallRecord → List ℕ) (n : ℕ) (meters spare : List M) (said : List ℕ) (new new_spare : List M) (all : List ℕ) : Type 0 where
   pub left : (s : Metering M) → AreMetered stands text s meters spare → AreMetered stands text (after_steps (replicate n Meters_changed) s) new new_spare
   pub said_is : (s : Metering M) → AreMetered stands text s meters spare → all ≡ said ++ steps_text text (replicate n Meters_changed) s

@@ -13,8 +13,8 @@ use std::alloc::AllocError;
 // Capacity for the words and numbers of a line: three numbers of ten digits, and the text between them.
 const ROOM: usize = 48;
 
-/// Appends a report's line for one event: its number and the reply, for a message the messages sent in reply, and for a
-/// frame the messages sent at its boundary and the 30 octets of each line that sends an octet other than idle. Only a
+/// Appends a report's line for one event: its number and the reply. A message has the messages sent in reply. A frame
+/// has the messages sent at its boundary, and the 30 octets of each line that sends an octet other than idle. Only a
 /// frame's octets are read.
 ///
 /// # Errors

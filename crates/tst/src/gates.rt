@@ -183,8 +183,8 @@ impl Gate for Watched {
     }
 }
 
-// Each event has two calls at the gate by its own worker, and each frame two once its turn is over, in threads and by
-// one caller, who processes all in file order.
+// Each event has two calls at the gate by its own worker, and each frame two once its turn is over. This holds in
+// threads, and for one caller who processes all in file order.
 #[test]
 fn each_event_is_called_at_the_gate_by_its_worker(rt: HostRuntime) -> Result<(), Fail> {
     let alloc = rt.alloc();

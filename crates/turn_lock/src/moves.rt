@@ -14,7 +14,7 @@
 //! | `split` | split | loads the next ticket | a new seat gets some of the steps, and the baton if requested | no |
 //! | `join` | join | loads the next ticket | seat 0 has the longer history, and the entries of the other seat | no |
 //! | | meet | loads the next ticket | seat 0 learns that both histories are prefixes of the one it has seen | no |
-//! | `step` | draw | adds to the next ticket | the seat has one step less, and a ticket | yes: the next ticket is later |
+//! | `step` | draw | adds to the next ticket | the seat has one step less, and a ticket | yes: the next one is later |
 //! | | look | loads the served ticket | if it is its own, the seat has seen the whole history and owns the slot | no |
 //! | | renew | loads the served ticket | the seat, which kept its ticket, has one step less and the next event | no |
 //! | | take | exchanges the slot | the state leaves the slot, and is stepped | no: the seat owns the slot |
