@@ -25,7 +25,7 @@ impl Sum {
         })
     }
 
-    /// The sum, and the number of entries of the journal.
+    /// Returns the sum, and the number of entries of the journal.
     pub fn total(&self) -> (u64, usize) {
         (self.total, self.journal.len())
     }

@@ -283,14 +283,14 @@ impl<P: PathMap> CallControl<P> {
     }
 }
 
-// The leg in another state.
+// Returns the leg in another state.
 fn in_state(state: u8, leg: Leg) -> Leg
     ensures { result ≡ in_state state leg }
 {
     Leg { state, ..leg }
 }
 
-/// The leg without its peer in release request.
+/// Returns the leg without its peer in release request.
 pub(crate) fn in_release_request(leg: Leg) -> Leg
     ensures { result ≡ in_release_request leg }
 {
@@ -301,7 +301,7 @@ pub(crate) fn in_release_request(leg: Leg) -> Leg
     }
 }
 
-// The leg without its peer in disconnect indication, cleared with a cause.
+// Returns the leg without its peer in disconnect indication, cleared with a cause.
 fn in_disconnect_indication(cause: u8, leg: Leg) -> Leg
     ensures { result ≡ in_disconnect_indication cause leg }
 {
@@ -313,7 +313,7 @@ fn in_disconnect_indication(cause: u8, leg: Leg) -> Leg
     }
 }
 
-// The tone of a leg's slot, if the trace gives it.
+// Returns the tone of a leg's slot, if the trace gives it.
 fn tone_of(tones: &Tones, leg: Leg) -> Option<Kind>
     ensures { result ≡ tone_of tones.now leg }
 {
@@ -330,7 +330,7 @@ fn with_progress(tone: Option<Kind>, message: Outgoing<'static>) -> Outgoing<'st
     }
 }
 
-// The DISCONNECT with a cause to the user of a leg.
+// Returns the DISCONNECT with a cause to the user of a leg.
 fn disconnect_message(leg: &Leg, cause: u8) -> Outgoing<'static>
     ensures { outgoing_of result ≡ disconnect leg.now cause }
 {

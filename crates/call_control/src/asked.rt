@@ -23,7 +23,7 @@ pub(crate) struct Asked<'a> {
     pub high: &'a [u8],
 }
 
-/// The contents in a SETUP.
+/// Returns the contents in a SETUP.
 pub(crate) fn asked_by<'a>(message: &Message<'a>) -> Asked<'a>
     ensures { asked_of result ≡ call_asked message.now }
 {
@@ -36,7 +36,7 @@ pub(crate) fn asked_by<'a>(message: &Message<'a>) -> Asked<'a>
     }
 }
 
-/// The contents stored with a number in overlap sending.
+/// Returns the contents stored with a number in overlap sending.
 pub(crate) fn asked_in(number: &Pending) -> Asked<'_>
     ensures asked { asked_of result ≡ number.now }
     ensures fits { FitsElements (asked_of result) }
@@ -50,7 +50,7 @@ pub(crate) fn asked_in(number: &Pending) -> Asked<'_>
     }
 }
 
-/// The contents to store until the number is complete.
+/// Returns the contents to store until the number is complete.
 pub(crate) fn pending_of(asked: &Asked) -> Pending
     requires { FitsElements (asked_of asked.now) }
     ensures { result ≡ asked_of asked.now }

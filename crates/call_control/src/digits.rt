@@ -127,7 +127,7 @@ fn dialled_on(number: &Pending, message: &Message) -> Option<Pending>
     })
 }
 
-// The octets that a message adds to a called party number.
+// Returns the octets that a message adds to a called party number.
 fn octets_added<'a>(called: &[u8], message: &Message<'a>) -> &'a [u8]
     ensures { result.now ≡ octets_added called.now (called_received message.now.elements) }
 {
@@ -139,7 +139,7 @@ fn octets_added<'a>(called: &[u8], message: &Message<'a>) -> &'a [u8]
     }
 }
 
-// The octets of both lists, in this order.
+// Returns the octets of both lists, in this order.
 fn joined(first: &[u8], second: &[u8]) -> Contents<MOST_CALLED>
     requires { length first.now + length second.now ≤ 21 }
     ensures { result ≡ first.now ++ second.now }

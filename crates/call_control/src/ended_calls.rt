@@ -69,7 +69,7 @@ impl<P: PathMap> CallControl<P> {
         })
     }
 
-    // The first frame of the conversation, or the next frame if there was none.
+    // Returns the first frame of the conversation, or the next frame if there was none.
     fn conversation_begin(&self, caller: Held) -> u32
         requires external { IsExternal self.now.map.external caller.slot }
         ensures { (d : Dimensions) (w : World) → Holds d self.now.map self.now.legs w → result ≡ conversation_begin w caller }

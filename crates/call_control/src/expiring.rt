@@ -220,7 +220,7 @@ impl<P: PathMap> CallControl<P> {
     }
 }
 
-// A message of a type to the user of a leg, with only a cause.
+// Returns a message of a type to the user of a leg, with only a cause.
 fn with_cause(leg: &Leg, kind: MessageKind, cause: u8) -> Outgoing<'static>
     ensures { outgoing_of result ≡ record (message_to leg.now kind) { cause = Some cause } }
 {

@@ -155,7 +155,7 @@ fn send_proceeding(out: &mut Outbox, caller: Caller, leg: &Leg)
     }
 }
 
-// The caller's leg of a new call, before it holds a slot.
+// Returns the caller's leg of a new call, before it holds a slot.
 fn caller_leg(state: u8, reference: u16, peer: Peer) -> Leg
     ensures { result ≡ caller_leg state reference peer }
 {
@@ -170,7 +170,7 @@ fn caller_leg(state: u8, reference: u16, peer: Peer) -> Leg
     }
 }
 
-// The called leg of a new call, before it holds a slot.
+// Returns the called leg of a new call, before it holds a slot.
 fn called_leg(reference: u16, caller: Slot) -> Leg
     ensures { result ≡ called_leg reference caller }
 {
@@ -185,7 +185,7 @@ fn called_leg(reference: u16, caller: Slot) -> Leg
     }
 }
 
-// The SETUP ACKNOWLEDGE that states the caller's channel and requests further digits.
+// Returns the SETUP ACKNOWLEDGE that states the caller's channel and requests further digits.
 fn setup_acknowledge(x: Slot, leg: &Leg) -> Outgoing<'static>
     requires place { x.place < 30 }
     ensures { outgoing_of result ≡ setup_acknowledge x leg.now }
@@ -193,7 +193,7 @@ fn setup_acknowledge(x: Slot, leg: &Leg) -> Outgoing<'static>
     with_channel(x, message_to(leg, MessageKind::SetupAcknowledge))
 }
 
-// A message that states the channel of the user's call.
+// Returns a message that states the channel of the user's call.
 fn with_channel(x: Slot, message: Outgoing<'static>) -> Outgoing<'static>
     requires place { x.place < 30 }
     ensures { outgoing_of result ≡ with_channel x (outgoing_of message.entry) }
@@ -204,7 +204,7 @@ fn with_channel(x: Slot, message: Outgoing<'static>) -> Outgoing<'static>
     }
 }
 
-// The SETUP to the called user.
+// Returns the SETUP to the called user.
 fn offer<'a>(asked: &Asked<'a>, y: Slot, leg: &Leg) -> Outgoing<'a>
     requires place { y.place < 30 }
     ensures { outgoing_of result ≡ offer (asked_of asked.now) y leg.now }

@@ -38,7 +38,7 @@ pub struct CallControl<P: PathMap> {
 }
 
 impl<P: PathMap> CallControl<P> {
-    /// Whether a slot has no circuit and no leg.
+    /// Returns whether a slot has no circuit and no leg.
     pub fn idle(&self, x: Slot) -> bool
         requires external { IsExternal self.now.map.external x }
         ensures idle { (d : Dimensions) (w : World) → Holds d self.now.map self.now.legs w → result ≡ idle w x }

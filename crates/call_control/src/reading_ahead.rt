@@ -87,7 +87,7 @@ pub(crate) fn read_received<'a>(plan: &Plan, received: &Received<'a>) -> Option<
     Some(Incoming { message, number })
 }
 
-// The message that was parsed ahead.
+// Returns the message that was parsed ahead.
 fn message_of(known: ReadAhead, octets: &[u8]) -> Message<'_>
     requires { 5 ≤ length octets.now }
     ensures { result ≡ message_ahead known octets.now }
@@ -100,7 +100,7 @@ fn message_of(known: ReadAhead, octets: &[u8]) -> Message<'_>
     }
 }
 
-// The number that a message dials, if it requests a call. It is looked up only if that was not done ahead.
+// Returns the number that a message dials, if it requests a call. It is looked up only if that was not done ahead.
 fn number_of(plan: &Plan, message: &Message, ahead: Option<DialledNumber>) -> Option<DialledNumber>
     requires ahead { IfSome ahead (IsDialled plan.now message.now) }
     ensures dials { IfSome result (IsDialled plan.now message.now) }
@@ -115,7 +115,7 @@ fn number_of(plan: &Plan, message: &Message, ahead: Option<DialledNumber>) -> Op
     }
 }
 
-// Whether the message is a SETUP from the side that chose the call reference.
+// Returns whether the message is a SETUP from the side that chose the call reference.
 fn asks_for_call(message: &Message) -> bool
     ensures { result ≡ asks_for_call message.now }
 {

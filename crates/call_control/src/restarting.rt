@@ -112,7 +112,7 @@ impl<P: PathMap> CallControl<P> {
     }
 }
 
-// Whether a restart on a line includes this slot.
+// Returns whether a restart on a line includes this slot.
 fn restarts_slot(asked: Restart, line: u8, x: Slot) -> bool
     ensures { result ≡ restarts_slot asked line x }
 {

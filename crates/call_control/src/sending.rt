@@ -67,14 +67,14 @@ pub(crate) fn answer_on_no_call(out: &mut Outbox, line: u8, message: &Message)
     }
 }
 
-/// A message of a type, without elements, to the user of a leg.
+/// Returns a message of a type, without elements, to the user of a leg.
 pub(crate) fn message_to(leg: &Leg, kind: MessageKind) -> Outgoing<'static>
     ensures { outgoing_of result ≡ message_to leg.now kind }
 {
     Outgoing::new(leg.side.flag(), leg.reference, kind)
 }
 
-// The RELEASE COMPLETE that refuses a SETUP with this call reference.
+// Returns the RELEASE COMPLETE that refuses a SETUP with this call reference.
 fn release_complete(reference: u16, cause: u8) -> Outgoing<'static>
     ensures { outgoing_of result ≡ record (bare true reference kind.ReleaseComplete) { cause = Some cause } }
 {

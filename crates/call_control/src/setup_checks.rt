@@ -42,7 +42,7 @@ pub(crate) struct Admitted {
 }
 
 impl<P: PathMap> CallControl<P> {
-    /// The lowest idle slot of a line.
+    /// Returns the lowest idle slot of a line.
     fn lowest_idle(&self, line: u8) -> Option<Slot>
         requires external { line < self.now.map.external }
         ensures slot { (d : Dimensions) (w : World) → Holds d self.now.map self.now.legs w → result ≡ lowest_idle w line }
@@ -57,7 +57,7 @@ impl<P: PathMap> CallControl<P> {
         None
     }
 
-    /// The lowest idle slot of a line, other than this slot.
+    /// Returns the lowest idle slot of a line, other than this slot.
     pub(crate) fn lowest_idle_beside(&self, beside: Slot, line: u8) -> Option<Slot>
         requires external { line < self.now.map.external }
         ensures slot { (d : Dimensions) (w : World) → Holds d self.now.map self.now.legs w → result ≡ lowest_idle_beside w beside line }
@@ -72,7 +72,7 @@ impl<P: PathMap> CallControl<P> {
         None
     }
 
-    // Whether a slot is idle and is not this one.
+    // Returns whether a slot is idle and is not this one.
     fn idle_beside(&self, beside: Slot, slot: Slot) -> bool
         requires external { IsExternal self.now.map.external slot }
         ensures { (d : Dimensions) (w : World) → Holds d self.now.map self.now.legs w → result ≡ idle_beside w beside slot }
@@ -80,8 +80,8 @@ impl<P: PathMap> CallControl<P> {
         self.idle(slot) && slot != beside
     }
 
-    /// The caller's slot: the requested one if it is idle, otherwise the lowest idle slot of the line. An exclusive
-    /// channel needs no case, because the check for it comes first.
+    /// Returns the caller's slot: the requested one if it is idle, otherwise the lowest idle slot of the line. An
+    /// exclusive channel needs no case, because the check for it comes first.
     pub(crate) fn caller_slot(
         &self,
         line: u8,
@@ -97,7 +97,7 @@ impl<P: PathMap> CallControl<P> {
         }
     }
 
-    // Whether the slot of the one requested channel is not idle.
+    // Returns whether the slot of the one requested channel is not idle.
     fn is_taken(&self, line: u8, channel: Option<ChannelIdentification>) -> bool
         requires external { line < self.now.map.external }
         ensures { (d : Dimensions) (w : World) → Holds d self.now.map self.now.legs w → result ≡ is_taken w line channel }
@@ -194,7 +194,7 @@ impl<P: PathMap> CallControl<P> {
     }
 }
 
-// The slot that a channel identification of a line refers to.
+// Returns the slot that a channel identification of a line refers to.
 fn slot_asked(line: u8, channel: Option<ChannelIdentification>) -> Option<Slot>
     ensures slot { result ≡ slot_asked line channel }
     ensures line { IfSome result (λ x. x.line ≡ line) }
@@ -207,7 +207,7 @@ fn slot_asked(line: u8, channel: Option<ChannelIdentification>) -> Option<Slot>
     }
 }
 
-// The slot of a bearer channel of a line.
+// Returns the slot of a bearer channel of a line.
 fn slot_of(line: u8, channel: u8) -> Option<Slot>
     ensures slot { result ≡ slot_of line channel }
     ensures line { IfSome result (λ x. x.line ≡ line) }
@@ -217,7 +217,7 @@ fn slot_of(line: u8, channel: u8) -> Option<Slot>
     Some(Slot { line, place })
 }
 
-// The cause of the first check of its elements that a SETUP fails, if all that it dials are digits or not.
+// Returns the cause of the first check of its elements that a SETUP fails, if all that it dials are digits or not.
 fn element_cause(message: &Message, is_readable: bool) -> Option<u8>
     requires { is_readable ≡ is_some (digits_in message.now) }
     ensures { result ≡ first_cause (element_checks message.now) }
@@ -239,7 +239,7 @@ fn element_cause(message: &Message, is_readable: bool) -> Option<u8>
     None
 }
 
-// Whether a SETUP has an invalid called party number, or none although it is complete.
+// Returns whether a SETUP has an invalid called party number, or none although it is complete.
 fn lacks_number(message: &Message) -> bool
     ensures { result ≡ lacks_number (called_received message.now.elements) (complete_in message.now.elements) }
 {
@@ -249,7 +249,7 @@ fn lacks_number(message: &Message) -> bool
     }
 }
 
-/// The cause of the first check of its number that a message fails, for this target of the number.
+/// Returns the cause of the first check of its number that a message fails, for this target of the number.
 pub(crate) fn number_cause(target: Found, message: &Message) -> Option<u8>
     ensures { result ≡ first_cause (number_checks target (complete_in message.now.elements)) }
 {

@@ -17,7 +17,7 @@ pub struct AnswerList {
 }
 
 impl AnswerList {
-    /// An empty list.
+    /// Returns an empty list.
     pub fn new(alloc: Global) -> AnswerList
         ensures { result.items.items ≡ [] }
     {

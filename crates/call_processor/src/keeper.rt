@@ -13,7 +13,7 @@ pub trait Keeper: Sized + Send + Drop {
     /// It stores these answers, each with its position, in order.
     ghost holds: { Self → List Placed → Type 0 };
 
-    /// An empty keeper of the same kind.
+    /// Returns an empty keeper of the same kind.
     fn another(&self, alloc: Global) -> Self
         ensures { holds result [] };
 
@@ -39,7 +39,7 @@ pub trait Keeper: Sized + Send + Drop {
         ensures kept { OnOk result (IsKept (λ k. holds k) (placed place event response outbox.now octets.now) self.old self.new) }
         ensures refused { OnErr result ((answers : List Placed) → holds self.old answers → holds self.new answers) };
 
-    /// The number of its events.
+    /// Returns the number of its events.
     fn count(&self) -> usize
         ensures { (answers : List Placed) → holds self.now answers → result ≡ length answers };
 
@@ -47,7 +47,7 @@ pub trait Keeper: Sized + Send + Drop {
     fn cut(&mut self, count: usize)
         ensures { (answers more : List Placed) → holds self.old (answers ++ more) → length answers ≡ count → holds self.new answers };
 
-    /// The position of its first event.
+    /// Returns the position of its first event.
     fn first_place(&self) -> Option<u32>
         ensures { (answers : List Placed) → holds self.now answers → result ≡ first_place answers };
 

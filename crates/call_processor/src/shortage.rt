@@ -10,7 +10,7 @@ pub struct Shortage {
 }
 
 impl Shortage {
-    /// A flag that is not set.
+    /// Returns a flag that is not set.
     pub fn new() -> Shortage {
         Shortage {
             told: AtomicU64::new(0),
@@ -22,7 +22,7 @@ impl Shortage {
         self.told.store(1, Ordering::SeqCst);
     }
 
-    /// Whether the flag is set.
+    /// Returns whether the flag is set.
     pub fn is_told(&self) -> bool {
         self.told.load(Ordering::SeqCst) != 0
     }

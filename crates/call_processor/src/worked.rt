@@ -67,7 +67,7 @@ pub struct FinishedFrames<T, C, K> {
 }
 
 impl<K: Keeper> Workplace<K> {
-    /// A new workplace with this keeper. [`AllocError`] if an allocation fails.
+    /// Returns a new workplace with this keeper. [`AllocError`] if an allocation fails.
     pub fn new(alloc: Global, keeper: K) -> Result<Workplace<K>, AllocError> {
         Ok(Workplace {
             desk: Box::new(alloc, Desk::new(Tool::Nothing))?,

@@ -163,12 +163,12 @@ fn hold_over<P: PathMap + Drop>(
     Ok(are_answered(rt, &mut map, &mut image, steps))
 }
 
-/// The same as `hold_over` on a fabric of 30 internal slots.
+/// Does the same as `hold_over` on a fabric of 30 internal slots.
 fn hold(rt: &impl Abort, alloc: Global, steps: &[(Step, Told)]) -> Result<bool, AllocError> {
     hold_over(rt, alloc, FabricMap::new(alloc, 3)?, steps)
 }
 
-/// The same as `hold_over` on a fabric of 59 internal slots.
+/// Does the same as `hold_over` on a fabric of 59 internal slots.
 fn hold_strictly(
     rt: &impl Abort,
     alloc: Global,
@@ -177,8 +177,8 @@ fn hold_strictly(
     hold_over(rt, alloc, StrictMap::new(alloc, 3)?, steps)
 }
 
-/// The steps in which half of each external line joins rooms at the bridge line, and the next two slots are connected,
-/// with the number of paths that this moves.
+/// Returns the steps in which half of each external line joins rooms at the bridge line, and the next two slots are
+/// connected, with the number of paths that this moves.
 fn between_full_lines(alloc: Global, answer: Told) -> Result<Vec<(Step, Told)>, AllocError> {
     let mut steps = Vec::new(alloc);
     for place in 0..15 {
@@ -339,7 +339,7 @@ fn a_member_sits_in_the_lowest_free_port(rt: HostRuntime) -> Result<(), Fail> {
     Ok(())
 }
 
-// All 30 members of a bridge line, and one more that finds no port until one of them is cleared.
+// Returns the steps of all 30 members of a bridge line, and one more that finds no port until one of them is cleared.
 fn around_a_full_line(alloc: Global) -> Result<Vec<(Step, Told)>, AllocError> {
     let mut steps = Vec::new(alloc);
     for place in 0..30 {

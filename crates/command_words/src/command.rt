@@ -64,7 +64,7 @@ enum Name {
     Check,
 }
 
-// The command with the first argument as its name.
+// Returns the command with the first argument as its name.
 fn name_in(words: &[String]) -> Option<Name>
     ensures { result ≡ name_in (map string_bytes words.now) }
 {
@@ -108,7 +108,7 @@ fn read_check(alloc: Global, words: &[String]) -> Result<Command, WordsFault>
     }
 }
 
-// Whether the flag was given: its text is `true` then, and `false` otherwise.
+// Returns whether the flag was given: its text is `true` then, and `false` otherwise.
 fn is_strict(matches: &ArgMatches) -> bool
     ensures { result ≡ is_true (first_value (found_of matches.now) (codes "strict")) }
 {
@@ -130,7 +130,7 @@ fn read_generation(alloc: Global, words: &[String]) -> Result<Command, WordsFaul
     }
 }
 
-// The command of the texts for SEED and CALLS.
+// Returns the command of the texts for SEED and CALLS.
 fn generation_in(matches: &ArgMatches) -> Option<Command>
     ensures calls { IfSome result IsInRange }
     ensures texts { result ≡ generation (first_value (found_of matches.now) (codes "SEED")) (first_value (found_of matches.now) (codes "CALLS")) }

@@ -7,7 +7,7 @@ use clap::error::ErrorKind;
 use clap::{Arg, ArgAction, ArgMatches, Command, Error};
 use std::alloc::Global;
 
-/// The texts that clap reads in the arguments of a command with this name, which has a flag.
+/// Returns the texts that clap reads in the arguments of a command with this name, which has a flag.
 pub(crate) fn strict_matches<'a>(
     alloc: Global,
     name: &'a str,
@@ -26,7 +26,7 @@ pub(crate) fn strict_matches<'a>(
     command.try_get_matches_from(words)
 }
 
-/// The texts that clap reads in the arguments of `gen`, which has two.
+/// Returns the texts that clap reads in the arguments of `gen`, which has two.
 pub(crate) fn gen_matches<'a>(alloc: Global, words: &'a [String]) -> Result<ArgMatches<'a>, Error>
     ensures taken { IfOk result (λ _. takes_words gen_app (map string_bytes words.now) ≡ true) }
     ensures refused { IfErr result (λ e. kind_of e ≢ ErrorKind.OutOfMemory → takes_words gen_app (map string_bytes words.now) ≡ false) }

@@ -32,7 +32,7 @@ pub(crate) fn nail<P: PathMap>(control: &mut CallControl<P>, x: Slot, y: Slot) -
     Response::Granted(there, back)
 }
 
-// Whether both slots are idle.
+// Returns whether both slots are idle.
 fn may_nail<P: PathMap>(control: &CallControl<P>, x: Slot, y: Slot) -> bool
     requires fits { Fits control.now.map.external (event.Nail x y) }
     ensures may { (d : Dimensions) (w : World) → Holds d control.now.map control.now.legs w → result ≡ may_nail w x y }

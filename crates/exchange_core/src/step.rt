@@ -157,7 +157,7 @@ impl<'t, P: PathMap> Core<'t, P> {
         response
     }
 
-    /// The trace, which is sound.
+    /// Returns the trace, which is sound.
     pub fn trace(&self) -> &'t Trace
         ensures trace { result.now ≡ self.now.trace }
         ensures sound { IsSound self.now.trace }
@@ -165,7 +165,7 @@ impl<'t, P: PathMap> Core<'t, P> {
         self.trace
     }
 
-    /// The entries of the processed events in order: by whom, and the event's number.
+    /// Returns the entries of the processed events in order: by whom, and the event's number.
     pub fn journal(&self) -> &[(u32, u32)]
         ensures { result.now ≡ self.now.journal }
     {

@@ -59,7 +59,7 @@ struct Ended<C: Carrier> {
     engine: Option<C>,
 }
 
-// The end of a part that processed no event.
+// Returns the end of a part that processed no event.
 fn idle<C: Carrier>(alloc: Global, ending: Ending) -> Ended<C>
     ensures ending { result.ending ≡ ending }
     ensures none { result.order.items ≡ [] }

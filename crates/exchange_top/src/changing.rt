@@ -36,7 +36,7 @@ pub fn change_at(
     Ok(end)
 }
 
-// The number of changes up to the last of a place, whose first has the index `start`.
+// Returns the number of changes up to the last of a place, whose first has the index `start`.
 pub fn end_of(changes: &[u32], start: usize, place: u32) -> usize
     requires { start ≤ length changes.now }
     ensures { IsRow changes.now start place result }

@@ -83,7 +83,7 @@ fn refused(alloc: Global, number: u32, reason: Reason) -> Result<(Ending, Vec<u8
     Ok((Ending::Refused { number, reason }, line))
 }
 
-// The number of internal slots of a strict fabric, and of the other.
+// Returns the number of internal slots of a strict fabric, and of the other.
 fn slots_of(strict: bool) -> u8
     ensures is { result ≡ slots_of strict }
     ensures one { (result ≡ 30) ⊎ (result ≡ 59) }
@@ -91,7 +91,7 @@ fn slots_of(strict: bool) -> u8
     if strict { 59 } else { 30 }
 }
 
-// The line with the first wrong or missing line of a report.
+// Returns the line with the first wrong or missing line of a report.
 fn invalid_line(alloc: Global, number: u32) -> Result<Vec<u8>, AllocError>
     ensures { IfOk result (λ line. line.items ≡ invalid_line number) }
 {
@@ -102,7 +102,7 @@ fn invalid_line(alloc: Global, number: u32) -> Result<Vec<u8>, AllocError>
     Ok(line)
 }
 
-// The trace and the report of an input.
+// Returns the trace and the report of an input.
 fn divided(bytes: &[u8]) -> (&[u8], &[u8])
     ensures { IsDivided bytes.now result.0.now result.1.now }
 {
@@ -117,7 +117,7 @@ fn divided(bytes: &[u8]) -> (&[u8], &[u8])
     (bytes, &[])
 }
 
-// The first line, and the octets after it.
+// Returns the first line, and the octets after it.
 fn first_line(bytes: &[u8]) -> (&[u8], &[u8])
     ensures { IsFirstLine bytes.now result.0.now result.1.now }
 {

@@ -33,7 +33,7 @@ pub enum Ending {
 }
 
 impl Ending {
-    /// The exit status of the ending.
+    /// Returns the exit status of the ending.
     pub fn status(self) -> u8
         ensures { result ≡ status_of self }
     {

@@ -173,7 +173,7 @@ fn report_segment<
     tell(meters, records_behind(lines, told))
 }
 
-// The records of the calls that ended, after the first n.
+// Returns the records of the calls that ended, after the first n.
 fn records_behind<L>(lines: &LineList<L>, told: usize) -> &[CallRecord]
     requires { told ≤ length (calls_of lines.now) }
     ensures { result.now ≡ drop told (calls_of lines.now) }

@@ -8,7 +8,7 @@ use itoa::Buffer;
 use meters::{Meter, append_summaries};
 use std::alloc::{AllocError, Global};
 
-/// The line that counts the events and the frames of a trace, and each meter's text, in order.
+/// Returns the line that counts the events and the frames of a trace, and each meter's text, in order.
 pub fn summary(
     alloc: Global,
     trace: &Trace,
@@ -27,7 +27,7 @@ pub fn summary(
     Ok(text)
 }
 
-// The number of frames among the events.
+// Returns the number of frames among the events.
 fn frames_in(events: &[Event]) -> usize
     ensures { result ≡ count_by is_frame events.now }
 {

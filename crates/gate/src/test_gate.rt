@@ -41,7 +41,7 @@ impl TestGate {
         }
     }
 
-    /// Whether the crossing began, the turn ended, and no hold gave up. False for a new gate.
+    /// Returns whether the crossing began, the turn ended, and no hold gave up. False for a new gate.
     pub fn passed(&self) -> bool {
         is_set(&self.crossing) && is_set(&self.turned) && !is_set(&self.gave_up)
     }

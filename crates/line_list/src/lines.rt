@@ -77,7 +77,7 @@ impl Model for Lines {
 }
 
 impl Lines {
-    /// No lines. It reuses the buffer of a text.
+    /// Returns an empty list. It reuses the buffer of a text.
     pub fn new(alloc: Global, mut text: Vec<u8>) -> Lines
         ensures { result ≡ [] }
     {
@@ -131,7 +131,7 @@ impl Lines {
         )
     }
 
-    /// The number of lines.
+    /// Returns the number of lines.
     pub fn count(&self) -> usize
         ensures { result ≡ length self.now }
     {
@@ -152,7 +152,7 @@ impl Lines {
         self.buffers.marks.truncate(end.lines);
     }
 
-    /// The position of the first line.
+    /// Returns the position of the first line.
     pub fn first_place(&self) -> Option<u32>
         ensures { result ≡ first_line self.now }
     {
@@ -181,14 +181,14 @@ impl Lines {
         Ok(())
     }
 
-    /// The text of the lines.
+    /// Returns the text of the lines.
     pub fn text(&self) -> &[u8]
         ensures { result.now ≡ text_of self.now }
     {
         &self.buffers.text.as_slice()[self.handed.octets..]
     }
 
-    /// The records of the calls that ended, line by line.
+    /// Returns the records of the calls that ended, line by line.
     pub fn records(&self) -> &[CallRecord]
         ensures { result.now ≡ calls_of self.now }
     {
@@ -266,7 +266,7 @@ fn append_listed(
     }
 }
 
-// The records of the calls that ended in a step.
+// Returns the records of the calls that ended in a step.
 fn records_told(response: Response, outbox: &Outbox) -> &[CallRecord]
     ensures { result.now ≡ calls_kept (kept_of (reply_of response outbox.now)) }
 {
@@ -314,7 +314,7 @@ fn append_marked(
     done
 }
 
-// The items from one position to another.
+// Returns the items from one position to another.
 fn between<T>(items: &Vec<T>, start: usize, end: usize) -> &[T]
     requires order { start ≤ end }
     requires within { end ≤ length items.now.items }
@@ -323,7 +323,7 @@ fn between<T>(items: &Vec<T>, start: usize, end: usize) -> &[T]
     &items.as_slice()[start..end]
 }
 
-// The marks of the lines after those that were moved.
+// Returns the marks of the lines after those that were moved.
 fn marks_left(marks: &Vec<Mark>, handed: usize) -> &[Mark]
     requires { handed ≤ length marks.now.items }
     ensures { result.now ≡ drop handed marks.now.items }
@@ -331,7 +331,7 @@ fn marks_left(marks: &Vec<Mark>, handed: usize) -> &[Mark]
     &marks.as_slice()[handed..]
 }
 
-// The length of the first run: the first line, and the next ones as long as they come before a position.
+// Returns the length of the first run: the first line, and the next ones as long as they come before a position.
 fn run_length(marks: &[Mark], below: u32) -> usize
     ensures within { result ≤ length marks.now }
     ensures some { 0 < length marks.now → 0 < result }
@@ -348,7 +348,7 @@ fn run_length(marks: &[Mark], below: u32) -> usize
     count
 }
 
-// The extent of lines together with those before them.
+// Returns the extent of lines together with those before them.
 fn behind(front: Extent, marks: &[Mark]) -> Extent
     requires lines { front.lines + length marks.now < 2 ^ 64 }
     requires octets { front.octets + octets_in marks.now < 2 ^ 64 }

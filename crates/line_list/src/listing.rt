@@ -17,7 +17,7 @@ pub trait ListingKind {
     /// The listing.
     ghost listing: { Listing };
 
-    /// The listing.
+    /// Returns the listing.
     fn listing() -> Listing
         ensures { result ≡ listing };
 }

@@ -38,7 +38,7 @@ fn put_registers(out: &mut Vec<u8>, word: &[u8], a: u64, b: u64) -> Result<(), A
     out.extend_from_slice(b"\n")
 }
 
-// The line of a call.
+// Appends the line of a call.
 pub(crate) fn put_call(out: &mut Vec<u8>, call: &CallRecord) -> Result<(), AllocError>
     ensures line { OnOk result (out.new.items ≡ out.old.items ++ call_line call.now) }
     ensures front { take (length out.old.items) out.new.items ≡ out.old.items }
@@ -109,8 +109,8 @@ fn put_slot(out: &mut Vec<u8>, at: Slot) -> Result<(), AllocError>
     put_number(out, channel_number(at.place))
 }
 
-// The number of the channel at a place. A record can have a place that no line has, since `note` requires nothing of
-// it. The same rule gives its number, in more than eight bits.
+// Returns the number of the channel at a place. A record can have a place that no line has, since `note` requires
+// nothing of it. The same rule gives its number, in more than eight bits.
 fn channel_number(place: u8) -> u64
     ensures { result ≡ channel_at place }
 {

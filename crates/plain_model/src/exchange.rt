@@ -47,14 +47,14 @@ impl Exchange {
         }
     }
 
-    /// The number of the next frame.
+    /// Returns the number of the next frame.
     pub fn next_frame(&self) -> u32
         ensures { result ≡ self.now.holding.next }
     {
         self.next
     }
 
-    /// The existing circuits, in the order in which they were made.
+    /// Returns the existing circuits, in the order in which they were made.
     pub fn circuits(&self) -> &[Circuit]
         ensures { result.now ≡ self.now.holding.circuits }
     {
@@ -131,7 +131,7 @@ impl Exchange {
         Ok(())
     }
 
-    /// The octet that a slot receives in frame `f`, for these octets of the two tones.
+    /// Returns the octet that a slot receives in frame `f`, for these octets of the two tones.
     pub fn octet_heard(&self, ringback: &[u8], busy: &[u8], f: u32, y: Slot) -> u8
         ensures { result ≡ hears (tones_of ringback.now busy.now) self.now.inputs self.now.held f y }
     {

@@ -12,7 +12,7 @@ pub(crate) fn remove_naming(circuits: &mut Vec<Circuit>, x: Slot)
     circuits.retain(|circuit| !is_named(x, *circuit));
 }
 
-/// Whether a circuit refers to a slot, as the receiving or the sending one.
+/// Returns whether a circuit refers to a slot, as the receiving or the sending one.
 fn is_named(x: Slot, circuit: Circuit) -> bool
     ensures { result ≡ names x circuit }
 {

@@ -40,7 +40,7 @@ impl<T: Copy + Drop> Rows<T> {
         Ok(())
     }
 
-    /// The number of frames.
+    /// Returns the number of frames.
     pub fn len(&self) -> usize
         ensures { result ≡ length self.now }
     {
@@ -54,7 +54,7 @@ impl<T: Copy + Drop> Rows<T> {
         self.rows.truncate(count);
     }
 
-    /// The list of frame `f`, counted from 0, or an empty one if there is no such frame.
+    /// Returns the list of frame `f`, counted from 0, or an empty one if there is no such frame.
     pub fn row(&self, f: usize) -> &[T]
         ensures { result.now ≡ slice_index_or self.now f [] }
     {

@@ -14,7 +14,7 @@ use std::alloc::{AllocError, Global};
 /// The maximum number of events of a trace.
 const MOST_EVENTS: u32 = 65_535;
 
-// The numbers of moved live paths, if the line has them, and the octets after them.
+// Returns the numbers of moved live paths, if the line has them, and the octets after them.
 fn moves_at(octets: &[u8]) -> Option<(Option<(u32, u32)>, &[u8])>
     ensures { option_map (λ cut. (cut.0, cut.1.now)) result ≡ moves_at octets.now }
 {
@@ -25,7 +25,7 @@ fn moves_at(octets: &[u8]) -> Option<(Option<(u32, u32)>, &[u8])>
     Some((Some(both), rest))
 }
 
-// The reply after `message`.
+// Returns the reply after `message`.
 fn message_of(alloc: Global, octets: &[u8]) -> Result<Option<Kept>, AllocError>
     ensures { IfOk result (λ reply. reply ≡ message_of octets.now) }
 {
@@ -45,7 +45,7 @@ fn message_of(alloc: Global, octets: &[u8]) -> Result<Option<Kept>, AllocError>
     }))
 }
 
-// The reply and the rows after `frame`.
+// Returns the reply and the rows after `frame`.
 fn frame_of(alloc: Global, octets: &[u8]) -> Result<Option<(Kept, Rows)>, AllocError>
     ensures { IfOk result (λ told. told ≡ frame_of octets.now) }
 {
@@ -66,14 +66,14 @@ fn frame_of(alloc: Global, octets: &[u8]) -> Result<Option<(Kept, Rows)>, AllocE
     Ok(Some((frame, rows)))
 }
 
-// A reply without numbers and lists, at the end of a line.
+// Returns a reply without numbers and lists, at the end of a line.
 fn at_end(reply: Kept, octets: &[u8]) -> Option<Kept>
     ensures { result ≡ passing (is_empty octets.now) reply }
 {
     if octets.is_empty() { Some(reply) } else { None }
 }
 
-// The reply after its word, if it is not a frame's.
+// Returns the reply after its word, if it is not a frame's.
 fn reply_of(alloc: Global, word: Word, octets: &[u8]) -> Result<Option<Kept>, AllocError>
     ensures { IfOk result (λ reply. reply ≡ reply_of word octets.now) }
 {
@@ -89,7 +89,7 @@ fn reply_of(alloc: Global, word: Word, octets: &[u8]) -> Result<Option<Kept>, Al
     })
 }
 
-// A reply, and its rows of octets.
+// Returns a reply, and its rows of octets.
 fn told_of(alloc: Global, word: Word, octets: &[u8]) -> Result<Option<(Kept, Rows)>, AllocError>
     ensures { IfOk result (λ told. told ≡ told_of word octets.now) }
 {
@@ -102,7 +102,7 @@ fn told_of(alloc: Global, word: Word, octets: &[u8]) -> Result<Option<(Kept, Row
     Ok(Some((reply, Rows::of(Vec::new(alloc)))))
 }
 
-// The answer that a line encodes.
+// Returns the answer that a line encodes.
 fn answer_of(alloc: Global, line: &[u8]) -> Result<Option<Answer>, AllocError>
     ensures { IfOk result (λ answer. answer ≡ reading line.now) }
 {

@@ -43,7 +43,7 @@ impl<T: Drop> From<AllocFailed<T>> for ReportFault {
     }
 }
 
-// The first line, and the octets after its line feed, or `None` without a line feed.
+// Returns the first line, and the octets after its line feed, or `None` without a line feed.
 fn first_line(bytes: &[u8]) -> Option<(&[u8], &[u8])>
     ensures { MatchOption result (is_unbroken bytes.now ≡ true)
         (λ cut. (bytes.now ≡ cut.0.now ++ 10 ∷ cut.1.now) × (is_unbroken cut.0.now ≡ true)) }

@@ -11,14 +11,14 @@ use std::alloc::{AllocError, Global};
 // The octets of an idle line.
 const IDLE_ROW: [u8; 30] = [IDLE; 30];
 
-// Whether every octet of a line is idle.
+// Returns whether every octet of a line is idle.
 fn is_idle(octets: &[u8]) -> bool
     ensures { result ≡ is_idle octets.now }
 {
     octets.iter().all(|octet| *octet == IDLE)
 }
 
-// A row of 30 octets.
+// Returns a row of 30 octets.
 fn row_of(octets: &[u8]) -> [u8; 30]
     requires { length octets.now ≡ 30 }
     ensures { result ≡ octets.now }
@@ -28,7 +28,7 @@ fn row_of(octets: &[u8]) -> [u8; 30]
     row
 }
 
-// The 30 octets of a line that is not idle, after its number, and the octets after them.
+// Returns the 30 octets of a line that is not idle, after its number, and the octets after them.
 fn row_at(octets: &[u8]) -> Option<(Signal, &[u8])>
     ensures read { option_map (λ cut. (cut.0, cut.1.now)) result ≡ row_at octets.now }
     ensures thirty { IfSome result (λ cut. length cut.0.octets ≡ 30) }
@@ -51,7 +51,7 @@ fn fill_before(rows: &mut Vec<[u8; 30]>, line: usize) -> Result<(), AllocError>
     Ok(())
 }
 
-/// The rows of a frame to the end of a line.
+/// Returns the rows of a frame to the end of a line.
 pub(crate) fn rows_of(alloc: Global, octets: &[u8]) -> Result<Option<Rows>, AllocError>
     ensures { IfOk result (λ read. read ≡ rows_of octets.now) }
 {

@@ -10,8 +10,8 @@ use std::alloc::{AllocError, Global};
 /// The maximum number of external lines.
 const MOST_LINES: u32 = 32;
 
-// The octets of the pairs of digits at the start, if a message may have that number of octets, and the octets after
-// them.
+// Returns the octets of the pairs of digits at the start, if a message may have that number of octets, and the octets
+// after them.
 fn octets_at(octets: &[u8]) -> Option<(Encoded, &[u8])>
     ensures { option_map (λ cut. (cut.0, cut.1.now)) result ≡ octets_at octets.now }
 {
@@ -30,7 +30,7 @@ fn octets_at(octets: &[u8]) -> Option<(Encoded, &[u8])>
     Some((Encoded::of(read), rest))
 }
 
-/// The octets of a line after its number, and the octets after them.
+/// Returns the octets of a line after its number, and the octets after them.
 pub(crate) fn signal_at(octets: &[u8]) -> Option<(Signal, &[u8])>
     ensures { option_map (λ cut. (cut.0, cut.1.now)) result ≡ signal_at octets.now }
 {
@@ -44,7 +44,7 @@ pub(crate) fn signal_at(octets: &[u8]) -> Option<(Signal, &[u8])>
     Some((Signal { line, octets }, rest))
 }
 
-/// The messages at the start, each after a word, and the octets after them.
+/// Returns the messages at the start, each after a word, and the octets after them.
 pub(crate) fn signals_at<'a>(
     alloc: Global,
     word: &[u8],

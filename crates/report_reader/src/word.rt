@@ -17,7 +17,7 @@ pub enum Word {
     Frame,
 }
 
-/// The word of a reply at the start, after a space, and the octets after it.
+/// Returns the word of a reply at the start, after a space, and the octets after it.
 pub(crate) fn word_at(octets: &[u8]) -> Option<(Word, &[u8])>
     ensures { option_map (λ cut. (cut.0, cut.1.now)) result ≡ word_at octets.now }
 {

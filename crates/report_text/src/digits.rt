@@ -18,7 +18,7 @@ pub(crate) fn wide_row(octets: &[u8]) -> [u8; 32]
     row
 }
 
-// Whether all octets of a row are idle. Every octet is tested.
+// Returns whether all octets of a row are idle. Every octet is tested.
 pub(crate) fn is_idle(row: &[u8; 32]) -> bool
     ensures { result ≡ list_all (λ octet. octet == idle_octet) row.now }
 {
@@ -40,7 +40,8 @@ pub(crate) fn put_row_digits(text: &mut [u8; 86], row: &[u8; 32])
     }
 }
 
-// The hexadecimal digit of a value, in upper case. It is computed, because a table would be read digit by digit.
+// Returns the hexadecimal digit of a value, in upper case. It is computed, because a table would be read digit by
+// digit.
 fn digit(value: u8) -> u8
     requires { value < 16 }
     ensures { result ≡ slice_index upper_digits value }

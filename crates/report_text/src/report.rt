@@ -62,7 +62,7 @@ pub fn append_line(
     )
 }
 
-// The response of a stored reply.
+// Returns the response of a stored reply.
 fn response_of(reply: &Kept) -> Response
     ensures { result ≡ response_kept reply.now }
 {
@@ -78,7 +78,7 @@ fn response_of(reply: &Kept) -> Response
     }
 }
 
-// The numbers of live paths that were moved for a connection or a seat of a message.
+// Returns the numbers of live paths that were moved for a connection or a seat of a message.
 fn moved_of(reply: &Kept) -> Option<(u32, u32)>
     ensures { result ≡ moved_kept reply.now }
 {
@@ -88,7 +88,7 @@ fn moved_of(reply: &Kept) -> Option<(u32, u32)>
     }
 }
 
-// The messages that were sent in reply to a message, or at the boundary of a frame.
+// Returns the messages that were sent in reply to a message, or at the boundary of a frame.
 fn sends_of(reply: &Kept) -> &[Signal]
     ensures { result.now ≡ sends_kept reply.now }
 {

@@ -9,8 +9,8 @@ ghost use Rattle.segment_run.specs.Merging.{all_of};
 use call_processor::{Keeper, Workplace};
 use std::alloc::AllocError;
 
-// The index of the keeper that has the first event of all, the position of this event, and the position of the first
-// event of the others.
+// Returns the index of the keeper that has the first event of all, the position of this event, and the position of the
+// first event of the others.
 fn next_run<K: Keeper>(used: &[Workplace<K>]) -> Option<(usize, u32, u32)>
     ensures { IsNextRun K.holds used.now (length used.now) result }
 {
@@ -23,7 +23,7 @@ fn next_run<K: Keeper>(used: &[Workplace<K>]) -> Option<(usize, u32, u32)>
     found
 }
 
-// The earlier of the result so far and an event of workplace i, with the first position of all others.
+// Returns the earlier of the result so far and an event of workplace i, with the first position of all others.
 fn earlier(found: Option<(usize, u32, u32)>, i: usize, place: u32) -> (usize, u32, u32)
     ensures { result ≡ first_of_two found i place }
 {

@@ -34,7 +34,7 @@ impl<T, K> Model for Workroom<T, K> {
 }
 
 impl<T: Drop, K: Keeper> Workroom<T, K> {
-    /// A new workroom, with keepers of this kind. [`AllocError`] if an allocation fails.
+    /// Returns a new workroom, with keepers of this kind. [`AllocError`] if an allocation fails.
     pub fn new(alloc: Global, keeper: &K) -> Result<Workroom<T, K>, AllocError>
         ensures { IfOk result (λ r. r ≡ 9) }
     {

@@ -42,7 +42,7 @@ fn by_turns<R: Wait>(
     Ok(answered && is_of_steps(journal.as_slice(), steps))
 }
 
-// Whether a journal has these steps in their order.
+// Returns whether a journal has these steps in their order.
 fn is_of_steps(journal: &[(u32, u32)], steps: &[Step]) -> bool {
     let mut left = journal.iter();
     for (done, _) in steps {
@@ -69,12 +69,12 @@ fn in_threads<R: Threads + Wait + Sync>(
     Ok(granted == (30, 30) && has_all_nails(journal.as_slice()))
 }
 
-// Whether a journal has the nails of both seats, and nothing else.
+// Returns whether a journal has the nails of both seats, and nothing else.
 fn has_all_nails(journal: &[(u32, u32)]) -> bool {
     journal.len() == 60 && has_every_second(journal, 0, 1) && has_every_second(journal, 1, 2)
 }
 
-// Whether the events of a seat, in the order of the journal, are every second one from `first` on, 30 in all.
+// Returns whether the events of a seat, in the order of the journal, are every second one from `first` on, 30 in all.
 fn has_every_second(journal: &[(u32, u32)], seat: u32, first: u32) -> bool {
     let mut next = first;
     for &(by, event) in journal {
@@ -97,31 +97,31 @@ const STEPS: [Step; 5] = [
     ((0, 62), (4, Outcome::Frame(1))),
 ];
 
-// Two seats with their own trace. (A trace made in a test would be dropped at each of its ways out.)
+// Tests two seats with their own trace. (A trace made in a test would be dropped at each of its ways out.)
 fn two_seats_agree(rt: &impl Wait, alloc: Global) -> Result<bool, AllocError> {
     let trace = nails_and_frames(alloc)?;
     by_turns(rt, alloc, &trace, &STEPS)
 }
 
-// Two threads with their own trace.
+// Tests two threads with their own trace.
 fn two_threads_agree(rt: &(impl Threads + Wait + Sync), alloc: Global) -> Result<bool, AllocError> {
     let trace = nails_and_frames(alloc)?;
     in_threads(rt, alloc, &trace)
 }
 
-// A core with its own trace.
+// Tests a core with its own trace.
 fn core_steps_agree(alloc: Global) -> Result<bool, AllocError> {
     let trace = nail_and_five_frames(alloc)?;
     nail_is_shown(alloc, &trace)
 }
 
-// A call processor with its own trace.
+// Tests a call processor with its own trace.
 fn processor_answers(rt: &impl Wait, alloc: Global) -> Result<bool, AllocError> {
     let trace = nail_and_five_frames(alloc)?;
     part_is_answered(rt, alloc, &trace)
 }
 
-// A frame worker with its own trace.
+// Tests a frame worker with its own trace.
 fn frame_worker_answers(
     rt: &(impl Threads + Wait + Sync),
     alloc: Global,
@@ -130,7 +130,7 @@ fn frame_worker_answers(
     frames_are_answered(rt, alloc, &trace)
 }
 
-// All workers with their own trace.
+// Tests all workers with their own trace.
 fn all_workers_answer<G: Gate>(
     rt: &(impl Threads + Wait + Sync),
     alloc: Global,

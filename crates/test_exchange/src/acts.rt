@@ -53,7 +53,7 @@ impl PlainExchange {
         self.replace(Leg { state, ..leg });
     }
 
-    /// The other leg of the call.
+    /// Returns the other leg of the call.
     pub(crate) fn peer_of(&self, leg: Leg) -> Option<Leg> {
         match leg.peer {
             Peer::Leg(at) => leg_at(self.legs(), at),
@@ -158,7 +158,7 @@ impl PlainExchange {
     }
 }
 
-// The cause for a message that is not expected.
+// Returns the cause for a message that is not expected.
 fn unexpected_cause(kind: u8) -> u8 {
     if NAMED_TYPES.contains(&kind) {
         NOT_COMPATIBLE_WITH_STATE

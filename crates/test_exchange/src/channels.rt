@@ -10,14 +10,14 @@ const CHANNELS: [u8; 30] = [
     28, 29, 30, 31,
 ];
 
-/// The number of the channel at a place.
+/// Returns the number of the channel at a place.
 pub(crate) fn channel_at(place: u8) -> u8
     requires { place < 30 }
 {
     CHANNELS[usize::from(place)]
 }
 
-/// The place of the channel with this number, if it is a bearer channel's.
+/// Returns the place of the channel with this number, if it is a bearer channel's.
 pub(crate) fn place_of_channel(channel: u8) -> Option<u8>
     ensures { IfSome result (λ place. place < 30) }
 {

@@ -62,8 +62,8 @@ fn cut(octets: &[u8]) -> Option<Piece<'_>>
 }
 
 impl<'a> Received<'a> {
-    /// The contents of the first element of a code. A locking shift hides the rest of the message, a non-locking one
-    /// the piece after it, and an incomplete piece ends the list.
+    /// Returns the contents of the first element of a code. A locking shift hides the rest of the message, a
+    /// non-locking one the piece after it, and an incomplete piece ends the list.
     pub(crate) fn find(&self, code: u8) -> Option<&'a [u8]>
         ensures { IfSome result (λ contents. length contents.now < 256) }
     {
@@ -79,7 +79,7 @@ impl<'a> Received<'a> {
         None
     }
 
-    /// The cause value, or 16 if none can be read.
+    /// Returns the cause value, or 16 if none can be read.
     pub(crate) fn cause(&self) -> u8
         ensures { result < 128 }
     {
@@ -90,7 +90,7 @@ impl<'a> Received<'a> {
         }
     }
 
-    /// Whether the message reports that its sender is in the null state.
+    /// Returns whether the message reports that its sender is in the null state.
     pub(crate) fn tells_null(&self) -> bool {
         matches!(self.find(CALL_STATE), Some([state, ..]) if *state % 0x40 == 0)
     }

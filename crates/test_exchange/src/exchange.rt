@@ -86,37 +86,37 @@ impl PlainExchange {
         }
     }
 
-    /// The same exchange with these timers.
+    /// Returns the same exchange with these timers.
     pub fn with_timers(self, timers: PlainTimers) -> PlainExchange {
         PlainExchange { timers, ..self }
     }
 
-    /// The number of external lines.
+    /// Returns the number of external lines.
     pub fn external(&self) -> u8 {
         self.external
     }
 
-    /// The legs of the calls.
+    /// Returns the legs of the calls.
     pub fn legs(&self) -> &[Leg] {
         self.legs.as_slice()
     }
 
-    /// The expiries of timers, in order.
+    /// Returns the expiries of timers, in order.
     pub fn expired(&self) -> &[Expired] {
         self.expired.as_slice()
     }
 
-    /// The number plan.
+    /// Returns the number plan.
     pub fn numbers(&self) -> &[Number] {
         self.numbers.as_slice()
     }
 
-    /// The chains of paths that were moved so far.
+    /// Returns the chains of paths that were moved so far.
     pub fn chains(&self) -> Chains {
         self.paths.chains
     }
 
-    /// The number of the next frame.
+    /// Returns the number of the next frame.
     pub fn next_frame(&self) -> u32 {
         self.circuits.next_frame()
     }
@@ -192,7 +192,7 @@ impl PlainExchange {
         replace_leg(&mut self.legs, leg);
     }
 
-    // The leg as its wait begins.
+    // Returns the leg as its wait begins.
     fn begun(&self, leg: Leg) -> Leg {
         Leg {
             since: self.next_frame(),
@@ -201,13 +201,13 @@ impl PlainExchange {
         }
     }
 
-    /// The octet that a slot receives in a frame.
+    /// Returns the octet that a slot receives in a frame.
     pub fn octet_heard(&self, frame: u32, at: Slot) -> u8 {
         let tones = &self.tones;
         self.circuits.octet_heard(tones.ringback.as_slice(), tones.busy.as_slice(), frame, at)
     }
 
-    /// The number of times that ringing tone and busy tone were connected to a slot.
+    /// Returns the number of times that ringing tone and busy tone were connected to a slot.
     pub fn tones_given(&self) -> (u32, u32) {
         (self.rung, self.busy)
     }
@@ -274,12 +274,12 @@ impl PlainExchange {
         }
     }
 
-    /// Whether a slot has no circuit and no leg.
+    /// Returns whether a slot has no circuit and no leg.
     pub fn is_idle(&self, x: Slot) -> bool {
         self.circuit_of(x).is_none() && leg_at(self.legs(), x).is_none()
     }
 
-    /// The lowest idle slot of a line, other than this one.
+    /// Returns the lowest idle slot of a line, other than this one.
     pub(crate) fn lowest_idle(&self, line: u8, beside: Option<Slot>) -> Option<Slot>
         ensures { IfSome result (λ x. x.place < 30) }
     {
@@ -312,12 +312,13 @@ impl PlainExchange {
         self.ports.give(x);
     }
 
-    // The circuit at a slot. A circuit between two slots has both directions, so each of its slots receives something.
+    // Returns the circuit at a slot. A circuit between two slots has both directions, so each of its slots receives
+    // something.
     fn circuit_of(&self, x: Slot) -> Option<Circuit> {
         find_heard(self.circuits.circuits(), x)
     }
 
-    /// The records of the calls whose clearing has not begun, as if it began now.
+    /// Returns the records of the calls whose clearing has not begun, as if it began now.
     pub(crate) fn calls(&self, alloc: Global) -> Result<Vec<CallRecord>, AllocError> {
         let mut calls = Vec::new(alloc);
         for leg in self.legs() {
@@ -363,7 +364,7 @@ fn party_of(peer: Peer) -> Option<Party> {
     }
 }
 
-// The first frame of a circuit.
+// Returns the first frame of a circuit.
 fn since_of(circuit: Circuit) -> u32 {
     match circuit {
         Circuit::Pair { since, .. } => since,

@@ -68,7 +68,7 @@ pub struct Leg {
 }
 
 impl Leg {
-    /// Whether this is the leg of a caller whose clearing has not begun.
+    /// Returns whether this is the leg of a caller whose clearing has not begun.
     pub(crate) fn is_calling(&self) -> bool {
         let is_up = matches!(
             self.state,
@@ -78,13 +78,13 @@ impl Leg {
     }
 }
 
-/// The leg that holds a slot.
+/// Returns the leg that holds a slot.
 pub(crate) fn leg_at(legs: &[Leg], x: Slot) -> Option<Leg> {
     legs.iter().copied().find(|leg| leg.at == x)
 }
 
-/// The leg of a message on a line. The flag is set in messages to the side that chose the reference, so it is clear in
-/// a message from a caller.
+/// Returns the leg of a message on a line. The flag is set in messages to the side that chose the reference, so it is
+/// clear in a message from a caller.
 pub(crate) fn leg_named(legs: &[Leg], line: u8, flag: bool, reference: u16) -> Option<Leg> {
     let side = if flag { Side::Called } else { Side::Caller };
     legs.iter().copied().find(|leg| leg.at.line == line
@@ -92,7 +92,7 @@ pub(crate) fn leg_named(legs: &[Leg], line: u8, flag: bool, reference: u16) -> O
         && leg.reference == reference)
 }
 
-/// The lowest reference that no called leg of a line has. A line has no more legs than places.
+/// Returns the lowest reference that no called leg of a line has. A line has no more legs than places.
 pub(crate) fn new_reference(legs: &[Leg], line: u8) -> u16 {
     (1..0x7FFF)
         .find(|reference| leg_named(legs, line, true, *reference).is_none())

@@ -84,7 +84,7 @@ impl PlainExchange {
         Ok(())
     }
 
-    /// The target of dialled octets, or `None` if the number is not complete and more may come.
+    /// Returns the target of dialled octets, or `None` if the number is not complete and more may come.
     pub(crate) fn target_of(
         &self,
         dialled: &[u8],
@@ -127,7 +127,7 @@ impl PlainExchange {
         Ok(())
     }
 
-    // The requested slot if it is idle, otherwise the line's lowest idle slot.
+    // Returns the requested slot if it is idle, otherwise the line's lowest idle slot.
     fn caller_slot(&self, line: u8, channel: Channel) -> Result<Slot, Refusal>
         ensures { IfOk result (λ x. x.place < 30) }
     {
@@ -144,7 +144,7 @@ impl PlainExchange {
         }
     }
 
-    // The slot of a channel, if it is idle.
+    // Returns the slot of a channel, if it is idle.
     fn idle_channel(&self, line: u8, number: u8) -> Option<Slot>
         ensures { IfSome result (λ x. x.place < 30) }
     {
@@ -153,7 +153,7 @@ impl PlainExchange {
         if self.is_idle(x) { Some(x) } else { None }
     }
 
-    // The lowest idle slot of the called line, other than the caller's.
+    // Returns the lowest idle slot of the called line, other than the caller's.
     fn called_slot(&self, line: u8, caller: Slot) -> Result<Slot, Refusal>
         ensures { IfOk result (λ x. x.place < 30) }
     {
@@ -243,7 +243,7 @@ impl PlainExchange {
     }
 }
 
-// A message of this type to the caller, with this channel if there is one.
+// Sends a message of this type to the caller, with this channel if there is one.
 fn tell_channel(
     alloc: Global,
     caller: Leg,

@@ -40,7 +40,7 @@ pub(crate) fn look(numbers: &[Number], dialled: &[u8]) -> Found {
     Found::Nothing
 }
 
-// Whether one is a prefix of the other.
+// Returns whether one is a prefix of the other.
 fn is_same_so_far(digits: &[u8], dialled: &[u8]) -> bool {
     digits
         .iter()
@@ -48,7 +48,7 @@ fn is_same_so_far(digits: &[u8], dialled: &[u8]) -> bool {
         .all(|(digit, octet)| *digit == *octet % 0x80)
 }
 
-/// Whether dialled octets are digits 0 to 9.
+/// Returns whether dialled octets are digits 0 to 9.
 pub(crate) fn are_digits(dialled: &[u8]) -> bool {
     dialled
         .iter()

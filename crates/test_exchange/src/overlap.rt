@@ -14,7 +14,7 @@ use std::alloc::{AllocError, Global};
 
 // The messages of a caller in overlap sending.
 impl PlainExchange {
-    /// The contents of the called party number so far, from the caller at a slot whose number is not complete.
+    /// Returns the contents of the called party number so far, from the caller at a slot whose number is not complete.
     pub fn dialled(&self, at: Slot) -> Option<&[u8]> {
         let passed = self.waiting.iter().find(|passed| passed.at == at)?;
         Some(passed.called.as_slice())

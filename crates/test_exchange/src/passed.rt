@@ -27,7 +27,7 @@ pub(crate) struct Passed {
 }
 
 impl Passed {
-    /// The elements in a SETUP of the user at a slot.
+    /// Returns the elements in a SETUP of the user at a slot.
     pub(crate) fn of(alloc: Global, at: Slot, setup: &Received) -> Result<Passed, AllocError> {
         Ok(Passed {
             at,
@@ -39,12 +39,12 @@ impl Passed {
         })
     }
 
-    /// The octets of the digits so far.
+    /// Returns the octets of the digits so far.
     pub(crate) fn digits(&self) -> &[u8] {
         self.called.get(1..).unwrap_or(&[])
     }
 
-    /// The SETUP to the called user: the complete number, the caller's elements, and the called user's channel.
+    /// Returns the SETUP to the called user: the complete number, the caller's elements, and the called user's channel.
     pub(crate) fn setup(
         &self,
         alloc: Global,

@@ -66,7 +66,7 @@ impl Chains {
 }
 
 impl Paths {
-    /// No path, on n internal slots.
+    /// Returns a layout without paths, on n internal slots.
     pub(crate) fn new(alloc: Global, slots: u8) -> Paths {
         Paths {
             slots,
@@ -96,8 +96,8 @@ impl Paths {
         self.paths.retain(|path| path.from != x && path.to != x);
     }
 
-    // The internal slot for a path from one line to another, free on both once the paths of the chain have moved.
-    // `None` if a line has no free slot at all.
+    // Returns the internal slot for a path from one line to another, free on both once the paths of the chain have
+    // moved. `None` if a line has no free slot at all.
     fn make_room(&mut self, alloc: Global, from: u8, to: u8) -> Result<Option<u8>, AllocError> {
         if let Some(internal) = self.common_free(from, to) {
             return Ok(Some(internal));
@@ -117,7 +117,7 @@ impl Paths {
         }
     }
 
-    // The lowest internal slot that is free on both lines.
+    // Returns the lowest internal slot that is free on both lines.
     fn common_free(&self, from: u8, to: u8) -> Option<u8> {
         for internal in 0..self.slots {
             if self.from_line(from, internal).is_none() && self.to_line(to, internal).is_none() {
@@ -127,17 +127,17 @@ impl Paths {
         None
     }
 
-    // The lowest internal slot in which no path comes from a line.
+    // Returns the lowest internal slot in which no path comes from a line.
     fn free_from(&self, line: u8) -> Option<u8> {
         (0..self.slots).find(|internal| self.from_line(line, *internal).is_none())
     }
 
-    // The lowest internal slot in which no path goes to a line.
+    // Returns the lowest internal slot in which no path goes to a line.
     fn free_to(&self, line: u8) -> Option<u8> {
         (0..self.slots).find(|internal| self.to_line(line, *internal).is_none())
     }
 
-    // The places in the list of the paths of the chain that starts with one of them.
+    // Returns the places in the list of the paths of the chain that starts with one of them.
     fn chain(
         &self,
         alloc: Global,
@@ -155,7 +155,7 @@ impl Paths {
         Ok(chain)
     }
 
-    // The chain's next path.
+    // Returns the chain's next path.
     fn after(&self, place: usize, a: u8, b: u8) -> Option<usize> {
         let path = self.paths.get(place)?;
         if path.internal == a {
@@ -173,21 +173,21 @@ impl Paths {
         }
     }
 
-    // The path that comes from a line in an internal slot.
+    // Returns the path that comes from a line in an internal slot.
     fn from_line(&self, line: u8, internal: u8) -> Option<usize> {
         self.paths
             .iter()
             .position(|path| path.from.line == line && path.internal == internal)
     }
 
-    // The path that goes to a line in an internal slot.
+    // Returns the path that goes to a line in an internal slot.
     fn to_line(&self, line: u8, internal: u8) -> Option<usize> {
         self.paths
             .iter()
             .position(|path| path.to.line == line && path.internal == internal)
     }
 
-    // The number of paths whose internal slot has changed.
+    // Returns the number of paths whose internal slot has changed.
     fn moved_since(&self, before: &[Path]) -> u32 {
         let mut moved = 0u32;
         for (now, then) in self.paths.iter().zip(before) {

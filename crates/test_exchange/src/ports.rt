@@ -31,7 +31,7 @@ impl Ports {
         }
     }
 
-    /// Whether no port is free.
+    /// Returns whether no port is free.
     pub(crate) fn is_full(&self) -> bool {
         self.lowest_free().is_none()
     }

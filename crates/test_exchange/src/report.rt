@@ -42,22 +42,22 @@ impl PlainRun {
         }
     }
 
-    /// The exchange after the events so far.
+    /// Returns the exchange after the events so far.
     pub fn exchange(&self) -> &PlainExchange {
         &self.exchange
     }
 
-    /// The report so far.
+    /// Returns the report so far.
     pub fn report(&self) -> &str {
         self.report.as_str()
     }
 
-    /// The records of the calls whose clearing has begun.
+    /// Returns the records of the calls whose clearing has begun.
     pub fn records(&self) -> &[CallRecord] {
         self.records.as_slice()
     }
 
-    /// The number of paths that were moved so far.
+    /// Returns the number of paths that were moved so far.
     pub fn paths_moved(&self) -> u32 {
         self.moved
     }

@@ -21,7 +21,7 @@ struct Scope {
 }
 
 impl Scope {
-    // The scope of a RESTART that is accepted.
+    // Returns the scope of a RESTART that is accepted.
     fn of(message: &Received) -> Option<Scope> {
         if message.kind != RESTART || message.flag {
             return None;
@@ -45,7 +45,7 @@ impl Scope {
     }
 }
 
-// The place of the channel of a message, exclusive or preferred.
+// Returns the place of the channel of a message, exclusive or preferred.
 fn place_named(message: &Received) -> Option<u8> {
     match message.find(CHANNEL_IDENTIFICATION)? {
         [0xA9 | 0xA1, 0x83, channel] => place_of_channel(*channel % 0x80),
@@ -131,7 +131,7 @@ fn is_told(records: &[CallRecord], caller: Slot) -> bool {
     records.iter().any(|told| told.caller == caller)
 }
 
-// The acknowledgement of a RESTART, with the same scope.
+// Sends the acknowledgement of a RESTART, with the same scope.
 fn acknowledge(alloc: Global, line: u8, scope: Scope, sent: &mut Sent) -> Result<(), AllocError> {
     let mut octets = Vec::from_slice(alloc, &[0x08, 0x02, 0x80, 0x00, RESTART_ACKNOWLEDGE])?;
     match scope.place {

@@ -90,7 +90,7 @@ pub struct Sent {
 }
 
 impl Sent {
-    /// The empty reply of octets that are not a message.
+    /// Returns the empty reply of octets that are not a message.
     pub(crate) fn new(alloc: Global) -> Sent {
         Sent {
             course: Course::Discarded,

@@ -36,7 +36,7 @@ pub enum Refusal {
 }
 
 impl Refusal {
-    /// The cause value (ITU-T Q.931 (05/98), 4.5.12; ITU-T Q.850).
+    /// Returns the cause value (ITU-T Q.931 (05/98), 4.5.12; ITU-T Q.850).
     pub fn cause(self) -> u8 {
         match self {
             Refusal::NoBearer => 96,
@@ -85,7 +85,7 @@ pub(crate) fn read_setup<'a>(setup: &Received<'a>) -> Result<Asked<'a>, Refusal>
     })
 }
 
-// The octets of the digits of a called party number.
+// Returns the octets of the digits of a called party number.
 fn digits_of(called: &[u8]) -> Result<&[u8], Refusal> {
     match called {
         [_, dialled @ ..] if dialled.len() <= 20 => Ok(dialled),

@@ -152,7 +152,7 @@ const TABLE: [Row; 17] = [
     },
 ];
 
-/// The act of a message in a state. A STATUS of the null state ends the leg in every state.
+/// Returns the act of a message in a state. A STATUS of the null state ends the leg in every state.
 pub(crate) fn act_of(state: State, message: &Received) -> Act {
     if message.kind == STATUS && message.tells_null() {
         return Act::Gone;
@@ -165,7 +165,7 @@ pub(crate) fn act_of(state: State, message: &Received) -> Act {
     Act::Unexpected
 }
 
-/// The cause with which the message clears a call.
+/// Returns the cause with which the message clears a call.
 pub(crate) fn clearing_cause(message: &Received) -> u8 {
     if message.kind == STATUS {
         TEMPORARY_FAILURE

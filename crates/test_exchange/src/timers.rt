@@ -27,7 +27,7 @@ pub struct PlainTimers {
 }
 
 impl PlainTimers {
-    /// The timers of a trace that gives none.
+    /// Returns the timers of a trace that gives none.
     pub fn usual() -> PlainTimers {
         PlainTimers {
             t302: 15 * SECOND,
@@ -76,7 +76,7 @@ pub(crate) struct Kept {
     octets: Vec<u8>,
 }
 
-// The time that a leg may wait in its state, and the action after it.
+// Returns the time that a leg may wait in its state, and the action after it.
 fn limit(leg: Leg, timers: PlainTimers) -> Option<(u32, Expiry)> {
     match leg.state {
         State::Overlap => Some((timers.t302, Expiry::Digits)),
@@ -122,7 +122,7 @@ impl PlainExchange {
         self.tell_ended(calls.as_slice(), NO_USER_RESPONDING, sent)
     }
 
-    // The leg at a slot, if its timer has expired.
+    // Returns the leg at a slot, if its timer has expired.
     fn due(&self, at: Slot, frame: u32) -> Option<(Leg, Expiry)> {
         let leg = leg_at(self.legs(), at)?;
         let (frames, expiry) = limit(leg, self.timers)?;

@@ -7,8 +7,7 @@ use crate::legs::{Side, State};
 use crate::types::{CALL_STATE, CAUSE, CHANNEL_IDENTIFICATION, PROGRESS_INDICATOR};
 use std::alloc::{AllocError, Global};
 
-/// A message without elements to the user of a side. The flag is set towards the side that chose the
-/// reference.
+/// Returns a message without elements to the user of a side. The flag is set towards the side that chose the reference.
 pub(crate) fn bare_message(
     alloc: Global,
     side: Side,

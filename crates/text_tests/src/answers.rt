@@ -16,7 +16,7 @@ const TOLD: CallRecord = CallRecord {
     cause: 16,
 };
 
-/// A text in which `+` means 28 idle octets.
+/// Returns the bytes of a text in which `+` means 28 idle octets.
 pub(crate) fn spelled(alloc: Global, text: &str) -> Result<Vec<u8>, AllocError> {
     let mut bytes = Vec::new(alloc);
     for byte in text.bytes() {
@@ -43,7 +43,7 @@ fn signals(sends: &[(u8, &[u8])]) -> Result<Signals, Fail> {
     Ok(Signals::of(signals))
 }
 
-// The reply to a message: these octets to these lines. A call is recorded as well.
+// Returns the reply to a message: these octets to these lines. A call is recorded as well.
 fn sent(moved: Option<(u32, u32)>, sends: &[(u8, &[u8])]) -> Result<Reply, Fail> {
     let mut records = Records::new();
     records.push(TOLD);
@@ -54,7 +54,7 @@ fn sent(moved: Option<(u32, u32)>, sends: &[(u8, &[u8])]) -> Result<Reply, Fail>
     })
 }
 
-// A frame at whose boundary these octets are sent to these lines.
+// Returns a frame at whose boundary these octets are sent to these lines.
 fn frame(number: u32, sends: &[(u8, &[u8])]) -> Result<Reply, Fail> {
     Ok(Reply::Frame {
         number,
@@ -63,7 +63,7 @@ fn frame(number: u32, sends: &[(u8, &[u8])]) -> Result<Reply, Fail> {
     })
 }
 
-// The line of an answer after another octet.
+// Returns the line of an answer after another octet.
 fn printed(
     alloc: Global,
     event: u32,
@@ -76,7 +76,7 @@ fn printed(
     Ok(out)
 }
 
-// Whether the line of an answer is this one, after an earlier text.
+// Returns whether the line of an answer is this one, after an earlier text.
 fn has_line(
     alloc: Global,
     event: u32,

@@ -63,7 +63,7 @@ impl Meter for CallsToLine {
     }
 }
 
-// Whether a call to this party is one to the line.
+// Returns whether a call to this party is one to the line.
 fn is_to(line: u8, called: Party) -> bool
     ensures { result ≡ is_to line called }
 {
@@ -73,7 +73,7 @@ fn is_to(line: u8, called: Party) -> bool
     }
 }
 
-// The text of a count.
+// Returns the text of a count.
 fn line_of(alloc: Global, line: u8, calls: u64) -> Result<String, AllocError>
     ensures line { IfOk result (λ text. string_bytes text ≡ to_line line calls) }
 {

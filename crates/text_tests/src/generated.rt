@@ -4,7 +4,7 @@ use generated_trace::generated;
 use std::alloc::{AllocError, Global};
 use std::test::Fail;
 
-// The number of frames of a trace.
+// Returns the number of frames of a trace.
 fn frames(trace: &Trace) -> usize {
     let mut count: usize = 0;
     for event in trace.events.as_slice() {
@@ -15,7 +15,7 @@ fn frames(trace: &Trace) -> usize {
     count
 }
 
-// Whether a trace has this many events, frames and segments.
+// Returns whether a trace has this many events, frames and segments.
 fn has_counts(trace: &Trace, events: usize, of_frames: usize, segments: usize) -> bool {
     trace.events.as_slice().len() == events
         && frames(trace) == of_frames

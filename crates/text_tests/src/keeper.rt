@@ -50,7 +50,7 @@ impl Meter for Keeper {
     }
 }
 
-// A letter for each call. An error leaves a prefix of them.
+// Appends a letter for each call. An error leaves a prefix of them.
 fn put_letters(out: &mut Vec<u8>, calls: &[CallRecord]) -> Result<(), AllocError>
     ensures letters { OnOk result (out.new.items ≡ out.old.items ++ map (λ call. if call.answered then 65 else 78) calls.now) }
     ensures front { take (length out.old.items) out.new.items ≡ out.old.items }

@@ -9,7 +9,7 @@ use report_text::append_answer;
 use std::alloc::Global;
 use std::test::Fail;
 
-// Whether a number is added that the plan does not have, at once or at the second time.
+// Returns whether a number is added that the plan does not have, at once or at the second time.
 fn adds(plan: &mut Plan, digits: &[u8], line: u8) -> bool {
     if !is_number(digits) {
         return false;
@@ -31,14 +31,14 @@ fn a_plan_that_refuses_a_number_is_as_it_was(rt: HostRuntime) {
     assert!(rt; plan.look(b"39") == Found::Nothing);
 }
 
-// Whether the line of an answer is appended, at once or at the second time.
+// Returns whether the line of an answer is appended, at once or at the second time.
 fn appends(out: &mut Vec<u8>, answer: &Answer) -> bool {
     let before = out.len();
     append_answer(out, answer).is_ok()
         || (out.len() == before && append_answer(out, answer).is_ok())
 }
 
-// An answer without lists, which requests no memory.
+// Returns an answer without lists, which requests no memory.
 fn granted(alloc: Global, event: u32) -> Option<Answer> {
     Answer::keep(alloc, event, &Reply::Granted(0, 62), &[]).ok()
 }
@@ -57,7 +57,7 @@ fn a_report_that_refuses_a_line_is_as_it_was(rt: HostRuntime) {
     assert!(rt; out.as_slice() == wanted);
 }
 
-// The record of a call to a room.
+// Returns the record of a call to a room.
 fn record(cause: u8, answered: bool) -> CallRecord {
     CallRecord {
         caller: Slot { line: 0, place: 0 },
@@ -69,12 +69,12 @@ fn record(cause: u8, answered: bool) -> CallRecord {
     }
 }
 
-// Whether a meter records a call, at once or at the second time.
+// Returns whether a meter records a call, at once or at the second time.
 fn notes<M: Meter>(meter: &mut M, call: &CallRecord) -> bool {
     meter.note(call).is_ok() || meter.note(call).is_ok()
 }
 
-// Whether a meter's text is appended, at once or at the second time.
+// Returns whether a meter's text is appended, at once or at the second time.
 fn says<M: Meter>(meter: &M, out: &mut Vec<u8>) -> bool {
     let before = out.len();
     meter.summary(out).is_ok() || (out.len() == before && meter.summary(out).is_ok())

@@ -128,7 +128,7 @@ fn comes(alloc: Global, text: &str) -> Result<Came, AllocError> {
     read_back(alloc, line.as_slice())
 }
 
-// Whether each of these texts has this result.
+// Returns whether each of these texts has this result.
 fn all_come(alloc: Global, texts: &[&str], wanted: Came) -> Result<bool, AllocError> {
     for text in texts {
         if comes(alloc, text)? != wanted {
@@ -150,7 +150,7 @@ fn what_spells_none_is_not_read(rt: HostRuntime) -> Result<(), Fail> {
     Ok(())
 }
 
-// Whether a line is read as none or as itself, if any one octet is replaced by any of these octets.
+// Returns whether a line is read as none or as itself, if any one octet is replaced by any of these octets.
 fn keeps_to_itself(alloc: Global, line: &mut Vec<u8>) -> Result<bool, AllocError> {
     for place in 0..line.len() {
         let own = line[place];
@@ -181,7 +181,7 @@ fn a_line_with_another_octet_is_none_or_itself(rt: HostRuntime) -> Result<(), Fa
     Ok(())
 }
 
-// Whether the answer is the second event's, of a message that moved paths, with one message to line 31.
+// Returns whether the answer is the second event's, of a message that moved paths, with one message to line 31.
 fn is_sent(answer: &Answer) -> bool {
     let Kept::Sent {
         sends,
@@ -202,7 +202,7 @@ fn is_sent(answer: &Answer) -> bool {
         && answer.octets.as_slice().is_empty()
 }
 
-// Whether it is the third event's, of frame 7, in which only line 1 sends octets other than idle.
+// Returns whether it is the third event's, of frame 7, in which only line 1 sends octets other than idle.
 fn is_frame(answer: &Answer) -> bool {
     let Kept::Frame {
         number,
@@ -263,7 +263,7 @@ const FAULTY: [(&str, u32); 8] = [
     ("1 busy", 1),
 ];
 
-// Whether a report has this many answers.
+// Returns whether a report has this many answers.
 fn has_answers(alloc: Global, report: &[u8], count: usize) -> Result<bool, AllocError> {
     if report.len() > LONGEST {
         return Ok(false);
@@ -284,7 +284,7 @@ fn have_answers(alloc: Global, reports: &[(&str, usize)]) -> Result<bool, AllocE
     Ok(true)
 }
 
-// Whether this is the first wrong line of a report.
+// Returns whether this is the first wrong line of a report.
 fn is_faulty_at(alloc: Global, report: &[u8], line: u32) -> Result<bool, AllocError> {
     if report.len() > LONGEST {
         return Ok(false);

@@ -78,7 +78,7 @@ struct Told<'a> {
     after: &'a str,
 }
 
-// Whether the meters append these texts to an earlier one.
+// Returns whether the meters append these texts to an earlier one.
 fn say_behind(
     alloc: Global,
     meters: &mut [Box<dyn Meter>],

@@ -47,12 +47,12 @@ const SUMS: [(u64, u32, usize, u32); 7] = [
     (4294967295, 2000, 710474, 1273983832),
 ];
 
-// Whether a text has this line at an index.
+// Returns whether a text has this line at an index.
 fn has_line(text: &[u8], index: usize, line: &str) -> bool {
     text.split(|octet| *octet == b'\n').nth(index) == Some(line.as_bytes())
 }
 
-// The Adler-32 sum of octets (RFC 1950).
+// Returns the Adler-32 sum of octets (RFC 1950).
 fn adler32(octets: &[u8]) -> u32 {
     let mut low: u32 = 1;
     let mut high: u32 = 0;

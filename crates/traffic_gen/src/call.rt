@@ -18,7 +18,7 @@ pub struct Call {
 }
 
 impl Call {
-    /// The next call.
+    /// Returns the next call.
     pub fn drawn(draws: &mut Draws) -> Call
         ensures call { result ≡ call_drawn draws.old.state }
         ensures state { draws.new.state ≡ state_after 3 draws.old.state }
@@ -55,7 +55,7 @@ impl Call {
         put_message(out, self.caller, b"080200015A")
     }
 
-    // The line that sends in addition to the caller's, if there is one. A line that calls itself sends once.
+    // Returns the line that sends in addition to the caller's, if there is one. A line that calls itself sends once.
     fn far_line(&self) -> Option<u8>
         ensures { result ≡ far_line self.now.caller self.now.callee }
     {

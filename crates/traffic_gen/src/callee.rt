@@ -20,7 +20,7 @@ pub enum Callee {
 }
 
 impl Callee {
-    /// The callee with this number: the lines in order, and then the room.
+    /// Returns the callee with this number: the lines in order, and then the room.
     pub fn of(choice: u8) -> Callee
         requires { choice < 9 }
         ensures callee { result ≡ callee_drawn choice }
@@ -33,7 +33,7 @@ impl Callee {
         }
     }
 
-    /// The digits of a SETUP that calls it.
+    /// Returns the digits of a SETUP that calls it.
     pub fn setup(self) -> [u8; 30]
         requires { IsCallee self }
         ensures { result ≡ encode_upper (setup (number_of self)) }

@@ -38,7 +38,7 @@ pub fn generate(alloc: Global, seed: u64, calls: u32) -> Result<Vec<u8>, AllocEr
     Ok(out)
 }
 
-// The sizes of the exchange, and the number plan.
+// Appends the sizes of the exchange, and the number plan.
 fn put_header(out: &mut Vec<u8>) -> Result<(), AllocError>
     ensures { OnOk result (out.new.items ≡ out.old.items ++ text header) }
 {
@@ -55,14 +55,14 @@ fn put_sizes(out: &mut Vec<u8>) -> Result<(), AllocError>
     out.extend_from_slice(b"exchange 1 8 1 4\n")
 }
 
-// The number of the conference room.
+// Appends the number of the conference room.
 fn put_room_line(out: &mut Vec<u8>) -> Result<(), AllocError>
     ensures { OnOk result (out.new.items ≡ out.old.items ++ text (room_line ∷ [])) }
 {
     out.extend_from_slice(b"number 30 room 0\n")
 }
 
-// The number of a line.
+// Appends the number of a line.
 #[tactic(auto, unfolding(crate::specs::Lines::text))]
 fn put_number_line(out: &mut Vec<u8>, line: u8) -> Result<(), AllocError>
     ensures { OnOk result (out.new.items ≡ out.old.items ++ text (number_line line ∷ [])) }
@@ -74,7 +74,7 @@ fn put_number_line(out: &mut Vec<u8>, line: u8) -> Result<(), AllocError>
     out.extend_from_slice(b"\n")
 }
 
-// The nails of all places.
+// Appends the nails of all places.
 fn put_nails(out: &mut Vec<u8>) -> Result<(), AllocError>
     ensures { OnOk result (out.new.items ≡ out.old.items ++ text nails) }
 {
@@ -84,7 +84,7 @@ fn put_nails(out: &mut Vec<u8>) -> Result<(), AllocError>
     Ok(())
 }
 
-// The nails of one place.
+// Appends the nails of one place.
 fn put_nails_at(out: &mut Vec<u8>, place: u8) -> Result<(), AllocError>
     requires { place < 30 }
     ensures { OnOk result (out.new.items ≡ out.old.items ++ text (nails_at place)) }

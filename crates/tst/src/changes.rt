@@ -14,7 +14,7 @@ const SETUP_TO_ROOM: &str =
 
 const CLEARING: &str = "M 0 080200015A\n";
 
-// The report of a trace with active and spare meters of these kinds, and the meters that are left.
+// Returns the report of a trace with active and spare meters of these kinds, and the meters that are left.
 pub(crate) fn changed(
     rt: &(impl Threads + Wait + Sync),
     alloc: Global,
@@ -91,7 +91,7 @@ const RUNS: [ChangedRun; 6] = [
     },
 ];
 
-// Whether a run has this report, and leaves its meters so.
+// Returns whether a run has this report, and leaves its meters so.
 fn is_changed(
     rt: &(impl Threads + Wait + Sync),
     alloc: Global,
@@ -138,7 +138,7 @@ pub(crate) const REPORT: &str =
 /// The number of its octets that are written after the first change.
 pub(crate) const BEHIND_FIRST: usize = 74;
 
-/// Whether octets are a prefix of the report.
+/// Returns whether octets are a prefix of the report.
 pub(crate) fn is_front(octets: &[u8]) -> bool {
     REPORT.as_bytes().starts_with(octets)
 }
@@ -165,8 +165,8 @@ const WRITES: [(u32, usize); 17] = [
     (17, 90),
 ];
 
-// Whether a run with a failed write has written this number of octets of its report, processed the events of these
-// octets, and left the meters as they are there.
+// Returns whether a run with a failed write has written this number of octets of its report, processed the events of
+// these octets, and left the meters as they are there.
 fn is_cut(
     rt: &(impl Threads + Wait + Sync),
     alloc: Global,

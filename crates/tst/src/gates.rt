@@ -40,7 +40,7 @@ impl Gate for Behind {
     fn after_crossing(&self, _frame: u32) {}
 }
 
-// Whether a gate that holds one event until another one is processed has this order and this report.
+// Returns whether a gate that holds one event until another one is processed has this order and this report.
 fn is_behind(
     rt: &(impl Threads + Wait + Sync),
     alloc: Global,
@@ -130,7 +130,7 @@ impl Watched {
         self.turns.get(event.checked_sub(1)? as usize)
     }
 
-    // Whether the turn at an event is over.
+    // Returns whether the turn at an event is over.
     fn is_over(&self, event: u32) -> bool {
         match self.turn(event) {
             Some(word) => word.load(Ordering::SeqCst) >= OVER,
@@ -138,7 +138,7 @@ impl Watched {
         }
     }
 
-    // Whether each event had two calls by these workers, and each frame two.
+    // Returns whether each event had two calls by these workers, and each frame two.
     fn saw(&self, workers: &[u32]) -> bool {
         self.turns.len() == workers.len()
             && self.turns.iter().zip(workers.iter()).all(|(word, worker)| word.load(

@@ -35,7 +35,7 @@ use std::process::ExitCode;
 use std::sync::Wait;
 use std::thread::Threads;
 
-// The arguments after the program's name. An argument that is not text is not a command.
+// Returns the arguments after the program's name. An argument that is not text is not a command.
 fn words_of(rt: &HostRuntime) -> io::Result<Vec<String>> {
     let arguments = match env::args(rt) {
         Ok(arguments) => arguments,
@@ -45,8 +45,8 @@ fn words_of(rt: &HostRuntime) -> io::Result<Vec<String>> {
     Ok(arguments.skip(1).collect(rt.alloc())?)
 }
 
-// The status of a call with three meters: the details of the last ten calls, a peg count and the holding time; and with
-// three spare ones of the same kinds. They are boxed here, where they are used.
+// Returns the status of a call with three meters: the details of the last ten calls, a peg count and the holding time;
+// and with three spare ones of the same kinds. They are boxed here, where they are used.
 fn status_of<S: Source, K: Sink, R: Threads + Wait + Sync>(
     rt: &R,
     alloc: Global,

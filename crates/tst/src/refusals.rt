@@ -17,13 +17,13 @@ const CHANGED: (&str, &str) = ("peg 0 0\n", "");
 
 const NONE: (&str, &str) = ("", "");
 
-// Whether the texts of these meters are left.
+// Returns whether the texts of these meters are left.
 fn has_left(call: &Metered, left: (&str, &str)) -> bool {
     let (said, spare) = left;
     call.said.as_slice() == said.as_bytes() && call.spare.as_slice() == spare.as_bytes()
 }
 
-// Whether a run ends as it may, once there was memory for its input and for the check of its result.
+// Returns whether a run ends as it may, once there was memory for its input and for the check of its result.
 fn is_kept(rt: &(impl Threads + Wait + Sync), alloc: Global) -> Result<bool, AllocError> {
     let sink = MemSink::new(alloc, 100, 4096, Vec::new(alloc))?;
     let call = changed(rt, alloc, &LINES, &ONE_PEG, &ONE_PEG, sink)?;

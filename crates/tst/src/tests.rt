@@ -11,7 +11,7 @@ use std::test::Fail;
 use std::thread::Threads;
 use traffic_gen::generate;
 
-// A text in which `+` means 29 idle octets.
+// Returns the bytes of a text in which `+` means 29 idle octets.
 fn spelled(alloc: Global, text: &str) -> Result<Vec<u8>, AllocError> {
     let mut bytes = Vec::new(alloc);
     for byte in text.bytes() {
@@ -69,7 +69,7 @@ fn called<C: Carrier, G: Gate>(
     }
 }
 
-// The end of the command `run` on an input, and its output.
+// Returns the end of the command `run` on an input, and its output.
 fn ran<C: Carrier>(
     rt: &(impl Threads + Wait + Sync),
     alloc: Global,
@@ -78,7 +78,7 @@ fn ran<C: Carrier>(
     ran_at::<C, OpenGate>(rt, alloc, input, &OpenGate)
 }
 
-// The same as `ran`, held at a gate.
+// Does the same as `ran` held at a gate.
 pub(crate) fn ran_at<C: Carrier, G: Gate>(
     rt: &(impl Threads + Wait + Sync),
     alloc: Global,
@@ -120,7 +120,7 @@ pub(crate) struct Metered {
     pub(crate) spare: Vec<u8>,
 }
 
-/// The end of a call with active and spare meters of these kinds.
+/// Returns the end of a call with active and spare meters of these kinds.
 pub(crate) fn called_with<C: Carrier>(
     rt: &(impl Threads + Wait + Sync),
     alloc: Global,
@@ -172,14 +172,14 @@ fn add_meters(
     Ok(())
 }
 
-// The texts of meters.
+// Returns the texts of meters.
 fn said_by(alloc: Global, meters: &[Box<dyn Meter>]) -> Result<Vec<u8>, AllocError> {
     let mut said = Vec::new(alloc);
     append_summaries(meters, &mut said)?;
     Ok(said)
 }
 
-// The arguments as strings.
+// Returns the arguments as strings.
 fn given(alloc: Global, words: &[&str]) -> Result<Vec<String>, AllocError> {
     let mut given = Vec::new(alloc);
     for word in words {
@@ -244,7 +244,7 @@ const TRACES: [(&str, u32, &str); 8] = [
     ),
 ];
 
-// Whether the run of a trace ends with this event, an engine and this report.
+// Returns whether the run of a trace ends with this event, an engine and this report.
 fn is_answered(
     rt: &(impl Threads + Wait + Sync),
     alloc: Global,
@@ -304,7 +304,7 @@ const REFUSED: [(&str, &str); 8] = [
     ("exchange 1 1 1 1\nseat 0/1 64\n", "refused 2 number\n"),
 ];
 
-// Whether an input is refused with this line, and no event is processed.
+// Returns whether an input is refused with this line, and no event is processed.
 fn is_refused(
     rt: &(impl Threads + Wait + Sync),
     alloc: Global,
@@ -320,7 +320,7 @@ fn is_refused(
     )
 }
 
-// A trace with one event too many.
+// Returns a trace with one event too many.
 fn too_many(alloc: Global) -> Result<Vec<u8>, AllocError> {
     let mut trace = b"exchange 1 1 0 1".to_vec(alloc)?;
     for _ in 0..65_536 {
@@ -345,7 +345,7 @@ fn what_is_no_trace_is_refused_at_its_first_fault(rt: HostRuntime) -> Result<(),
 
 const WORDS: [&[&str]; 4] = [&[], &["gen"], &["Run"], &["run", "run"]];
 
-// Whether arguments are refused, and nothing is read: the first read would fail.
+// Returns whether arguments are refused, and nothing is read: the first read would fail.
 fn is_no_command(
     rt: &(impl Threads + Wait + Sync),
     alloc: Global,
@@ -436,7 +436,7 @@ const CUTS: [Cut; 4] = [
     },
 ];
 
-// Whether a call has this result.
+// Returns whether a call has this result.
 fn is_cut(rt: &(impl Threads + Wait + Sync), alloc: Global, cut: &Cut) -> Result<bool, AllocError> {
     let (read, read_piece) = cut.read;
     let (write, write_piece) = cut.write;
@@ -460,7 +460,7 @@ fn is_cut(rt: &(impl Threads + Wait + Sync), alloc: Global, cut: &Cut) -> Result
     )
 }
 
-// A call that is connected, 5000 frames, and in the next segment its end.
+// Returns a call that is connected, 5000 frames, and in the next segment its end.
 fn long_call(alloc: Global) -> Result<Vec<u8>, AllocError> {
     let mut trace = b"exchange 1 2 0 1\nnumber 101 line 1\n\
         M 0 080200010504038090A31803A98381700480313031\nM 1 0802800107\n"
@@ -472,8 +472,8 @@ fn long_call(alloc: Global) -> Result<Vec<u8>, AllocError> {
     Ok(trace)
 }
 
-// The end of a run of it with a failed write: the status, the error counts, the number of processed events, the number
-// of written octets, and the text of a peg count.
+// Returns the end of a run of it with a failed write: the status, the error counts, the number of processed events, the
+// number of written octets, and the text of a peg count.
 fn is_cut_at(
     rt: &(impl Threads + Wait + Sync),
     alloc: Global,
@@ -512,7 +512,7 @@ pub(crate) const ACCEPTED: &str = "1 message moved 0 0 0:08028001021803A98381 0:
 
 const METERS: [Kind; 4] = [Kind::LastCall, Kind::Peg, Kind::Holding, Kind::Peg];
 
-// Whether a call without an error writes this, and its meters have these texts.
+// Returns whether a call without an error writes this, and its meters have these texts.
 fn is_told(
     rt: &(impl Threads + Wait + Sync),
     alloc: Global,
@@ -550,7 +550,7 @@ fn meters_are_told_of_the_calls(rt: HostRuntime) -> Result<(), Fail> {
     Ok(())
 }
 
-// The texts of three meters after one call of the exchange.
+// Returns the texts of three meters after one call of the exchange.
 fn told(
     rt: &(impl Threads + Wait + Sync),
     alloc: Global,

@@ -8,7 +8,7 @@ use std::sync::Wait;
 use std::test::Fail;
 use std::thread::Threads;
 
-// The end of the command `check` on an input, with another argument.
+// Returns the end of the command `check` on an input, with another argument.
 fn checked(
     rt: &(impl Threads + Wait + Sync),
     alloc: Global,
@@ -24,7 +24,7 @@ fn checked(
     called_with::<Box<Engine>>(rt, alloc, words, source, sink, &ONE_PEG, &[])
 }
 
-// Whether it ends with this status and this line, no event processed, no engine returned, and no call recorded.
+// Returns whether it ends with this status and this line, no event processed, no engine returned, and no call recorded.
 fn is_answered(
     rt: &(impl Threads + Wait + Sync),
     alloc: Global,

@@ -161,21 +161,21 @@ impl<S: Stepper> Seat<S> {
         self.number
     }
 
-    /// The number of steps left.
+    /// Returns the number of steps left.
     pub fn left(&self) -> u32
         ensures { result ≡ self.now.known.left }
     {
         self.left
     }
 
-    /// Whether the seat has the turn, because its last step kept it.
+    /// Returns whether the seat has the turn, because its last step kept it.
     pub fn has_turn(&self) -> bool
         ensures { result ≡ self.now.keeps }
     {
         self.keeps
     }
 
-    /// Whether this seat holds the baton.
+    /// Returns whether this seat holds the baton.
     pub fn baton(&self) -> bool
         ensures { result ≡ self.now.known.baton }
     {

@@ -69,7 +69,7 @@ pub struct Board<S: Stepper> {
 }
 
 impl<S: Stepper> Board<S> {
-    // The table with the state in its slot, and seat 0. Returns the state if an allocation fails.
+    // Makes the table with the state in its slot, and seat 0. Returns the state if an allocation fails.
     pub(crate) fn open(
         alloc: Global,
         state: S,
@@ -258,7 +258,7 @@ impl<S: Stepper> Board<S> {
         self.wait(rt, seat, ticket);
     }
 
-    // The turn for the event that `E` names: the turn that the seat kept, or a new ticket's.
+    // Begins the turn for the event that `E` names: the turn that the seat kept, or a new ticket's.
     fn begin<E: Aim, R: Wait>(&self, rt: &R, seat: &mut Token<S>, event: u32, keeps: bool)
         requires lock { seat.old.table_id ≡ self.now.table.shared.table_id }
         requires rests { Rests S.setting S.journal S.room keeps seat.old.me }
@@ -275,8 +275,9 @@ impl<S: Stepper> Board<S> {
         }
     }
 
-    // The moves of a step but pass, so that the seat has the turn afterwards. If it kept the turn before (`keeps`), the
-    // step draws no ticket and does not wait. Returns the position of the entry in the history, and the reply.
+    // Makes the moves of a step except pass, so that the seat has the turn afterwards. If it kept the turn before
+    // (`keeps`), the step draws no ticket and does not wait. Returns the position of the entry in the history, and the
+    // reply.
     pub(crate) fn step<R: Wait>(
         &self,
         rt: &R,
@@ -302,7 +303,7 @@ impl<S: Stepper> Board<S> {
         (place, reply)
     }
 
-    // The state, once all other seats are joined.
+    // Returns the state, once all other seats are joined.
     pub(crate) fn close(self, seat: Token<S>) -> S
         requires lock { seat.table_id ≡ self.table.shared.table_id }
         requires chief { IsFree seat.me × (seat.me.0.known.number ≡ 0) }
@@ -320,7 +321,7 @@ impl<S: Stepper> Board<S> {
     }
 }
 
-// A list of the one state.
+// Returns a list of the one state.
 fn one_slot<S>(alloc: Global, state: S) -> Result<Vec<Option<S>>, S>
     ensures ok { IfOk result (λ v. v.items ≡ Some state ∷ []) }
     ensures err { IfErr result (λ s. s ≡ state) }
@@ -335,7 +336,7 @@ fn one_slot<S>(alloc: Global, state: S) -> Result<Vec<Option<S>>, S>
     }
 }
 
-// The one state of such a list.
+// Returns the one state of such a list.
 fn only<S>(mut slots: Vec<Option<S>>) -> S
     requires { (s : S) × (slots.items ≡ Some s ∷ []) }
     ensures { slots.items ≡ Some result ∷ [] }

@@ -59,7 +59,7 @@ fn put_all<L: Ledger>(
     true
 }
 
-/// Whether each path that moved has its new slot.
+/// Returns whether each path that moved has its new slot.
 fn have_moved<L: Ledger>(matrix: &PaullMatrix, moves: &[Move], steps: &mut Steps<L>) -> bool
     requires { (matrix.now.lines ≡ 3) × (matrix.now.slots ≡ 2) }
 {
@@ -74,7 +74,7 @@ fn have_moved<L: Ledger>(matrix: &PaullMatrix, moves: &[Move], steps: &mut Steps
     true
 }
 
-/// Whether making room has the expected result, and moves the expected paths.
+/// Returns whether making room has the expected result, and moves the expected paths.
 fn makes_room<L: Ledger>(matrix: &mut PaullMatrix, case: &Case, blank: Blank) -> bool
     requires sizes { (matrix.old.lines ≡ 3) × (matrix.old.slots ≡ 2) }
     requires ledger { (blank.name ≡ L.name) × (blank.parts ≡ L.parts) × (0 < L.parts) }
@@ -105,7 +105,7 @@ fn makes_room<L: Ledger>(matrix: &mut PaullMatrix, case: &Case, blank: Blank) ->
         && have_moved(matrix, case.moves, &mut steps)
 }
 
-/// Whether nothing moves if a slot is common.
+/// Returns whether nothing moves if a slot is common.
 fn takes_a_common_slot<L: Ledger>(matrix: &mut PaullMatrix, blank: Blank) -> bool
     requires sizes { (matrix.old.lines ≡ 2) × (matrix.old.slots ≡ 3) }
     requires ledger { (blank.name ≡ L.name) × (blank.parts ≡ L.parts) × (0 < L.parts) }
@@ -123,7 +123,7 @@ fn takes_a_common_slot<L: Ledger>(matrix: &mut PaullMatrix, blank: Blank) -> boo
         && matrix.row_slot(0, 0, &mut steps) == Some(1)
 }
 
-/// The path of a row and a column that moves from one slot to another.
+/// Returns the path of a row and a column that moves from one slot to another.
 const fn moved(row: u8, column: u8, old: u8, new: u8) -> Move {
     Move {
         row,

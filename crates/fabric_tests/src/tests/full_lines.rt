@@ -26,7 +26,7 @@ fn gets(map: &mut StrictMap, from: Slot, to: Slot, slot: u8) -> bool
         && map.slot_of(from) == Some(slot)
 }
 
-// The same as `gets`, for a path that is released again.
+// Does the same as `gets` for a path that is released again.
 fn gets_for_a_while(map: &mut StrictMap, from: Slot, to: Slot, slot: u8) -> bool
     requires from { IsSlot map.old.lines from }
     requires to { IsSlot map.old.lines to }
@@ -86,7 +86,7 @@ fn fill_row(map: &mut StrictMap) -> bool
     true
 }
 
-// Whether the path of the worst case gets the last slot.
+// Returns whether the path of the worst case gets the last slot.
 fn takes_the_last_slot(map: &mut StrictMap) -> bool
     requires lines { map.old.lines ≡ 34 }
 {
@@ -106,7 +106,7 @@ fn the_worst_case_takes_the_last_slot(rt: HostRuntime) -> Result<(), AllocError>
     Ok(())
 }
 
-// Whether a line without paths connects with itself, each slot once.
+// Returns whether a line without paths connects with itself, each slot once.
 fn connects_with_itself(map: &mut StrictMap) -> bool
     requires lines { map.old.lines ≡ 1 }
 {

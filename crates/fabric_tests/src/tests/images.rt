@@ -20,7 +20,7 @@ fn write(image: &mut Image, frame: u32)
     image.set_room(PORT, 40, 6);
 }
 
-// Whether the written entries are read, and no others.
+// Returns whether the written entries are read, and no others.
 fn is_written(image: &Image, frame: u32) -> bool
     requires sizes { (image.now.external ≡ 2) × (image.now.bridges ≡ 1) × (image.now.slots ≡ 5) }
 {
@@ -35,7 +35,7 @@ fn is_written(image: &Image, frame: u32) -> bool
         && image.room(PORT) == Some((40, 6))
 }
 
-// Whether nothing of it is read.
+// Returns whether nothing of it is read.
 fn is_cleared(image: &Image) -> bool
     requires sizes { (image.now.external ≡ 2) × (image.now.bridges ≡ 1) × (image.now.slots ≡ 5) }
 {
@@ -56,7 +56,7 @@ fn one_path_is_written_into_three_tables(rt: HostRuntime) -> Result<(), AllocErr
     Ok(())
 }
 
-// A slot of the first line.
+// Returns a slot of the first line.
 fn on(place: u8) -> Slot
     ensures { (result.line ≡ 0) × (result.place ≡ place) }
 {
@@ -93,7 +93,7 @@ const TONE: Heard = Heard::Tone {
     since: 1,
 };
 
-// Whether the tables of a map with one path are complete, and the circuits of the slots are unchanged.
+// Returns whether the tables of a map with one path are complete, and the circuits of the slots are unchanged.
 fn are_taken_over(image: &Image) -> bool
     requires sizes { (image.now.external ≡ 1) × (image.now.bridges ≡ 0) × (image.now.slots ≡ 30) }
 {

@@ -30,7 +30,7 @@ fn put_four<L: Ledger>(matrix: &mut PaullMatrix, steps: &mut Steps<L>) -> bool
         && put(matrix, 0, 2, 1, steps)
 }
 
-/// Whether the four paths are found from both of their ends.
+/// Returns whether the four paths are found from both of their ends.
 fn are_found<L: Ledger>(matrix: &mut PaullMatrix, blank: Blank) -> bool
     requires sizes { (matrix.old.lines ≡ 3) × (matrix.old.slots ≡ 2) }
     requires ledger { (blank.name ≡ L.name) × (blank.parts ≡ L.parts) × (0 < L.parts) }
@@ -61,7 +61,7 @@ fn are_found<L: Ledger>(matrix: &mut PaullMatrix, blank: Blank) -> bool
     true
 }
 
-/// Whether the lowest free slots are found with the four paths, and after one of them is removed.
+/// Returns whether the lowest free slots are found with the four paths, and after one of them is removed.
 fn are_free<L: Ledger>(matrix: &mut PaullMatrix, blank: Blank) -> bool
     requires sizes { (matrix.old.lines ≡ 3) × (matrix.old.slots ≡ 2) }
     requires ledger { (blank.name ≡ L.name) × (blank.parts ≡ L.parts) × (0 < L.parts) }
@@ -79,7 +79,7 @@ fn are_free<L: Ledger>(matrix: &mut PaullMatrix, blank: Blank) -> bool
         && matrix.common_free(0, 0, &mut steps) == Some(0)
 }
 
-/// Whether the lowest free slots are found with the four paths.
+/// Returns whether the lowest free slots are found with the four paths.
 fn are_free_beside<L: Ledger>(matrix: &PaullMatrix, steps: &mut Steps<L>) -> bool
     requires { (matrix.now.lines ≡ 3) × (matrix.now.slots ≡ 2) }
 {

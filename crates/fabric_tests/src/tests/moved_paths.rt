@@ -20,7 +20,7 @@ fn connect_free(map: &mut FabricMap, from: Slot, to: Slot) -> Option<u32>
     }
 }
 
-// Whether each path takes the lowest slot that both of its lines have free, on two lines without paths.
+// Returns whether each path takes the lowest slot that both of its lines have free, on two lines without paths.
 fn takes_common_slots(map: &mut FabricMap) -> bool
     requires lines { map.old.lines ≡ 2 }
 {

@@ -260,7 +260,7 @@ const GIVEN_UP: [(&str, &str, &str); 9] = [
     ("080200010504038090A370028033", "080200017B70028030", "AA"),
 ];
 
-// Whether a caller is cleared for this cause.
+// Returns whether a caller is cleared for this cause.
 fn is_cleared(
     alloc: Global,
     setup: &'static str,
@@ -387,7 +387,7 @@ const REPORTED: [(u8, &[Step], &str); 9] = [
     (0, &[TO_A_ROOM], "1 message 0:080280015A080282AA\n"),
 ];
 
-// Whether each example has these last lines.
+// Returns whether each example has these last lines.
 fn are_reported(alloc: Global, rows: &[(u8, &[Step], &str)]) -> Result<bool, Fail> {
     for (bridges, steps, wanted) in rows {
         if !came_of(alloc, *bridges, false, steps, wanted)?.is_reported {

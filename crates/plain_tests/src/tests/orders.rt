@@ -22,7 +22,7 @@ const ORDERS: [(&[u32], bool); 11] = [
     (&[1, 2, 3, 4, 6], false),
 ];
 
-// Whether each order is lawful if and only if it should be.
+// Returns whether each order is lawful if and only if it should be.
 fn are_so(posts: &[Post], orders: &[(&[u32], bool)]) -> bool {
     for (order, lawful) in orders {
         if is_lawful(posts, order) != *lawful {

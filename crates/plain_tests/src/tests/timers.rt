@@ -284,7 +284,8 @@ fn run_of(alloc: Global, worked: &Worked) -> Result<PlainRun, Fail> {
     Ok(run)
 }
 
-// Whether the lines of a report are the expected ones, apart from the lines of frames that have only their number.
+// Returns whether the lines of a report are the expected ones, apart from the lines of frames that have only their
+// number.
 fn is_wanted(report: &str, wanted: &[&str]) -> bool {
     let mut left = wanted.iter();
     for line in report.lines() {
@@ -296,7 +297,7 @@ fn is_wanted(report: &str, wanted: &[&str]) -> bool {
     left.next().is_none()
 }
 
-// The record of the call between the first channels of lines 0 and 1.
+// Returns the record of the call between the first channels of lines 0 and 1.
 fn unanswered((to, cause): (u32, u8)) -> CallRecord {
     let place = 0;
     CallRecord {
@@ -309,7 +310,7 @@ fn unanswered((to, cause): (u32, u8)) -> CallRecord {
     }
 }
 
-// Whether the example has the expected report, and the record of its last call.
+// Returns whether the example has the expected report, and the record of its last call.
 fn comes_out(alloc: Global, worked: &Worked) -> Result<bool, Fail> {
     let run = run_of(alloc, worked)?;
     Ok(

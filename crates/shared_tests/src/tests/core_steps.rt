@@ -50,7 +50,8 @@ fn is_shown(core: &mut Core<FabricMap>, trace: &Trace, image: Image) -> bool
     }
 }
 
-// Whether the control memory is of frame 0, and has the two slots joined since then, each path in internal slot 0.
+// Returns whether the control memory is of frame 0, and has the two slots joined since then, each path in internal slot
+// 0.
 fn has_nail(tool: &mut Tool) -> bool {
     let Some(image) = tool.image() else {
         return false;

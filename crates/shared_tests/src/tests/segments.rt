@@ -48,7 +48,7 @@ fn shown(answer: &Answer) -> Shown {
     (answer.event, kept_outcome(answer), octets)
 }
 
-// Whether these are the compared parts of the answers, and there are no more.
+// Returns whether these are the compared parts of the answers, and there are no more.
 fn show(answers: &[Answer], wanted: &[Shown]) -> bool {
     let mut left = wanted.iter();
     for answer in answers {
@@ -59,7 +59,7 @@ fn show(answers: &[Answer], wanted: &[Shown]) -> bool {
     left.next().is_none()
 }
 
-// Whether these are the compared parts of a worker's answers, and there are no more.
+// Returns whether these are the compared parts of a worker's answers, and there are no more.
 fn are_shown(answers: &[Placed], wanted: &[Shown]) -> bool {
     let mut left = wanted.iter();
     for placed in answers {
@@ -70,7 +70,7 @@ fn are_shown(answers: &[Placed], wanted: &[Shown]) -> bool {
     left.next().is_none()
 }
 
-// An exchange for a trace, with seat 0 of it, and an engine and a control memory for its first frame.
+// Returns an exchange for a trace, with seat 0 of it, and an engine and a control memory for its first frame.
 fn equipped<'t, C: Carrier>(
     alloc: Global,
     trace: &'t Trace,
@@ -165,7 +165,7 @@ fn run_both<B: Switchboard, G: Gate, C: Carrier, R: Threads + Wait + Sync>(
     Ok(nailed && carried)
 }
 
-/// Whether both segments of a trace of two lines have the expected answers, in sequence.
+/// Returns whether both segments of a trace of two lines have the expected answers, in sequence.
 pub fn segments_are_answered<G: Gate, R: Threads + Wait + Sync>(
     rt: &R,
     alloc: Global,
@@ -180,7 +180,7 @@ pub fn segments_are_answered<G: Gate, R: Threads + Wait + Sync>(
     run_both(rt, alloc, &board, seat, trace, engine, tool, gate)
 }
 
-// Whether a call processor has the expected answer to the nail, and no other.
+// Returns whether a call processor has the expected answer to the nail, and no other.
 fn processes<B: Switchboard, R: Wait>(
     rt: &R,
     alloc: Global,
@@ -198,7 +198,7 @@ fn processes<B: Switchboard, R: Wait>(
     worked.whole && are_shown(worked.answers.as_slice(), &NAIL)
 }
 
-/// Whether the call processor of a trace of two lines answers its whole part of the first segment.
+/// Returns whether the call processor of a trace of two lines answers its whole part of the first segment.
 pub fn part_is_answered<R: Wait>(rt: &R, alloc: Global, trace: &Trace) -> Result<bool, AllocError>
     requires sound { IsSound trace.now }
     requires sizes { (trace.now.external ≡ 2) × (trace.now.bridges ≡ 0) }
@@ -236,7 +236,8 @@ fn carries<B: Switchboard, C: Carrier, R: Threads + Wait + Sync>(
     Ok(nailed && framed.worked.whole && are_shown(framed.worked.answers.as_slice(), &FIVE_FRAMES))
 }
 
-/// Whether the frame worker of a trace of two lines answers the whole second segment, after the first one was run.
+/// Returns whether the frame worker of a trace of two lines answers the whole second segment, after the first one was
+/// run.
 pub fn frames_are_answered<R: Threads + Wait + Sync>(
     rt: &R,
     alloc: Global,

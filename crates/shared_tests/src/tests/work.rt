@@ -23,7 +23,7 @@ pub enum Outcome {
     Other,
 }
 
-/// The outcome of a reply.
+/// Returns the outcome of a reply.
 pub fn answer_of(reply: &Reply) -> Outcome {
     match reply {
         Reply::Granted(there, back) => Outcome::Granted(*there, *back),
@@ -33,7 +33,7 @@ pub fn answer_of(reply: &Reply) -> Outcome {
     }
 }
 
-/// The outcome of a stored answer.
+/// Returns the outcome of a stored answer.
 pub fn kept_outcome(answer: &Answer) -> Outcome {
     match &answer.reply {
         Kept::Granted(there, back) => Outcome::Granted(*there, *back),
@@ -43,7 +43,7 @@ pub fn kept_outcome(answer: &Answer) -> Outcome {
     }
 }
 
-/// The event with this number, if there is one.
+/// Returns the event with this number, if there is one.
 pub fn event_numbered(trace: &Trace, event: u32) -> Option<&Event>
     ensures known { IfSome result (λ e. IsEvent trace.now event) }
     ensures number { IfSome result (λ e. IsNumbered trace.now event e.now) }

@@ -139,7 +139,7 @@ fn wanted(row: &Row, state: u8) -> Act {
     Act::Unexpected
 }
 
-// Whether the message has the row's act in this state.
+// Returns whether the message has the row's act in this state.
 fn fits(row: &Row, state: u8) -> bool {
     match read(row.octets) {
         Ok(message) => on_message(&leg(state, Side::Caller), &message) == wanted(row, state),
@@ -156,7 +156,7 @@ fn gives_the_acts_of_the_table(rt: HostRuntime) {
     }
 }
 
-// The flag, the reference, the cause and the state of the STATUS for a message that is not expected.
+// Returns the flag, the reference, the cause and the state of the STATUS for a message that is not expected.
 fn told(octets: &[u8], leg: &Leg) -> Option<(bool, u16, Option<u8>, Option<u8>)> {
     let answer = unexpected(leg, &read(octets).ok()?);
     if answer.kind != MessageKind::Status {

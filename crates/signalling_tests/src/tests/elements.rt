@@ -2,7 +2,7 @@
 use q931_elements::{Elements, Writer};
 use std::test::*;
 
-// Whether the elements of the octets are those with these codes and contents.
+// Returns whether the elements of the octets are those with these codes and contents.
 fn lists(octets: &[u8], wanted: &[(u8, &[u8])]) -> bool {
     let mut elements = Elements::new(octets);
     for (code, contents) in wanted {

@@ -77,7 +77,7 @@ const MESSAGES: [Row; 6] = [
     },
 ];
 
-// Whether the row's octets are read as the row's parts.
+// Returns whether the row's octets are read as the row's parts.
 fn is_read(row: &Row) -> bool {
     let Ok(message) = read(row.octets) else {
         return false;
@@ -127,7 +127,7 @@ fn discards(rt: HostRuntime) {
     assert!(rt; are_discarded(Discard::ReferenceLength, 0, 255));
 }
 
-// Whether this many messages of one octet are discarded for this reason, and this many of two octets.
+// Returns whether this many messages of one octet are discarded for this reason, and this many of two octets.
 fn are_discarded(wanted: Discard, of_one: usize, of_two: usize) -> bool {
     let ones = (0..256u16).filter(|n| is_discarded(&[(n % 256) as u8], wanted));
     let twos = (0..65_536u32).filter(|n| is_discarded(
@@ -137,7 +137,7 @@ fn are_discarded(wanted: Discard, of_one: usize, of_two: usize) -> bool {
     ones.count() == of_one && twos.count() == of_two
 }
 
-// Whether the reason of a discard has this number and this text.
+// Returns whether the reason of a discard has this number and this text.
 fn is_named(alloc: Global, discard: Discard, number: u8, text: &str) -> Result<bool, Fail> {
     Ok(discard as u8 == number && format!(in alloc; "{discard}")?.as_str() == text)
 }
@@ -158,7 +158,7 @@ fn names_discards(rt: HostRuntime) -> Result<(), Fail> {
     Ok(())
 }
 
-// The first cause of these elements, after a header.
+// Returns the first cause of these elements, after a header.
 fn cause_in(octets: &[u8]) -> Option<u8> {
     read(octets).ok()?.cause()
 }
@@ -186,7 +186,7 @@ fn reads_causes(rt: HostRuntime) {
     }
 }
 
-// The contents of the one channel identification of a message.
+// Returns the contents of the one channel identification of a message.
 fn channel_in(octets: &[u8]) -> Option<ChannelIdentification> {
     read(octets).ok()?.channel()
 }
@@ -226,14 +226,14 @@ fn reads_channels(rt: HostRuntime) {
     }
 }
 
-// Whether a message is written as these octets.
+// Returns whether a message is written as these octets.
 fn is_written(message: &Outgoing, octets: &[u8]) -> bool
     requires { IsWritable (outgoing_of message.now) }
 {
     write(message).as_slice() == octets
 }
 
-// The call state and the restart indicator of a message.
+// Returns the call state and the restart indicator of a message.
 fn state_and_class(octets: &[u8]) -> Option<(Option<u8>, Option<u8>)> {
     let message = read(octets).ok()?;
     Some((message.call_state(), message.restart_indicator()))
@@ -326,7 +326,7 @@ fn reads_bearers(rt: HostRuntime) {
     }
 }
 
-// Whether these contents of a called party number have these digits.
+// Returns whether these contents of a called party number have these digits.
 fn has_digits(contents: &[u8], wanted: Option<&[u8]>) -> bool {
     if contents.len() > 21 {
         return false;

@@ -80,7 +80,7 @@ fn is_full_with_256(rt: HostRuntime) {
     assert!(rt; plan.look(b"999") == Found::Nothing);
 }
 
-// Whether an error has this number and this text.
+// Returns whether an error has this number and this text.
 fn is_named(alloc: Global, fault: PlanFault, number: u8, text: &str) -> Result<bool, Fail> {
     Ok(fault as u8 == number && format!(in alloc; "{fault}")?.as_str() == text)
 }

@@ -82,7 +82,7 @@ static ENCODED: [(i32, u8); 52] = [
     (-4095, 0x2A),
 ];
 
-// Whether each octet has an eighth of its entry as its value.
+// Returns whether each octet has an eighth of its entry as its value.
 fn decode_so(decoded: &[i16; 256]) -> bool {
     for octet in 0..=255u8 {
         if 8 * expand(octet) != i32::from(decoded[usize::from(octet)]) {
@@ -107,12 +107,12 @@ static LEFT_OPEN: [(i32, u8); 5] = [
     (i32::MIN, 0x2A),
 ];
 
-// Whether a value has this octet, by search and by the table.
+// Returns whether a value has this octet, by search and by the table.
 fn is_coded(codes: &CodeTable, value: i32, octet: u8) -> bool {
     compress(value) == octet && codes.code(value) == octet
 }
 
-// Whether each value has its octet.
+// Returns whether each value has its octet.
 fn are_coded(codes: &CodeTable, rows: &[(i32, u8)]) -> bool {
     for (value, octet) in rows {
         if !is_coded(codes, *value, *octet) {

@@ -5,7 +5,7 @@ use circuit_model::{IDLE, Slot};
 use frame_buffer::{Crossed, DelayLine, FrameBuffer, Highway};
 use std::alloc::AllocError;
 
-// The octet that the last slot of the second line receives in a frame in which the lines send these octets.
+// Returns the octet that the last slot of the second line receives in a frame in which the lines send these octets.
 fn heard_in_frame(line: &mut DelayLine, sent: [Option<u8>; 2]) -> u8
     requires { line.old.external ≡ 2 }
     ensures { line.new.external ≡ 2 }

@@ -156,7 +156,7 @@ const TURNS: [Turn; 6] = [
     },
 ];
 
-// Whether the frames have the expected octets, with an engine that has carried none.
+// Returns whether the frames have the expected octets, with an engine that has carried none.
 fn are_heard(
     rt: &(impl Threads + Sync),
     engine: &mut Engine,

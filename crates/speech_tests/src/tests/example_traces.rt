@@ -153,7 +153,7 @@ fn show(trace: Trace, image: &mut Image, frame: u32)
     }
 }
 
-// The octets that a line sends in a frame.
+// Returns the octets that a line sends in a frame.
 fn sent(trace: Trace, frame: u32, line: u8) -> [u8; 30] {
     let mut octets = SILENT;
     match trace {
@@ -168,7 +168,7 @@ fn sent(trace: Trace, frame: u32, line: u8) -> [u8; 30] {
     octets
 }
 
-// The octets that the lines receive in a frame of the trace's report.
+// Returns the octets that the lines receive in a frame of the trace's report.
 fn reported(trace: Trace, frame: u32) -> [[u8; 30]; 3] {
     match (trace, frame) {
         (Trace::Rearrangement, 2 | 4) => EVEN,
@@ -180,7 +180,7 @@ fn reported(trace: Trace, frame: u32) -> [[u8; 30]; 3] {
     }
 }
 
-// The octets that the lines send in a frame.
+// Returns the octets that the lines send in a frame.
 fn sent_by_all(trace: Trace, frame: u32) -> [[u8; 30]; 3] {
     [
         sent(trace, frame, 0),
@@ -221,8 +221,8 @@ fn hears_as_reported(
     out == reported(trace, frame)
 }
 
-// Whether an engine that has carried no frame outputs the octets of a trace's report. (A bridge line without members
-// sends nothing.)
+// Returns whether an engine that has carried no frame outputs the octets of a trace's report. (A bridge line without
+// members sends nothing.)
 fn are_heard_as_reported(
     rt: &(impl Threads + Sync),
     engine: &mut Engine,
@@ -244,7 +244,7 @@ fn are_heard_as_reported(
     true
 }
 
-// Whether a new engine whose stages have n levels of halves outputs the octets of a trace's report.
+// Returns whether a new engine whose stages have n levels of halves outputs the octets of a trace's report.
 fn sounds_with(
     rt: &(impl Threads + Sync),
     alloc: Global,
@@ -271,7 +271,7 @@ fn traces_sound_as_reported_whatever_the_levels(rt: HostRuntime) -> Result<(), F
     Ok(())
 }
 
-// Whether halved stages that have carried no frame send the octets of a trace's report.
+// Returns whether halved stages that have carried no frame send the octets of a trace's report.
 fn are_sent_as_reported(
     rt: &(impl Threads + Sync),
     stages: &mut HalvedStages,
@@ -295,7 +295,7 @@ fn are_sent_as_reported(
     true
 }
 
-// Whether halved stages send a trace as its report states.
+// Returns whether halved stages send a trace as its report states.
 fn sounds_by_halves(
     rt: &(impl Threads + Sync),
     alloc: Global,

@@ -27,7 +27,7 @@ pub(super) struct HalvedStages {
     pub(super) crossed: Crossed,
 }
 
-// Two speech memories of four lines.
+// Returns two speech memories of four lines.
 fn memories(alloc: Global) -> Result<(FrameBuffer, FrameBuffer), AllocError>
     ensures lines { IfOk result (λ m. (m.0.lines ≡ 4) × (m.1.lines ≡ 4)) }
 {
@@ -36,7 +36,7 @@ fn memories(alloc: Global) -> Result<(FrameBuffer, FrameBuffer), AllocError>
     Ok((speech, read))
 }
 
-// The highways of four lines before the space stage and after it.
+// Returns the highways of four lines before the space stage and after it.
 fn highways(alloc: Global) -> Result<(Highway, Crossed), AllocError>
     ensures lines { IfOk result (λ h. (h.0.lines ≡ 4) × (h.1.lines ≡ 4)) }
     ensures slots { IfOk result (λ h. (h.0.slots ≡ 30) × (h.1.slots ≡ 30)) }
@@ -120,7 +120,7 @@ pub(super) fn carry_halved(
     out
 }
 
-// Whether a path that exists since a frame carries octets in this one.
+// Returns whether a path that exists since a frame carries octets in this one.
 fn is_through(since: u32, frame: u32) -> bool {
     since < frame.saturating_sub(1)
 }
@@ -146,7 +146,7 @@ fn mix_room(read: &FrameBuffer, image: &Image, speech: &mut FrameBuffer)
     speech.put_line(3, &octets);
 }
 
-// The octets that the external lines send, from those that were read.
+// Returns the octets that the external lines send, from those that were read.
 fn sent_by(read: &FrameBuffer, image: &Image) -> [[u8; 30]; 3]
     requires read { read.now.lines ≡ 4 }
     requires image { (image.now.external ≡ 3) × (image.now.bridges ≡ 1) }

@@ -48,7 +48,7 @@ const ROOMS: [(&[Option<u8>], &[u8]); 9] = [
     (&[None; MAX_MEMBERS], &[0xD5; MAX_MEMBERS]),
 ];
 
-// Whether the members of a room hear these octets.
+// Returns whether the members of a room hear these octets.
 fn sounds(members: &[Option<u8>], heard: &[u8]) -> bool {
     if members.len() > MAX_MEMBERS {
         return false;
@@ -83,8 +83,8 @@ fn rooms_sound_as_elsewhere(rt: HostRuntime) {
     assert!(rt; all_sound_so(&ROOMS));
 }
 
-// The octets that are heard if these five members are in one room, five loud ones in another, port by port in turn, and
-// no member at a last port.
+// Returns the octets that are heard if these five members are in one room, five loud ones in another, port by port in
+// turn, and no member at a last port.
 fn heard_beside(codes: &CodeTable, members: &[Option<u8>; 5]) -> [u8; 11] {
     let mut mixer = Mixer::new(11);
     for k in 0..5 {
@@ -98,7 +98,7 @@ fn heard_beside(codes: &CodeTable, members: &[Option<u8>; 5]) -> [u8; 11] {
     out
 }
 
-// Whether five members hear the octets of a room by itself, and the loud ones and the last port theirs.
+// Returns whether five members hear the octets of a room by itself, and the loud ones and the last port theirs.
 fn sounds_beside(codes: &CodeTable, members: &[Option<u8>; 5], heard: &[u8; 5]) -> bool {
     let [a, v, b, w, c, x, d, y, e, z, free] = heard_beside(codes, members);
     [a, b, c, d, e] == *heard && [v, w, x, y, z, free] == [0xAA, 0xAA, 0xAA, 0xAA, 0xAA, 0xD5]

@@ -96,7 +96,7 @@ const CALLS: [([Call; 3], bool); 6] = [
     ),
 ];
 
-// Whether the gate passes if and only if it should.
+// Returns whether the gate passes if and only if it should.
 fn pass_as_wanted(rows: &[([Call; 3], bool)]) -> bool {
     for (calls, wanted) in rows {
         if passes(calls) != *wanted {

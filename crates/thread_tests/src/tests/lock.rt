@@ -60,7 +60,8 @@ fn three_seats<R: Wait>(
     })
 }
 
-// The journal of n seats that step the events 1 to `count`, each in its own thread and in turns of `turn` events.
+// Returns the journal of n seats that step the events 1 to `count`, each in its own thread and in turns of `turn`
+// events.
 fn in_threads<R: Threads + Wait + Sync>(
     rt: &R,
     alloc: Global,
@@ -82,7 +83,7 @@ fn in_threads<R: Threads + Wait + Sync>(
     Some(lock.close(zero).into_journal())
 }
 
-// Whether each seat's steps are in the journal in their order, each once, and nothing else is.
+// Returns whether each seat's steps are in the journal in their order, each once, and nothing else is.
 fn has_all(journal: &[(u32, u32)], seats: u32, count: u32) -> bool {
     for seat in 0..seats {
         let mut last = 0;
@@ -101,7 +102,7 @@ fn has_all(journal: &[(u32, u32)], seats: u32, count: u32) -> bool {
     Some(journal.len()) == (seats as usize).checked_mul(count as usize)
 }
 
-// Whether no other seat steps within a turn: the seat changes only after the last event of a turn.
+// Returns whether no other seat steps within a turn: the seat changes only after the last event of a turn.
 fn has_whole_turns(journal: &[(u32, u32)], count: u32, turn: u32) -> bool {
     let next = journal.iter().skip(1);
     journal.iter().zip(next).all(|(one, next)| one.0 == next.0
@@ -109,8 +110,8 @@ fn has_whole_turns(journal: &[(u32, u32)], count: u32, turn: u32) -> bool {
         || one.1.checked_rem(turn) == Some(0))
 }
 
-// Whether these steps have these results, are in the journal in their order, and leave seat 0 n turns and the baton.
-// Without results, a step finds no turn or no baton.
+// Returns whether these steps have these results, are in the journal in their order, and leave seat 0 n turns and the
+// baton. Without results, a step finds no turn or no baton.
 fn comes_out<R: Wait>(
     rt: &R,
     alloc: Global,
@@ -165,8 +166,8 @@ fn seats_step_in_turn(rt: HostRuntime) -> Result<(), Fail> {
     Ok(())
 }
 
-// The journal of seat 0 and another one. Each steps several events in one turn, and passes the turn by a split, a join
-// or the close. `None` if a seat lacks the turn after its steps, or has it after a split.
+// Returns the journal of seat 0 and another one. Each steps several events in one turn, and passes the turn by a split,
+// a join or the close. `None` if a seat lacks the turn after its steps, or has it after a split.
 fn in_long_turns<R: Wait>(rt: &R, alloc: Global) -> Option<Vec<(u32, u32)>> {
     let Ok(sum) = Sum::new(alloc, 6) else {
         return None;
@@ -191,7 +192,7 @@ fn in_long_turns<R: Wait>(rt: &R, alloc: Global) -> Option<Vec<(u32, u32)>> {
     if kept && passed { Some(journal) } else { None }
 }
 
-// Whether the seats keep and pass their turns, and the journal has all steps.
+// Returns whether the seats keep and pass their turns, and the journal has all steps.
 fn keeps_turns<R: Wait>(rt: &R, alloc: Global) -> bool {
     let wanted = [(0, 1), (0, 2), (1, 3), (1, 4), (1, 5), (0, 6)];
     match in_long_turns(rt, alloc) {
@@ -206,7 +207,7 @@ fn a_seat_keeps_the_turn_until_it_passes_it(rt: HostRuntime) -> Result<(), Fail>
     Ok(())
 }
 
-// Whether each of n seats steps all events in its own thread, in whole turns of `turn` events.
+// Returns whether each of n seats steps all events in its own thread, in whole turns of `turn` events.
 fn all_step<R: Threads + Wait + Sync>(
     rt: &R,
     alloc: Global,
