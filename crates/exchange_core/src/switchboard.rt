@@ -15,9 +15,9 @@ use std::sync::Wait;
 
 /// An exchange at which many callers process the events of one trace, each in its turn, in one history.
 ///
-/// A caller has a seat, with a number and a count of turns. Seat 0 makes other seats, and joins them again. A seat
-/// knows a prefix of the history, which it has seen, and its own entries. Only the seat that holds the baton processes
-/// frames, and it has seen every earlier frame. No call allocates.
+/// A caller has a lock seat, here only seat, with a number and a count of turns. Seat 0 makes other seats, and joins
+/// them again. A seat knows a prefix of the history, which it has seen, and its own entries. Only the seat that holds
+/// the baton processes frames, and it has seen every earlier frame. No call allocates.
 pub trait Switchboard: Sync {
     /// The right to process a number of events.
     type Seat: Send + Drop;
