@@ -200,7 +200,7 @@ const WORKED: [Worked; 11] = [
         ],
         ended: Some((121, 18)),
     },
-    // Channels 31, 1 and 2 of three lines, whose callers have waited since frames 0, 1 and 3.
+    // Channels 31, 1 and 2 of three lines, whose callers began to wait in frames 0, 1 and 3.
     Worked {
         timers: [29, LONG, LONG, LONG, LONG],
         steps: &[
