@@ -1,18 +1,14 @@
-//! Mixes a full bridge of four rooms, so that the time of a mix can be measured: the proved half of
-//! `bench/mix`.
+//! Mixes a full bridge of four rooms, so that the time of a mix can be measured: the proved half of `bench/mix`.
 //!
-//! `bench_mix ROUNDS` mixes that many times, and prints a checksum of what was heard. Each round
-//! uses what the one before gave, so none can be left out. It is proved safe; no clause says what
-//! it prints.
-//!
-//! It uses `alaw_codec` and `conference_mix`.
+//! `bench_mix ROUNDS` mixes that many times, and prints a checksum of the mixed octets. Each round uses the result of
+//! the one before, so none can be left out. The program is proved safe. No contract specifies its output.
 #![tactic(auto)]
 
 use alaw_codec::CodeTable;
 use conference_mix::{MAX_MEMBERS, Mixer, Seated};
 use std::{env, io};
 
-/// Mixes what the members sent: each fourth place is of one room.
+/// Mixes the octets that the members sent: each fourth place is of one room.
 fn mix(codes: &CodeTable, octets: &[Option<u8>; MAX_MEMBERS], out: &mut [u8; MAX_MEMBERS]) {
     let mut mixer = Mixer::new(MAX_MEMBERS);
     for place in 0..MAX_MEMBERS {
@@ -23,9 +19,9 @@ fn mix(codes: &CodeTable, octets: &[Option<u8>; MAX_MEMBERS], out: &mut [u8; MAX
     mixer.mix(codes, out);
 }
 
-/// What place 0 hears in each of n rounds, folded into a number.
+/// Folds the octets that place 0 receives in n rounds into a number.
 ///
-/// Each round one member repeats what it heard, so no round can be left out.
+/// In each round one member repeats the octet that it received, so no round can be left out.
 fn sum_heard(codes: &CodeTable, rounds: u32) -> u32 {
     let mut octets = [Some(0x2A); MAX_MEMBERS];
     let mut out = [0; MAX_MEMBERS];

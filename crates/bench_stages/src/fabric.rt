@@ -1,4 +1,4 @@
-//! A full fabric, through which frames are carried to and fro.
+//! A full fabric, through which frames are carried forward and back.
 
 ghost use Rattle.std.specs.Prelude.{◌≡◌, ◌<◌};
 ghost use Rattle.frame_buffer.specs.Highways.{SameHighwaySize};
@@ -20,22 +20,22 @@ const LINES: u8 = 34;
 
 const SLOTS: u8 = 59;
 
-/// How often a stage halves its lines, where it does.
+/// The number of times that a stage halves its lines.
 const LEVELS: u8 = 3;
 
-/// How the three stages are done.
+/// The way in which the three stages are computed.
 #[derive(Clone, Copy)]
 pub enum Way {
     /// By one call each.
     Plain,
-    /// By halves where they are worth threads, as an engine does them.
+    /// By halves if they are worth threads, as an engine does.
     Shared,
-    /// By halves, each in a thread of its own.
+    /// By halves, each in its own thread.
     Joins,
 }
 
-/// Carries n pairs of frames to and fro between two buffers, over a fabric in which every
-/// slot has a path, and answers a sum over the octets of the last one.
+/// Carries n pairs of frames forward and back between two buffers, over a fabric in which every slot has a path, and
+/// returns a sum over the octets of the last one.
 pub fn run(
     rt: &(impl Threads + Sync),
     alloc: Global,
@@ -49,7 +49,7 @@ pub fn run(
     carry_to_and_fro(rt, alloc, pairs, way, &image, &mut near)
 }
 
-// Carries n pairs of frames to another buffer and back, and answers a sum over what came back.
+// Carries n pairs of frames to another buffer and back, and returns a sum over the returned octets.
 fn carry_to_and_fro(
     rt: &(impl Threads + Sync),
     alloc: Global,
@@ -72,7 +72,7 @@ fn carry_to_and_fro(
     Ok(sum_of(near))
 }
 
-// Carries one frame, and changes the halves of the buffer that it went to.
+// Carries one frame, and swaps the halves of the buffer that received it.
 fn carry(
     rt: &(impl Threads + Sync),
     way: Way,
@@ -107,7 +107,7 @@ fn carry(
     to.swap();
 }
 
-// From place p of line i to line i + p, in a slot that p alone has on every line.
+// From place p of line i to line i + p, in a slot that only p has on every line.
 fn connect_all(image: &mut Image)
     requires lines { (image.old.external ≡ 30) × (image.old.bridges ≡ 4) }
     requires slots { image.old.slots ≡ 59 }

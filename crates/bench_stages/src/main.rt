@@ -1,13 +1,10 @@
-//! Carries frames through the three stages of a full fabric, so that their time can be measured:
-//! the proved half of `bench/stages`.
+//! Carries frames through the three stages of a full fabric, so that their time can be measured: the proved half of
+//! `bench/stages`.
 //!
-//! `bench_stages PAIRS` carries that many pairs of frames, each stage by one call, and prints a sum over
-//! the last one. `bench_stages PAIRS shared` does so by the calls that halve the lines of a stage three
-//! times where that pays, and `bench_stages PAIRS joins` with a thread for each half, seven joins a stage.
-//! It is proved safe; no clause says what it prints.
-//!
-//! It uses `circuit_model`, `frame_buffer`, `control_memory`, `space_stage` and `time_stage`, and
-//! the kit's `anyhow`.
+//! `bench_stages PAIRS` carries that many pairs of frames, each stage by one call, and prints a sum over the last one.
+//! `bench_stages PAIRS shared` uses the calls that halve the lines of a stage three times if that pays. `bench_stages
+//! PAIRS joins` uses a thread for each half, with seven joins in a stage. The program is proved safe. No contract
+//! specifies its output.
 #![tactic(auto)]
 
 mod fabric;

@@ -31,8 +31,8 @@ fn steps<R: Wait>(
     seat
 }
 
-// Seat 0 and `more` others step the events 1 to `count`, each in its own thread and in turns of `turn` events. Seat 0 joins
-// the others.
+// Seat 0 and `more` others step the events 1 to `count`, each in its own thread and in turns of `turn` events. Seat 0
+// joins the others.
 fn crew<R: Threads + Wait + Sync>(
     rt: &R,
     lock: &TurnLock<Sum>,

@@ -1,8 +1,8 @@
-//! The proved half of `bench/turns`, which measures the time of a step of the turn lock. Several seats add to one sum, each
-//! in its own thread.
+//! The proved half of `bench/turns`, which measures the time of a step of the turn lock. Several seats add to one sum,
+//! each in its own thread.
 //!
-//! `bench_turns SEATS STEPS TURN` has each seat step the events 1 to STEPS, in turns of TURN steps. It prints the sum and
-//! the length of the journal. The program is proved safe. No contract specifies its output.
+//! `bench_turns SEATS STEPS TURN` has each seat step the events 1 to STEPS, in turns of TURN steps. It prints the sum
+//! and the length of the journal. The program is proved safe. No contract specifies its output.
 #![tactic(auto)]
 
 mod crew;

@@ -1,10 +1,10 @@
-//! A sum that many seats add to.
+//! A sum to which many seats add.
 ghost use Rattle.std.specs.Prelude.{◌≡◌, ◌-◌, ◌≤◌, [], length, vec_capacity, IfOk};
 
 use std::alloc::{AllocError, Global};
 use turn_lock::Stepper;
 
-/// A step adds its event and answers the sum.
+/// A step adds its event and returns the sum.
 #[derive(Drop)]
 pub struct Sum {
     total: u64,
@@ -14,7 +14,7 @@ pub struct Sum {
 }
 
 impl Sum {
-    /// No sum yet, and room for n entries.
+    /// Makes an empty sum, with capacity for n entries.
     pub fn new(alloc: Global, most: u32) -> Result<Sum, AllocError>
         ensures { IfOk result (λ s. (s.journal.items ≡ []) × (s.most ≡ most)) }
     {
@@ -25,7 +25,7 @@ impl Sum {
         })
     }
 
-    /// The sum, and how many entries the journal has.
+    /// Returns the sum, and the number of entries of the journal.
     pub fn total(&self) -> (u64, usize) {
         (self.total, self.journal.len())
     }

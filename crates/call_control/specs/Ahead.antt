@@ -1,4 +1,5 @@
--- What is read of a message before its turn. Source: ITU-T Q.931 (05/98), 4.2 to 4.5, for the header; the rest is this exchange's own.
+-- A message that is parsed before its turn. Source: ITU-T Q.931 (05/98), 4.2 to 4.5, for the header; the rest is
+-- defined by this project.
 use Rattle.std.specs.Prelude.{◌≡◌, ℕ, ◌<◌, ◌≤◌, ◌^◌, Bool, List, [], length, drop, Ok, is_ok, is_some, unwrap_or, IfSome}
 use Rattle.number_plan.specs.declared.plan.Number.{Number}
 use Rattle.number_plan.specs.Plan.{found_for}
@@ -11,16 +12,16 @@ use Rattle.call_control.specs.declared.reading_ahead.DialledNumber.{DialledNumbe
 use Rattle.call_control.specs.declared.reading_ahead.Incoming.{Incoming}
 use Rattle.call_control.specs.declared.reading_ahead.ReadAhead.{ReadAhead}
 
--- what a message dials: whether it can be read, and what the plan knows of its digits
+-- whether the dialled digits can be read, and the entry of the plan for them
 pub record IsDialled (plan : List Number) (m : Message) (number : DialledNumber) : Type 0 where
   pub readable : number.is_readable ≡ is_some (digits_in m)
   pub leads : number.target ≡ found_for plan (unwrap_or (digits_in m) [])
 
--- the message of which this was read: its elements are those behind a header of five octets
+-- the message that was parsed: its elements are the octets after a header of five
 abbrev pub message_ahead : ReadAhead → List ℕ → Message
 message_ahead known octets = record { flag = known.flag; reference = known.reference; kind = known.kind; elements = elements_of (drop 5 octets) }
 
--- the octets are a message, so that it can be read ahead
+-- whether the octets are a message, so that it can be parsed ahead
 abbrev pub is_message : List ℕ → Bool
 is_message octets = is_ok (reading octets)
 
@@ -31,7 +32,7 @@ pub record IsReadAhead (plan : List Number) (octets : List ℕ) (known : ReadAhe
   pub read : reading octets ≡ Ok (message_ahead known octets)
   pub dials : IfSome known.number (IsDialled plan (message_ahead known octets))
 
--- the octets are that message, and it has a number, which is the one that it dials, if and only if it asks for a call
+-- the octets are that message, and it has a number, which is the one that it dials, if and only if it requests a call
 pub record IsIncoming (plan : List Number) (octets : List ℕ) (incoming : Incoming) : Type 0 where
   pub bounded : incoming.message.reference < 2 ^ 15
   pub read : reading octets ≡ Ok incoming.message

@@ -1,4 +1,4 @@
--- What a call is made from, without where its octets lie in memory. Source: this exchange's own.
+-- The contents of a requested call, wherever its octets are in memory. Source: this project.
 use Rattle.call_states.specs.declared.pending.Pending.{Pending}
 use Rattle.call_control.specs.declared.asked.Asked.{Asked}
 

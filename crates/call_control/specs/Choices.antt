@@ -1,4 +1,4 @@
--- What is chosen for a new call, and what it does then. Source: this exchange's own.
+-- The choice of slots for a new call, and the operations that follow. Source: this project.
 use Rattle.std.specs.Prelude.{◌≡◌, ℕ, ◌<◌, ◌&&◌, not, Bool, List, ◌∷◌, ◌++◌, Option, Some, None, Result, Ok, Err, if◌then◌else◌}
 use Rattle.circuit_model.specs.declared.channel.Slot.{Slot}
 use Rattle.circuit_model.specs.Circuits.{same_slot}
@@ -24,50 +24,51 @@ use Rattle.call_profile.specs.Permitted.{CanSeat}
 use Rattle.call_control.specs.Standing.{Holds}
 use Rattle.call_profile.specs.World.{World, is_full}
 
--- a line that is called is one of n
+-- a called line is one of n
 abbrev pub IsReached : ℕ → Found → Type 0
 IsReached external (Line line) = line < external
 IsReached external (Room room) = Unit {0}
 IsReached external More = Unit {0}
 IsReached external Nothing = Unit {0}
 
--- another slot, that is idle
+-- whether a slot is idle and is not this one
 abbrev pub idle_beside : World → Slot → Slot → Bool
 idle_beside w x y = idle w y && not (same_slot x y)
 
--- the slot that was found for the called side
+-- the called side at the slot that was found, or the cause if there is none
 abbrev pub at_slot : Option Slot → Result CalledSide ℕ
 at_slot (Some y) = Ok (side.Line y)
 at_slot None = Err no_channel_available
 
--- the called side that is chosen for a caller at a slot, by what its number leads to, or the cause for which there is none
+-- the called side for a caller at a slot, by the target of its number, or the cause if there is none
 abbrev pub called_side : Dimensions → World → Slot → Found → Result CalledSide ℕ
 called_side d w x (Line line) = at_slot (lowest_idle_beside w x line)
 called_side d w x (Room room) = if is_full d w then Err switching_equipment_congestion else Ok (side.Room room)
 called_side d w x More = Ok side.More
 called_side d w x Nothing = Err unallocated_number
 
--- the slot of a called side is one of n lines
+-- the slot of a called side is on one of n lines
 abbrev pub IsWithin : ℕ → CalledSide → Type 0
 IsWithin external (side.Line y) = IsExternal external y
 IsWithin external (side.Room room) = Unit {0}
 IsWithin external side.More = Unit {0}
 
--- what a call does whose called side was chosen
+-- the operations of a call whose called side was chosen
 abbrev pub accept_side : Bool → World → ℕ → Pending → Slot → CalledSide → List Operation
 accept_side first w own asked x (side.Line y) = call_line first own asked x y (new_reference w.legs y.line)
 accept_side first w own asked x (side.Room room) = call_room first own x room
 accept_side first w own asked x side.More = await_digits first own asked x
 
--- where the called side is a room, the caller can be seated
+-- if the called side is a room, the caller can join it
 abbrev pub SeatsInRoom : Connections → Legs → Slot → CalledSide → Type 0
 SeatsInRoom map legs x called = (room : ℕ) → called ≡ side.Room room → (d : Dimensions) × (w : World) × Holds d map legs w × CanSeat d w x
 
--- CALL PROCEEDING as it is sent to a caller
+-- the CALL PROCEEDING to a caller
 abbrev pub proceeding_sent : Bool → Slot → Leg → Signal
 proceeding_sent first x leg = record { line = x.line; octets = encoding (call_proceeding first x leg) }
 
--- the checks of a number that is dialled on: whether all of it are digits, what it leads to, and whether the called side has a slot, or a port
+-- the checks of a number in overlap sending: whether all of it are digits, its target, and whether the called side has
+-- a slot or a port
 abbrev pub dialled_checks : Dimensions → World → Slot → Message → Bool → Found → List Check
 dialled_checks d w x m readable target =
     (not readable, invalid_number_format)

@@ -1,4 +1,4 @@
-//! What each act does with the leg that a message is for, and with its peer.
+//! The operations of each act on the leg of a message and on its peer.
 ghost use Rattle.std.specs.Prelude.{◌≡◌, ◌≢◌, ◌<◌, ◌≤◌, ◌+◌, ◌*◌, [], ◌∷◌, None, Some, IfSome, length};
 ghost use Rattle.circuit_model.specs.Extent.{IsExternal};
 ghost use Rattle.circuit_map.specs.Connections.{SameSizes, hears_at};
@@ -33,7 +33,7 @@ use q931_codec::{Message, MessageKind, Outgoing};
 use tone_rules::{Tones, tone_given};
 
 impl<P: PathMap> CallControl<P> {
-    /// Does with a leg what a message to it asks for, and records the call that this begins to clear.
+    /// Performs the act of a message on its leg, and records the call whose clearing begins with it.
     pub(crate) fn act(
         &mut self,
         out: &mut Outbox,
@@ -63,7 +63,7 @@ impl<P: PathMap> CallControl<P> {
         record_only(&mut out.records, call);
     }
 
-    /// The other leg of a call.
+    /// Returns the other leg of a call, if there is one.
     pub(crate) fn peer_of(&self, peer: Peer) -> Option<Held>
         ensures { result ≡ peer_of self.now.legs peer }
     {
@@ -76,7 +76,7 @@ impl<P: PathMap> CallControl<P> {
         }
     }
 
-    // Does what an act is that the leg, its peer and the message decide: any but more digits.
+    // Performs an act other than further digits: the leg, its peer and the message decide it.
     fn perform(
         &mut self,
         out: &mut Outbox,
@@ -129,8 +129,8 @@ impl<P: PathMap> CallControl<P> {
         }
     }
 
-    // ALERTING: the called user is being alerted; the caller is sent the same, and hears it where the
-    // trace gives that tone.
+    // ALERTING: the called user is being alerted. The caller is sent ALERTING, with ringing tone if the trace gives
+    // that tone. The caller's slot has no circuit yet, so nothing is released first.
     fn on_alerting(&mut self, out: &mut Outbox, tones: &Tones, held: Held, peer: Option<Held>)
         requires there { IsThere self.old.map.external held }
         requires count { length self.old.legs.held ≡ 30 * self.old.map.external }
@@ -153,7 +153,7 @@ impl<P: PathMap> CallControl<P> {
         send(out, caller.slot.line, &with_progress(tone, alerting));
     }
 
-    // CONNECT: the called user has answered; the two slots are connected.
+    // CONNECT: the called user has answered. The two slots are connected.
     fn on_connect(&mut self, out: &mut Outbox, held: Held, peer: Option<Held>)
         requires work { (d : Dimensions) × (w : World) × Holds d self.old.map self.old.legs w }
         requires there { IsThere self.old.map.external held }
@@ -176,8 +176,8 @@ impl<P: PathMap> CallControl<P> {
         send_bare(out, caller, MessageKind::Connect);
     }
 
-    // Takes down whatever a caller hears, connects it with the called slot, and answers how many live
-    // paths were moved each way.
+    // Releases the caller's circuit, which can be a tone, connects the caller to the called slot, and returns the
+    // number of live paths that were moved in each direction.
     fn connect(&mut self, caller: Slot, called: Slot) -> (u32, u32)
         requires work { (d : Dimensions) × (w : World) × Holds d self.old.map self.old.legs w }
         requires caller_external { IsExternal self.old.map.external caller }
@@ -194,7 +194,7 @@ impl<P: PathMap> CallControl<P> {
         self.pair(caller, called)
     }
 
-    // DISCONNECT: the user of the leg has asked for the call to be cleared.
+    // DISCONNECT: the user of the leg clears the call.
     fn on_disconnect(&mut self, out: &mut Outbox, held: Held)
         requires there { IsThere self.old.map.external held }
         requires count { length self.old.legs.held ≡ 30 * self.old.map.external }
@@ -210,7 +210,7 @@ impl<P: PathMap> CallControl<P> {
         self.expect(out, held.slot, in_release_request(held.leg), &release);
     }
 
-    // RELEASE: the user of the leg has released its channel, and its call reference is released.
+    // RELEASE: the user of the leg has released its channel, and the exchange releases the call reference.
     fn on_release(&mut self, out: &mut Outbox, held: Held)
         requires there { IsThere self.old.map.external held }
         requires count { length self.old.legs.held ≡ 30 * self.old.map.external }
@@ -225,7 +225,7 @@ impl<P: PathMap> CallControl<P> {
         send_bare(out, held, MessageKind::ReleaseComplete);
     }
 
-    /// RELEASE COMPLETE, or a restart: the leg is gone, and every circuit that names its slot.
+    /// RELEASE COMPLETE, or a restart: removes the leg, and every circuit at its slot.
     pub(crate) fn remove_leg(&mut self, held: Held)
         requires external { IsExternal self.old.map.external held.slot }
         requires count { length self.old.legs.held ≡ 30 * self.old.map.external }
@@ -237,7 +237,7 @@ impl<P: PathMap> CallControl<P> {
         self.remove(held.slot);
     }
 
-    /// The other leg of a call, where there is one, is cleared with a cause.
+    /// Clears the other leg of a call with a cause, if there is one.
     pub(crate) fn clear_peer(
         &mut self,
         out: &mut Outbox,
@@ -260,7 +260,7 @@ impl<P: PathMap> CallControl<P> {
         }
     }
 
-    /// A leg is cleared with a cause, and its user hears why where the trace gives that tone.
+    /// Clears a leg with a cause. Its user receives the tone of that cause if the trace gives it.
     pub(crate) fn clear_leg(&mut self, out: &mut Outbox, tones: &Tones, held: Held, cause: u8)
         requires there { IsThere self.old.map.external held }
         requires count { length self.old.legs.held ≡ 30 * self.old.map.external }
@@ -283,14 +283,14 @@ impl<P: PathMap> CallControl<P> {
     }
 }
 
-// The leg in another state.
+// Returns the leg in another state.
 fn in_state(state: u8, leg: Leg) -> Leg
     ensures { result ≡ in_state state leg }
 {
     Leg { state, ..leg }
 }
 
-/// The leg alone, asked to release its channel.
+/// Returns the leg without its peer in release request.
 pub(crate) fn in_release_request(leg: Leg) -> Leg
     ensures { result ≡ in_release_request leg }
 {
@@ -301,7 +301,7 @@ pub(crate) fn in_release_request(leg: Leg) -> Leg
     }
 }
 
-// The leg alone, cleared with a cause.
+// Returns the leg without its peer in disconnect indication, cleared with a cause.
 fn in_disconnect_indication(cause: u8, leg: Leg) -> Leg
     ensures { result ≡ in_disconnect_indication cause leg }
 {
@@ -313,14 +313,14 @@ fn in_disconnect_indication(cause: u8, leg: Leg) -> Leg
     }
 }
 
-// The tone that the slot of a leg gets, where the trace gives it.
+// Returns the tone of a leg's slot, if the trace gives it.
 fn tone_of(tones: &Tones, leg: Leg) -> Option<Kind>
     ensures { result ≡ tone_of tones.now leg }
 {
     tone_given(tones, leg.state, leg.cause)
 }
 
-// A message with a progress indicator exactly where its user's slot gets a tone.
+// Adds a progress indicator to a message if and only if its user's slot gets a tone.
 fn with_progress(tone: Option<Kind>, message: Outgoing<'static>) -> Outgoing<'static>
     ensures { outgoing_of result ≡ with_progress tone (outgoing_of message.entry) }
 {
@@ -330,7 +330,7 @@ fn with_progress(tone: Option<Kind>, message: Outgoing<'static>) -> Outgoing<'st
     }
 }
 
-// The DISCONNECT with a cause to the user of a leg.
+// Returns the DISCONNECT with a cause to the user of a leg.
 fn disconnect_message(leg: &Leg, cause: u8) -> Outgoing<'static>
     ensures { outgoing_of result ≡ disconnect leg.now cause }
 {

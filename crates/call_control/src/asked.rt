@@ -1,4 +1,4 @@
-//! What a call is made from.
+//! The contents of a requested call.
 ghost use Rattle.std.specs.Prelude.{◌≡◌};
 ghost use Rattle.call_states.specs.Pending.{FitsElements};
 ghost use Rattle.call_profile.specs.Setup.{call_asked};
@@ -7,8 +7,8 @@ ghost use Rattle.call_control.specs.Asked.{asked_of};
 use call_states::{Contents, Pending};
 use q931_codec::Message;
 
-/// What a call is made from: the contents of the elements that are passed on to the called user. No octets
-/// mean no element.
+/// The contents of the elements of a requested call that are passed on to the called user. An element without octets is
+/// absent. A SETUP and a pending number both give this value, so one function accepts both.
 #[derive(Clone, Copy)]
 pub(crate) struct Asked<'a> {
     /// The bearer capability (ITU-T Q.931 (05/98), 4.5.5).
@@ -23,7 +23,7 @@ pub(crate) struct Asked<'a> {
     pub high: &'a [u8],
 }
 
-/// What the call of a SETUP is made from.
+/// Returns the contents in a SETUP.
 pub(crate) fn asked_by<'a>(message: &Message<'a>) -> Asked<'a>
     ensures { asked_of result ≡ call_asked message.now }
 {
@@ -36,7 +36,7 @@ pub(crate) fn asked_by<'a>(message: &Message<'a>) -> Asked<'a>
     }
 }
 
-/// What the call is made from whose number is dialled in parts.
+/// Returns the contents stored with a number in overlap sending.
 pub(crate) fn asked_in(number: &Pending) -> Asked<'_>
     ensures asked { asked_of result ≡ number.now }
     ensures fits { FitsElements (asked_of result) }
@@ -50,7 +50,7 @@ pub(crate) fn asked_in(number: &Pending) -> Asked<'_>
     }
 }
 
-/// The same as it is kept until the number is complete.
+/// Returns the contents to store until the number is complete.
 pub(crate) fn pending_of(asked: &Asked) -> Pending
     requires { FitsElements (asked_of asked.now) }
     ensures { result ≡ asked_of asked.now }

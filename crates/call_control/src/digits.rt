@@ -1,4 +1,4 @@
-//! More digits of a number that is dialled in parts.
+//! Further digits of a number in overlap sending.
 ghost use Rattle.std.specs.Prelude.{◌≡◌, ◌≤◌, ◌+◌, ◌++◌, [], None, Some, Ok, IfSome, IfOk, IfErr, OnOk, is_none, length};
 ghost use Rattle.circuit_map.specs.Connections.{SameSizes};
 ghost use Rattle.circuit_model.specs.Extent.{IsExternal};
@@ -29,12 +29,12 @@ use q931_codec::Message;
 use q931_codec::causes::INVALID_NUMBER_FORMAT;
 use tone_rules::Tones;
 
-/// How many octets the contents of a called party number have at most.
+/// The maximum number of octets in a called party number.
 const MOST_CALLED: usize = 21;
 
 impl<P: PathMap> CallControl<P> {
-    /// Adds what a caller in overlap sending has dialled to its number: its leg waits on, or its call is
-    /// accepted; where a check fails, it is cleared with the cause of that check.
+    /// Adds further digits to the number of a caller in overlap sending. Its leg waits on, or its call is accepted. If
+    /// a check fails, the leg is cleared with the cause of that check.
     pub(crate) fn on_digits(
         &mut self,
         out: &mut Outbox,
@@ -74,7 +74,9 @@ impl<P: PathMap> CallControl<P> {
         }
     }
 
-    // The called side of a number which is dialled on; the cause of the first check that it fails.
+    // Returns the called side of a number in overlap sending, or the cause of the first check that fails. The called
+    // slot is another one than the caller's, as for a SETUP. The caller's slot is not idle, so this is the lowest idle
+    // slot of the line, and one rule serves both.
     fn called_by_digits(
         &self,
         x: Slot,
@@ -100,8 +102,8 @@ impl<P: PathMap> CallControl<P> {
     }
 }
 
-// What is pending once the octets of a message are added; `None` where its called party number has none, or
-// there would be too many.
+// Returns the pending number with the digits of a message. Returns `None` if the message has no called party number, or
+// if there would be too many digits.
 fn dialled_on(number: &Pending, message: &Message) -> Option<Pending>
     requires { FitsElements number.now }
     ensures none { is_none result ≡ adds_wrongly number.now.called message.now }
@@ -125,7 +127,7 @@ fn dialled_on(number: &Pending, message: &Message) -> Option<Pending>
     })
 }
 
-// The octets that a message adds to a called party number.
+// Returns the octets that a message adds to a called party number.
 fn octets_added<'a>(called: &[u8], message: &Message<'a>) -> &'a [u8]
     ensures { result.now ≡ octets_added called.now (called_received message.now.elements) }
 {
@@ -137,7 +139,7 @@ fn octets_added<'a>(called: &[u8], message: &Message<'a>) -> &'a [u8]
     }
 }
 
-// The second octets behind the first.
+// Returns the octets of both lists, in this order.
 fn joined(first: &[u8], second: &[u8]) -> Contents<MOST_CALLED>
     requires { length first.now + length second.now ≤ 21 }
     ensures { result ≡ first.now ++ second.now }

@@ -1,4 +1,4 @@
-//! The record of a call that begins to be cleared.
+//! The record of a call whose clearing begins.
 ghost use Rattle.std.specs.Prelude.{◌≡◌, IfSome};
 ghost use Rattle.circuit_model.specs.Extent.{IsExternal};
 ghost use Rattle.call_profile.specs.Acts.{peer_of};
@@ -16,7 +16,8 @@ use exchange_events::CallRecord;
 use q931_codec::states::ACTIVE;
 
 impl<P: PathMap> CallControl<P> {
-    /// The record of the call that an act on a leg begins to clear, which is the leg's call.
+    /// Makes the record of a leg's call if this act on the leg begins to clear it. It is made before the act, because
+    /// the act releases the circuit that shows the first frame of the conversation.
     pub(crate) fn record_of_act(
         &self,
         held: Held,
@@ -31,7 +32,7 @@ impl<P: PathMap> CallControl<P> {
         self.record_ended(held, peer, cause_of_act(act)?)
     }
 
-    /// The record of the call of a leg, where its clearing hasn't begun.
+    /// Makes the record of a leg's call, if its clearing has not begun.
     pub(crate) fn record_ended(
         &self,
         held: Held,
@@ -49,7 +50,7 @@ impl<P: PathMap> CallControl<P> {
         }
     }
 
-    // The record of a caller's leg, where its call's clearing hasn't begun.
+    // Makes the record of a call from its caller's leg, if its clearing has not begun.
     fn record_calling(&self, caller: Held, cause: u8) -> Option<CallRecord>
         requires external { IsExternal self.now.map.external caller.slot }
         ensures { (d : Dimensions) (w : World) → Holds d self.now.map self.now.legs w → result ≡ record_calling w cause caller }
@@ -68,7 +69,7 @@ impl<P: PathMap> CallControl<P> {
         })
     }
 
-    // The first frame of the conversation; the next frame where there was none.
+    // Returns the first frame of the conversation, or the next frame if there was none.
     fn conversation_begin(&self, caller: Held) -> u32
         requires external { IsExternal self.now.map.external caller.slot }
         ensures { (d : Dimensions) (w : World) → Holds d self.now.map self.now.legs w → result ≡ conversation_begin w caller }

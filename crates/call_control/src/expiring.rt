@@ -1,4 +1,4 @@
-//! The turn of a frame: what is done for the legs whose timers have run out.
+//! The legs that a frame examines, and the operations of an expired timer.
 ghost use Rattle.std.specs.Prelude.{◌≡◌, ◌<◌, ◌≤◌, ◌+◌, ◌*◌, ◌%◌, ◌++◌, [], true, None, Some, length};
 ghost use Rattle.std.specs.List.{cons_option};
 ghost use Rattle.circuit_model.specs.Extent.{IsExternal};
@@ -32,9 +32,9 @@ use q931_codec::{MessageKind, Outgoing};
 use tone_rules::Tones;
 
 impl<P: PathMap> CallControl<P> {
-    /// Looks at one leg of each external line, lowest line first, in the turn of a frame that has passed its
-    /// boundary: does what is asked for where its timer has run out, and records the calls that this ends, in the
-    /// same order. Where none of them may be due it does nothing.
+    /// Examines one leg of each external line, lowest line first, after a frame's boundary. Performs the operations of
+    /// each expired timer, and records the calls that it ends, in the same order. Returns at once if no leg of that
+    /// place can be due.
     pub fn expire(
         &mut self,
         out: &mut Outbox,
@@ -63,7 +63,7 @@ impl<P: PathMap> CallControl<P> {
         self.legs.settle(place);
     }
 
-    // Looks at the leg that holds a slot, where one does.
+    // Examines the leg that holds a slot, if there is one.
     fn expire_slot(&mut self, out: &mut Outbox, tones: &Tones, timers: &Timers, frame: u32, x: Slot)
         requires work { (s : Setting) × (w : World) × (s.tones ≡ tones.now) × (s.timers ≡ timers.now) × IsInOrder s self.old.map self.old.legs w }
         requires external { IsExternal self.old.map.external x }
@@ -86,7 +86,7 @@ impl<P: PathMap> CallControl<P> {
         self.on_expiry(out, tones, held, peer, expiry);
     }
 
-    // Does what the expiry of a leg's timer asks for, and records the call that this ends.
+    // Performs the operations of a leg's expired timer, and records the call that it ends.
     fn on_expiry(
         &mut self,
         out: &mut Outbox,
@@ -119,7 +119,7 @@ impl<P: PathMap> CallControl<P> {
         }
     }
 
-    // The user of a leg is sent once more what is kept of it.
+    // Retransmits the stored message to the user of a leg.
     fn send_again(&mut self, out: &mut Outbox, held: Held)
         requires there { IsThere self.old.map.external held }
         requires count { length self.old.legs.held ≡ 30 * self.old.map.external }
@@ -142,7 +142,7 @@ impl<P: PathMap> CallControl<P> {
         self.legs.expect_still(held.slot, leg);
     }
 
-    // The called user didn't answer the SETUP: its leg is gone, and its caller is cleared.
+    // The called user did not answer the SETUP: removes its leg, and clears the caller.
     fn setup_over(&mut self, out: &mut Outbox, tones: &Tones, held: Held, peer: Option<Held>)
         requires there { IsThere self.old.map.external held }
         requires count { length self.old.legs.held ≡ 30 * self.old.map.external }
@@ -162,7 +162,7 @@ impl<P: PathMap> CallControl<P> {
         record_also(&mut out.records, call);
     }
 
-    // The called user is neither alerted nor answers: both legs are cleared.
+    // The called user was neither alerted nor answered: clears both legs.
     fn proceeding_over(&mut self, out: &mut Outbox, tones: &Tones, held: Held, peer: Option<Held>)
         requires there { IsThere self.old.map.external held }
         requires count { length self.old.legs.held ≡ 30 * self.old.map.external }
@@ -182,7 +182,7 @@ impl<P: PathMap> CallControl<P> {
         record_also(&mut out.records, call);
     }
 
-    // The leg is gone, and its user is sent RELEASE COMPLETE.
+    // Removes the leg, and sends RELEASE COMPLETE to its user.
     fn give_up(&mut self, out: &mut Outbox, held: Held)
         requires there { IsThere self.old.map.external held }
         requires count { length self.old.legs.held ≡ 30 * self.old.map.external }
@@ -203,7 +203,7 @@ impl<P: PathMap> CallControl<P> {
         send(out, held.slot.line, &message);
     }
 
-    // The user didn't release the call: it is sent RELEASE with the cause that the leg was cleared with.
+    // The user did not release the call: sends RELEASE with the cause of the clearing.
     fn ask_for_release(&mut self, out: &mut Outbox, held: Held)
         requires there { IsThere self.old.map.external held }
         requires count { length self.old.legs.held ≡ 30 * self.old.map.external }
@@ -220,7 +220,7 @@ impl<P: PathMap> CallControl<P> {
     }
 }
 
-// A message of a type to the user of a leg, with a cause alone.
+// Returns a message of a type to the user of a leg, with only a cause.
 fn with_cause(leg: &Leg, kind: MessageKind, cause: u8) -> Outgoing<'static>
     ensures { outgoing_of result ≡ record (message_to leg.now kind) { cause = Some cause } }
 {

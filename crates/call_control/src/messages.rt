@@ -1,4 +1,4 @@
-//! The way of a message from the octets that the user of a line has sent to what is done for it.
+//! A received message, from its octets to its operations.
 ghost use Rattle.std.specs.Prelude.{◌≡◌, ◌<◌, ◌≤◌, ◌^◌, [], None, Ok, IfSome, is_some};
 ghost use Rattle.circuit_map.specs.Connections.{SameSizes};
 ghost use Rattle.clearing_rules.specs.Restarting.{restart_asked};
@@ -21,8 +21,8 @@ use q931_codec::Message;
 use tone_rules::Tones;
 
 impl<P: PathMap> CallControl<P> {
-    /// Acts on the octets that the user of a line has sent, and records the calls that they begin
-    /// to clear. Octets that are no message have no effect. What was read of them ahead is not read again.
+    /// Processes the octets that the user of a line has sent, and records the calls whose clearing they begin. Octets
+    /// that are not a message have no effect. A message that was parsed ahead is not parsed again.
     pub fn message(
         &mut self,
         out: &mut Outbox,
@@ -48,8 +48,8 @@ impl<P: PathMap> CallControl<P> {
         }
     }
 
-    // Acts on a message, and records the calls that it begins to clear: one to a
-    // leg what the leg's state says, a SETUP from the side that chose the call reference a new call.
+    // Processes a message, and records the calls whose clearing it begins. The state of its leg decides the operations.
+    // A SETUP from the side that chose the call reference requests a new call.
     fn receive(
         &mut self,
         out: &mut Outbox,
@@ -78,9 +78,8 @@ impl<P: PathMap> CallControl<P> {
         }
     }
 
-    // Acts on a message that names no leg, and records the calls that it ends:
-    // a RESTART on the global call reference, a SETUP from the side that chose the call reference, or one
-    // that is answered there.
+    // Processes a message without a leg, and records the calls that it ends: a RESTART on the global call reference, a
+    // SETUP from the side that chose the call reference, or a message to which there is a fixed reply.
     fn answer_without_leg(&mut self, out: &mut Outbox, tones: &Tones, line: u8, incoming: &Incoming)
         requires work { (s : Setting) × (w : World) × (s.tones ≡ tones.now) × IfSome incoming.now.number (IsDialled s.plan incoming.now.message)
             × IsAtWork s self.old.map self.old.legs w }
@@ -109,7 +108,7 @@ impl<P: PathMap> CallControl<P> {
         out.records.clear();
     }
 
-    // Acts on a message on the global call reference, which a RESTART alone does.
+    // Processes a message on the global call reference. Only a RESTART has an effect.
     fn restart_if_asked(&mut self, out: &mut Outbox, tones: &Tones, line: u8, message: &Message)
         requires work { (s : Setting) × (w : World) × (s.tones ≡ tones.now) × IsAtWork s self.old.map self.old.legs w }
         requires line { line < self.old.map.external }

@@ -1,5 +1,5 @@
-//! A call that is accepted, by a SETUP or once its number is complete: its legs are made, and their users are sent what
-//! comes of it.
+//! An accepted call, by a SETUP or by a number that is now complete: its legs are made, and its users are sent the
+//! messages of the new call.
 ghost use Rattle.std.specs.Prelude.{◌≡◌, ◌+◌, ◌*◌, ◌<◌, ◌≤◌, ◌^◌, ◌++◌, [], ◌∷◌, None, IfSome, length};
 ghost use Rattle.circuit_map.specs.Connections.{SameSizes};
 ghost use Rattle.circuit_model.specs.Extent.{IsExternal};
@@ -27,19 +27,19 @@ use exchange_events::Outbox;
 use q931_codec::states::{ACTIVE, CALL_PRESENT, OUTGOING_CALL_PROCEEDING, OVERLAP_SENDING};
 use q931_codec::{MessageKind, Outgoing};
 
-/// The caller of a call that is accepted.
+/// The caller of an accepted call.
 #[derive(Clone, Copy)]
 pub(crate) struct Caller {
     /// Its slot.
     pub slot: Slot,
     /// Its call reference value.
     pub reference: u16,
-    /// Whether its SETUP was not answered yet: the first answer tells it the channel of its call.
+    /// Whether no reply to its SETUP was sent yet. The first reply states the channel of its call.
     pub first: bool,
 }
 
 impl<P: PathMap> CallControl<P> {
-    /// Makes the legs of a call which is made from this, with the called side that was chosen for it.
+    /// Makes the legs of a call with these contents and the called side that was chosen for it.
     pub(crate) fn accept(
         &mut self,
         out: &mut Outbox,
@@ -69,8 +69,7 @@ impl<P: PathMap> CallControl<P> {
         }
     }
 
-    // Makes a call to a line: the caller waits, and the called user is offered the call with this
-    // reference.
+    // Makes a call to a line: the caller waits, and the called user is sent a SETUP with this reference.
     fn call_line(
         &mut self,
         out: &mut Outbox,
@@ -99,7 +98,7 @@ impl<P: PathMap> CallControl<P> {
         self.expect(out, y, called, &offer(asked, y, &called));
     }
 
-    // Lets a caller wait for the rest of its number, and asks it for that once.
+    // Places a caller that waits for further digits, and sends SETUP ACKNOWLEDGE once.
     fn await_digits(&mut self, out: &mut Outbox, caller: Caller, asked: &Asked)
         requires external { IsExternal self.old.map.external caller.slot }
         requires count { length self.old.legs.held ≡ 30 * self.old.map.external }
@@ -119,7 +118,7 @@ impl<P: PathMap> CallControl<P> {
         }
     }
 
-    // Makes a call to a conference room, which is answered at once.
+    // Makes a call to a conference room, which is connected at once.
     fn call_room(&mut self, out: &mut Outbox, caller: Caller, room: u8)
         requires can { (d : Dimensions) × (w : World) × Holds d self.old.map self.old.legs w × CanSeat d w caller.slot }
         requires external { IsExternal self.old.map.external caller.slot }
@@ -140,7 +139,7 @@ impl<P: PathMap> CallControl<P> {
     }
 }
 
-// Sends CALL PROCEEDING to a caller; as the first answer it tells the channel.
+// Sends CALL PROCEEDING to a caller. As the first reply it states the channel.
 fn send_proceeding(out: &mut Outbox, caller: Caller, leg: &Leg)
     requires place { caller.slot.place < 30 }
     requires room { length out.old.sends < most_sends }
@@ -156,7 +155,7 @@ fn send_proceeding(out: &mut Outbox, caller: Caller, leg: &Leg)
     }
 }
 
-// The caller's leg of a new call, before it holds a slot.
+// Returns the caller's leg of a new call, before it holds a slot.
 fn caller_leg(state: u8, reference: u16, peer: Peer) -> Leg
     ensures { result ≡ caller_leg state reference peer }
 {
@@ -171,7 +170,7 @@ fn caller_leg(state: u8, reference: u16, peer: Peer) -> Leg
     }
 }
 
-// The called leg of a new call, before it holds a slot.
+// Returns the called leg of a new call, before it holds a slot.
 fn called_leg(reference: u16, caller: Slot) -> Leg
     ensures { result ≡ called_leg reference caller }
 {
@@ -186,7 +185,7 @@ fn called_leg(reference: u16, caller: Slot) -> Leg
     }
 }
 
-// The SETUP ACKNOWLEDGE that tells the caller its channel, and asks for the rest of the number.
+// Returns the SETUP ACKNOWLEDGE that states the caller's channel and requests further digits.
 fn setup_acknowledge(x: Slot, leg: &Leg) -> Outgoing<'static>
     requires place { x.place < 30 }
     ensures { outgoing_of result ≡ setup_acknowledge x leg.now }
@@ -194,7 +193,7 @@ fn setup_acknowledge(x: Slot, leg: &Leg) -> Outgoing<'static>
     with_channel(x, message_to(leg, MessageKind::SetupAcknowledge))
 }
 
-// A message that tells the user the channel of its call.
+// Returns a message that states the channel of the user's call.
 fn with_channel(x: Slot, message: Outgoing<'static>) -> Outgoing<'static>
     requires place { x.place < 30 }
     ensures { outgoing_of result ≡ with_channel x (outgoing_of message.entry) }
@@ -205,7 +204,7 @@ fn with_channel(x: Slot, message: Outgoing<'static>) -> Outgoing<'static>
     }
 }
 
-// The SETUP to the called user.
+// Returns the SETUP to the called user.
 fn offer<'a>(asked: &Asked<'a>, y: Slot, leg: &Leg) -> Outgoing<'a>
     requires place { y.place < 30 }
     ensures { outgoing_of result ≡ offer (asked_of asked.now) y leg.now }

@@ -1,4 +1,4 @@
-//! What the code of calls works on, and its single operations.
+//! The state of call control, and its single operations.
 ghost use Rattle.std.specs.Prelude.{◌≡◌, ◌≢◌, ◌*◌, ◌≤◌, ◌<◌, ◌+◌, [], ◌∷◌, true, false, length, None, Some, IsTrue};
 ghost use Rattle.circuit_model.specs.declared.channel.Slot.{Slot};
 ghost use Rattle.circuit_model.specs.Extent.{IsExternal};
@@ -27,8 +27,8 @@ use exchange_events::{Encoded, Outbox, Signal};
 use leg_table::LegTable;
 use q931_codec::{Outgoing, write};
 
-/// The live circuits, with their paths and conference ports, and the legs of the calls: what
-/// call control works on. None of its operations takes memory.
+/// The state of call control: the live circuits, with their paths and conference ports, and the legs of the calls. Each
+/// has its own invariant, and `Holds` joins them. No operation allocates.
 #[derive(Drop)]
 pub struct CallControl<P: PathMap> {
     /// The circuits, with their paths and conference ports.
@@ -38,7 +38,7 @@ pub struct CallControl<P: PathMap> {
 }
 
 impl<P: PathMap> CallControl<P> {
-    /// Whether no circuit names a slot and no leg holds it.
+    /// Returns whether a slot has no circuit and no leg.
     pub fn idle(&self, x: Slot) -> bool
         requires external { IsExternal self.now.map.external x }
         ensures idle { (d : Dimensions) (w : World) → Holds d self.now.map self.now.legs w → result ≡ idle w x }
@@ -48,7 +48,7 @@ impl<P: PathMap> CallControl<P> {
         self.map.idle(x) && self.legs.at(x).is_none()
     }
 
-    /// Takes down every circuit that names a slot.
+    /// Releases every circuit at a slot.
     pub fn clear(&mut self, x: Slot)
         requires external { IsExternal self.old.map.external x }
         ensures holds { (d : Dimensions) (w : World) → Holds d self.old.map self.old.legs w → Holds d self.new.map self.new.legs (obey d w (Clear x)) }
@@ -60,8 +60,8 @@ impl<P: PathMap> CallControl<P> {
         self.map.clear(x);
     }
 
-    /// Connects two slots that no circuit names, both ways, and answers how many live paths were
-    /// moved each way.
+    /// Connects two slots without circuits in both directions, and returns the number of live paths that were moved in
+    /// each direction.
     pub fn pair(&mut self, x: Slot, y: Slot) -> (u32, u32)
         requires external_x { IsExternal self.old.map.external x }
         requires external_y { IsExternal self.old.map.external y }
@@ -77,8 +77,8 @@ impl<P: PathMap> CallControl<P> {
         self.map.pair(x, y)
     }
 
-    /// Seats a slot that no circuit names in a room that has a free port, and answers how many live
-    /// paths were moved each way.
+    /// Adds a slot without a circuit to a room that has a free port, and returns the number of live paths that were
+    /// moved in each direction.
     pub(crate) fn seat(&mut self, x: Slot, room: u8) -> (u32, u32)
         requires can { (d : Dimensions) × (w : World) × Holds d self.old.map self.old.legs w × CanSeat d w x }
         ensures holds { (d : Dimensions) (w : World) → Holds d self.old.map self.old.legs w → Holds d self.new.map self.new.legs (obey d w (Take_seat x room)) }
@@ -93,7 +93,7 @@ impl<P: PathMap> CallControl<P> {
         moves
     }
 
-    /// Gives a slot that no circuit names a tone, if there is one.
+    /// Connects a slot without a circuit to a tone, if there is one.
     pub(crate) fn sound(&mut self, x: Slot, tone: Option<Kind>)
         requires external { IsExternal self.old.map.external x }
         requires silent { hears_at self.old.map x ≡ None }
@@ -107,8 +107,8 @@ impl<P: PathMap> CallControl<P> {
         }
     }
 
-    /// Lets a leg hold a slot from the next frame on, in place of any other; no number is pending there then, and
-    /// no message kept.
+    /// Places a leg at a slot from the next frame on, and replaces any other. Drops a pending number and a stored
+    /// message there.
     pub(crate) fn put(&mut self, x: Slot, leg: Leg)
         requires external { IsExternal self.old.map.external x }
         requires count { length self.old.legs.held ≡ 30 * self.old.map.external }
@@ -122,7 +122,7 @@ impl<P: PathMap> CallControl<P> {
         self.legs.put(x, from_frame(self.map.next_frame(), leg));
     }
 
-    /// Lets a leg hold a slot from the next frame on, in place of any other, and wait there with its number.
+    /// Places a leg at a slot from the next frame on, and replaces any other. The leg waits there with its number.
     pub(crate) fn wait(&mut self, x: Slot, leg: Leg, pending: Pending)
         requires external { IsExternal self.old.map.external x }
         requires count { length self.old.legs.held ≡ 30 * self.old.map.external }
@@ -136,8 +136,8 @@ impl<P: PathMap> CallControl<P> {
             .wait(x, from_frame(self.map.next_frame(), leg), pending);
     }
 
-    /// Lets a leg hold a slot from the next frame on, in place of any other; this message goes to its user, and is
-    /// kept, to be sent again.
+    /// Places a leg at a slot from the next frame on, and replaces any other. Sends this message to its user, and
+    /// stores it for a retransmission.
     pub(crate) fn expect(&mut self, out: &mut Outbox, x: Slot, leg: Leg, message: &Outgoing)
         requires external { IsExternal self.old.map.external x }
         requires count { length self.old.legs.held ≡ 30 * self.old.map.external }
@@ -161,7 +161,7 @@ impl<P: PathMap> CallControl<P> {
         });
     }
 
-    /// Lets no leg hold a slot; no number is pending there then, and no message kept.
+    /// Removes the leg at a slot, with a pending number and a stored message there.
     pub(crate) fn remove(&mut self, x: Slot)
         requires external { IsExternal self.old.map.external x }
         requires count { length self.old.legs.held ≡ 30 * self.old.map.external }

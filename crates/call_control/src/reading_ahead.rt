@@ -1,4 +1,4 @@
-//! The reading of a message: all that its octets and the plan of numbers decide, before its turn or in it.
+//! Parses messages. The result depends only on the octets and the number plan, before the turn or in it.
 ghost use Rattle.std.specs.Prelude.{◌≡◌, ◌≤◌, false, IfSome, MatchOption, is_some, length};
 ghost use Rattle.q931_codec.specs.Contents.{dialled_digits};
 ghost use Rattle.call_profile.specs.Calls.{asks_for_call};
@@ -9,16 +9,16 @@ use number_plan::{Found, Plan};
 use q931_codec::{Message, MessageKind, dialled_digits, read};
 use q931_elements::Elements;
 
-/// The number that a SETUP dials. It is read once, however many checks ask for it.
+/// The number that a SETUP dials. It is looked up once, because several checks need it.
 #[derive(Clone, Copy)]
 pub struct DialledNumber {
-    /// Whether all that it dials are digits.
+    /// Whether all of it are digits.
     pub is_readable: bool,
-    /// What the plan knows of its digits.
+    /// The entry of the plan for its digits.
     pub target: Found,
 }
 
-/// What was read of a message ahead. Its elements stay in its octets.
+/// A message that was parsed before its turn. Its elements stay in its octets.
 #[derive(Clone, Copy)]
 pub struct ReadAhead {
     /// The call reference flag.
@@ -27,30 +27,30 @@ pub struct ReadAhead {
     pub reference: u16,
     /// The message type.
     pub kind: MessageKind,
-    /// What it dials, where it may ask for a call.
+    /// The number that it dials, if it can request a call.
     pub number: Option<DialledNumber>,
 }
 
-/// A message as the user of a line has sent it: its octets, and the result of reading them before its turn.
+/// A message as the user of a line has sent it: its octets, and the result of parsing them before the turn.
 #[derive(Clone, Copy)]
 pub struct Received<'a> {
     /// The octets.
     pub octets: &'a [u8],
-    /// The result of reading them ahead; `None` if they were not read.
+    /// The result of parsing them ahead; `None` if they were not parsed.
     pub ahead: Option<ReadAhead>,
 }
 
-/// A message that has been read.
+/// A parsed message.
 #[derive(Drop)]
 pub(crate) struct Incoming<'a> {
     /// The message.
     pub message: Message<'a>,
-    /// The number that it dials if it asks for a call.
+    /// The number that it dials, if it requests a call.
     pub number: Option<DialledNumber>,
 }
 
-/// Reads a message ahead, and looks up what it dials where it may ask for a call. `None` where the
-/// octets are no message.
+/// Parses a message ahead, and looks up its number if it can request a call. Returns `None` if the octets are not a
+/// message.
 pub fn read_ahead(plan: &Plan, octets: &[u8]) -> Option<ReadAhead>
     ensures read { IfSome result (IsReadAhead plan.now octets.now) }
     ensures exact { is_some result ≡ is_message octets.now }
@@ -67,8 +67,8 @@ pub fn read_ahead(plan: &Plan, octets: &[u8]) -> Option<ReadAhead>
     })
 }
 
-/// The message that was received; `None` if its octets are not a message. What was read ahead is not read
-/// again.
+/// Returns the received message, or `None` if its octets are not a message. Uses the result of parsing ahead if there
+/// is one.
 #[inline(always)]
 pub(crate) fn read_received<'a>(plan: &Plan, received: &Received<'a>) -> Option<Incoming<'a>>
     requires ahead { IfSome received.now.ahead (IsReadAhead plan.now received.now.octets.now) }
@@ -87,7 +87,7 @@ pub(crate) fn read_received<'a>(plan: &Plan, received: &Received<'a>) -> Option<
     Some(Incoming { message, number })
 }
 
-// The message of which this was read ahead.
+// Returns the message that was parsed ahead.
 fn message_of(known: ReadAhead, octets: &[u8]) -> Message<'_>
     requires { 5 ≤ length octets.now }
     ensures { result ≡ message_ahead known octets.now }
@@ -100,8 +100,7 @@ fn message_of(known: ReadAhead, octets: &[u8]) -> Message<'_>
     }
 }
 
-// The number that a message dials if it asks for a call: as it was looked up ahead, otherwise as it is looked
-// up here.
+// Returns the number that a message dials, if it requests a call. It is looked up only if that was not done ahead.
 fn number_of(plan: &Plan, message: &Message, ahead: Option<DialledNumber>) -> Option<DialledNumber>
     requires ahead { IfSome ahead (IsDialled plan.now message.now) }
     ensures dials { IfSome result (IsDialled plan.now message.now) }
@@ -116,14 +115,14 @@ fn number_of(plan: &Plan, message: &Message, ahead: Option<DialledNumber>) -> Op
     }
 }
 
-// Whether the message is a SETUP from the side that chose the call reference.
+// Returns whether the message is a SETUP from the side that chose the call reference.
 fn asks_for_call(message: &Message) -> bool
     ensures { result ≡ asks_for_call message.now }
 {
     message.kind == MessageKind::Setup && !message.flag
 }
 
-/// What the plan knows of the digits of a called party number with these contents.
+/// Looks up the digits of a called party number with these contents.
 pub(crate) fn look_up(plan: &Plan, called: &[u8]) -> DialledNumber
     requires { length called.now ≤ 21 }
     ensures readable { result.is_readable ≡ is_some (dialled_digits called.now) }

@@ -1,4 +1,4 @@
-//! RESTART: the legs whose slots are restarted are gone.
+//! RESTART: removes the legs of the restarted slots.
 ghost use Rattle.std.specs.Prelude.{◌≡◌, ◌+◌, ◌*◌, ◌++◌, ◌<◌, ◌≤◌, [], None, IfSome, length};
 ghost use Rattle.circuit_model.specs.Extent.{IsExternal};
 ghost use Rattle.circuit_map.specs.Connections.{SameSizes};
@@ -25,8 +25,8 @@ use q931_codec::causes::TEMPORARY_FAILURE;
 use tone_rules::Tones;
 
 impl<P: PathMap> CallControl<P> {
-    /// Restarts the slots of a line that are asked for, lowest first, and acknowledges it last. Answers the
-    /// records of the calls that this ends, in the same order.
+    /// Restarts the requested slots of a line, lowest first, and then acknowledges. Returns the records of the calls
+    /// that this ends, in the same order.
     pub(crate) fn restart_line(
         &mut self,
         out: &mut Outbox,
@@ -52,7 +52,7 @@ impl<P: PathMap> CallControl<P> {
         records
     }
 
-    // Restarts a slot, where that is asked for and a leg holds it.
+    // Restarts a slot, if that is requested and a leg holds it.
     fn restart_slot(
         &mut self,
         out: &mut Outbox,
@@ -84,7 +84,7 @@ impl<P: PathMap> CallControl<P> {
         self.restart_peer(out, tones, asked, x.line, peer);
     }
 
-    // Lets the other leg of a call go too, where its slot is restarted as well; else clears it.
+    // Removes the other leg of a call if its slot is restarted too, and clears it otherwise.
     fn restart_peer(
         &mut self,
         out: &mut Outbox,
@@ -112,7 +112,7 @@ impl<P: PathMap> CallControl<P> {
     }
 }
 
-// Whether a restart on a line is of this slot too.
+// Returns whether a restart on a line includes this slot.
 fn restarts_slot(asked: Restart, line: u8, x: Slot) -> bool
     ensures { result ≡ restarts_slot asked line x }
 {

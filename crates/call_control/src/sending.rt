@@ -1,4 +1,4 @@
-//! What is sent and recorded, put into the outbox of a step.
+//! Adds messages and records to the outbox of a step.
 ghost use Rattle.std.specs.Prelude.{◌≡◌, ◌<◌, ◌≤◌, ◌+◌, ◌^◌, ◌++◌, [], ◌∷◌, length, true, Some};
 ghost use Rattle.std.specs.List.{cons_option};
 ghost use Rattle.circuit_map.specs.Connections.{Connections};
@@ -55,7 +55,7 @@ pub(crate) fn refuse(out: &mut Outbox, line: u8, reference: u16, cause: u8)
     send(out, line, &release_complete(reference, cause));
 }
 
-/// Answers a message on the call reference of no call, where there is an answer.
+/// Sends the reply to a message on the call reference of no call, if there is one.
 pub(crate) fn answer_on_no_call(out: &mut Outbox, line: u8, message: &Message)
     requires room { length out.old.sends < most_sends }
     requires reference { message.now.reference < 2 ^ 15 }
@@ -67,14 +67,14 @@ pub(crate) fn answer_on_no_call(out: &mut Outbox, line: u8, message: &Message)
     }
 }
 
-/// A message of a type, without elements, to the user of a leg.
+/// Returns a message of a type, without elements, to the user of a leg.
 pub(crate) fn message_to(leg: &Leg, kind: MessageKind) -> Outgoing<'static>
     ensures { outgoing_of result ≡ message_to leg.now kind }
 {
     Outgoing::new(leg.side.flag(), leg.reference, kind)
 }
 
-// The RELEASE COMPLETE that refuses a SETUP with this call reference.
+// Returns the RELEASE COMPLETE that refuses a SETUP with this call reference.
 fn release_complete(reference: u16, cause: u8) -> Outgoing<'static>
     ensures { outgoing_of result ≡ record (bare true reference kind.ReleaseComplete) { cause = Some cause } }
 {
@@ -84,7 +84,7 @@ fn release_complete(reference: u16, cause: u8) -> Outgoing<'static>
     }
 }
 
-/// Records this call where there is one, in place of all that was recorded.
+/// Replaces all records by this call, if there is one.
 pub(crate) fn record_only(records: &mut Records, call: Option<CallRecord>)
     ensures { records.new ≡ cons_option call [] }
 {
@@ -92,7 +92,7 @@ pub(crate) fn record_only(records: &mut Records, call: Option<CallRecord>)
     record_also(records, call);
 }
 
-/// Records one call more, where there is one.
+/// Adds the record of a call, if there is one.
 pub(crate) fn record_also(records: &mut Records, call: Option<CallRecord>)
     requires { length records.old < most_records }
     ensures all { records.new ≡ records.old ++ cons_option call [] }

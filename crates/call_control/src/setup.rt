@@ -1,4 +1,4 @@
-//! SETUP: it is refused, or makes the legs of a new call, and their users are sent what comes of it.
+//! SETUP: refuses it, or makes the legs of a new call and sends the messages of that call.
 ghost use Rattle.std.specs.Prelude.{◌≡◌, ◌<◌, ◌≤◌, ◌^◌, [], None, IfSome, false};
 ghost use Rattle.circuit_map.specs.Connections.{SameSizes};
 ghost use Rattle.call_control.specs.Ahead.{IsDialled};
@@ -20,8 +20,8 @@ use exchange_events::Outbox;
 use q931_codec::Message;
 
 impl<P: PathMap> CallControl<P> {
-    /// Acts on a SETUP: refuses it with the cause of its first check that fails, or makes the
-    /// legs of its call. The number is the one that it dials.
+    /// Processes a SETUP that dials this number: refuses it with the cause of the first check that fails, or makes the
+    /// legs of its call.
     pub(crate) fn setup(
         &mut self,
         out: &mut Outbox,

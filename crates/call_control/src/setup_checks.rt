@@ -1,4 +1,4 @@
-//! The checks of a SETUP: what it asks for, which slots its call gets, and the cause with which it is refused.
+//! The checks of a SETUP: its elements, the slots of its call, and the cause of a refusal.
 ghost use Rattle.std.specs.Prelude.{◌≡◌, ◌<◌, false, Some, None, Ok, is_some, IfSome, IfOk, IfErr, OnOk};
 ghost use Rattle.call_profile.specs.Setup.{digits_in, lacks_number, slot_of, slot_asked, element_checks, number_checks, first_cause, caller_slot, is_taken, is_unknown, slot_checks, refusal, target_of};
 ghost use Rattle.q931_codec.specs.Contents.{called_received, channel_in, complete_in};
@@ -26,13 +26,13 @@ use q931_codec::{BearerCapability, ChannelIdentification, Message, is_called_num
 pub(crate) enum CalledSide {
     /// An idle slot of the called line.
     Line(Slot),
-    /// A conference room, while a port is free.
+    /// A conference room that has a free port.
     Room(u8),
-    /// More digits of the number are to come.
+    /// The number needs further digits.
     More,
 }
 
-/// A SETUP that passes its checks: the slots of its call.
+/// The slots of a call whose SETUP passes its checks.
 #[derive(Clone, Copy)]
 pub(crate) struct Admitted {
     /// The caller's slot.
@@ -42,7 +42,7 @@ pub(crate) struct Admitted {
 }
 
 impl<P: PathMap> CallControl<P> {
-    /// The lowest idle slot of a line.
+    /// Returns the lowest idle slot of a line.
     fn lowest_idle(&self, line: u8) -> Option<Slot>
         requires external { line < self.now.map.external }
         ensures slot { (d : Dimensions) (w : World) → Holds d self.now.map self.now.legs w → result ≡ lowest_idle w line }
@@ -57,7 +57,7 @@ impl<P: PathMap> CallControl<P> {
         None
     }
 
-    /// The lowest idle slot of a line beside another slot.
+    /// Returns the lowest idle slot of a line, other than this slot.
     pub(crate) fn lowest_idle_beside(&self, beside: Slot, line: u8) -> Option<Slot>
         requires external { line < self.now.map.external }
         ensures slot { (d : Dimensions) (w : World) → Holds d self.now.map self.now.legs w → result ≡ lowest_idle_beside w beside line }
@@ -72,7 +72,7 @@ impl<P: PathMap> CallControl<P> {
         None
     }
 
-    // Whether a slot is idle and another one than this.
+    // Returns whether a slot is idle and is not this one.
     fn idle_beside(&self, beside: Slot, slot: Slot) -> bool
         requires external { IsExternal self.now.map.external slot }
         ensures { (d : Dimensions) (w : World) → Holds d self.now.map self.now.legs w → result ≡ idle_beside w beside slot }
@@ -80,7 +80,8 @@ impl<P: PathMap> CallControl<P> {
         self.idle(slot) && slot != beside
     }
 
-    /// The caller's slot: the one that is asked for where it is idle, else the line's lowest idle slot.
+    /// Returns the caller's slot: the requested one if it is idle, otherwise the lowest idle slot of the line. An
+    /// exclusive channel needs no case, because the check for it comes first.
     pub(crate) fn caller_slot(
         &self,
         line: u8,
@@ -96,7 +97,7 @@ impl<P: PathMap> CallControl<P> {
         }
     }
 
-    // Whether the slot of the one channel that is asked for is not idle.
+    // Returns whether the slot of the one requested channel is not idle.
     fn is_taken(&self, line: u8, channel: Option<ChannelIdentification>) -> bool
         requires external { line < self.now.map.external }
         ensures { (d : Dimensions) (w : World) → Holds d self.now.map self.now.legs w → result ≡ is_taken w line channel }
@@ -110,8 +111,8 @@ impl<P: PathMap> CallControl<P> {
         }
     }
 
-    // The slots of a call, by the channel that its SETUP asks for and by where its number leads; the cause of the
-    // first check of slots and ports that it fails.
+    // Returns the slots of a call, by the requested channel and the target of the number, or the cause of the first
+    // check of slots and ports that fails.
     fn slots_for(
         &self,
         line: u8,
@@ -143,8 +144,8 @@ impl<P: PathMap> CallControl<P> {
         }
     }
 
-    /// The called side for a caller at a slot, by where its number leads; the cause where the called line has no
-    /// idle slot beside the caller's, or where every conference port is taken.
+    /// Returns the called side for a caller at a slot, by the target of its number. Returns a cause if the called line
+    /// has no other idle slot, or if no conference port is free.
     pub(crate) fn called_side(&self, caller: Slot, target: Found) -> Result<CalledSide, u8>
         requires reached { IsReached self.now.map.external target }
         ensures side { (d : Dimensions) (w : World) → Holds d self.now.map self.now.legs w → result ≡ called_side d w caller target }
@@ -162,7 +163,8 @@ impl<P: PathMap> CallControl<P> {
         }
     }
 
-    /// The slots of the call that a SETUP asks for, which dials this; the cause of the first check that it fails.
+    /// Returns the slots of the call that a SETUP with this number requests, or the cause of the first check that
+    /// fails.
     pub(crate) fn admit(
         &self,
         line: u8,
@@ -192,7 +194,7 @@ impl<P: PathMap> CallControl<P> {
     }
 }
 
-// The slot of a line that a channel identification names.
+// Returns the slot that a channel identification of a line refers to.
 fn slot_asked(line: u8, channel: Option<ChannelIdentification>) -> Option<Slot>
     ensures slot { result ≡ slot_asked line channel }
     ensures line { IfSome result (λ x. x.line ≡ line) }
@@ -205,7 +207,7 @@ fn slot_asked(line: u8, channel: Option<ChannelIdentification>) -> Option<Slot>
     }
 }
 
-// The slot of a bearer channel of a line.
+// Returns the slot of a bearer channel of a line.
 fn slot_of(line: u8, channel: u8) -> Option<Slot>
     ensures slot { result ≡ slot_of line channel }
     ensures line { IfSome result (λ x. x.line ≡ line) }
@@ -215,7 +217,7 @@ fn slot_of(line: u8, channel: u8) -> Option<Slot>
     Some(Slot { line, place })
 }
 
-// The cause of the first check of its elements that a SETUP fails, given whether all that it dials are digits.
+// Returns the cause of the first check of its elements that a SETUP fails, if all that it dials are digits or not.
 fn element_cause(message: &Message, is_readable: bool) -> Option<u8>
     requires { is_readable ≡ is_some (digits_in message.now) }
     ensures { result ≡ first_cause (element_checks message.now) }
@@ -237,7 +239,7 @@ fn element_cause(message: &Message, is_readable: bool) -> Option<u8>
     None
 }
 
-// Whether a SETUP has a called party number that can't be one, or none though nothing more of it comes.
+// Returns whether a SETUP has an invalid called party number, or none although it is complete.
 fn lacks_number(message: &Message) -> bool
     ensures { result ≡ lacks_number (called_received message.now.elements) (complete_in message.now.elements) }
 {
@@ -247,7 +249,7 @@ fn lacks_number(message: &Message) -> bool
     }
 }
 
-/// The cause of the first check of its number that a message fails, given what the number leads to.
+/// Returns the cause of the first check of its number that a message fails, for this target of the number.
 pub(crate) fn number_cause(target: Found, message: &Message) -> Option<u8>
     ensures { result ≡ first_cause (number_checks target (complete_in message.now.elements)) }
 {

@@ -1,4 +1,4 @@
--- What a worker keeps of the events that it did. Source: this exchange's own.
+-- The answers that a worker stores for the events that it processed. Source: this project.
 use Rattle.std.specs.Prelude.{◌≡◌, ℕ, ◌+◌, ◌<◌, ◌≤◌, Bool, List, [], ◌∷◌, ◌++◌, length, drop, All, Option, Some, None}
 use Rattle.exchange_events.specs.declared.outbox.Outbox.{Outbox}
 use Rattle.exchange_events.specs.declared.outbox.Response.{Response}
@@ -15,25 +15,26 @@ use Rattle.exchange_events.specs.Orders.{Frame_worker, Processor}
 use Rattle.call_processor.specs.Frames.{HasFrame, Plays}
 use Rattle.call_processor.specs.Parts.{part_of}
 
--- the answer of an event at its place, from the response and the outbox of its step and from what each line sends
+-- the answer to an event at its position, from the response and the outbox of its step and the octets that each line is
+-- sent
 abbrev pub placed : ℕ → ℕ → Response → Outbox → List (List ℕ) → Placed
 placed place event response outbox octets = record { place = place; answer = record { event = event; reply = kept_of (reply_of response outbox); octets = octets } }
 
--- the place of the first of these answers
+-- the position of the first of these answers
 abbrev pub first_place : List Placed → Option ℕ
 first_place [] = None
 first_place (p ∷ ps) = Some p.place
 
--- a keeper that held some answers holds one more behind them
+-- the second keeper holds the answers of the first, and then this one
 abbrev pub IsKept : {K : Type 0} → (K → List Placed → Type 0) → Placed → K → K → Type 0
 IsKept holds p before after = (answers : List Placed) → holds before answers → holds after (answers ++ p ∷ [])
 
--- none of these answers is left, or the first of them comes at a place or behind it
+-- there is no answer, or the first one comes at this position or after it
 abbrev pub BeginsFrom : ℕ → List Placed → Type 0
 BeginsFrom below answers = (place : ℕ) → first_place answers ≡ Some place → below ≤ place
 
--- A keeper that held these answers handed the first ones to another: the first of all, and the next ones as far as they come before a place. The
--- other has them behind its own.
+-- The first answers of a keeper moved to the end of another: the first one, and the next ones as long as they come
+-- before a position.
 pub record HandsOn {K : Type 0} (holds : K → List Placed → Type 0) (below : ℕ) (answers others : List Placed) (from to : K) : Type 0 where
   pub run : List Placed
   pub rest : List Placed
@@ -44,12 +45,12 @@ pub record HandsOn {K : Type 0} (holds : K → List Placed → Type 0) (below : 
   pub left : holds from rest
   pub got : holds to (others ++ run)
 
--- a keeper holds these answers, and maybe more behind them
+-- a keeper holds these answers, and perhaps more after them
 pub record StillHolds {K : Type 0} (holds : K → List Placed → Type 0) (answers : List Placed) (k : K) : Type 0 where
   pub more : List Placed
   pub held : holds k (answers ++ more)
 
--- the first answers were moved from one list behind another, as far as they come before a place
+-- the first answers moved to the end of another list, as long as they come before a position
 pub record HandsBelow (below : ℕ) (answers others from to : List Placed) : Type 0 where
   pub run : List Placed
   pub parts : answers ≡ run ++ from
@@ -58,8 +59,8 @@ pub record HandsBelow (below : ℕ) (answers others from to : List Placed) : Typ
 
 -- ---- one event, and a part of a segment
 
--- The event was done by the seat and kept: its answer comes behind all that was kept before, at the place of the seat's last entry. What is
--- said of its octets holds.
+-- The seat processed the event and stored it: its answer follows all earlier ones, at the position of the seat's last
+-- entry, and has octets as required.
 pub record HasKept {K : Type 0} (holds : K → List Placed → Type 0) (board : Board) (seat : Known) (event : ℕ) (octets : Placed → Type 0) (before after : K) : Type 0 where
   pub answer : Placed
   pub place : length seat.seen ≡ answer.place + 1
@@ -68,28 +69,29 @@ pub record HasKept {K : Type 0} (holds : K → List Placed → Type 0) (board : 
   pub said : octets answer
   pub held : (answers : List Placed) → holds before answers → holds after (answers ++ answer ∷ [])
 
--- an event that is no frame has no octets
+-- an event that is not a frame has no octets
 abbrev pub has_no_octets : Placed → Type 0
 has_no_octets p = p.answer.octets ≡ []
 
--- From v to w the first events of the part were done, as `Works` says, and their answers are what is kept; what is said of octets holds for the octets of each,
--- given what the seat knows at last.
+-- From v to w a prefix of the part was processed, as `Works` states, and the keeper holds its answers. The octets of
+-- each are as required, for the seat's knowledge at the end.
 pub record KeepsWork {K : Type 0} (holds : K → List Placed → Type 0) (board : Board) (octets : Known → Placed → Type 0) (part : List ℕ) (v : Known) (keeper : K) (whole : Bool) (w : Known) : Type 0 where
   pub answers : List Placed
   pub held : holds keeper answers
   pub works : Works board part v answers whole w
   pub said : All (octets w) answers
 
--- The frame was done by the seat and kept, with the octets that the engine plays in it.
+-- The seat processed the frame and stored it, with the octets that the engine outputs in it.
 abbrev pub KeepsFrame : {K : Type 0} → (K → List Placed → Type 0) → Plays → (Kind → List ℕ) → Board → Known → ℕ → K → K → Type 0
 KeepsFrame holds plays tones board seat event before after = HasKept holds board seat event (HasFrame plays tones board seat) before after
 
--- From v to w a call processor did the first events of its part, and their answers are kept, without octets.
+-- From v to w a call processor processed a prefix of its part, and the keeper holds its answers, without octets.
 abbrev pub KeepsEvents : {K : Type 0} → (K → List Placed → Type 0) → Board → Trace → ℕ → ℕ → Known → K → Bool → Known → Type 0
 KeepsEvents holds board trace segment n v keeper whole w =
     KeepsWork holds board (λ seat. has_no_octets) (part_of trace segment (Processor n)) v keeper whole w
 
--- From v to w the frame worker did the first frames of the segment, and their answers are kept, with the octets that the engine plays.
+-- From v to w the frame worker processed a prefix of the segment's frames, and the keeper holds their answers, with the
+-- octets that the engine outputs.
 abbrev pub KeepsFrames : {K : Type 0} → (K → List Placed → Type 0) → Plays → Board → Trace → ℕ → Known → K → Bool → Known → Type 0
 KeepsFrames holds plays board trace segment v keeper whole w =
     KeepsWork holds board (HasFrame plays (table_of trace.tones) board) (part_of trace segment Frame_worker) v keeper whole w

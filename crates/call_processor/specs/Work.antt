@@ -1,4 +1,4 @@
--- What a worker has done of its part of a segment. Source: this exchange's own.
+-- The progress of a worker in its part of a segment. Source: this project.
 use Rattle.std.specs.Prelude.{◌≡◌, ℕ, ◌+◌, ◌<◌, ◌≤◌, Bool, IsTrue, List, ◌++◌, length, map, slice_get, Some, All, AllPairs}
 use Rattle.exchange_events.specs.declared.reply.Reply.{Reply}
 use Rattle.exchange_events.specs.declared.trace.Trace.{Trace}
@@ -13,7 +13,7 @@ use Rattle.exchange_core.specs.Working.{Entry}
 use Rattle.call_processor.specs.declared.worked.Placed.{Placed}
 use Rattle.call_processor.specs.Parts.{part_of}
 
--- the worker may do its part of this segment of the board's trace: its seat has a turn for each event of it
+-- the worker may process its part of this segment of the board's trace: its seat has a turn for each event of the part
 pub record MayWork (board : Board) (trace : Trace) (segment : ℕ) (worker : Worker) (v : Known) : Type 0 where
   pub trace_is : trace ≡ board.trace
   pub within : segment < length trace.segments
@@ -23,8 +23,9 @@ pub record MayWork (board : Board) (trace : Trace) (segment : ℕ) (worker : Wor
 abbrev pub entries_for : ℕ → List ℕ → List Entry
 entries_for number events = map (λ (n : ℕ). (number, n)) events
 
--- From v to w the seat did these events, in this order: they are its new entries, each for one turn, and it has seen more of the history.
--- Its number, its baton and what seat 0 counts and keeps are as they were. Its own entries are all that have its number, if they were before.
+-- From v to w the seat processed these events, in this order: they are its new entries, each for one turn, and it has
+-- seen more of the history. Its number, its baton and the counts of seat 0 are unchanged. Its own entries are all with
+-- its number, if they were before.
 pub record Did (v : Known) (events : List ℕ) (w : Known) : Type 0 where
   pub own : w.own ≡ v.own ++ entries_for v.number events
   pub exact : v.own ≡ entries_of v.number v.seen → w.own ≡ entries_of w.number w.seen
@@ -35,7 +36,7 @@ pub record Did (v : Known) (events : List ℕ) (w : Known) : Type 0 where
   pub made : w.made ≡ v.made
   pub others : w.kept ≡ v.kept
 
--- From v to w the seat did one event, behind a history that begins with what it had seen.
+-- From v to w the seat processed one event, after a history that begins with the part it had seen.
 pub record DidEvent (v : Known) (event : ℕ) (w : Known) : Type 0 where
   pub place : ℕ
   pub seat : w ≡ after_step (before place w.seen) event v
@@ -44,7 +45,8 @@ pub record DidEvent (v : Known) (event : ℕ) (w : Known) : Type 0 where
   pub turn : 0 < v.left
   pub exact : w.own ≡ entries_of w.number w.seen
 
--- the answer has the place of the seat's entry for its event, and keeps the exchange's reply at the history before that entry
+-- the answer has the position of the seat's entry for its event, and the exchange's reply at the history before that
+-- entry
 pub record IsAnswer (board : Board) (seat : Known) (p : Placed) : Type 0 where
   pub reply : Reply
   pub entry : slice_get seat.seen p.place ≡ Some (seat.number, p.answer.event)
@@ -52,12 +54,12 @@ pub record IsAnswer (board : Board) (seat : Known) (p : Placed) : Type 0 where
   pub few : MovesAtMost board.bound reply
   pub keeps : p.answer.reply ≡ kept_of reply
 
--- the numbers of the events that were answered
+-- the numbers of the answered events
 abbrev pub answered_events : List Placed → List ℕ
 answered_events answers = map (λ (p : Placed). p.answer.event) answers
 
--- from v to w the first events of the part were done, and all of them where the work is whole; except maybe the last one, if it isn't, all were
--- answered, each behind the one before it in the history
+-- from v to w a prefix of the part was processed, all of it if the part is whole; each processed event was answered,
+-- except perhaps the last one if the part is incomplete, and each answer follows the earlier ones in the history
 pub record Works (board : Board) (part : List ℕ) (v : Known) (answers : List Placed) (whole : Bool) (w : Known) : Type 0 where
   pub done : List ℕ
   pub first : (rest : List ℕ) × (part ≡ done ++ rest)

@@ -1,4 +1,4 @@
--- What came of a part of a segment that was done at a workplace. Source: this exchange's own.
+-- The result of a part of a segment at a workplace. Source: this project.
 use Rattle.std.specs.Prelude.{ℕ, IsTrue, List}
 use Rattle.seat_history.specs.declared.known.Known.{Known}
 use Rattle.exchange_core.specs.Boards.{Board}
@@ -17,38 +17,39 @@ use Rattle.call_processor.specs.declared.worked.Worked.{Worked}
 use Rattle.call_processor.specs.Parts.{part_of}
 use Rattle.call_processor.specs.Work.{MayWork, Works}
 
--- the worker did this part from what its seat knew at first, and its answers are what the workplace's keeper keeps
+-- the worker processed this part, starting from this knowledge of its seat, and the workplace's keeper holds its
+-- answers
 abbrev pub HasWorked : {T K : Type 0} → (K → List Placed → Type 0) → (T → Known) → Board → (Known → Placed → Type 0) → List ℕ → Known → Finished T K → Type 0
 HasWorked holds known board octets part v f = KeepsWork holds board octets part v f.workplace.keeper f.whole (known f.seat)
 
--- a call processor did its part of a segment, and no answer has octets
+-- a call processor processed its part of a segment, and no answer has octets
 abbrev pub HasDoneEvents : {T K : Type 0} → (K → List Placed → Type 0) → (T → Known) → Board → Trace → ℕ → ℕ → Known → Finished T K → Type 0
 HasDoneEvents holds known board trace segment n v f = HasWorked holds known board (λ seat. has_no_octets) (part_of trace segment (Processor n)) v f
 
--- the frame worker did the frames of a segment, and their answers have the octets that the engine plays
+-- the frame worker processed the frames of a segment, and their answers have the octets that the engine outputs
 abbrev pub HasDoneFrames : {T K : Type 0} → (K → List Placed → Type 0) → Plays → (T → Known) → Board → Trace → ℕ → Known → Finished T K → Type 0
 HasDoneFrames holds plays known board trace segment v f =
     HasWorked holds known board (HasFrame plays (table_of trace.tones) board) (part_of trace segment Frame_worker) v f
 
--- the worker did this part from what its seat knew at first, and these are its answers
+-- the worker processed this part, starting from this knowledge of its seat, and these are its answers
 abbrev pub HasAnswered : {T : Type 0} → (T → Known) → Board → List ℕ → Known → Worked T → Type 0
 HasAnswered known board part v d = Works board part v d.answers.items d.whole (known d.seat)
 
--- the engine and the tool come back ready for the frame after what the frame worker has seen
+-- the frame worker returned an engine and a tool that are ready for the next frame after the history that it has seen
 abbrev pub EndsReady : {T E : Type 0} → Carrying E → (E → ℕ) → (E → Dimensions) → (T → Known) → Board → Framed T E → Type 0
 EndsReady carries next sizes known board f = IsReady carries next sizes board (known f.worked.seat).seen f.engine f.tool
 
--- and so the machine of a frame worker at a workplace
+-- the frame worker returned a machine that is ready for the next frame after the history that it has seen
 abbrev pub FinishesReady : {T E K : Type 0} → Carrying E → (E → ℕ) → (E → Dimensions) → (T → Known) → Board → FinishedFrames T E K → Type 0
 FinishesReady carries next sizes known board f = IsReadyAt carries next sizes board (known f.finished.seat) f.machine.value
 
--- the frame worker, whose seat knows v, may do the frames of this segment with this machine
+-- the frame worker, whose seat knows v, may process the frames of this segment with this machine
 pub record MayDoFrames {E : Type 0} (carries : Carrying E) (next : E → ℕ) (sizes : E → Dimensions) (board : Board) (trace : Trace) (segment : ℕ) (v : Known) (m : Machine E) : Type 0 where
   pub work : MayWork board trace segment Frame_worker v
   pub baton : IsTrue v.baton
   pub ready : IsReadyAt carries next sizes board v m
 
--- the frame worker did the frames of a segment, and its machine is ready for the next one
+-- the frame worker processed the frames of a segment, and its machine is ready for the next one
 pub record HasRunFrames {T E K : Type 0} (holds : K → List Placed → Type 0) (plays : Plays) (carries : Carrying E) (next : E → ℕ) (sizes : E → Dimensions) (known : T → Known) (board : Board) (trace : Trace) (segment : ℕ) (v : Known) (f : FinishedFrames T E K) : Type 0 where
   pub works : HasDoneFrames holds plays known board trace segment v f.finished
   pub ready : FinishesReady carries next sizes known board f

@@ -17,7 +17,7 @@ pub struct AnswerList {
 }
 
 impl AnswerList {
-    /// An empty list.
+    /// Returns an empty list.
     pub fn new(alloc: Global) -> AnswerList
         ensures { result.items.items ≡ [] }
     {
@@ -73,7 +73,7 @@ impl Keeper for AnswerList {
     }
 }
 
-// Moves the first answers, as long as they come before a place.
+// Moves the first answers, as long as they come before a position.
 fn hand_on_below(
     from: &mut VecDeque<Placed>,
     to: &mut VecDeque<Placed>,

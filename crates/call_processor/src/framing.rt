@@ -122,8 +122,8 @@ fn do_frames<B: Switchboard, G: Gate, C: Carrier, K: Keeper, R: Threads + Wait +
 /// waits for a turn of the seat, and the seat passes the turn before the octets of the frame move, so that the call
 /// processors go on meanwhile. At the gate, the number of the frame worker is the number of call processors.
 ///
-/// The octets of an answer are those that the engine plays in its frame, with the tones of the trace, for
-/// each external line.
+/// The octets of an answer are those that the engine outputs in its frame, with the tones of the trace, for each
+/// external line.
 ///
 /// If an allocation fails, the work ends there, and only the last frame processed may lack its answer.
 pub fn run_frames<B: Switchboard, G: Gate, C: Carrier, R: Threads + Wait + Sync>(

@@ -7,13 +7,13 @@ use crate::worked::Placed;
 use exchange_events::{Outbox, Response};
 use std::alloc::{AllocError, Global};
 
-/// A store for the events that a worker processed. It receives each of them and stores what its type is for. The events
-/// of several workers are merged by their places in the history.
+/// A store for the events that a worker processed. It receives each of them and stores the form of its type, such as a
+/// report line or a whole answer. The events of several workers are merged by their positions in the history.
 pub trait Keeper: Sized + Send + Drop {
-    /// It stores these answers, each with its place, in order.
+    /// It stores these answers, each with its position, in order.
     ghost holds: { Self → List Placed → Type 0 };
 
-    /// An empty keeper of the same kind.
+    /// Returns an empty keeper of the same kind.
     fn another(&self, alloc: Global) -> Self
         ensures { holds result [] };
 
@@ -21,8 +21,8 @@ pub trait Keeper: Sized + Send + Drop {
     fn clear(&mut self)
         ensures { holds self.new [] };
 
-    /// Appends one event: its place in the history, its number, the response and the outbox of its step, and for a frame
-    /// the octets that each external line is sent.
+    /// Appends one event: its position in the history, its number, the response and the outbox of its step, and for a
+    /// frame the octets that each external line is sent.
     ///
     /// # Errors
     ///
@@ -39,7 +39,7 @@ pub trait Keeper: Sized + Send + Drop {
         ensures kept { OnOk result (IsKept (λ k. holds k) (placed place event response outbox.now octets.now) self.old self.new) }
         ensures refused { OnErr result ((answers : List Placed) → holds self.old answers → holds self.new answers) };
 
-    /// The number of its events.
+    /// Returns the number of its events.
     fn count(&self) -> usize
         ensures { (answers : List Placed) → holds self.now answers → result ≡ length answers };
 
@@ -47,11 +47,11 @@ pub trait Keeper: Sized + Send + Drop {
     fn cut(&mut self, count: usize)
         ensures { (answers more : List Placed) → holds self.old (answers ++ more) → length answers ≡ count → holds self.new answers };
 
-    /// The place of its first event.
+    /// Returns the position of its first event.
     fn first_place(&self) -> Option<u32>
         ensures { (answers : List Placed) → holds self.now answers → result ≡ first_place answers };
 
-    /// Moves its first event to the end of another keeper, and the next ones as long as they come before the place
+    /// Moves its first event to the end of another keeper, and the next ones as long as they come before the position
     /// `below`.
     ///
     /// # Errors

@@ -1,20 +1,17 @@
 //! The workers of a segment: call processors for commands and messages, and the frame worker. Each has its own seat at
 //! a switchboard.
 //!
-//! - [`process`] and [`run_frames`] process the events of their part of the segment in file order, each once and for one
-//!   turn. They stop early only if an allocation fails. Each answer is the exchange's after the whole history before
-//!   it (`works`).
-//! - An answer to a frame has the octets that the engine plays (`octets` of [`run_frames`]). The engine is returned and
-//!   carries the frames of the history (`ready`).
-//! - [`process_at`] and [`run_frames_at`] do the same at a workplace, with any [`Keeper`], which receives each event that
-//!   was processed (`works`). [`AnswerList`] stores complete answers.
+//! - [`process`] and [`run_frames`] process the events of their part of the segment in file order, each once and for
+//!   one turn. They stop early only if an allocation fails. Each answer is the exchange's after the whole history
+//!   before it (`works`).
+//! - An answer to a frame has the octets that the engine outputs (`octets` of [`run_frames`]). The engine is returned
+//!   and carries the frames of the history (`ready`).
+//! - [`process_at`] and [`run_frames_at`] do the same at a workplace, with any [`Keeper`], which receives each event
+//!   that was processed (`works`). [`AnswerList`] stores complete answers.
 //! - [`run_alone`] processes all events of a segment in one thread, in file order (`in_order`).
 //! - A [`RunContext`] has the values that all events of a run share, and a [`Machine`] the equipment of the frames.
-//! - A [`Shortage`] tells the other workers that an allocation failed. [`processor_of`] and [`numbers_of`] assign the
-//!   events to the workers.
-//!
-//! It uses `circuit_model`, `seat_history`, `control_memory`, `tone_rules`, `frame_engine`,
-//! `exchange_core`, `gate`, `exchange_events` and `call_profile`.
+//! - A [`Shortage`] notifies the other workers that an allocation failed. [`processor_of`] and [`numbers_of`] assign
+//!   the events to the workers.
 #![tactic(auto)]
 
 mod alone;

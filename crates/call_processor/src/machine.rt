@@ -15,7 +15,7 @@ pub struct Machine<C> {
 }
 
 impl<C> Machine<C> {
-    /// A machine with this engine and this control memory. It allocates nothing.
+    /// Returns a machine with this engine and this control memory. It allocates nothing.
     pub fn new(alloc: Global, engine: C, tool: Tool) -> Machine<C>
         ensures engine { result.engine ≡ engine }
         ensures tool { result.desk.tool ≡ tool }

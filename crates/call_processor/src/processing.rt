@@ -23,7 +23,7 @@ use std::alloc::{AllocError, Global};
 use std::sync::Wait;
 
 /// The greatest number of events in one turn of a call processor. A pass wakes a waiting thread through the scheduler,
-/// which takes as long as many events. A waiting worker waits for at most one turn of each other worker.
+/// which takes the time of many events. A waiting worker waits for at most one turn of each other worker.
 pub const MAX_TURN_EVENTS: u32 = 512;
 
 // Processes one event of a call processor in a turn of the seat, and keeps the turn if `keep` is true. The desk holds
@@ -56,8 +56,9 @@ pub(crate) fn do_event<B: Switchboard, G: Gate, K: Keeper, R: Wait>(
     keeper.keep(cx.alloc, place, event, response, &desk.out, &[])
 }
 
-// Processes the events of one call processor in one segment in order, until an allocation fails. It looks at every
-// event of the segment: there are at most nine workers, and no list is stored. Unless the gate may hold a thread, it keeps each turn for `MAX_TURN_EVENTS` events. The caller must release the last turn.
+// Processes the events of one call processor in one segment in order, until an allocation fails. It tests every event
+// of the segment: there are at most nine workers, and no list is stored. Unless the gate may hold a thread, it keeps
+// each turn for `MAX_TURN_EVENTS` events. The caller must release the last turn.
 fn do_events<B: Switchboard, G: Gate, K: Keeper, R: Wait>(
     cx: &RunContext<B, G, R>,
     seat: &mut B::Seat,
@@ -115,7 +116,7 @@ pub fn process<B: Switchboard, G: Gate, R: Wait>(
     ensures seated { B.seated board.now result.seat }
     ensures passed { B.keeps result.seat ≡ false }
     ensures works { HasAnswered B.known (B.board board.now) (part_of trace.now segment (Processor processor)) (B.known seat) result }
-    // An event that is no frame has no octets.
+    // An event that is not a frame has no octets.
     ensures octets { All (λ p. p.answer.octets ≡ []) result.answers.items }
 {
     let cx = RunContext {

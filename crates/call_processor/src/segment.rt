@@ -8,7 +8,7 @@ ghost use Rattle.call_processor.specs.Parts.{events_of_segment, is_its, part_of,
 
 use exchange_events::{Event, Input, Trace};
 
-/// The number of a segment's first event, and the number after its last event. Segments are counted from 0,
+/// Returns the number of a segment's first event, and the number after its last event. Segments are counted from 0,
 /// events from 1.
 pub fn numbers_of(trace: &Trace, segment: u32) -> (u32, u32)
     requires sound { IsSound trace.now }
@@ -26,7 +26,7 @@ pub fn numbers_of(trace: &Trace, segment: u32) -> (u32, u32)
     (ends[segment as usize - 1] + 1, last + 1)
 }
 
-/// The call processor of an event, among n. `None` for a frame, which is the frame worker's.
+/// Returns the call processor of an event, among n. `None` for a frame, which is the frame worker's.
 pub fn processor_of(processors: u8, event: &Event) -> Option<u32>
     requires some { 0 < processors }
     ensures { worker_of processors event.now ≡ worker_at result }
@@ -41,7 +41,7 @@ pub fn processor_of(processors: u8, event: &Event) -> Option<u32>
     Some(u32::from(line % processors))
 }
 
-/// Whether the event with this number is the call processor's.
+/// Returns whether the event with this number is the call processor's.
 pub(crate) fn is_of_processor(trace: &Trace, processor: u32, event: u32) -> bool
     requires some { 0 < trace.now.processors }
     requires event { IsEvent trace.now event }
@@ -50,7 +50,7 @@ pub(crate) fn is_of_processor(trace: &Trace, processor: u32, event: u32) -> bool
     processor_of(trace.processors, trace.event(event)) == Some(processor)
 }
 
-/// The call processor of the event with this number, which is not a frame.
+/// Returns the call processor of the event with this number, which is not a frame.
 pub(crate) fn processor_at(trace: &Trace, event: u32) -> u32
     requires some { 0 < trace.now.processors }
     requires event { IsEvent trace.now event }
@@ -63,7 +63,7 @@ pub(crate) fn processor_at(trace: &Trace, event: u32) -> u32
     processor
 }
 
-/// The input of the frame with this number. `None` for an event that is not a frame.
+/// Returns the input of the frame with this number. `None` for an event that is not a frame.
 pub(crate) fn input_of(trace: &Trace, event: u32) -> Option<&Input>
     requires event { IsEvent trace.now event }
     ensures its { is_some result ≡ is_its trace.now Frame_worker event }

@@ -1,7 +1,8 @@
 //! The signal between the workers of a segment.
 use std::sync::atomic::{AtomicU64, Ordering};
 
-/// A flag that is set when an allocation of a worker fails, so that the other workers can stop. Nothing is proved of it.
+/// A flag that is set when an allocation of a worker fails, so that the other workers can stop. Nothing is proved of
+/// it.
 #[derive(Drop)]
 pub struct Shortage {
     // 0, or 1 once an allocation has failed.
@@ -9,7 +10,7 @@ pub struct Shortage {
 }
 
 impl Shortage {
-    /// A flag that is not set.
+    /// Returns a flag that is not set.
     pub fn new() -> Shortage {
         Shortage {
             told: AtomicU64::new(0),
@@ -21,7 +22,7 @@ impl Shortage {
         self.told.store(1, Ordering::SeqCst);
     }
 
-    /// Whether the flag is set.
+    /// Returns whether the flag is set.
     pub fn is_told(&self) -> bool {
         self.told.load(Ordering::SeqCst) != 0
     }

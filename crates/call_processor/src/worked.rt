@@ -4,10 +4,10 @@ use exchange_core::{Desk, Tool};
 use exchange_events::Answer;
 use std::alloc::{AllocError, Global};
 
-/// An answer, and the place of its entry in the history, counted from 0.
+/// An answer, and the position of its entry in the history, counted from 0.
 #[derive(Drop)]
 pub struct Placed {
-    /// The place of its entry in the history.
+    /// The position of its entry in the history.
     pub place: u32,
     /// The answer to the event.
     pub answer: Answer,
@@ -35,8 +35,8 @@ pub struct Framed<T, C> {
     pub tool: Tool,
 }
 
-/// The buffers of a worker, which serve one part of a segment after another. Each worker clears what the one before it
-/// left there. `K` is the type of the keeper.
+/// The buffers of a worker, which serve consecutive parts of segments. Each worker clears the data of the one before.
+/// `K` is the type of the keeper.
 #[derive(Drop)]
 pub struct Workplace<K> {
     /// The desk of commands and messages.
@@ -48,7 +48,7 @@ pub struct Workplace<K> {
 /// The result of one worker's part of a segment at a workplace.
 #[derive(Drop)]
 pub struct Finished<T, K> {
-    /// The worker's seat.
+    /// The workplace. Its keeper has the worker's events, in the order of its part.
     pub seat: T,
     /// The workplace. Its keeper keeps the worker's events, in the order of its part.
     pub workplace: Workplace<K>,
@@ -67,7 +67,7 @@ pub struct FinishedFrames<T, C, K> {
 }
 
 impl<K: Keeper> Workplace<K> {
-    /// A new workplace with this keeper. [`AllocError`] if an allocation fails.
+    /// Returns a new workplace with this keeper. [`AllocError`] if an allocation fails.
     pub fn new(alloc: Global, keeper: K) -> Result<Workplace<K>, AllocError> {
         Ok(Workplace {
             desk: Box::new(alloc, Desk::new(Tool::Nothing))?,

@@ -1,11 +1,8 @@
-//! Worked examples of the map of circuits over the fabric of thirty internal slots, and one over
-//! fifty-nine: tables of steps, with what a slot hears after each.
+//! Worked examples of the map of circuits over the fabric of 30 internal slots, and one over 59: tables of steps, with
+//! the octets that a slot receives after each.
 //!
-//! They are here and not beside the map, so that the map need not be proved again where the
-//! fabric changes. The crate promises nothing.
-//!
-//! It uses `circuit_model`, `control_memory`, `circuit_map`, `fabric_map` and
-//! `strict_map`.
+//! They are separate from the map, so that the map need not be proved again after a change of the fabric. The crate
+//! guarantees nothing.
 #![tactic(auto)]
 
 #[cfg(test)]

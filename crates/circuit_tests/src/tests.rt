@@ -1,4 +1,4 @@
-//! Steps of the map of circuits over both fabrics, and what each is answered.
+//! Steps of the map of circuits over both fabrics, and the result of each.
 ghost use Rattle.std.specs.Prelude.{◌≡◌, ◌≤◌};
 ghost use Rattle.control_memory.specs.Layout.{IsBare};
 ghost use Rattle.control_memory.specs.Image.{SameSizes as SameImageSizes};
@@ -20,25 +20,25 @@ enum Step {
     Seat(Slot, u8),
     Tone(Slot, Kind),
     Clear(Slot),
-    /// Clears a slot and connects it with another one, as where a call is answered.
+    /// Clears a slot and connects it with another one, as when a call is answered.
     Answer(Slot, Slot),
-    /// By which circuit a slot hears.
+    /// The circuit by which a slot receives.
     Circuit(Slot),
     /// A boundary.
     Frame,
-    /// What a slot hears in the last frame.
+    /// The octet that a slot receives in the last frame.
     Hears(Slot),
-    /// Who sits in a port in the last frame.
+    /// The member at a port in the last frame.
     Sits(Slot),
 }
 
-/// What a step is answered.
+/// The result of a step.
 #[derive(Clone, Copy, PartialEq, Eq)]
 enum Told {
     Done,
     Busy,
     Full,
-    /// n live paths moved, there and back.
+    /// n live paths moved in each direction.
     Moved(u32, u32),
     Number(u32),
     Heard(Heard),
@@ -127,7 +127,7 @@ fn take<P: PathMap>(rt: &impl Abort, map: &mut CircuitMap<P>, image: &mut Image,
     }
 }
 
-/// Takes the steps. Whether each is answered as it should be.
+/// Processes the steps, and returns whether each has the expected result.
 fn are_answered<P: PathMap>(
     rt: &impl Abort,
     map: &mut CircuitMap<P>,
@@ -145,8 +145,8 @@ fn are_answered<P: PathMap>(
     true
 }
 
-/// Takes the steps over a map without circuits, on a fabric without paths. Whether each is answered as it
-/// should be.
+/// Processes the steps over a map without circuits, on a fabric without paths, and returns whether each has the
+/// expected result.
 fn hold_over<P: PathMap + Drop>(
     rt: &impl Abort,
     alloc: Global,
@@ -163,12 +163,12 @@ fn hold_over<P: PathMap + Drop>(
     Ok(are_answered(rt, &mut map, &mut image, steps))
 }
 
-/// The same on a fabric of thirty internal slots.
+/// Does the same as `hold_over` on a fabric of 30 internal slots.
 fn hold(rt: &impl Abort, alloc: Global, steps: &[(Step, Told)]) -> Result<bool, AllocError> {
     hold_over(rt, alloc, FabricMap::new(alloc, 3)?, steps)
 }
 
-/// The same on a fabric of fifty-nine.
+/// Does the same as `hold_over` on a fabric of 59 internal slots.
 fn hold_strictly(
     rt: &impl Abort,
     alloc: Global,
@@ -177,8 +177,8 @@ fn hold_strictly(
     hold_over(rt, alloc, StrictMap::new(alloc, 3)?, steps)
 }
 
-/// Half of each external line sits at the bridge line, and then the next two slots are connected:
-/// how many paths that moves.
+/// Returns the steps in which half of each external line joins rooms at the bridge line, and the next two slots are
+/// connected, with the number of paths that this moves.
 fn between_full_lines(alloc: Global, answer: Told) -> Result<Vec<(Step, Told)>, AllocError> {
     let mut steps = Vec::new(alloc);
     for place in 0..15 {
@@ -339,7 +339,7 @@ fn a_member_sits_in_the_lowest_free_port(rt: HostRuntime) -> Result<(), Fail> {
     Ok(())
 }
 
-// Thirty members, and one more that finds no port until one of them is cleared.
+// Returns the steps of all 30 members of a bridge line, and one more that finds no port until one of them is cleared.
 fn around_a_full_line(alloc: Global) -> Result<Vec<(Step, Told)>, AllocError> {
     let mut steps = Vec::new(alloc);
     for place in 0..30 {

@@ -8,43 +8,41 @@ use clap::error::ErrorKind;
 use clap::{ArgMatches, Error};
 use std::alloc::Global;
 
-/// The most calls of a generated trace. Source: this exchange's own.
+/// The maximum number of calls of a generated trace. Source: this project.
 const MOST_CALLS: u32 = 2000;
 
-/// What the words ask for.
+/// The command of the arguments.
 #[derive(Clone, Copy, Debug, PartialEq, Eq)]
 pub enum Command {
-    /// `run`, or `run --strict`: to run the trace of the input, with the flag on a fabric where no path
-    /// ever moves.
+    /// `run`, or `run --strict`: runs the trace of the input. With the flag, the fabric never moves a path.
     Run { strict: bool },
-    /// `gen SEED CALLS`: to run the trace of that seed with n calls, 1 to 2000.
+    /// `gen SEED CALLS`: runs the trace of that seed with n calls, 1 to 2000.
     Generate { seed: u32, calls: u32 },
-    /// `check`, or `check --strict`: to verify the report of the input against the trace of the input, with
-    /// the flag as the report of a fabric where no path ever moves.
+    /// `check`, or `check --strict`: verifies the report of the input against the trace of the input. With the flag, it
+    /// is the report of a fabric that never moves a path.
     Check { strict: bool },
 }
 
-/// Why no command was read.
+/// The error for arguments without a command.
 #[derive(Clone, Copy, Debug, PartialEq, Eq, thiserror::Error)]
 pub enum WordsFault {
-    /// There was no memory to read the words.
+    /// An allocation failed.
     #[error("no memory for the words")]
     Memory,
-    /// The words are no command.
+    /// The arguments are not a command.
     #[error("the words are no command")]
     NoCommand,
 }
 
-/// Reads what the words ask for: the first names the command, and the others are its arguments.
+/// Parses the arguments: the first is the name of the command, and the others are its arguments.
 ///
-/// The commands are `run` and `check`, each with the flag `--strict` at most once, and `gen SEED CALLS`.
-/// Each number is a decimal numeral of one to ten digits without a leading zero, except `0` itself. A word
-/// `--` ends the options, and a flag behind it is none; a request for help is no command.
+/// The commands are `run` and `check`, each with the flag `--strict` at most once, and `gen SEED CALLS`. Each number
+/// has one to ten decimal digits without a leading zero, except `0` itself. An argument `--` ends the options, so
+/// `--strict` after it is not a flag. A request for help is not a command. These are clap's rules.
 ///
 /// # Errors
 ///
-/// [`WordsFault::NoCommand`] where the words are no command, and [`WordsFault::Memory`] where
-/// memory runs out.
+/// [`WordsFault::NoCommand`] if the arguments are not a command, and [`WordsFault::Memory`] if an allocation fails.
 pub fn read_command(alloc: Global, words: &[String]) -> Result<Command, WordsFault>
     ensures command { IfOk result (λ c. command_of (map string_bytes words.now) ≡ Some c) }
     ensures calls { IfOk result IsInRange }
@@ -66,7 +64,7 @@ enum Name {
     Check,
 }
 
-// The command that the first word names.
+// Returns the command with the first argument as its name.
 fn name_in(words: &[String]) -> Option<Name>
     ensures { result ≡ name_in (map string_bytes words.now) }
 {
@@ -82,7 +80,7 @@ fn name_in(words: &[String]) -> Option<Name>
     }
 }
 
-// Reads the words of `run`.
+// Parses the arguments of `run`.
 fn read_run(alloc: Global, words: &[String]) -> Result<Command, WordsFault>
     ensures command { IfOk result (λ c. run_of (map string_bytes words.now) ≡ Some c) }
     ensures calls { IfOk result IsInRange }
@@ -96,7 +94,7 @@ fn read_run(alloc: Global, words: &[String]) -> Result<Command, WordsFault>
     }
 }
 
-// Reads the words of `check`.
+// Parses the arguments of `check`.
 fn read_check(alloc: Global, words: &[String]) -> Result<Command, WordsFault>
     ensures command { IfOk result (λ c. check_of (map string_bytes words.now) ≡ Some c) }
     ensures calls { IfOk result IsInRange }
@@ -110,7 +108,7 @@ fn read_check(alloc: Global, words: &[String]) -> Result<Command, WordsFault>
     }
 }
 
-// Whether the flag was given: its text is `true` then, and `false` where it was not.
+// Returns whether the flag was given: its text is `true` then, and `false` otherwise.
 fn is_strict(matches: &ArgMatches) -> bool
     ensures { result ≡ is_true (first_value (found_of matches.now) (codes "strict")) }
 {
@@ -120,7 +118,7 @@ fn is_strict(matches: &ArgMatches) -> bool
     }
 }
 
-// Reads the words of `gen`.
+// Parses the arguments of `gen`.
 fn read_generation(alloc: Global, words: &[String]) -> Result<Command, WordsFault>
     ensures command { IfOk result (λ c. generation_of (map string_bytes words.now) ≡ Some c) }
     ensures calls { IfOk result IsInRange }
@@ -132,7 +130,7 @@ fn read_generation(alloc: Global, words: &[String]) -> Result<Command, WordsFaul
     }
 }
 
-// The command that the texts for SEED and CALLS make.
+// Returns the command of the texts for SEED and CALLS.
 fn generation_in(matches: &ArgMatches) -> Option<Command>
     ensures calls { IfSome result IsInRange }
     ensures texts { result ≡ generation (first_value (found_of matches.now) (codes "SEED")) (first_value (found_of matches.now) (codes "CALLS")) }
@@ -142,7 +140,8 @@ fn generation_in(matches: &ArgMatches) -> Option<Command>
     Some(Command::Generate { seed, calls })
 }
 
-// Running out of memory says nothing of the words; any other kind says that they are no command.
+// Converts clap's error. A failed allocation shows nothing about the arguments, and any other error means that they are
+// not a command.
 fn fault_of(error: &Error) -> WordsFault
     ensures no_command { result ≡ WordsFault.NoCommand → kind_of error.now ≢ ErrorKind.OutOfMemory }
     ensures memory { result ≡ WordsFault.Memory → kind_of error.now ≡ ErrorKind.OutOfMemory }

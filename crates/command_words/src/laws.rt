@@ -1,17 +1,17 @@
-//! Laws of what words ask for.
+//! Theorems on the commands of arguments.
 ghost use Rattle.std.specs.Prelude.{◌≡◌, ◌<◌, ◌≤◌, ◌^◌, ℕ, List, [], ◌∷◌, codes, decimal, Some, None, true, false};
 ghost use Rattle.command_words.specs.Numerals.{numeral};
 ghost use Rattle.command_words.specs.Words.{begins_with_hyphen, command_of, generation};
 ghost use Rattle.command_words.specs.declared.command.Command.TheVariants.{Check, Generate, Run};
 
-/// Two texts behind `gen`, neither of which begins with a hyphen, are taken as they are: they are a
-/// command exactly where they are the numerals of a seed and of a number of calls.
+/// Two texts after `gen`, neither of which begins with a hyphen, are a command if and only if they are the decimal
+/// numbers of a seed and of a number of calls.
 pub fn law_of_plain_texts()
     ensures { (seed calls : List ℕ) → begins_with_hyphen seed ≡ false → begins_with_hyphen calls ≡ false
         → command_of (codes "gen" ∷ seed ∷ calls ∷ []) ≡ generation (Some seed) (Some calls) }
 {}
 
-/// Worked examples: `run` takes the flag once and without a value, and a word `--` ends the options.
+/// Worked examples: `run` accepts the flag once and without a value, and an argument `--` ends the options.
 pub fn worked_runs()
     ensures run { command_of (codes "run" ∷ []) ≡ Some (Run false) }
     ensures strict { command_of (codes "run" ∷ codes "--strict" ∷ []) ≡ Some (Run true) }
@@ -25,7 +25,7 @@ pub fn worked_runs()
     ensures too_early { command_of (codes "--strict" ∷ codes "run" ∷ []) ≡ None }
 {}
 
-/// Worked examples: `check` takes the same flag in the same way, and no other word.
+/// Worked examples: `check` accepts the same flag in the same way, and no other argument.
 pub fn worked_checks()
     ensures check { command_of (codes "check" ∷ []) ≡ Some (Check false) }
     ensures strict { command_of (codes "check" ∷ codes "--strict" ∷ []) ≡ Some (Check true) }
@@ -36,7 +36,7 @@ pub fn worked_checks()
     ensures capital { command_of (codes "Check" ∷ []) ≡ None }
 {}
 
-/// Worked examples of `gen`, which takes no flag.
+/// Worked examples of `gen`, which has no flag.
 pub fn worked_generations()
     ensures ended { command_of (codes "gen" ∷ codes "--" ∷ codes "0" ∷ codes "1" ∷ []) ≡ Some (Generate 0 1) }
     ensures last { command_of (codes "gen" ∷ codes "4294967295" ∷ codes "2000" ∷ []) ≡ Some (Generate 4294967295 2000) }
@@ -46,13 +46,13 @@ pub fn worked_generations()
     ensures help { command_of (codes "gen" ∷ codes "--help" ∷ []) ≡ None }
 {}
 
-/// A number's numeral is its decimal digits, and it has no other.
+/// The text of a number is its decimal digits, and no other.
 pub fn law_of_numerals()
     ensures spelled { (number : ℕ) → number < 10 ^ 10 → numeral (decimal number) ≡ Some number }
     ensures no_other { (text : List ℕ) (number : ℕ) → numeral text ≡ Some number → text ≡ decimal number }
 {}
 
-/// Every seed of 32 bits and every number of calls from 1 to 2000 can be asked for, by their digits.
+/// Every seed of 32 bits and every number of calls from 1 to 2000 has a command, with their digits.
 pub fn law_of_asking()
     ensures { (seed calls : ℕ) → seed < 2 ^ 32 → 1 ≤ calls → calls ≤ 2000
         → command_of (codes "gen" ∷ decimal seed ∷ decimal calls ∷ []) ≡ Some (Generate seed calls) }

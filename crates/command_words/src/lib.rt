@@ -1,14 +1,11 @@
-//! The words of the command line: what they ask the program for.
+//! The arguments of the command line: the command that they request.
 //!
-//! - [`read_command`] returns the command that the words are (`command`), whose count of calls is in
-//!   range (`calls`), and says that they are none exactly where they are none (`no_command`), unless
-//!   memory runs out. What words are a command is clap's reading of three short grammars: `run` and
-//!   `check` with at most one flag `--strict`, and `gen SEED CALLS` ([`laws::worked_runs`],
-//!   [`laws::worked_checks`], [`laws::worked_generations`]).
-//! - A number's numeral is its decimal digits and no other text ([`laws::law_of_numerals`]), and every
-//!   seed and count of calls can be asked for ([`laws::law_of_asking`]).
-//!
-//! It uses the kit's `clap` and `thiserror` alone.
+//! - [`read_command`] returns the command of the arguments (`command`), whose number of calls is in range (`calls`). It
+//!   returns the error of wrong arguments if and only if they are not a command (`no_command`), unless an allocation
+//!   fails. The arguments are read as clap reads three short grammars: `run` and `check` with at most one flag
+//!   `--strict`, and `gen SEED CALLS` ([`laws::worked_runs`], [`laws::worked_checks`], [`laws::worked_generations`]).
+//! - The text of a number is its decimal digits and no other ([`laws::law_of_numerals`]), and every seed and number of
+//!   calls has a command ([`laws::law_of_asking`]).
 #![tactic(auto)]
 
 mod command;

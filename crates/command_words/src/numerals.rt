@@ -2,7 +2,7 @@
 ghost use Rattle.std.specs.Prelude.{◌≡◌, ◌≤◌, IfSome};
 ghost use Rattle.command_words.specs.Numerals.{numeral, numeral_in};
 
-/// The number that a text says, where it is a numeral and lies between two others.
+/// Returns the number of a text, if it is a decimal number from `low` to `high`.
 pub(crate) fn numeral_within(low: u32, high: u32, text: &str) -> Option<u32>
     ensures text { result ≡ numeral_in low high text.now }
     ensures within { IfSome result (λ number. (low ≤ number) × (number ≤ high)) }
@@ -15,7 +15,7 @@ pub(crate) fn numeral_within(low: u32, high: u32, text: &str) -> Option<u32>
     }
 }
 
-// The number that a text says, where it is a numeral.
+// Returns the number of a text, if it is a decimal number. It has up to ten digits, because a seed has 32 bits.
 fn numeral_of(text: &[u8]) -> Option<u64>
     ensures { result ≡ numeral text.now }
 {

@@ -1,4 +1,4 @@
-// The words behind a command's name, as clap reads them.
+// The arguments after a command's name, as clap reads them.
 ghost use Rattle.std.specs.Prelude.{◌≡◌, ◌≢◌, codes, map, string_bytes, true, false, IfOk, IfErr};
 ghost use Rattle.clap.specs.Words.{first_value, found_of, kind_of};
 ghost use Rattle.command_words.specs.Words.{gen_app, strict_app, takes_words, text_for};
@@ -7,7 +7,7 @@ use clap::error::ErrorKind;
 use clap::{Arg, ArgAction, ArgMatches, Command, Error};
 use std::alloc::Global;
 
-/// What clap reads in the words of a command with this name, which has a flag.
+/// Returns the texts that clap reads in the arguments of a command with this name, which has a flag.
 pub(crate) fn strict_matches<'a>(
     alloc: Global,
     name: &'a str,
@@ -26,7 +26,7 @@ pub(crate) fn strict_matches<'a>(
     command.try_get_matches_from(words)
 }
 
-/// What clap reads in the words of `gen`, which has two.
+/// Returns the texts that clap reads in the arguments of `gen`, which has two.
 pub(crate) fn gen_matches<'a>(alloc: Global, words: &'a [String]) -> Result<ArgMatches<'a>, Error>
     ensures taken { IfOk result (λ _. takes_words gen_app (map string_bytes words.now) ≡ true) }
     ensures refused { IfErr result (λ e. kind_of e ≢ ErrorKind.OutOfMemory → takes_words gen_app (map string_bytes words.now) ≡ false) }

@@ -1,4 +1,4 @@
--- The paths of the world after a list of events. Source: this exchange's own; legality is M. C. Paull's (control_memory, Layout).
+-- The paths after a list of events. Source: this project; legality is M. C. Paull's (control_memory, Layout).
 use Rattle.std.specs.Prelude.{ℕ, List}
 use Rattle.control_memory.specs.Layout.{Legal}
 use Rattle.control_memory.specs.Shown.{JoinsCircuits}
@@ -11,7 +11,8 @@ use Rattle.exchange_events.specs.Sound.{setting_of}
 abbrev pub IsLegalAfter : ℕ → Trace → List ℕ → Type 0
 IsLegalAfter slots trace order = Legal (exchange_lines (setting_of slots trace).dimensions) slots (world_after slots trace order).layout
 
--- the paths are those that the circuits need: both ways of each connection, and each member with its port, there and back
+-- the paths are the ones that the circuits need: both directions of each connection, and both directions between each
+-- member and its port
 abbrev pub JoinsCircuitsAfter : ℕ → Trace → List ℕ → Type 0
 JoinsCircuitsAfter slots trace order =
     let w = world_after slots trace order in

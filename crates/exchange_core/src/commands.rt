@@ -17,7 +17,7 @@ use circuit_model::Slot;
 use control_memory::{Image, PathMap};
 use exchange_events::Response;
 
-/// Connects two slots, where both are idle.
+/// Connects two slots if both are idle.
 pub(crate) fn nail<P: PathMap>(control: &mut CallControl<P>, x: Slot, y: Slot) -> Response
     requires fits { Fits control.old.map.external (event.Nail x y) }
     ensures reply { (o : Outbox) → EachHeld control.old.map control.old.legs (λ s w. reply_of result o ≡ reply s w (event.Nail x y)) }
@@ -32,7 +32,7 @@ pub(crate) fn nail<P: PathMap>(control: &mut CallControl<P>, x: Slot, y: Slot) -
     Response::Granted(there, back)
 }
 
-// Whether both slots are idle.
+// Returns whether both slots are idle.
 fn may_nail<P: PathMap>(control: &CallControl<P>, x: Slot, y: Slot) -> bool
     requires fits { Fits control.now.map.external (event.Nail x y) }
     ensures may { (d : Dimensions) (w : World) → Holds d control.now.map control.now.legs w → result ≡ may_nail w x y }
@@ -41,7 +41,7 @@ fn may_nail<P: PathMap>(control: &CallControl<P>, x: Slot, y: Slot) -> bool
     control.idle(x) && control.idle(y)
 }
 
-/// Seats a slot in a room, where it is idle and a conference port is free.
+/// Adds a slot to a room if the slot is idle and a conference port is free.
 pub(crate) fn seat<P: PathMap>(control: &mut CallControl<P>, x: Slot, room: u8) -> Response
     requires fits { Fits control.old.map.external (event.Seat x room) }
     ensures reply { (o : Outbox) → EachHeld control.old.map control.old.legs (λ s w. reply_of result o ≡ reply s w (event.Seat x room)) }
@@ -58,7 +58,7 @@ pub(crate) fn seat<P: PathMap>(control: &mut CallControl<P>, x: Slot, room: u8) 
     Response::Seated(there, back)
 }
 
-/// Takes away the nail or the seat of a slot, where it has one and no leg holds it.
+/// Releases the nail or the seat of a slot, if it has one and no leg holds it.
 pub(crate) fn free<P: PathMap>(control: &mut CallControl<P>, x: Slot) -> Response
     requires fits { Fits control.old.map.external (event.Free x) }
     ensures reply { (o : Outbox) → EachHeld control.old.map control.old.legs (λ s w. reply_of result o ≡ reply s w (event.Free x)) }
@@ -73,7 +73,7 @@ pub(crate) fn free<P: PathMap>(control: &mut CallControl<P>, x: Slot) -> Respons
     Response::Freed
 }
 
-/// Writes the control memory of the next frame, and answers the frame's number.
+/// Writes the control memory of the next frame, and returns the frame's number.
 pub(crate) fn boundary<P: PathMap>(control: &mut CallControl<P>, image: &mut Image) -> u32
     requires room { control.old.map.next < 4294967295 }
     requires external { image.old.external ≡ control.old.map.external }

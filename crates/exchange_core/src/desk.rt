@@ -7,20 +7,20 @@ use call_control::{ReadAhead, read_ahead};
 use exchange_events::{Event, Outbox, Trace};
 use number_plan::Plan;
 
-/// What a step gets: the control memory of a frame, what was read of the event ahead, and the outbox
-/// for what is sent and recorded. A worker keeps one for all its events.
+/// The input and output of a step: the control memory of a frame, the message that was parsed ahead, and the outbox for
+/// messages and records. A worker reuses one desk for all its events.
 #[derive(Drop)]
 pub struct Desk {
-    /// The control memory, where the event is a frame.
+    /// The control memory if the event is a frame.
     pub tool: Tool,
-    /// What was read ahead, where the event is a message.
+    /// The parsed message if the event is a message.
     pub ahead: Option<ReadAhead>,
-    /// What the step sent and recorded.
+    /// The messages that the step sent, and the calls that it recorded.
     pub out: Outbox,
 }
 
 impl Desk {
-    /// A desk with this tool, nothing read and nothing sent yet.
+    /// Makes a desk with this tool and an empty outbox. Nothing is parsed ahead.
     pub fn new(tool: Tool) -> Desk
         ensures tool { result.tool ≡ tool }
         ensures ahead { result.ahead ≡ None }
@@ -35,8 +35,8 @@ impl Desk {
         }
     }
 
-    /// Reads the event with this number ahead, as far as the trace alone decides what it asks for. So a
-    /// worker does that before its turn.
+    /// Parses the event with this number if it is a message, and looks up its digits. A worker does that before its
+    /// turn, because the trace decides the result and in the turn the others wait.
     pub fn look_ahead(&mut self, trace: &Trace, event: u32)
         requires known { IsEvent trace.now event }
         ensures ahead { IsReadAt trace.now event self.new.ahead }
@@ -48,7 +48,7 @@ impl Desk {
     }
 }
 
-// What is read of an event ahead.
+// Parses the message of an event, if it has one.
 fn event_ahead(plan: &Plan, event: &Event) -> Option<ReadAhead>
     ensures read { IfSome result (IsReadOf plan.now event.now) }
     ensures exact { is_some result ≡ is_readable event.now }

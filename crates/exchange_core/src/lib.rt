@@ -1,21 +1,17 @@
-//! The exchange without its octets: what it makes of each event of a trace, and what it answers.
+//! The exchange without its octets: the state after each event of a trace, and the reply to it.
 //!
-//! - [`Core`]'s `step` and `work` answer as the rules say at the world of its journal (`reply`), make of
-//!   that world the next one (`world`), and add their entry to the journal (`journal`). A frame's control
-//!   memory shows the world before it (`shows`). No live path is moved but as few as the fabric promises
-//!   (`few`). After each step the paths join exactly the circuits that are there (`laid`, `joins`).
-//! - [`Switchboard`] is the interface of an exchange that many callers share, each of whom may hand in a
-//!   [`Desk`]; `shared_exchange` implements it. At a desk a message is read before its turn (`look_ahead`).
+//! - [`Core`]'s `step` and `work` return the reply that the rules give in the exchange state of the journal (`reply`).
+//!   They replace that state by the next one (`world`), and add an entry to the journal (`journal`). The control memory
+//!   of a frame shows the state before the frame (`shows`). A step moves at most the number of live paths that the
+//!   fabric guarantees (`few`). After each step the paths join exactly the existing circuits (`laid`, `joins`).
+//! - [`Switchboard`] is the interface of an exchange that many callers share. A caller can pass a [`Desk`], at which a
+//!   message is parsed before its turn (`look_ahead`). `shared_exchange` implements the interface.
 //!
-//! After every list of events of a sound trace, the layout of the paths is legal and joins exactly the circuits
-//! that exist ([`law_of_layouts`]).
+//! After every list of events of a sound trace, the layout of the paths is legal and joins exactly the existing
+//! circuits ([`law_of_layouts`]).
 //!
-//! What the events are is said by `exchange_events`, the rules of calls by `call_profile`; their code is in
+//! `exchange_events` defines the events, and `call_profile` the rules of calls. The code of the rules is in
 //! `call_control`.
-//!
-//! It uses `circuit_model`, `seat_history`, `control_memory`, `circuit_map`, `tone_rules`,
-//! `number_plan`, `exchange_events`, `call_profile`, `leg_table` and `call_control`; and `paull_matrix`,
-//! `path_memory`, `rearrange_chain` and `fabric_map` for the proof of its law.
 #![tactic(auto)]
 
 mod commands;

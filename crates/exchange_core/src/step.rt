@@ -30,11 +30,11 @@ use std::marker::Model;
 use std::mem;
 use tone_rules::Tones;
 
-/// The exchange without its octets, at work on a trace: the live circuits with their paths and
-/// conference ports, the legs of the calls, and the journal of the events that were done.
+/// The exchange without its octets, at work on a trace: the live circuits with their paths and conference ports, the
+/// legs of the calls, and the journal of the processed events.
 ///
-/// Contracts see the trace, how many internal slots the fabric has, how many live paths a new one moves at
-/// the most, and the journal; `world_of` says what exists. No call but `new` takes memory.
+/// Contracts see the trace, the number of internal slots, the maximum number of live paths that a new path moves, and
+/// the journal. `world_of` defines the circuits and calls that exist after it. No call except `new` allocates.
 #[derive(Drop)]
 pub struct Core<'t, P: PathMap> {
     trace: &'t Trace,
@@ -64,8 +64,8 @@ impl<'t, P: PathMap> Model for Core<'t, P> {
 }
 
 impl<'t, P: PathMap + Drop> Core<'t, P> {
-    /// An exchange before the first event of a trace, over a map of paths that has none yet and as many
-    /// lines as the trace. `AllocError` where memory is lacking.
+    /// Makes an exchange before the first event of a trace, over a map without paths that has the trace's number of
+    /// lines. Returns `AllocError` if an allocation fails.
     pub fn new(alloc: Global, trace: &'t Trace, paths: P) -> Result<Core<'t, P>, AllocError>
         requires sound { IsSound trace.now }
         requires lines { P.width paths ≡ trace.now.external + trace.now.bridges }
@@ -83,7 +83,7 @@ impl<'t, P: PathMap + Drop> Core<'t, P> {
         })
     }
 
-    /// The journal, when the work is over.
+    /// Returns the journal.
     pub fn into_journal(self) -> Vec<(u32, u32)>
         ensures { result.items ≡ self.entry.journal }
     {
@@ -92,9 +92,8 @@ impl<'t, P: PathMap + Drop> Core<'t, P> {
 }
 
 impl<'t, P: PathMap> Core<'t, P> {
-    /// Does one event of the trace, by its number, counted from 1, and answers it; `by` is noted in the
-    /// journal with it. A frame's boundary is written into the control memory; every other event is done
-    /// without one.
+    /// Processes one event of the trace, by its number, counted from 1, and returns the reply. The journal records `by`
+    /// with it. A frame's boundary is written into the control memory; the other events need none.
     pub fn step(&mut self, by: u32, event: u32, tool: &mut Tool) -> Reply
         requires known { IsEvent self.old.trace event }
         requires room { length self.old.journal < length self.old.trace.events }
@@ -119,8 +118,8 @@ impl<'t, P: PathMap> Core<'t, P> {
         response.with(out)
     }
 
-    /// The same as [`step`](Core::step), at a desk: what is sent and recorded is put into its outbox, in
-    /// place of what it held. What was read of the event ahead is taken from the desk, and is not read again.
+    /// Works like [`step`](Core::step), at a desk. The messages and records of the step replace the contents of the
+    /// outbox. A message that was parsed ahead is taken from the desk, and is not parsed again.
     // Every event goes through it, and with more than one caller LLVM would leave it a call.
     #[inline(always)]
     pub fn work(&mut self, by: u32, event: u32, desk: &mut Desk) -> Response
@@ -137,7 +136,7 @@ impl<'t, P: PathMap> Core<'t, P> {
         ensures few { MovesAtMost self.old.bound (reply_of result desk.new.out) }
         ensures shows { (e : An_event) → IsNumbered self.old.trace event e → ShowsWorld (world_of self.old) e desk.new.tool }
         ensures tool { (e : An_event) → IsNumbered self.old.trace event e → IsToolFor (setting self.old).dimensions e desk.new.tool }
-        // Nothing is left that was read of this event, so the desk serves for any other.
+        // A step consumes the message that was parsed ahead, so the desk can serve any event next.
         ensures ahead { desk.new.ahead ≡ None }
     {
         desk.out.clear();
@@ -158,7 +157,7 @@ impl<'t, P: PathMap> Core<'t, P> {
         response
     }
 
-    /// The trace that it is at work on. It is a sound one.
+    /// Returns the trace, which is sound.
     pub fn trace(&self) -> &'t Trace
         ensures trace { result.now ≡ self.now.trace }
         ensures sound { IsSound self.now.trace }
@@ -166,7 +165,7 @@ impl<'t, P: PathMap> Core<'t, P> {
         self.trace
     }
 
-    /// Who did which event, in the order in which they were done.
+    /// Returns the entries of the processed events in order: by whom, and the event's number.
     pub fn journal(&self) -> &[(u32, u32)]
         ensures { result.now ≡ self.now.journal }
     {
@@ -174,7 +173,7 @@ impl<'t, P: PathMap> Core<'t, P> {
     }
 }
 
-/// Does an event, whichever it is. A frame's boundary is written into the tool of the desk.
+/// Processes an event of any kind. A frame's boundary is written into the tool of the desk.
 #[inline(always)]
 pub fn happen<P: PathMap>(
     control: &mut CallControl<P>,
@@ -230,15 +229,15 @@ pub fn happen<P: PathMap>(
     }
 }
 
-// Shows the prover that the paths of a map are laid legally, which each call on the map states. Nothing else is
-// done: the compiler drops the call.
+// Shows the prover that the paths of a map are legal, which the clause `laid` of each of its calls states. Otherwise
+// each function of a call would have to pass that clause on. The compiler removes the call.
 fn show_laid<P: PathMap>(map: &CircuitMap<P>)
     ensures { Is_map_laid map.now }
 {
     let _ = map.next_frame();
 }
 
-// The turn of a frame: its boundary, and then what is done for the legs whose timers have run out. Its number.
+// Processes a frame: its boundary, then the legs whose timers have expired. Returns its number.
 #[inline(always)]
 fn frame<P: PathMap>(
     control: &mut CallControl<P>,

@@ -13,21 +13,19 @@ use crate::tool::Tool;
 use exchange_events::{Reply, Response};
 use std::sync::Wait;
 
-/// An exchange at which many callers do the events of one trace, each in its turn. All that is done
-/// is in one history.
+/// An exchange at which many callers process the events of one trace, each in its turn, in one history.
 ///
-/// A caller has a seat, with a number and a count of turns. Seat 0 makes other seats, and joins them
-/// again. A seat knows a beginning of the history, which is what it has seen, and its own entries.
-/// Frames are done by the seat that holds the baton alone, which has seen every frame before. No call
-/// takes memory.
+/// A caller has a lock seat, here only seat, with a number and a count of turns. Seat 0 makes other seats, and joins
+/// them again. A seat knows a prefix of the history, which it has seen, and its own entries. Only the seat that holds
+/// the baton processes frames, and it has seen every earlier frame. No call allocates.
 pub trait Switchboard: Sync {
-    /// The right to do a number of events.
+    /// The right to process a number of events.
     type Seat: Send + Drop;
 
     /// The trace and its fabric.
     ghost board: { Self → Board };
 
-    /// What a seat knows.
+    /// The knowledge of a seat.
     ghost known: { Self.Seat → Known };
 
     /// Whether a seat has kept the turn.
@@ -36,7 +34,8 @@ pub trait Switchboard: Sync {
     /// The seat is of this board.
     ghost seated: { Self → Self.Seat → Type 0 };
 
-    /// Seat 0 makes a new seat, which gets `budget` of its turns, and the baton where `baton` is true.
+    /// Makes a new seat from seat 0, with `budget` of its turns, and with the baton if `baton` is true. Seat 0 makes
+    /// fewer than 2^32 seats, so no number repeats.
     fn split(&self, seat: &mut Self::Seat, budget: u32, baton: bool) -> Self::Seat
         requires seated { seated self.now seat.old }
         requires chief { (known seat.old).number ≡ 0 }
@@ -49,11 +48,11 @@ pub trait Switchboard: Sync {
         ensures new { known result ≡ new_seat budget baton (known seat.old) }
         ensures free { (keeps seat.new ≡ false) × (keeps result ≡ false) };
 
-    /// Does one event of the trace, by its number, counted from 1, once the seat's turn has come; waits
-    /// for it. Answers the place in the history, counted from 0, and the exchange's reply.
+    /// Processes one event of the trace, by its number, counted from 1, after it has waited for the seat's turn.
+    /// Returns the event's position in the history, counted from 0, and the exchange's reply.
     ///
-    /// A frame asks for the baton and for a control memory of the exchange's size, into which its
-    /// boundary is written; every other event is done without one.
+    /// A frame requires the baton and a control memory of the exchange's size, into which its boundary is written. The
+    /// other events need neither.
     fn handle<R: Wait>(
         &self,
         rt: &R,
@@ -70,13 +69,12 @@ pub trait Switchboard: Sync {
         ensures done { HasTakenTurn (board self.now) (known seat.old) (known seat.new) result.0 event result.1 tool.new }
         ensures free { keeps seat.new ≡ false };
 
-    /// The same as [`handle`](Switchboard::handle), with a desk in place of the tool: what is sent and
-    /// recorded is put into its outbox, in place of what it held, so that no event pays for that room. What
-    /// was read of the event ahead is taken from the desk, and is not read again in the turn.
+    /// Works like [`handle`](Switchboard::handle), with a desk instead of the tool. The messages and records of the
+    /// step replace the contents of the outbox, because a list with capacity for 64 messages is expensive to make for
+    /// each event. A message that was parsed ahead is taken from the desk, and is not parsed again in the turn.
     ///
-    /// Where `keep` is true the seat keeps the turn, and its next event doesn't wait. Nobody else does an
-    /// event until it passes the turn on, by one that doesn't keep it or by
-    /// [`release`](Switchboard::release).
+    /// If `keep` is true, the seat keeps the turn, and its next event does not wait. No other seat processes an event
+    /// until it passes the turn, by an event without `keep` or by [`release`](Switchboard::release).
     fn work<R: Wait>(
         &self,
         rt: &R,
@@ -93,20 +91,20 @@ pub trait Switchboard: Sync {
         requires ahead { IsReadAt (board self.now).trace event desk.old.ahead }
         ensures seated { seated self.now seat.new }
         ensures done { HasTakenTurn (board self.now) (known seat.old) (known seat.new) result.0 event (reply_of result.1 desk.new.out) desk.new.tool }
-        // Nothing is left that was read of this event, so the desk serves for any other.
+        // A step consumes the message that was parsed ahead, so the desk can serve any event next.
         ensures ahead { desk.new.ahead ≡ None }
-        // Nobody did an event since the seat's last one, if it kept the turn there.
+        // No other seat processed an event since this one kept the turn.
         ensures kept { IsTrue (keeps seat.old) → before result.0 (known seat.new).seen ≡ (known seat.old).seen }
         ensures keeps { keeps seat.new ≡ keep };
 
-    /// Passes the turn on, if the seat kept it.
+    /// Passes the turn if the seat kept it.
     fn release(&self, seat: &mut Self::Seat)
         requires seated { seated self.now seat.old }
         ensures seated { seated self.now seat.new }
         ensures known { known seat.new ≡ known seat.old }
         ensures free { keeps seat.new ≡ false };
 
-    /// Seat 0 takes another seat in, with its turns, its baton and its entries.
+    /// Joins another seat to seat 0, with its turns, its baton and its entries.
     fn join(&self, seat: &mut Self::Seat, other: Self::Seat)
         requires seated { seated self.now seat.old × seated self.now other }
         requires chief { (known seat.old).number ≡ 0 }
@@ -118,6 +116,6 @@ pub trait Switchboard: Sync {
         ensures settled { Settled (turns_of (board self.now)) (known seat.new) }
         ensures free { keeps seat.new ≡ false };
 
-    /// A board that has a seat is a sound trace's.
+    /// The trace of a board that has a seat is sound, so a worker knows this before its first call.
     ghost sound_trace: { (x : Self) (s : Self.Seat) → seated x s → IsSound (board x).trace };
 }

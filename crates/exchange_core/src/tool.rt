@@ -1,11 +1,10 @@
-//! What a step writes beside its answer.
+//! The output of a step in addition to its reply.
 use control_memory::Image;
 
-/// What a step writes beside its answer: the control memory of the next frame where the event is a
-/// frame, else nothing.
+/// The output of a step in addition to its reply: the control memory of the next frame if the event is a frame.
 #[derive(Drop)]
 pub enum Tool {
-    /// The event is no frame.
+    /// The event is not a frame.
     Nothing,
     /// The control memory of a frame.
     Image(Image),
@@ -19,7 +18,7 @@ impl Tool {
     ghost use Rattle.exchange_core.specs.declared.tool.Tool.TheVariants as tool;
     ghost use Rattle.exchange_core.specs.Tools.{image_in};
 
-    /// The control memory, `None` exactly for [`Tool::Nothing`]. What is written into it stays in the tool.
+    /// Borrows the control memory. Returns `None` for [`Tool::Nothing`] only. A write to it changes the tool.
     pub fn image(&mut self) -> Option<&mut Image>
         ensures* writes_back { sem 𝓛 (LendsIf the_row control_image.the_row self.entry result tool.Image self.old) }
         ensures image { option_map (λ image. image.now) result ≡ image_in self.old }

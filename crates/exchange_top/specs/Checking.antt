@@ -1,4 +1,4 @@
--- A report that is read with its trace, and what is said of it. Source: this exchange's own.
+-- A report that is read with its trace, and the verdict on it. Source: this project.
 use Rattle.std.specs.Prelude.{ℕ, Bool, true, false, List, [], ◌∷◌, ◌++◌, ◌≡◌, ◌≢◌, ◌⊎◌, ◌<◌, ◌≤◌, All, codes, length}
 use Rattle.exchange_events.specs.declared.trace.Trace.{Trace}
 use Rattle.trace_text.specs.declared.fault.Reason.{Reason}
@@ -14,7 +14,7 @@ use Rattle.exchange_top.specs.declared.ending.Ending.TheVariants as ended
 
 -- ---- a trace and its report in one input
 
--- how many bytes a trace and a report have together at the most, with the line between them
+-- the maximum number of bytes in a trace and a report together, with the line between them
 abbrev pub most_checked : ℕ
 most_checked = 268435456
 
@@ -22,7 +22,7 @@ most_checked = 268435456
 abbrev pub divider : List ℕ
 divider = codes "report"
 
--- octets that end with a line feed, or are none
+-- octets that end with a line feed, or no octets
 abbrev pub AreEnded : List ℕ → Type 0
 AreEnded octets = (octets ≡ []) ⊎ ((front : List ℕ) × (octets ≡ front ++ 10 ∷ []))
 
@@ -30,13 +30,14 @@ AreEnded octets = (octets ≡ []) ⊎ ((front : List ℕ) × (octets ≡ front +
 abbrev pub HaveNoDivider : List ℕ → Type 0
 HaveNoDivider octets = All (λ line. line ≢ divider) (lines octets)
 
--- the first line of some octets, which ends before their first line feed or with them, and the octets behind it
+-- the first line of some octets, which ends before their first line feed or with them, and the octets after it
 pub data IsFirstLine (octets line others : List ℕ) : Type 0 where
   Fed : All (λ octet. octet ≢ 10) line → octets ≡ line ++ 10 ∷ others → IsFirstLine octets line others
   Unfed : All (λ octet. octet ≢ 10) line → octets ≡ line → others ≡ [] → IsFirstLine octets line others
 
--- the first line of an input that is exactly `report` divides the trace before it from the report behind it; it lacks its line feed only where it is
--- the end; where there is no such line, all of the input is the trace, and the report is empty
+-- the first line of an input that is exactly `report` divides the trace before it from the report after it; it lacks
+-- its line feed only at the end of the input; without such a line, all of the input is the trace, and the report is
+-- empty
 pub data IsDivided (bytes trace report : List ℕ) : Type 0 where
   By_line : AreEnded trace → HaveNoDivider trace → bytes ≡ trace ++ (divider ++ 10 ∷ report) → IsDivided bytes trace report
   By_end : AreEnded trace → HaveNoDivider trace → bytes ≡ trace ++ divider → report ≡ [] → IsDivided bytes trace report
@@ -49,19 +50,19 @@ pub record IsChecked (bytes : List ℕ) (t : Trace) (report : List ℕ) : Type 0
   pub divided : IsDivided bytes trace report
   pub is_trace : IsTrace trace t
 
--- it has none: it is too long, which is line 0, or what should be the trace is refused
+-- the input has no trace and report: it is too long, which is line 0, or its trace is refused
 pub data IsUnchecked (bytes : List ℕ) (number : ℕ) (why : Reason) : Type 0 where
   Too_much : most_checked < length bytes → number ≡ 0 → why ≡ reason.Limit → IsUnchecked bytes number why
   No_trace : length bytes ≤ most_checked → (trace report : List ℕ) → IsDivided bytes trace report → IsRefused trace number why → IsUnchecked bytes number why
 
--- ---- what is said of it
+-- ---- the verdict
 
--- how many internal slots a strict fabric has, and how many the other
+-- the number of internal slots of a strict fabric, and of the other
 abbrev pub slots_of : Bool → ℕ
 slots_of true = 59
 slots_of false = 30
 
--- what is found of an input, by the ending of a call that says so
+-- the finding on an input, by the ending of the call that reports it
 abbrev pub Finds : Bool → List ℕ → Ending → Type 0
 Finds strict bytes ended.Completed = (t : Trace) × (report : List ℕ) × IsChecked bytes t report × IsValid (slots_of strict) t report
 Finds strict bytes (ended.Refused line reason) = IsUnchecked bytes line reason
@@ -71,7 +72,8 @@ Finds strict bytes ended.WriteFailed = ⊥
 Finds strict bytes ended.OutOfMemory = ⊥
 Finds strict bytes (ended.Invalid line) = (t : Trace) × (report : List ℕ) × IsChecked bytes t report × IsInvalidAt (slots_of strict) t report line
 
--- how a check of an input ends: what was found was said, or its write failed; a read failed; or memory ran out
+-- the ending of a check of an input: the finding was reported, or its write failed; a read failed; or an allocation
+-- failed
 pub data Checks (strict : Bool) (input output : Stream) (ending : Ending) : Type 0 where
   Said : (bytes : List ℕ) → IsInputWithin most_checked input.old input.new bytes → (found : Ending) → Finds strict bytes found → Says found (line_of found) ending output
       → Checks strict input output ending

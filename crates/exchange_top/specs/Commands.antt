@@ -1,4 +1,4 @@
--- The commands, and the fabric that each asks for. Source: this exchange's own.
+-- The commands, and the fabric that each requests. Source: this project.
 use Rattle.std.specs.Prelude.{ℕ, Bool, true, false, List, Some, None, String, map, string_bytes, ◌+◌, ◌≡◌, ◌⊎◌}
 use Rattle.std.specs.declared.option.Option.{Option}
 use Rattle.exchange_events.specs.declared.trace.Trace.{Trace}
@@ -14,39 +14,40 @@ use Rattle.exchange_top.specs.Outcomes.{Fabric}
 
 -- ---- the commands
 
--- the words ask for a run of the trace that is read, on a strict fabric or on the other
+-- the arguments request a run of the trace that is read, on a strict fabric or on the other
 abbrev pub IsRunOn : List (List ℕ) → Bool → Type 0
 IsRunOn words strict = command_of words ≡ Some (Run strict)
 
--- on either
+-- the arguments request a run on either fabric
 abbrev pub IsRun : List (List ℕ) → Type 0
 IsRun words = (strict : Bool) × IsRunOn words strict
 
--- they ask for a run of the trace generated of this seed with n calls
+-- the arguments request a run of the trace generated from this seed with n calls
 abbrev pub IsGeneration : List (List ℕ) → ℕ → ℕ → Type 0
 IsGeneration words seed calls = command_of words ≡ Some (Generate seed calls)
 
--- they ask for the verdict on a report that is read with its trace, of a strict fabric or of the other
+-- the arguments request the verdict on a report that is read with its trace, for a strict fabric or for the other
 abbrev pub IsCheckOn : List (List ℕ) → Bool → Type 0
 IsCheckOn words strict = command_of words ≡ Some (Check strict)
 
--- on either
+-- the arguments request a verdict for either fabric
 abbrev pub IsCheck : List (List ℕ) → Type 0
 IsCheck words = (strict : Bool) × IsCheckOn words strict
 
--- they ask for a run or for a verdict, each of which reads an input
+-- the arguments request a run or a verdict, each of which reads an input
 abbrev pub IsReading : List (List ℕ) → Type 0
 IsReading words = IsRun words ⊎ IsCheck words
 
--- they are no command
+-- the arguments are not a command
 abbrev pub IsNoCommand : List (List ℕ) → Type 0
 IsNoCommand words = command_of words ≡ None
 
--- the words of a command as octets
+-- the arguments of a command as octets
 abbrev pub texts : {A : Type 0} → List (String A) → List (List ℕ)
 texts words = map string_bytes words
 
--- how many bytes a command reads at the most: as many as a trace may have, or a trace and a report, and one piece more
+-- the maximum number of bytes that a command reads: the maximum for a trace, or for a trace and a report, and one piece
+-- more
 abbrev pub most_read_by : Option Command → ℕ
 most_read_by None = 0
 most_read_by (Some (Run strict)) = most_of most_bytes
@@ -56,8 +57,8 @@ most_read_by (Some (Check strict)) = most_of most_checked
 abbrev pub most_read : List (List ℕ) → ℕ
 most_read words = most_read_by (command_of words)
 
--- the fabric that a trace is run on, and how many others a path that joins moves at the most: a strict one of fifty-nine internal slots, where it is
--- none, or one of thirty
+-- the fabric for a trace, and the maximum number of live paths that a new path moves: 59 internal slots and no move for
+-- a strict one, and 30 internal slots otherwise
 abbrev pub fabric_of : Bool → Trace → Fabric
 fabric_of true trace = record { slots = slots_of true; most_moves = most_strict_moves (trace.external + trace.bridges) }
 fabric_of false trace = record { slots = slots_of false; most_moves = most_moves (trace.external + trace.bridges) }

@@ -1,4 +1,4 @@
--- How a call ends: one definition for each ending. Source: this exchange's own.
+-- The endings of a call, with one definition for each. Source: this project.
 use Rattle.std.specs.Prelude.{ℕ, Bool, false, List, [], Some, ◌≡◌, ◌⊎◌}
 use Rattle.std.specs.declared.option.Option.{Option}
 use Rattle.exchange_events.specs.declared.trace.Trace.{Trace}
@@ -27,25 +27,25 @@ status_of ended.WriteFailed = 4
 status_of ended.OutOfMemory = 5
 status_of (ended.Invalid line) = 6
 
--- ---- what a call is asked for
+-- ---- the command of a call
 
--- to run this trace, which is all of the input, on a strict fabric or on the other
+-- the command runs this trace, which is all of the input, on a strict fabric or on the other
 pub record IsTraceRead (arguments : List (List ℕ)) (input : Stream) (strict : Bool) (trace : Trace) : Type 0 where
   pub asked : IsRunOn arguments strict
   pub bytes : List ℕ
   pub read : IsWholeInput input.old input.new bytes
   pub is_trace : IsTrace bytes trace
 
--- to run this trace, which is generated
+-- the command runs this generated trace
 pub record IsTraceGenerated (arguments : List (List ℕ)) (trace : Trace) : Type 0 where
   pub seed : ℕ
   pub calls : ℕ
   pub asked : IsGeneration arguments seed calls
   pub generated : IsTrafficOf seed calls trace
 
--- ---- what is found where no trace is run
+-- ---- the finding of a call without a run
 
--- all of the input was read, and its report is its trace's in a lawful order
+-- all of the input was read, and its report is the report of its trace in a lawful order
 pub record IsReportValid (arguments : List (List ℕ)) (input : Stream) : Type 0 where
   pub strict : Bool
   pub asked : IsCheckOn arguments strict
@@ -56,7 +56,7 @@ pub record IsReportValid (arguments : List (List ℕ)) (input : Stream) : Type 0
   pub checked : IsChecked bytes trace report
   pub valid : IsValid (slots_of strict) trace report
 
--- all of the input was read, and this line of its report is the first that isn't good
+-- all of the input was read, and this line of its report is the first that is wrong or missing
 pub record IsReportInvalid (arguments : List (List ℕ)) (input : Stream) (line : ℕ) : Type 0 where
   pub strict : Bool
   pub asked : IsCheckOn arguments strict
@@ -67,12 +67,13 @@ pub record IsReportInvalid (arguments : List (List ℕ)) (input : Stream) (line 
   pub checked : IsChecked bytes trace report
   pub invalid : IsInvalidAt (slots_of strict) trace report line
 
--- what was read for `run` is no trace, or what was read for `check` has none: this is its first line that fails, for this reason
+-- the input of `run` is not a trace, or the input of `check` has none: this is its first line that fails, for this
+-- reason
 pub data IsNoTrace (arguments : List (List ℕ)) (input : Stream) (line : ℕ) (reason : Reason) : Type 0 where
   For_run : IsRun arguments → (bytes : List ℕ) → IsInputWithin most_bytes input.old input.new bytes → IsRefused bytes line reason → IsNoTrace arguments input line reason
   For_check : IsCheck arguments → (bytes : List ℕ) → IsInputWithin most_checked input.old input.new bytes → IsUnchecked bytes line reason → IsNoTrace arguments input line reason
 
--- what is found, by the ending of a call that says so
+-- the finding on an input, by the ending of the call that reports it
 abbrev pub IsFound : List (List ℕ) → Stream → Ending → Type 0
 IsFound arguments input ended.Completed = IsReportValid arguments input
 IsFound arguments input (ended.Refused line reason) = IsNoTrace arguments input line reason
@@ -84,8 +85,9 @@ IsFound arguments input (ended.Invalid line) = IsReportInvalid arguments input l
 
 -- ---- a definition for each ending
 
--- The trace that was read was run, and its report was written, whole, with what each meter says that was taken out; or the generated one was, and its
--- summary was written; or the report that was read is its trace's, and the line that says so was written.
+-- The trace that was read was run, and its whole report was written, with the summary of each removed meter. Or the
+-- generated trace was run, and its summary was written. Or the report that was read is correct for its trace, and the
+-- line `valid` was written.
 pub data IsCompleted (arguments : List (List ℕ)) (input : Stream) (x : Parties) : Type 0 where
   Reported : (strict : Bool) (trace : Trace) → IsTraceRead arguments input strict trace → IsRunWritten x listing.Report (fabric_of strict trace) trace
       → IsCompleted arguments input x
@@ -93,26 +95,27 @@ pub data IsCompleted (arguments : List (List ℕ)) (input : Stream) (x : Parties
       → IsWritten x.output (summary_text trace x.meters.summary) → IsHandedOut x (fabric_of false trace) trace → IsCompleted arguments input x
   Found_valid : IsReportValid arguments input → IsWritten x.output valid_line → IsIdle x → IsCompleted arguments input x
 
--- The input is no trace, or for `check` has none, and the line that says so was written; nothing was done.
+-- The input is not a trace, or for `check` has none, and the line of the refusal was written. No event was processed.
 pub record IsInputRefused (arguments : List (List ℕ)) (input : Stream) (x : Parties) (line : ℕ) (reason : Reason) : Type 0 where
   pub found : IsNoTrace arguments input line reason
   pub text : IsWritten x.output (refusal line reason)
   pub idle : IsIdle x
 
--- The arguments are no command, and the line that says so was written; nothing was done.
+-- The arguments are not a command, and the line of the refusal was written. No event was processed.
 pub record AreArgumentsWrong (arguments : List (List ℕ)) (x : Parties) : Type 0 where
   pub found : IsNoCommand arguments
   pub text : IsWritten x.output words_refusal
   pub idle : IsIdle x
 
--- A read of the input of `run` or of `check` failed; nothing was written or done.
+-- A read of the input of `run` or of `check` failed. Nothing was written, and no event was processed.
 pub record HasReadFailed (arguments : List (List ℕ)) (input : Stream) (x : Parties) : Type 0 where
   pub reading : IsReading arguments
   pub failed : HasFailed input
   pub text : IsUntouched x.output
   pub idle : IsIdle x
 
--- what was being written: a refusal or a verdict, the report of whole segments, or the summary of a whole run; a prefix of it was written
+-- a prefix of this text was written: a refusal or a verdict, the report of whole segments, or the summary of a whole
+-- run
 pub data IsWriting (arguments : List (List ℕ)) (input : Stream) (x : Parties) : Type 0 where
   In_line : (due : Ending) → IsFound arguments input due → IsWrittenInPart x.output (line_of due) → IsIdle x → IsWriting arguments input x
   In_report : (strict : Bool) (trace : Trace) → IsTraceRead arguments input strict trace → IsRunUnwritten x listing.Report (fabric_of strict trace).slots trace
@@ -127,7 +130,8 @@ pub record HasWriteFailed (arguments : List (List ℕ)) (input : Stream) (x : Pa
   pub failed : HasFailed x.output
   pub writing : IsWriting arguments input x
 
--- Memory ran out: before anything was written or done, in the run of the trace that was read or generated, or before the summary of a whole run.
+-- An allocation failed: before anything was written or processed, in the run of the trace that was read or generated,
+-- or before the summary of a whole run.
 pub data HasRunOutOfMemory (arguments : List (List ℕ)) (input : Stream) (x : Parties) : Type 0 where
   At_once : IsUntouched x.output → IsIdle x → HasRunOutOfMemory arguments input x
   In_run : (strict : Bool) (trace : Trace) → IsTraceRead arguments input strict trace → IsRunInterrupted x listing.Report (fabric_of strict trace).slots trace
@@ -137,13 +141,13 @@ pub data HasRunOutOfMemory (arguments : List (List ℕ)) (input : Stream) (x : P
   Before_summary : (trace : Trace) → IsTraceGenerated arguments trace → IsRunWhole x listing.Nothing (fabric_of false trace) trace → IsWritten x.output []
       → x.no_engine → HasRunOutOfMemory arguments input x
 
--- A line of the report is wrong or lacking, and the line that says so was written; nothing was done.
+-- A line of the report is wrong or missing, and the line with its number was written. No event was processed.
 pub record IsReportRejected (arguments : List (List ℕ)) (input : Stream) (x : Parties) (line : ℕ) : Type 0 where
   pub found : IsReportInvalid arguments input line
   pub text : IsWritten x.output (invalid_line line)
   pub idle : IsIdle x
 
--- what is true of a call, cause by cause
+-- the facts about a call, by its ending
 abbrev pub HasEnded : List (List ℕ) → Stream → Parties → Ending → Type 0
 HasEnded arguments input x ended.Completed = IsCompleted arguments input x
 HasEnded arguments input x (ended.Refused line reason) = IsInputRefused arguments input x line reason
@@ -153,9 +157,9 @@ HasEnded arguments input x ended.WriteFailed = HasWriteFailed arguments input x
 HasEnded arguments input x ended.OutOfMemory = HasRunOutOfMemory arguments input x
 HasEnded arguments input x (ended.Invalid line) = IsReportRejected arguments input x line
 
--- ---- what the arguments and the input decide
+-- ---- the required ending for the arguments and the input
 
--- the ending that is due for these arguments, and for an input with these bytes left
+-- the required ending for these arguments, and for an input with these bytes left
 pub data IsDue (arguments : List (List ℕ)) (left : Option (List ℕ)) (due : Ending) : Type 0 where
   Arguments_decide : IsNoCommand arguments → due ≡ ended.WrongArguments → IsDue arguments left due
   Trace_decides : IsRun arguments → (bytes : List ℕ) (trace : Trace) → left ≡ Some bytes → IsTrace bytes trace → due ≡ ended.Completed → IsDue arguments left due
@@ -164,11 +168,11 @@ pub data IsDue (arguments : List (List ℕ)) (left : Option (List ℕ)) (due : E
   Seed_decides : (seed calls : ℕ) → IsGeneration arguments seed calls → due ≡ ended.Completed → IsDue arguments left due
   Report_decides : (strict : Bool) → IsCheckOn arguments strict → (bytes : List ℕ) → left ≡ Some bytes → Finds strict bytes due → IsDue arguments left due
 
--- a call ends so, unless a read or a write fails or memory runs out
+-- a call ends so, unless a read, a write or an allocation fails
 abbrev pub EndsAs : Ending → ℕ → Type 0
 EndsAs due status = (status ≡ status_of due) ⊎ (status ≡ status_of ended.ReadFailed) ⊎ (status ≡ status_of ended.WriteFailed) ⊎ (status ≡ status_of ended.OutOfMemory)
 
--- ---- how the parts of a call end, whatever arguments ask for them
+-- ---- the endings of the parts of a call, for any arguments that request them
 
 abbrev pub RunEnds : Bool → Stream → Parties → Ending → Type 0
 RunEnds strict input x ending = (arguments : List (List ℕ)) → IsRunOn arguments strict → HasEnded arguments input x ending

@@ -1,4 +1,4 @@
--- How far a run came, what was written of it, what its meters noted, and the engine. Source: this exchange's own.
+-- The progress of a run, its output, the records of its meters, and the engine. Source: this project.
 use Rattle.std.specs.Prelude.{◌≡◌, ◌⊎◌, ⊤, ℕ, List, Some, None, [], ◌++◌, All, IfSome}
 use Rattle.std.specs.Io.KnownBytes.{Appends}
 use Rattle.std.specs.declared.option.Option.{Option}
@@ -24,20 +24,20 @@ use Rattle.exchange_top.specs.Streams.{HasFailed, IsWritten, IsWrittenInPart, St
 use Rattle.exchange_top.specs.Telling.{AreLeft, AreTold, MeterStory, meter_story}
 use Rattle.call_profile.specs.CallsTold.{calls_told}
 
--- the fabric that a trace is run on: how many internal slots it has, and how many live paths a new path moves at the most
+-- the fabric for a trace: the number of internal slots, and the maximum number of live paths that a new path moves
 pub record Fabric : Type 0 where
   pub slots : ℕ
   pub most_moves : ℕ
 
--- the fabric of a map of paths, whose type says both
+-- the fabric of a map of paths, from the constants of its type
 abbrev pub fabric : {M : Type 0} → (M → ℕ) → (M → ℕ) → M → Fabric
 fabric depth bound paths = record { slots = depth paths; most_moves = bound paths }
 
--- no path that joined in a run of these events moved more than n others
+-- in a run of these events no new path moved more than n live paths
 abbrev pub MovesFew : Fabric → Trace → List ℕ → Type 0
 MovesFew fabric trace order = let s = setting_of fabric.slots trace in All (MovesAtMost fabric.most_moves) (run s (start s.dimensions) (events_of trace.events order))
 
--- an answer tells of no moved path, each way
+-- an answer reports no moved path in either direction
 abbrev pub TellsNoMoves : Reply → Type 0
 TellsNoMoves (Granted a b) = (a ≡ 0) × (b ≡ 0)
 TellsNoMoves Busy = ⊤
@@ -48,24 +48,24 @@ TellsNoMoves NotNailed = ⊤
 TellsNoMoves (Sent_reply sends moved records) = IfSome moved (λ moves. (moves.0 ≡ 0) × (moves.1 ≡ 0))
 TellsNoMoves (Frame_reply k sends records) = ⊤
 
--- none does in a run of these events
+-- in a run of these events no answer reports a moved path
 abbrev pub MovesNone : Fabric → Trace → List ℕ → Type 0
 MovesNone fabric trace order = let s = setting_of fabric.slots trace in All TellsNoMoves (run s (start s.dimensions) (events_of trace.events order))
 
--- whichever meters the story leaves: each noted the calls that ended, and the spare ones are as they were
+-- the meters at the end of the story: each recorded the calls that ended, and the spare ones are unchanged
 abbrev pub NotesAll : {M : Type 0} → (M → List CallRecord → Type 0) → (M → List CallRecord → List ℕ) → Plays → Listing → ℕ → Trace → List ℕ → Type 0
 NotesAll {M} stands text plays l slots trace order =
     (old spare new new_spare : List M) → AreLeft stands text old spare new new_spare (story plays l slots trace order) → AreTold stands text old new (calls_told slots trace order) × (new_spare ≡ spare)
 
--- ---- what every ending has in common
+-- ---- the parts that every ending has in common
 
--- the engine that a call hands out has these dimensions, and carries the frames of the world
+-- the engine that a call returns has these dimensions, and carries the frames of the exchange state
 abbrev pub HandsOut : {E : Type 0} → (E → Dimensions) → Carrying E → Option E → Dimensions → World → Type 0
 HandsOut sizes carries None d w = ⊥
 HandsOut sizes carries (Some e) d w = (sizes e ≡ d) × CarriesFrames carries e w
 
--- what every ending has in common: what the engine plays, what is said of the engine that is handed out and that none is, what becomes of the meters,
--- the order of the events that were done, and what was written
+-- the parts that every ending has in common: the engine's output, the returned engine or its absence, the meters, the
+-- order of the processed events, and the written bytes
 pub record Parties : Type 1 where
   pub plays : Plays
   pub handed : Dimensions → World → Type 0
@@ -74,8 +74,8 @@ pub record Parties : Type 1 where
   pub order : List ℕ
   pub output : Stream
 
--- the parties of a call: an engine plays so, has these dimensions and carries frames so, and may be handed out; meters represent calls and say a text,
--- and some of them are on and some spare, before and after; these events were done; and a sink tells its bytes and its errors so
+-- the parties of a call: the output, dimensions and frames of an engine, which may be returned; the records and texts
+-- of the active and spare meters before and after; the processed events; and the bytes and error counts of a sink
 abbrev pub parties : {M E K : Type 0} → Plays → (E → Dimensions) → Carrying E → Option E → (M → List CallRecord → Type 0) → (M → List CallRecord → List ℕ)
     → (old spare new new_spare : List M) → List ℕ → (K → Option (List ℕ)) → (K → ℕ) → (sink_old sink_new : K) → Parties
 parties plays sizes carries engine stands text old spare new new_spare order written errors sink_old sink_new = record {
@@ -87,33 +87,33 @@ parties plays sizes carries engine stands text old spare new new_spare order wri
   output = stream written errors sink_old sink_new;
 }
 
--- no event was done, no meter was changed or noted a call, and no engine is handed out
+-- no event was processed, no meter was changed or recorded a call, and no engine is returned
 pub record IsIdle (x : Parties) : Type 0 where
   pub order : x.order ≡ []
   pub meters : x.meters.left []
   pub engine : x.no_engine
 
--- ---- how far a run came
+-- ---- the progress of a run
 
--- every event of the trace was done, in a lawful order; no path that joined moved more others than the fabric allows; and the meters are those that
--- the story of the run leaves, each with the calls that ended in its time
+-- every event of the trace was processed, in a lawful order; no new path moved more live paths than the fabric allows;
+-- and the meters are the result of the run's story, each with the calls of its active period
 pub record IsRunWhole (x : Parties) (l : Listing) (fabric : Fabric) (trace : Trace) : Type 0 where
   pub lawful : IsLawful trace x.order
   pub few : MovesFew fabric trace x.order
   pub meters : x.meters.left (story x.plays l fabric.slots trace x.order)
 
--- the engine that was handed out has the size of the trace's exchange over this fabric, and carries the frames of the run
+-- the returned engine has the size of the trace's exchange over this fabric, and carries the frames of the run
 abbrev pub IsHandedOut : Parties → Fabric → Trace → Type 0
 IsHandedOut x fabric trace = x.handed (setting_of fabric.slots trace).dimensions (world_after fabric.slots trace x.order)
 
--- it was run whole, what is written of it was written, and the engine is handed out
+-- the whole trace was run, its text was written, and the engine is returned
 pub record IsRunWritten (x : Parties) (l : Listing) (fabric : Fabric) (trace : Trace) : Type 0 where
   pub whole : IsRunWhole x l fabric trace
   pub text : IsWritten x.output (x.meters.written (story x.plays l fabric.slots trace x.order))
   pub engine : IsHandedOut x fabric trace
 
--- A write failed behind the first segments and the changes there: the order has all their events, a prefix of what is written of them was
--- written, and the meters are those that their story leaves.
+-- A write failed after the first segments and the changes there: the order has all their events, a prefix of their text
+-- was written, and the meters are the result of their story.
 pub record IsRunUnwritten (x : Parties) (l : Listing) (slots : ℕ) (trace : Trace) : Type 0 where
   pub segments : ℕ
   pub done : IsDoneBelow trace segments x.order
@@ -121,16 +121,18 @@ pub record IsRunUnwritten (x : Parties) (l : Listing) (slots : ℕ) (trace : Tra
   pub meters : x.meters.left (story x.plays l slots trace x.order)
   pub engine : x.no_engine
 
--- there are no steps, or they are the story of the first few segments of an order, with the changes behind them
+-- there are no steps, or they are the story of the first few segments of an order, with the changes after them
 pub data AreOfSegments (plays : Plays) (l : Listing) (slots : ℕ) (trace : Trace) (order : List ℕ) (steps : List Step) : Type 0 where
   No_segments : steps ≡ [] → AreOfSegments plays l slots trace order steps
   Some_segments : (segments : ℕ) (first others : List ℕ) → order ≡ first ++ others → IsDoneBelow trace segments first → steps ≡ story plays l slots trace first
       → AreOfSegments plays l slots trace order steps
 
--- An allocation failed after the first segments: the order has all their events, and perhaps a lawful prefix of the next segment. Its story has three
--- parts. Exactly the text of `front` was written: it is the story of the first few of these segments, or empty. The meters are the result of `front`
--- and the steps after it, `more`, of which only lines of events were not written: so a meter whose text was written has been removed, and no meter was
--- removed whose text was not written. The meters recorded all calls that ended in the first segments, and a prefix of those in the other steps.
+-- An allocation failed after the first segments: the order has all their events, and perhaps a lawful prefix of the
+-- next segment. Its story has three parts. Exactly the text of `front` was written: it is the story of the first few of
+-- these segments, or empty. The meters are the result of `front` and the steps after it, `more`, of which only lines of
+-- events were not written. So a meter whose text was written has been removed, and no meter was removed whose text was
+-- not written. The meters recorded all calls that ended in the first segments, and a prefix of those in the other
+-- steps.
 pub record IsRunInterrupted (x : Parties) (l : Listing) (slots : ℕ) (trace : Trace) : Type 0 where
   pub lawful : IsLawfulPrefix trace x.order
   pub segments : ℕ
@@ -151,7 +153,7 @@ pub record IsRunInterrupted (x : Parties) (l : Listing) (slots : ℕ) (trace : T
   pub meters : x.meters.left_beyond (front ++ more) (records_of others)
   pub engine : x.no_engine
 
--- how a run of a trace on this fabric ends, with this listing
+-- the ending of a run of a trace on this fabric, with this listing
 abbrev pub Runs : Parties → Fabric → Listing → Trace → Ending → Type 0
 Runs x f l t ended.Completed = IsRunWritten x l f t
 Runs x f l t (ended.Refused line reason) = ⊥
@@ -161,7 +163,8 @@ Runs x f l t ended.WriteFailed = HasFailed x.output × IsRunUnwritten x l f.slot
 Runs x f l t ended.OutOfMemory = IsRunInterrupted x l f.slots t
 Runs x f l t (ended.Invalid line) = ⊥
 
--- how writing a text that sums up a whole run ends: it is written and the engine is handed on, or a prefix of it was written and none is, or nothing was
+-- the ending of a write of a summary: it was written and the engine is passed on, or a prefix of it was written and no
+-- engine is, or nothing was
 abbrev pub SumsUp : {E : Type 0} → Stream → List ℕ → (given handed : Option E) → Ending → Type 0
 SumsUp output text given handed ended.Completed = IsWritten output text × (handed ≡ given)
 SumsUp output text given handed (ended.Refused line reason) = ⊥
@@ -171,6 +174,6 @@ SumsUp output text given handed ended.WriteFailed = HasFailed output × IsWritte
 SumsUp output text given handed ended.OutOfMemory = IsWritten output [] × (handed ≡ None)
 SumsUp output text given handed (ended.Invalid line) = ⊥
 
--- what was pending is left so, and meters said nothing in it, or all of it was written
+-- the pending text is unchanged and meters added nothing to it, or all of it was written
 abbrev pub IsFlushed : (old new : Option (List ℕ)) → (pending left said : List ℕ) → Type 0
 IsFlushed old new pending left said = ((new ≡ old) × (left ≡ pending) × (said ≡ [])) ⊎ (Appends old new pending × (left ≡ []))

@@ -1,4 +1,4 @@
--- A run of a trace, segment by segment. Source: this exchange's own.
+-- A run of a trace, segment by segment. Source: this project.
 use Rattle.std.specs.Prelude.{◌≡◌, ◌++◌, ℕ, List, All, Result, Ok, Err, None, Some, map}
 use Rattle.tone_rules.specs.Tables.{table_of}
 use Rattle.seat_history.specs.declared.known.Known.{Known}
@@ -24,22 +24,22 @@ use Rattle.call_profile.specs.CallsTold.{calls_ended}
 abbrev pub fabric_at : Board → Fabric
 fabric_at board = record { slots = board.slots; most_moves = board.bound }
 
--- the lines of the events that the history grew by, and that no path that joined in them moved more others than the board's fabric allows
+-- the lines of the new events of the history, in which no new path moved more live paths than the board's fabric allows
 abbrev pub grown_lines : Plays → Board → Known → Known → List ℕ
 grown_lines plays board v w = event_lines (plays (table_of board.trace.tones)) (setting_at board) (world_at board v.seen) (new_events v w) (events_of board.trace.events (new_events v w))
 
 abbrev pub GrewFew : Board → Known → Known → Type 0
 GrewFew board v w = All (MovesAtMost board.bound) (run (setting_at board) (world_at board v.seen) (events_of board.trace.events (new_events v w)))
 
--- the calls that ended in these events
+-- the calls that ended in the new events of the history
 abbrev pub grown_calls : Board → Known → Known → List CallRecord
 grown_calls board v w = calls_ended (run (setting_at board) (world_at board v.seen) (events_of board.trace.events (new_events v w)))
 
--- meters noted the calls that ended in them
+-- meters recorded the calls that ended in the new events of the history
 abbrev pub GrowthIsTold : Telling → Board → Known → Known → Type 0
 GrowthIsTold told board v w = told (grown_calls board v w)
 
--- the lines of the events that the history grew by were put behind a text, as far as they are listed
+-- the lines of the new events of the history were appended to a text, if lines are listed
 abbrev pub AddsText : Plays → Listing → Board → Known → Known → List Line → List Line → Type 0
 AddsText plays l board v w before after = text_of after ≡ text_of before ++ listed l (grown_lines plays board v w)
 
@@ -47,7 +47,7 @@ AddsText plays l board v w before after = text_of after ≡ text_of before ++ li
 abbrev pub AreOfAnswers : Listing → List Line → Type 0
 AreOfAnswers l lines = (answers : List Placed) × (lines ≡ map (line_of l) answers)
 
--- lines that belong to some answers, and what a segment added to those before: the lines of the events that the history grew by, and their calls; few
+-- the lines belong to some answers; a segment added the lines of the new events of the history, and their calls; few
 -- paths were moved in them
 pub record IsAdded (plays : Plays) (l : Listing) (board : Board) (v w : Known) (before after : List Line) : Type 0 where
   pub kept : AreOfAnswers l after
@@ -55,7 +55,7 @@ pub record IsAdded (plays : Plays) (l : Listing) (board : Board) (v w : Known) (
   pub few : GrewFew board v w
   pub calls : calls_of after ≡ calls_of before ++ grown_calls board v w
 
--- the ending that a run's result says, and the engine that is handed out then
+-- the ending for a run's result, with the engine that is returned
 abbrev pub ending_of : {C : Type 0} → Result C RunFault → Ending
 ending_of (Ok engine) = ended.Completed
 ending_of (Err Write) = ended.WriteFailed

@@ -1,4 +1,4 @@
--- The story of a run: its events, and the changes of its meters between them. Source: this exchange's own.
+-- The story of a run: its events, and the changes of its meters between them. Source: this project.
 use Rattle.std.specs.Prelude.{ℕ, List, [], ◌∷◌, ◌++◌}
 use Rattle.tone_rules.specs.Tables.{table_of}
 use Rattle.exchange_events.specs.declared.trace.Event.{Event}
@@ -15,14 +15,16 @@ use Rattle.line_list.specs.declared.listing.Listing.{Listing}
 use Rattle.line_list.specs.Lines.{listed}
 use Rattle.meters.specs.Changing.{Step, Event_done, changes_at, with_changes}
 
--- events that happen one after another, from a world on: of each its line, as far as lines are listed, and the records of the calls that ended with it
+-- events in sequence from an exchange state on: for each its line, if lines are listed, and the records of the calls
+-- that ended with it
 abbrev pub event_steps : Played → Listing → Setting → World → List ℕ → List Event → List Step
 event_steps played l s w [] events = []
 event_steps played l s w (n ∷ order) [] = []
 event_steps played l s w (n ∷ order) (e ∷ events) =
     Event_done (listed l (event_line played s w n e)) (calls_kept (kept_of (reply s w e))) ∷ event_steps played l s (next s w e) order events
 
--- a run of a trace whose events happen in this order, with this listing: the changes before the first event, and each event with those behind it
+-- a run of a trace whose events happen in this order, with this listing: the changes before the first event, and each
+-- event with the changes after it
 abbrev pub story : Plays → Listing → ℕ → Trace → List ℕ → List Step
 story plays l slots trace order =
     let s = setting_of slots trace in

@@ -1,4 +1,4 @@
--- The calls that the meters of a run note. Source: this exchange's own.
+-- The calls that the meters of a run record. Source: this project.
 use Rattle.std.specs.Prelude.{◌≡◌, ℕ, List, [], ◌∷◌, ◌++◌, map}
 use Rattle.std.specs.List.{AllZip, concat}
 use Rattle.exchange_events.specs.declared.answer.Answer.{Answer}
@@ -12,40 +12,40 @@ abbrev pub calls_answered : List Answer → List CallRecord
 calls_answered [] = []
 calls_answered (a ∷ answers) = calls_kept a.reply ++ calls_answered answers
 
--- what is said of calls that meters noted
+-- a statement on the calls that meters recorded
 abbrev pub Telling : Type 1
 Telling = List CallRecord → Type 0
 
--- each meter noted these calls, by what the meters of some type represent and would say
+-- each meter recorded these calls, by the definitions of its type
 abbrev pub AreTold : {M : Type 0} → (M → List CallRecord → Type 0) → (M → List CallRecord → List ℕ) → List M → List M → Telling
 AreTold stands text old new calls = AllZip (λ m n. IsTold calls (stands m) (stands n) (text m) (text n)) old new
 
--- each meter noted the first few of these calls
+-- each meter recorded a prefix of these calls
 abbrev pub AreToldFront : {M : Type 0} → (M → List CallRecord → Type 0) → (M → List CallRecord → List ℕ) → List M → List M → Telling
 AreToldFront stands text old new calls = AllZip (λ m n. IsToldFront calls (stands m) (stands n) (text m) (text n)) old new
 
--- a meter noted all of some calls, and then the first few of more
+-- a meter recorded all of some calls, and then a prefix of further ones
 abbrev pub IsToldBeyond : List CallRecord → List CallRecord → (stood stands : List CallRecord → Type 0) → (said says : List CallRecord → List ℕ) → Type 0
 IsToldBeyond calls more stood stands said says = (front rest : List CallRecord) × (more ≡ front ++ rest) × IsTold (calls ++ front) stood stands said says
 
--- so was each meter that is on, and these are the spare ones
+-- each active meter recorded all of some calls and then a prefix of further ones, and these are the spare meters
 pub record AreMeteredBeyond {M : Type 0} (more : List CallRecord) (stands : M → List CallRecord → Type 0) (text : M → List CallRecord → List ℕ) (s : Metering M) (meters spare : List M) : Type 0 where
   pub on : AllZip (λ w m. IsToldBeyond w.time more (stands w.meter) (stands m) (text w.meter) (text m)) s.on meters
   pub spares : spare ≡ s.spare
 
--- what becomes of the meters of a run by the steps of its story: which ones are left then, and what they noted; the same where each of these noted
--- the first few of more records; what is written; and what they say in the end
+-- the meters of a run after the steps of its story: the meters with their records; the same with a prefix of further
+-- records; the text that is written; and the summaries at the end
 pub record MeterStory : Type 1 where
   pub left : List Step → Type 0
   pub left_beyond : List Step → List CallRecord → Type 0
   pub written : List Step → List ℕ
   pub summary : List ℕ
 
--- the meters that are on and the spare ones are those that the steps leave of these
+-- the active and spare meters are the result of these steps
 abbrev pub AreLeft : {M : Type 0} → (M → List CallRecord → Type 0) → (M → List CallRecord → List ℕ) → (old spare new new_spare : List M) → List Step → Type 0
 AreLeft stands text old spare new new_spare steps = AreMetered stands text (after_steps steps (handed_in old spare)) new new_spare
 
--- the story of meters by what they represent and would say: some that are on and some spare, before the run and behind it
+-- the story of the active and spare meters before and after a run, by the definitions of their type
 abbrev pub meter_story : {M : Type 0} → (M → List CallRecord → Type 0) → (M → List CallRecord → List ℕ) → (old spare new new_spare : List M) → MeterStory
 meter_story stands text old spare new new_spare = record {
   left = AreLeft stands text old spare new new_spare;

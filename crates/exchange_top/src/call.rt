@@ -38,21 +38,20 @@ use std::thread::Threads;
 use strict_map::StrictMap;
 use trace_text::{MOST_BYTES, TraceFault, read_trace};
 
-/// How a call of the exchange ended.
+/// The ending of a call of the exchange.
 #[derive(Drop)]
 pub struct Outcome<C: Carrier> {
-    /// 0 where the trace was run and its report or its summary was written, or where the report that was
-    /// read is its trace's; 1 where the input is no trace, or has none; 2 where the words are no command, 3
-    /// where a read failed, 4 where a write failed, 5 where memory ran out, 6 where the report that was
-    /// read is not its trace's.
+    /// 0: the trace was run and its report or its summary was written, or the report that was read is correct for its
+    /// trace. 1: the input is not a trace, or has none. 2: the arguments are not a command. 3: a read failed. 4: a
+    /// write failed. 5: an allocation failed. 6: the report that was read is not correct for its trace.
     pub status: u8,
-    /// The numbers of the events that were done, in the order in which they happened.
+    /// The numbers of the processed events, in the order in which they happened.
     pub order: Vec<u32>,
-    /// The engine that carried the octets, with the trace's sizes, where a trace was run and the status is 0.
+    /// The engine that carried the octets, with the trace's sizes, if a trace was run and the status is 0.
     pub engine: Option<C>,
 }
 
-// How a part of a call ended, the numbers of the events that were done, and the engine that is handed out.
+// The ending of a part of a call, the numbers of the processed events, and the engine that is returned.
 #[derive(Drop)]
 struct Ended<C: Carrier> {
     ending: Ending,
@@ -60,7 +59,7 @@ struct Ended<C: Carrier> {
     engine: Option<C>,
 }
 
-// The end of a part that did no event.
+// Returns the end of a part that processed no event.
 fn idle<C: Carrier>(alloc: Global, ending: Ending) -> Ended<C>
     ensures ending { result.ending ≡ ending }
     ensures none { result.order.items ≡ [] }
@@ -83,7 +82,7 @@ fn refuse<K: Sink, C: Carrier>(alloc: Global, sink: &mut K, line: &[u8], ending:
     idle(alloc, say(sink, line, ending))
 }
 
-// Runs a trace on a map of paths, once there is room for the numbers of its events. Lines are kept in
+// Runs a trace on a map of paths, after it has reserved memory for the numbers of its events. Lines are stored in
 // `pending` until they are written.
 fn run_on<
     P: PathMap + Drop + Send,
@@ -134,7 +133,7 @@ fn run_on<
     }
 }
 
-// Runs a trace on the fabric that is asked for.
+// Runs a trace on the requested fabric.
 fn run_trace<K: Sink, G: Gate, C: Carrier, L: ListingKind + Send + Drop, R: Threads + Wait + Sync>(
     setting: &Setting<'_, R, G>,
     trace: &Trace,
@@ -168,7 +167,7 @@ fn run_trace<K: Sink, G: Gate, C: Carrier, L: ListingKind + Send + Drop, R: Thre
     }
 }
 
-// Runs the trace that the bytes are, or refuses them.
+// Parses the bytes and runs their trace, or refuses them.
 fn run_bytes<K: Sink, G: Gate, C: Carrier, R: Threads + Wait + Sync>(
     setting: &Setting<'_, R, G>,
     bytes: Vec<u8>,
@@ -185,7 +184,7 @@ fn run_bytes<K: Sink, G: Gate, C: Carrier, R: Threads + Wait + Sync>(
     let alloc = setting.alloc;
     match read_trace(alloc, bytes.as_slice()) {
         Ok(trace) => {
-            // The lines take the memory that the input had, so that its pages are not faulted in anew.
+            // The lines reuse the memory of the input, so that its pages need not be mapped again.
             let mut pending: Pending<ReportLines> = Pending {
                 lines: LineList::new(alloc, bytes),
                 said: Vec::new(alloc),
@@ -205,7 +204,7 @@ fn run_bytes<K: Sink, G: Gate, C: Carrier, R: Threads + Wait + Sync>(
     }
 }
 
-// Writes the summary of a run of a trace, which came to its end.
+// Writes the summary of a complete run.
 fn sum_up<K: Sink, C: Carrier>(
     alloc: Global,
     trace: &Trace,
@@ -240,8 +239,7 @@ fn sum_up<K: Sink, C: Carrier>(
     }
 }
 
-// Runs the trace generated of a seed with n calls, on thirty internal slots, and writes its
-// summary.
+// Runs the trace generated from a seed with n calls, on 30 internal slots, and writes its summary.
 fn run_generated<K: Sink, G: Gate, C: Carrier, R: Threads + Wait + Sync>(
     setting: &Setting<'_, R, G>,
     seed: u32,
@@ -296,7 +294,7 @@ fn run_input<S: Source, K: Sink, G: Gate, C: Carrier, R: Threads + Wait + Sync>(
     }
 }
 
-// Does what the words ask for.
+// Executes the command of the arguments.
 fn answer_words<S: Source, K: Sink, G: Gate, C: Carrier, R: Threads + Wait + Sync>(
     setting: &Setting<'_, R, G>,
     words: &[String],
@@ -329,32 +327,33 @@ fn answer_words<S: Source, K: Sink, G: Gate, C: Carrier, R: Threads + Wait + Syn
     }
 }
 
-/// Runs a trace and writes its report, runs a generated trace and writes its summary, or verifies a report
-/// against its trace and writes the verdict.
+/// Runs a trace and writes its report, runs a generated trace and writes its summary, or verifies a report against its
+/// trace and writes the verdict.
 ///
-/// The command `run` reads a trace: its input to the end, or until more bytes are held than a trace may
-/// have. `gen SEED CALLS` reads nothing and takes the trace that is generated of the seed with n
-/// calls. The fabric has thirty internal slots, and with `--strict` fifty-nine, where no path ever
-/// moves. Then the trace is run, one segment after the other: the call processors and the frame worker
-/// of a segment take turns at one switching map, each in a thread of its own, and are held up at the
-/// gate, where a test may look on. Where all but the busiest of them have few events together, and the
-/// gate doesn't ask for threads, the segment is done by the caller, in the order of the trace. The order
-/// in which the events took their turns is `order`; the report has a line for each in that order, and a
-/// summary has a line that counts them and then what the meters say (`docs/FORMATS.md`). The meters
-/// note the calls that end, segment by segment, in that order. At each change of the trace, between two
-/// segments, the first of them is taken out, its text goes into the report, and it is dropped; then the
-/// first of `spare` is put in behind the others. Where there is none, that half does nothing. The causes
-/// of another end are met in this order: the words, reading, the trace, the run, writing.
+/// `run` reads a trace: its input to the end, or until it has more bytes than a trace may have. `gen SEED CALLS` reads
+/// nothing, and generates the trace from the seed with n calls. The fabric has 30 internal slots. With `--strict` it
+/// has 59, and no path ever moves.
 ///
-/// `check` reads a trace, a line `report` and a report, and does no event: `order` is empty, no engine is
-/// handed out, and meters note nothing.
+/// The segments run in sequence. The call processors and the frame worker of a segment take turns at one switching map,
+/// each in its own thread. The gate can hold them, so that a test can observe them. If all workers except the busiest
+/// have few events together, and the gate does not request threads, the caller processes the segment in file order.
+/// `order` is the order in which the events took their turns. The report has a line for each event in that order. A
+/// summary has a line that counts the events, and then the texts of the meters (`docs/FORMATS.md`).
 ///
-/// The octets of a frame are what the engine of type `C` plays. It is handed out where a trace was run and
-/// the status is 0, and then it has as many lines and internal slots as the exchange had, and carries the
-/// frames of `order`.
+/// The meters record the calls that end, segment by segment, in that order. At each change of the trace, between two
+/// segments, the first active meter writes its summary to the report and is dropped. Then the first of `spare` becomes
+/// active after the others. Without an active or without a spare meter, that half of the change has no effect.
 ///
-/// A read or write that fails ends the call, and then the source's or the sink's count of faults
-/// rises; neither rises otherwise. Memory may run out too, at any trace.
+/// The causes of another ending are tested in this order: the arguments, reading, the trace, the run, writing.
+///
+/// `check` reads a trace, a line `report` and a report, and processes no event: `order` is empty, no engine is
+/// returned, and meters record nothing.
+///
+/// The octets of a frame are the output of the engine of type `C`. The engine is returned if a trace was run and the
+/// status is 0. It then has the lines and internal slots of the exchange, and carries the frames of `order`.
+///
+/// A read or write that fails ends the call, and then the error count of the source or of the sink rises. Neither rises
+/// otherwise. An allocation can fail at any trace.
 pub fn exchange<S: Source, K: Sink, G: Gate, C: Carrier, R: Threads + Wait + Sync>(
     rt: &R,
     alloc: Global,
@@ -365,13 +364,13 @@ pub fn exchange<S: Source, K: Sink, G: Gate, C: Carrier, R: Threads + Wait + Syn
     meters: &mut Vec<Box<dyn Meter>>,
     spare: &mut VecDeque<Box<dyn Meter>>,
 ) -> Outcome<C>
-    // How the call ended: what is true of it for each cause.
+    // The ending of the call, with the facts for it.
     ensures ends { (ending : Ending) × (result.status ≡ status_of ending) × HasEnded (texts words.now)
         (stream S.left S.faults source.old source.new)
         (parties C.plays C.sizes C.carries result.engine
         (λ m. stands m) (λ m. text m) meters.old.items spare.old.items meters.new.items spare.new.items
         result.order.items K.written K.faults sink.old sink.new) ending }
-    // The arguments and the input decide the ending, unless a read or a write fails or memory runs out.
+    // The arguments and the input decide the ending, unless a read, a write or an allocation fails.
     ensures due { (due : Ending) → IsDue (texts words.now) (S.left source.old) due → EndsAs due result.status }
     // No other ending hides an error of the source or of the sink.
     ensures reads { (result.status ≡ status_of ReadFailed) ⊎ (S.faults source.new ≡ S.faults source.old) }

@@ -8,8 +8,8 @@ use meters::{Meter, append_summaries};
 use std::alloc::AllocError;
 use std::collections::VecDeque;
 
-/// Makes the changes of a place, the first of which is counted by `start`, and returns how many changes
-/// were made up to there. Appends the texts of the meters that they take out to `said`.
+/// Makes the changes of a place, whose first has the index `start`, and returns the number of changes made up to there.
+/// Appends the summaries of the removed meters to `said`.
 ///
 /// # Errors
 ///
@@ -36,7 +36,7 @@ pub fn change_at(
     Ok(end)
 }
 
-// How many changes there are up to the last of a place, whose first is counted by `start`.
+// Returns the number of changes up to the last of a place, whose first has the index `start`.
 pub fn end_of(changes: &[u32], start: usize, place: u32) -> usize
     requires { start ≤ length changes.now }
     ensures { IsRow changes.now start place result }
@@ -48,8 +48,8 @@ pub fn end_of(changes: &[u32], start: usize, place: u32) -> usize
     end
 }
 
-// Appends the texts of the meters that some changes take out, and makes room for one meter more. This is
-// all of the changes that can fail.
+// Appends the summaries of the meters that some changes remove, and reserves memory for one more meter. Only this part
+// of the changes can fail.
 pub fn say_at(
     count: usize,
     meters: &mut Vec<Box<dyn Meter>>,
@@ -70,7 +70,7 @@ pub fn say_at(
     Ok(())
 }
 
-// Appends the texts of the first few of some meters, or of all of them, and returns how many are left.
+// Appends the texts of the first meters, up to `count` or to all of them, and returns the rest of the count.
 fn say_first(
     count: usize,
     meters: &[Box<dyn Meter>],
@@ -84,7 +84,7 @@ fn say_first(
     Ok(count - now)
 }
 
-// Makes some changes, for which there is room.
+// Makes some changes, for which there is capacity.
 pub fn move_at(count: usize, meters: &mut Vec<Box<dyn Meter>>, spare: &mut VecDeque<Box<dyn Meter>>)
     requires room { vec_len meters.old + 1 ≤ vec_capacity meters.old }
     ensures { AreMoved (λ m. stands m) (λ m. text m) count meters.old.items spare.old.items meters.new.items spare.new.items }
@@ -94,7 +94,7 @@ pub fn move_at(count: usize, meters: &mut Vec<Box<dyn Meter>>, spare: &mut VecDe
     }
 }
 
-// Takes the first meter out and drops it; then puts the first spare one in behind the others.
+// Removes the first meter and drops it, and then activates the first spare one after the others.
 fn change(meters: &mut Vec<Box<dyn Meter>>, spare: &mut VecDeque<Box<dyn Meter>>)
     requires some { 1 ≤ vec_capacity meters.old }
     requires room { vec_len meters.old ≤ vec_capacity meters.old }

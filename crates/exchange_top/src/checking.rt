@@ -17,16 +17,16 @@ use std::alloc::{AllocError, Global};
 use std::thread::Threads;
 use trace_text::Reason;
 
-// How many bytes a trace and a report have together at the most, with the line between them: 256 MiB
-// (this exchange's own).
+// The maximum number of bytes in a trace and a report together, with the line between them: 256 MiB (defined by this
+// project). It is four times the longest trace, enough for all but the longest reports.
 const MOST_CHECKED: usize = 268_435_456;
 
 // The line that divides a trace from a report.
 const DIVIDER: &[u8] = b"report";
 
-/// Reads a trace and a report, and writes the verdict on the report, of the fabric with the flag or of the
-/// one without. Returns the ending: `Completed` for `valid`, `Invalid`, or `Refused` where there is no trace;
-/// or a failed read or write, or memory that ran out.
+/// Reads a trace and a report, and writes the verdict on the report, for the strict fabric or for the other. Returns
+/// the ending: `Completed` for `valid`, `Invalid`, or `Refused` if there is no trace; or the ending of a failed read,
+/// write or allocation.
 pub fn check<S: Source, K: Sink, R: Threads + Sync>(
     rt: &R,
     alloc: Global,
@@ -51,7 +51,8 @@ pub fn check<S: Source, K: Sink, R: Threads + Sync>(
     }
 }
 
-// What is found of an input, and the line that says so.
+// Returns the finding on an input, and the line that reports it. If the trace is refused, the report is not verified,
+// because the refusal names the wrong line of the trace.
 fn found<R: Threads + Sync>(
     rt: &R,
     alloc: Global,
@@ -74,7 +75,7 @@ fn found<R: Threads + Sync>(
     }
 }
 
-// The refusal of an input at a line, and the line that says so.
+// Returns the refusal of an input at a line, and the line that reports it.
 fn refused(alloc: Global, number: u32, reason: Reason) -> Result<(Ending, Vec<u8>), AllocError>
     ensures { IfOk result (λ found. (found.0 ≡ Refused number reason) × (found.1.items ≡ line_of found.0)) }
 {
@@ -82,7 +83,7 @@ fn refused(alloc: Global, number: u32, reason: Reason) -> Result<(Ending, Vec<u8
     Ok((Ending::Refused { number, reason }, line))
 }
 
-// How many internal slots a strict fabric has, and how many the other.
+// Returns the number of internal slots of a strict fabric, and of the other.
 fn slots_of(strict: bool) -> u8
     ensures is { result ≡ slots_of strict }
     ensures one { (result ≡ 30) ⊎ (result ≡ 59) }
@@ -90,7 +91,7 @@ fn slots_of(strict: bool) -> u8
     if strict { 59 } else { 30 }
 }
 
-// The line that says which line of a report is the first that isn't good.
+// Returns the line with the first wrong or missing line of a report.
 fn invalid_line(alloc: Global, number: u32) -> Result<Vec<u8>, AllocError>
     ensures { IfOk result (λ line. line.items ≡ invalid_line number) }
 {
@@ -101,7 +102,7 @@ fn invalid_line(alloc: Global, number: u32) -> Result<Vec<u8>, AllocError>
     Ok(line)
 }
 
-// The trace and the report of an input.
+// Returns the trace and the report of an input.
 fn divided(bytes: &[u8]) -> (&[u8], &[u8])
     ensures { IsDivided bytes.now result.0.now result.1.now }
 {
@@ -116,7 +117,7 @@ fn divided(bytes: &[u8]) -> (&[u8], &[u8])
     (bytes, &[])
 }
 
-// The first line, and what follows it.
+// Returns the first line, and the octets after it.
 fn first_line(bytes: &[u8]) -> (&[u8], &[u8])
     ensures { IsFirstLine bytes.now result.0.now result.1.now }
 {

@@ -1,4 +1,4 @@
-//! How a call ends.
+//! The endings of a call.
 ghost use Rattle.std.specs.Prelude.{◌≡◌};
 ghost use Rattle.exchange_top.specs.Endings.{status_of};
 
@@ -7,8 +7,8 @@ use trace_text::Reason;
 /// The cause for which a call of the exchange ended.
 #[derive(Clone, Copy)]
 pub enum Ending {
-    /// The trace was run and its report or its summary was written, or the report that was read is its
-    /// trace's.
+    /// The trace was run and its report or its summary was written, or the report that was read is correct for its
+    /// trace.
     Completed,
     /// The input is not a trace, or has none.
     Refused {
@@ -25,7 +25,7 @@ pub enum Ending {
     WriteFailed,
     /// An allocation failed.
     OutOfMemory,
-    /// The report that was read is not its trace's.
+    /// The report that was read is not correct for its trace.
     Invalid {
         /// The number of its first line that is wrong or missing.
         number: u32,
@@ -33,7 +33,7 @@ pub enum Ending {
 }
 
 impl Ending {
-    /// The exit status of the ending.
+    /// Returns the exit status of the ending.
     pub fn status(self) -> u8
         ensures { result ≡ status_of self }
     {

@@ -1,5 +1,5 @@
-//! What a run on a strict fabric tells, what a run is whose trace changes no meters, and that an input has one
-//! trace and one report.
+//! Theorems: a strict fabric moves no path, a run without changes has one report, and an input has one trace and one
+//! report.
 ghost use Rattle.std.specs.Prelude.{◌≡◌, ℕ, List, [], All, true};
 ghost use Rattle.exchange_events.specs.declared.trace.Trace.{Trace};
 ghost use Rattle.exchange_events.specs.Orders.{IsEvent};
@@ -15,15 +15,13 @@ ghost use Rattle.exchange_top.specs.Story.{story};
 
 use meters::Meter;
 
-/// On a strict fabric no path that joins moves another: each number of moved paths that an answer
-/// tells is 0.
+/// On a strict fabric no new path moves another: each number of moved paths that an answer reports is 0.
 pub fn strict_runs_move_nothing()
     ensures { (trace : Trace) (order : List ℕ) → MovesFew (fabric_of true trace) trace order → MovesNone (fabric_of true trace) trace order }
 {}
 
-/// Where the trace changes no meters, what is written of a run is its report, as far as lines are
-/// listed; the meters and the spare ones are those that were handed in, and each meter noted the calls
-/// that ended.
+/// If the trace changes no meters, the text of a run is its report, if lines are listed. The active and spare meters
+/// are the same as before the run, and each active meter recorded the calls that ended.
 pub fn law_of_unchanged_meters<M: Meter>()
     ensures text { (plays : Plays) (l : Listing) (slots : ℕ) (trace : Trace) (order : List ℕ) (old spare : List M) → trace.changes ≡ []
         → steps_text M.text (story plays l slots trace order) (handed_in old spare) ≡ listed l (report plays slots trace order) }
@@ -31,7 +29,7 @@ pub fn law_of_unchanged_meters<M: Meter>()
         → NotesAll M.stands M.text plays l slots trace order }
 {}
 
-/// An input is divided into a trace and a report in one way alone.
+/// An input is divided into a trace and a report in only one way.
 pub fn law_of_divisions()
     ensures { (bytes trace report also other : List ℕ) → IsDivided bytes trace report → IsDivided bytes also other → (trace ≡ also) × (report ≡ other) }
 {}

@@ -1,30 +1,30 @@
-//! The whole exchange, from words and trace bytes to report bytes, over any engine that carries
-//! octets, any gate and any meters, on thirty internal slots or on fifty-nine; and the verdict on a report.
+//! The whole exchange, from arguments and trace bytes to report bytes, and the verdict on a report. It works with any
+//! engine that carries octets, any gate and any meters, on 30 or 59 internal slots.
 //!
-//! The headline, in the contract of [`exchange`]: where the status is 0 for `run`, the input was a
-//! trace, its events were done in an order that is lawful for it, and the output got exactly the report
-//! of a run in that order, with what each meter says that a change of the trace takes out; the meters and
-//! the spare ones are those that the changes leave, and each noted the calls that ended in its time
-//! (`done`). Where a trace changes no meters, that is its report, and each meter noted every call
-//! ([`law_of_unchanged_meters`]). With `Engine`
-//! each octet in it is what the definitions say its slot hears. For `gen` it is the same for a generated
-//! trace, whose summary is written (`summed`). For `run --strict` no path ever moves, so each number of
-//! moved paths in the report is 0 ([`strict_runs_move_nothing`]). Any other input is refused at its
-//! first line that fails (`turned_down`).
+//! The main theorem is the clause `ends` of [`exchange`], which has one definition for each ending (`HasEnded`). If
+//! `run` returns status 0, the input was a trace and its events were processed in a lawful order. The output is exactly
+//! the report of that run, with the summary of each meter that a change removes. The active and spare meters are the
+//! result of the changes, and each active meter recorded the calls that ended in its active period (`IsCompleted`,
+//! `IsRunWritten`).
 //!
-//! For `check` the input is a trace and a report, divided by a line `report` in one way alone
-//! ([`law_of_divisions`]). With 0 the report is the trace's in an order that is lawful for it
-//! (`found_valid`), and with 6 it isn't, and its first line that can't be was named (`found_invalid`); each
-//! report gets the one or the other, where the trace is one (`valid`, `invalid`, `checked`, `unchecked`).
+//! - If the trace changes no meters, the output is its report, and each meter recorded every call
+//!   ([`law_of_unchanged_meters`]).
+//! - With `Engine`, each octet in the report is the octet that its slot receives by definition.
+//! - For `gen` the same holds for a generated trace, whose summary is written (`Summed` of `IsCompleted`).
+//! - With `run --strict` no path ever moves, so each number of moved paths in the report is 0
+//!   ([`strict_runs_move_nothing`]).
+//! - Any other input is refused at its first line that fails (`IsInputRefused`), and other arguments are refused as
+//!   such (`AreArgumentsWrong`).
 //!
-//! Statuses 3 and 4 come only where a fault was counted (`read_failed`, `write_failed`), and no other
-//! status hides one (`reads`, `writes`). With 4 a prefix of the text was written, and with 5 a prefix
-//! that ends with a segment and the changes behind it (`cut_short`).
+//! For `check` the input is a trace and a report, divided by a line `report` in only one way ([`law_of_divisions`]).
+//! With status 0 the report is the trace's in a lawful order (`Found_valid` of `IsCompleted`). With status 6 it is not,
+//! and the output names its first wrong or missing line (`IsReportRejected`). Each report of a trace gets one of the
+//! two, because the arguments and the input decide the ending, unless a read, a write or an allocation fails (`due`).
 //!
-//! It uses `ex_io`, `circuit_model`, `seat_history`, `control_memory`, `tone_rules`, `fabric_map`,
-//! `strict_map`, `frame_engine`, `exchange_core`, `shared_exchange`, `gate`, `call_processor`, `line_list`,
-//! `segment_run`, `trace_text`, `report_text`, `generated_trace`, `command_words`, `meters`, `run_verifier`,
-//! `exchange_events` and `call_profile`, and the kit's `itoa` and `memchr`.
+//! Statuses 3 and 4 occur only after an error was counted (`HasReadFailed`, `HasWriteFailed`), and no other status
+//! hides one (`reads`, `writes`). With status 4 a prefix of the text was written. With status 5 it is a prefix that
+//! ends with a segment and the changes after it (`HasRunOutOfMemory`, `IsRunInterrupted`). No more of the input is read
+//! than a command needs (`stops`, `unread`).
 #![tactic(auto)]
 
 mod call;

@@ -1,4 +1,4 @@
-//! The lines that refuse an input, and a line that ends a call.
+//! The lines that refuse an input, and the write of a line that ends a call.
 ghost use Rattle.std.specs.Prelude.{◌≡◌, ◌⊎◌, IfOk};
 ghost use Rattle.exchange_top.specs.declared.ending.Ending.TheVariants.{WriteFailed};
 ghost use Rattle.exchange_top.specs.Refusals.{Says, reason_name, refusal};
@@ -11,7 +11,7 @@ use itoa::Buffer;
 use std::alloc::{AllocError, Global};
 use trace_text::Reason;
 
-// How a refusal names its reason.
+// Returns the name of a reason in a refusal.
 fn name_of(reason: Reason) -> &'static [u8]
     ensures { result.now ≡ reason_name reason }
 {
@@ -27,7 +27,7 @@ fn name_of(reason: Reason) -> &'static [u8]
     }
 }
 
-/// The line that refuses an input, at its first line that fails.
+/// Returns the line that refuses an input, at its first line that fails.
 pub fn refusal(alloc: Global, number: u32, reason: Reason) -> Result<Vec<u8>, AllocError>
     ensures { IfOk result (λ line. line.items ≡ refusal number reason) }
 {

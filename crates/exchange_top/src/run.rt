@@ -26,10 +26,10 @@ use std::alloc::{AllocError, Global};
 use std::sync::Wait;
 use std::thread::Threads;
 
-/// Why a run did not come to its end (this exchange's own).
+/// The error that interrupted a run (defined by this project).
 #[derive(Clone, Copy)]
 pub enum RunFault {
-    /// There was no memory.
+    /// An allocation failed.
     Memory,
     /// A write of the report failed.
     Write,
@@ -51,16 +51,16 @@ impl From<Failed> for RunFault {
     }
 }
 
-/// Runs a trace on a map of paths, segment after segment, each by its call processors and its frame
-/// worker side by side; writes what is listed of it, tells the meters of the calls that end, changes them
-/// where the trace does, and notes the numbers of the events of the journal in `order`, which has room
-/// for them. Lines are kept in `pending` until they are written. Returns the engine that carried the octets.
+/// Runs a trace on a map of paths, segment by segment, with its call processors and its frame worker in parallel.
+/// Writes the listed text, records the ended calls on the meters, and changes the meters at the changes of the trace.
+/// Copies the event numbers of the journal to `order`, which has capacity for them. Lines are stored in `pending` until
+/// they are written. Returns the engine that carried the octets.
 ///
 /// # Errors
 ///
-/// [`RunFault::Write`] where a write failed and the sink's count of faults rose, and
-/// [`RunFault::Memory`] where memory runs out, where no write failed. By then a prefix of the report of the
-/// segments that were done was written, which where memory runs out ends with a segment.
+/// [`RunFault::Write`] if a write failed and the error count of the sink rose. [`RunFault::Memory`] if an allocation
+/// failed and no write did. A prefix of the report of the completed segments was written. After a failed allocation it
+/// ends with a segment.
 pub fn run<
     P: PathMap + Drop + Send,
     K: Sink,
@@ -104,8 +104,8 @@ pub fn run<
     done
 }
 
-// What a run needs before its first event: the exchange that its workers share, with seat 0 of it, the
-// engine, a control memory, and a workroom.
+// Makes the parts of a run before its first event: the exchange that its workers share, with its seat 0, the engine, a
+// control memory, and a workroom.
 fn equipped<'t, P: PathMap + Drop, C: Carrier, L: ListingKind + Send + Drop>(
     alloc: Global,
     trace: &'t Trace,
@@ -132,8 +132,8 @@ fn equipped<'t, P: PathMap + Drop, C: Carrier, L: ListingKind + Send + Drop>(
     Ok((board, seat, carried))
 }
 
-// What the first segment of a run begins with: the engine, a control memory, and a workroom. It is made
-// apart from the exchange, since each value that an early return drops is dear to prove.
+// Makes the input of the first segment: the engine, a control memory, and a workroom. It is separate from the exchange,
+// because each value that an early return drops is slow to prove.
 fn carried_first<T: Drop, C: Carrier, L: ListingKind + Send + Drop>(
     alloc: Global,
     trace: &Trace,
@@ -156,7 +156,7 @@ fn carried_first<T: Drop, C: Carrier, L: ListingKind + Send + Drop>(
     })
 }
 
-// Notes the numbers of the events of a journal.
+// Copies the event numbers of a journal.
 fn note_order(order: &mut Vec<u32>, journal: &[(u32, u32)])
     requires room { length order.old.items + length journal.now ≤ vec_capacity order.old }
     ensures { order.new.items ≡ order.old.items ++ order_of journal.now }

@@ -1,4 +1,4 @@
-//! The segments of a run, and what is written of each.
+//! The segments of a run, and the text of each.
 ghost use Rattle.std.specs.Prelude.{◌≡◌, ◌⊎◌, ◌*◌, ◌<◌, ◌≤◌, ◌++◌, [], drop, length, IsSome, IsSomeAnd, OnOk, OnErr};
 ghost use Rattle.std.specs.Io.KnownBytes.{Appends};
 ghost use Rattle.ex_io.specs.Ends.{Rose};
@@ -34,23 +34,23 @@ use std::alloc::AllocError;
 use std::sync::Wait;
 use std::thread::Threads;
 
-// How many bytes of a report are gathered before they are written, the lines of a segment together.
+// The number of bytes of a report that are gathered before a write. The lines of a segment stay together.
 const PIECE: usize = 65_536;
 
-/// What goes from one segment to the next: the machine and the workroom. `T` is the type of the workers'
-/// seats, and `L` says what is listed.
+/// The values that pass from one segment to the next: the machine and the workroom. `T` is the type of the workers'
+/// seats, and `L` states the listing.
 #[derive(Drop)]
 pub struct Carried<T, C, L> {
     /// The machine, which has carried the frames so far.
     pub machine: Box<Machine<C>>,
-    /// Where the workers of a segment work.
+    /// The buffers of the workers.
     pub workroom: Workroom<T, LineList<L>>,
 }
 
-/// Runs the segments of a board's trace one after the other, writes of them what is listed, and tells
-/// the meters of the calls that end. Then the changes behind a segment are made, those before the first
-/// event before any segment. The lines of a segment are written once all of that is done; until then they
-/// are pending, and so is what the meters say that are taken out behind them.
+/// Runs the segments of a board's trace in sequence, writes the listed text, and records the ended calls on the meters.
+/// After a segment it makes the changes there, and before any segment the changes before the first event. The lines of
+/// a segment are written after all of that. Until then they are pending, with the summaries of the meters that were
+/// removed after them.
 pub fn report_segments<
     B: Switchboard,
     K: Sink,
@@ -116,7 +116,7 @@ pub fn report_segments<
     Ok(machine.engine)
 }
 
-// Takes the value that there is.
+// Takes the value of the option.
 fn taken<T>(place: &mut Option<T>) -> T
     requires { IsSome place.old }
     ensures { place.old ≡ Some result }
@@ -127,8 +127,8 @@ fn taken<T>(place: &mut Option<T>) -> T
     }
 }
 
-// Runs one segment, and keeps the lines of its events behind those before them. What goes from one segment
-// to the next is taken out meanwhile, so that no early return holds it: its drop there is dear to prove.
+// Runs one segment, and appends the lines of its events to those before them. The values for the next segment are moved
+// out meanwhile, so that no early return holds them, because their drop there is slow to prove.
 fn report_segment<
     B: Switchboard,
     G: Gate,
@@ -173,7 +173,7 @@ fn report_segment<
     tell(meters, records_behind(lines, told))
 }
 
-// The records of the calls that ended, behind the first n.
+// Returns the records of the calls that ended, after the first n.
 fn records_behind<L>(lines: &LineList<L>, told: usize) -> &[CallRecord]
     requires { told ≤ length (calls_of lines.now) }
     ensures { result.now ≡ drop told (calls_of lines.now) }
@@ -181,8 +181,7 @@ fn records_behind<L>(lines: &LineList<L>, told: usize) -> &[CallRecord]
     &lines.records()[told..]
 }
 
-// Writes what is pending, once it is a whole piece or a meter said something; where nothing is listed, it
-// is none.
+// Writes the pending text if it is a whole piece, or if a meter added its summary. If nothing is listed, there is none.
 fn flush_full<K: Sink, L: ListingKind + Send + Drop>(
     sink: &mut K,
     pending: &mut Pending<L>,
@@ -203,7 +202,7 @@ fn flush_full<K: Sink, L: ListingKind + Send + Drop>(
     flush(sink, pending)
 }
 
-// Writes all that is pending: the lines, and then what meters said.
+// Writes all pending text: the lines, and then the summaries of the meters.
 fn flush<K: Sink, L: ListingKind + Send + Drop>(
     sink: &mut K,
     pending: &mut Pending<L>,

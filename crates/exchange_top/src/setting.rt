@@ -1,4 +1,4 @@
-//! What a call is given and only reads, and what it is accountable for.
+//! The shared input of a call, and its changing parts.
 use line_list::LineList;
 use meters::Meter;
 use std::alloc::Global;
@@ -18,17 +18,19 @@ pub struct Setting<'a, R, G> {
 /// The meters of a call.
 #[derive(Drop)]
 pub struct Metering {
-    /// The meters that are on, in order.
+    /// The active meters, in order.
     pub on: Vec<Box<dyn Meter>>,
-    /// The spare ones.
+    /// The spare meters.
     pub spare: VecDeque<Box<dyn Meter>>,
 }
 
-/// The text of a run that is not yet written.
+/// The text of a run that is not yet written. The lines of a complete segment move to it, so a segment that fails
+/// leaves it unchanged.
 #[derive(Drop)]
 pub struct Pending<L> {
-    /// The lines of events.
+    /// The lines of events, with the records of their calls.
     pub lines: LineList<L>,
-    /// The texts of the meters that were taken out after these events.
+    /// The texts of the meters that were removed after these events. They are separate, because each line of the list
+    /// belongs to an event.
     pub said: Vec<u8>,
 }

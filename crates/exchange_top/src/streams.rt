@@ -11,10 +11,10 @@ use std::alloc::{AllocError, Global};
 // The bytes of one read.
 const PIECE: usize = 65_536;
 
-/// Why an input could not be read (this exchange's own).
+/// The error of a failed input (defined by this project).
 #[derive(Clone, Copy)]
 pub enum ReadFault {
-    /// There was no memory for the bytes.
+    /// An allocation for the bytes failed.
     Memory,
     /// A read failed.
     Read,
@@ -36,12 +36,13 @@ impl From<Failed> for ReadFault {
     }
 }
 
-/// Reads the source to its end, or until more than `limit` bytes are held.
+/// Reads the source to its end, or until there are more than `limit` bytes. Each read is one piece, so at most one
+/// piece more is read.
 ///
 /// # Errors
 ///
-/// [`ReadFault::Read`] where a read failed and the source's count of faults rose, and
-/// [`ReadFault::Memory`] where memory runs out, where no read failed. The bytes read until then are lost.
+/// [`ReadFault::Read`] if a read failed and the error count of the source rose. [`ReadFault::Memory`] if an allocation
+/// failed and no read did. The bytes read so far are dropped, because the caller has no use for them.
 pub fn read_all<S: Source>(
     alloc: Global,
     source: &mut S,
@@ -72,8 +73,8 @@ pub fn read_all<S: Source>(
 ///
 /// # Errors
 ///
-/// [`Failed`] where a write failed and the sink's count of faults rose. A prefix of the bytes, maybe
-/// none of them, was written by then.
+/// [`Failed`] if a write failed and the error count of the sink rose. A prefix of the bytes was written, perhaps none
+/// of them.
 pub fn write_all<K: Sink>(sink: &mut K, bytes: &[u8]) -> Result<(), Failed>
     ensures whole { OnOk result (Appends (K.written sink.old) (K.written sink.new) bytes.now) }
     ensures steady { OnOk result (K.faults sink.new ≡ K.faults sink.old) }

@@ -1,4 +1,4 @@
-//! What the command `gen` writes of its run.
+//! The output of the command `gen`.
 ghost use Rattle.std.specs.Prelude.{◌≡◌, [], ◌++◌, count_by, map, IfOk};
 ghost use Rattle.std.specs.List.{concat};
 ghost use Rattle.exchange_top.specs.Summary.{is_frame, summary_text};
@@ -8,7 +8,7 @@ use itoa::Buffer;
 use meters::{Meter, append_summaries};
 use std::alloc::{AllocError, Global};
 
-/// The line that counts the events and the frames of a trace, and each meter's text, in order.
+/// Returns the line that counts the events and the frames of a trace, and each meter's text, in order.
 pub fn summary(
     alloc: Global,
     trace: &Trace,
@@ -27,7 +27,7 @@ pub fn summary(
     Ok(text)
 }
 
-// How many of the events are frames.
+// Returns the number of frames among the events.
 fn frames_in(events: &[Event]) -> usize
     ensures { result ≡ count_by is_frame events.now }
 {

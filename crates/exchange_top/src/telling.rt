@@ -1,4 +1,4 @@
-//! The calls that ended, noted by meters.
+//! The meters record the calls that ended.
 ghost use Rattle.std.specs.Prelude.{[], ◌∷◌, OnOk, OnErr};
 ghost use Rattle.meters.specs.Telling.{IsTold};
 ghost use Rattle.exchange_top.specs.Telling.{AreTold, AreToldFront};
@@ -7,11 +7,11 @@ use exchange_events::CallRecord;
 use meters::Meter;
 use std::alloc::AllocError;
 
-/// Tells each meter of some calls, call by call.
+/// Records some calls on each meter, call by call.
 ///
 /// # Errors
 ///
-/// [`AllocError`] where memory runs out. Then each meter noted the first few of the calls.
+/// [`AllocError`] if an allocation fails. Then each meter recorded a prefix of the calls.
 pub fn tell(meters: &mut Vec<Box<dyn Meter>>, calls: &[CallRecord]) -> Result<(), AllocError>
     ensures told { OnOk result (AreTold (λ m. stands m) (λ m. text m) meters.old.items meters.new.items calls.now) }
     ensures front { OnErr result (AreToldFront (λ m. stands m) (λ m. text m) meters.old.items meters.new.items calls.now) }
@@ -19,7 +19,7 @@ pub fn tell(meters: &mut Vec<Box<dyn Meter>>, calls: &[CallRecord]) -> Result<()
     tell_calls(meters.as_mut_slice(), calls)
 }
 
-// The same for meters in a row.
+// Records some calls on each meter of a slice, call by call.
 fn tell_calls(meters: &mut [Box<dyn Meter>], calls: &[CallRecord]) -> Result<(), AllocError>
     ensures told { OnOk result (AreTold (λ m. stands m) (λ m. text m) meters.old meters.new calls.now) }
     ensures front { OnErr result (AreToldFront (λ m. stands m) (λ m. text m) meters.old meters.new calls.now) }
@@ -30,7 +30,7 @@ fn tell_calls(meters: &mut [Box<dyn Meter>], calls: &[CallRecord]) -> Result<(),
     Ok(())
 }
 
-// Tells each meter of a call.
+// Records a call on each meter.
 fn tell_call(meters: &mut [Box<dyn Meter>], told: &CallRecord) -> Result<(), AllocError>
     ensures told { OnOk result (AreTold (λ m. stands m) (λ m. text m) meters.old meters.new (told.now ∷ [])) }
     ensures front { OnErr result (AreToldFront (λ m. stands m) (λ m. text m) meters.old meters.new (told.now ∷ [])) }
@@ -41,7 +41,7 @@ fn tell_call(meters: &mut [Box<dyn Meter>], told: &CallRecord) -> Result<(), All
     Ok(())
 }
 
-// Tells a meter of a call.
+// Records a call on a meter.
 fn tell_one(meter: &mut Box<dyn Meter>, told: &CallRecord) -> Result<(), AllocError>
     ensures told { OnOk result (IsTold (told.now ∷ []) (stands meter.old) (stands meter.new) (text meter.old) (text meter.new)) }
     ensures kept { OnErr result (IsTold [] (stands meter.old) (stands meter.new) (text meter.old) (text meter.new)) }

@@ -13,14 +13,14 @@ pub trait Gate: Sync {
     /// Called after the frame worker has moved the octets of this frame.
     fn after_crossing(&self, frame: u32);
 
-    /// Whether each worker of a segment runs in its own thread, even if the segment has too few events for threads to
-    /// pay.
+    /// Returns whether each worker of a segment runs in its own thread, even if the segment has too few events for
+    /// threads to pay.
     fn apart(&self) -> bool {
         true
     }
 
-    /// Whether a call can wait for another thread. If so, no worker keeps the turn from one event to the next, because a
-    /// worker that waits with the turn stops all others.
+    /// Returns whether a call can wait for another thread. If so, no worker keeps the turn from one event to the next,
+    /// because a worker that waits with the turn stops all others.
     fn may_hold(&self) -> bool {
         true
     }

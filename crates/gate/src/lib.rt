@@ -1,8 +1,8 @@
-//! The places where a caller can hold the threads of a segment.
+//! The places at which a caller can hold the threads of a segment.
 //!
 //! The threads call a [`Gate`] before and after the step of an event, and before and after the crossing of a frame.
 //! [`OpenGate`] holds no thread. A [`TestGate`] makes two threads wait for each other, so a test sees that they ran at
-//! once. A gate guarantees only that each call ends, so no reply can depend on it.
+//! once. The contracts of a gate guarantee nothing, so no reply can depend on it.
 #![tactic(auto)]
 
 mod gate;

@@ -1,35 +1,35 @@
-//! A gate that holds two threads against each other.
+//! A gate that makes two threads wait for each other.
 use crate::Gate;
 use std::hint;
 use std::sync::atomic::{AtomicU64, Ordering};
 
-// How often a hold looks before it gives up.
+// The number of loads of a flag before a hold gives up. They take about a second, so a hold without a partner ends
+// soon.
 const LOOKS: u32 = 200_000_000;
 
-/// A gate that holds a turn and a crossing against each other. The turn at its event waits until the
-/// crossing of its frame has begun, and that crossing waits until the turn is over. Both go on only
-/// where the event's thread takes its turn while the frame's octets are being moved.
+/// A gate that holds a turn and a crossing. The turn at its event waits until the crossing of its frame has begun, and
+/// that crossing waits until the turn is over. Both go on only if the event's thread takes its turn while the octets of
+/// the frame move.
 ///
-/// A hold ends after 200,000,000 looks in any case, and then the gate keeps in mind that it had to.
+/// A hold ends after 200,000,000 loads of its flag in any case, and the gate then records that it gave up.
 #[derive(Drop)]
 pub struct TestGate {
     event: u32,
     frame: u32,
     looks: u32,
-    // Flags: 0, or 1 once it has come about.
+    // Flags: 0 at first, 1 after their event. They never return to 0, so a hold that gave up stays recorded.
     crossing: AtomicU64,
     turned: AtomicU64,
     gave_up: AtomicU64,
 }
 
 impl TestGate {
-    /// A gate for the turn at this event, counted from 1, and the crossing of this frame, counted
-    /// from 0.
+    /// Makes a gate for the turn at this event, counted from 1, and the crossing of this frame, counted from 0.
     pub fn new(event: u32, frame: u32) -> TestGate {
         TestGate::patient(event, frame, LOOKS)
     }
 
-    /// A gate whose holds end after n looks.
+    /// Makes a gate whose holds end after n loads of a flag.
     pub fn patient(event: u32, frame: u32, looks: u32) -> TestGate {
         TestGate {
             event,
@@ -41,12 +41,12 @@ impl TestGate {
         }
     }
 
-    /// Whether the crossing began and the turn ended, and no hold gave up. False of a new gate.
+    /// Returns whether the crossing began, the turn ended, and no hold gave up. False for a new gate.
     pub fn passed(&self) -> bool {
         is_set(&self.crossing) && is_set(&self.turned) && !is_set(&self.gave_up)
     }
 
-    // Waits for a flag, for n looks at most.
+    // Waits for a flag, for n loads at most. It spins without yielding, so that a load stays short.
     fn hold_until(&self, flag: &AtomicU64) {
         for _ in 0..self.looks {
             if is_set(flag) {

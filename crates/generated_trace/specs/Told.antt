@@ -1,4 +1,4 @@
--- What the lines of a generated trace say. Source: this exchange's own.
+-- The contents of the lines of a generated trace. Source: this project.
 use Rattle.std.specs.Prelude.{ℕ, List, fold, replicate, slice_set, Some, None}
 use Rattle.circuit_model.specs.declared.channel.Slot.{Slot}
 use Rattle.circuit_model.specs.FrameInput.{Input}
@@ -12,15 +12,15 @@ use Rattle.traffic_gen.specs.Lines.{Line, Part, Header, ToLine, ToRoom, Nail, Me
 abbrev pub slot_at : ℕ → ℕ → Slot
 slot_at line place = record { line = line; place = place }
 
--- a frame in which one line more sends octets
+-- a frame in which one more line sends octets
 abbrev pub with_octets : Input → Part → Input
 with_octets given part = slice_set given part.line (Some part.octets)
 
--- what arrives in a frame of eight lines: each of these sends its octets, and every other one is idle
+-- the input of a frame of eight lines: each of these sends its octets, and every other one is idle
 abbrev pub input_of : List Part → Input
 input_of parts = fold with_octets (replicate 8 None) parts
 
--- what a line says
+-- the contents of a line
 abbrev pub said_by : Line → Said
 said_by (Header external bridges processors) = said.Header (record { external = external; bridges = bridges; processors = processors })
 said_by (ToLine number line) = said.Numbered (record { digits = number; target = target.Line line })

@@ -1,4 +1,4 @@
-//! The law of generated traces.
+//! The theorem of generated traces.
 ghost use Rattle.std.specs.Prelude.{◌≡◌, ℕ, ◌≤◌, [], length};
 ghost use Rattle.exchange_events.specs.declared.trace.Trace.{Trace};
 ghost use Rattle.trace_text.specs.TraceGrammar.{IsWhatLinesSay};
@@ -6,9 +6,9 @@ ghost use Rattle.traffic_gen.specs.Fitting.{event_count};
 ghost use Rattle.traffic_gen.specs.Traffic.{traffic_lines};
 ghost use Rattle.generated_trace.specs.Generated.{HasExchangeSizes, IsTrafficOf, traffic_told};
 
-/// The octets that are generated of a seed are a trace, and one only: what their lines say. The
-/// exchange has eight external lines, one bridge line and four call processors, there is an event for
-/// each line that is one, and no meter is changed.
+/// The octets that are generated from a seed are exactly one trace, with the contents of their lines. The exchange has
+/// eight external lines, one bridge line and four call processors. There is an event for each line that is one, and no
+/// meter is changed.
 pub fn law_of_generated_traces()
     ensures some { (seed calls : ℕ) → calls ≤ 2000 → (t : Trace) × IsTrafficOf seed calls t }
     ensures one { (seed calls : ℕ) (t u : Trace) → IsTrafficOf seed calls t → IsTrafficOf seed calls u → t ≡ u }

@@ -1,12 +1,9 @@
-//! The traces that are generated from a seed: each is a trace of the grammar, whatever the seed.
+//! The traces that are generated from a seed: each is a trace of the grammar, for every seed.
 //!
-//! - [`generated`] returns the trace that the octets are which `traffic_gen` draws of a seed.
-//! - [`law_of_generated_traces`]: there is one of each seed and count of calls (`some`, `one`); it is
-//!   what the lines say that were drawn (`told`); its exchange and its number of events are the
-//!   definition's (`sizes`, `events`); and no meter is changed in it (`changes`).
-//!
-//! It uses `circuit_model`, `number_plan`, `exchange_events`, `traffic_gen` and `trace_text`, and
-//! the kit's `hex`.
+//! - [`generated`] returns the trace that `traffic_gen` generates from a seed.
+//! - [`law_of_generated_traces`]: each seed and number of calls has exactly one trace (`some`, `one`). It has the
+//!   contents of the drawn lines (`told`). The definition states its exchange and its number of events (`sizes`,
+//!   `events`), and no meter is changed in it (`changes`).
 #![tactic(auto)]
 
 mod laws;

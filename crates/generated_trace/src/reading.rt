@@ -1,4 +1,4 @@
-// The trace of a seed, read from the octets that are generated.
+// The trace of a seed, parsed from the generated octets.
 ghost use Rattle.std.specs.Prelude.{◌≤◌, IfOk};
 ghost use Rattle.exchange_events.specs.declared.trace.Trace.{Trace};
 ghost use Rattle.trace_text.specs.TraceGrammar.{IsTrace};
@@ -9,13 +9,12 @@ use std::alloc::{AllocError, Global};
 use trace_text::{TraceFault, read_trace};
 use traffic_gen::generate;
 
-/// The trace of a seed with n calls, 1 to 2000.
-///
-/// It is read from the octets that are generated, and these are never refused.
+/// Returns the trace of a seed with n calls, 1 to 2000. It is parsed from the generated octets, which are never
+/// refused.
 ///
 /// # Errors
 ///
-/// [`AllocError`] where memory runs out.
+/// [`AllocError`] if an allocation fails.
 pub fn generated(alloc: Global, seed: u64, calls: u32) -> Result<Trace, AllocError>
     requires some { 1 ≤ calls }
     requires most { calls ≤ 2000 }
@@ -25,7 +24,7 @@ pub fn generated(alloc: Global, seed: u64, calls: u32) -> Result<Trace, AllocErr
     read_back(alloc, octets.as_slice())
 }
 
-// The trace that octets are.
+// Parses octets that are a trace.
 fn read_back(alloc: Global, octets: &[u8]) -> Result<Trace, AllocError>
     requires { (t : Trace) × IsTrace octets.now t }
     ensures { IfOk result (λ t. IsTrace octets.now t) }

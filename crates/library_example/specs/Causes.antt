@@ -1,10 +1,10 @@
--- The calls that were cleared with one cause, and a count of them. Source: this exchange's own.
+-- The calls that were cleared with one cause, and a count of them. Source: this project.
 use Rattle.std.specs.Prelude.{◌≡◌, ℕ, ◌+◌, ◌==◌, List, ◌++◌, codes, decimal}
 use Rattle.std.specs.List.{count_by}
 use Rattle.exchange_events.specs.declared.record.CallRecord.{CallRecord}
 use Rattle.meters.specs.Registers.{register_value}
 
--- how many of the calls were cleared with this cause
+-- the number of calls that were cleared with this cause
 abbrev pub calls_with : ℕ → List CallRecord → ℕ
 calls_with cause calls = count_by (λ call. call.cause == cause) calls
 
@@ -13,7 +13,7 @@ pub record CauseCalls : Type 0 where
   pub cause : ℕ
   pub calls : ℕ
 
--- it represents a list of calls
+-- the count represents a list of calls
 abbrev pub IsCountOf : List CallRecord → CauseCalls → Type 0
 IsCountOf calls count = count.calls ≡ register_value (calls_with count.cause calls)
 

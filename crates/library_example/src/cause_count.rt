@@ -9,7 +9,7 @@ use meters::Meter;
 use std::alloc::{AllocError, Global};
 use std::marker::Model;
 
-/// Counts the calls that were cleared with one cause. Its text is the line `cause C: N`, where N stays at
+/// Counts the calls that were cleared with one cause. Its text is the line `cause C: N`, where N saturates at
 /// 18,446,744,073,709,551,615.
 #[derive(Drop)]
 pub(crate) struct CauseCount {

@@ -40,7 +40,7 @@ fn meters(alloc: Global) -> Result<Vec<Box<dyn Meter>>, AllocError> {
     Ok(meters)
 }
 
-// Returns the report of the trace with the texts of the meters after it; nothing where the trace was not run.
+// Returns the report of the trace with the texts of the meters after it, or nothing if the trace was not run.
 fn report<R: Threads + Wait + Sync>(rt: &R, alloc: Global) -> Result<Vec<u8>, AllocError> {
     let words = vec![in alloc; String::from_str(alloc, "run")?]?;
     let mut trace = Vec::new(alloc);

@@ -1,4 +1,4 @@
--- Lines of events, as they are kept until they are written. Source: this exchange's own.
+-- The lines of events, stored until they are written. Source: this project.
 use Rattle.std.specs.Prelude.{◌≡◌, ℕ, ◌<◌, ◌≤◌, List, [], ◌∷◌, ◌++◌, length, drop, All, Option, Some, None}
 use Rattle.exchange_events.specs.declared.record.CallRecord.{CallRecord}
 use Rattle.report_text.specs.Report.{answer_line}
@@ -7,37 +7,37 @@ use Rattle.line_list.specs.declared.listing.Listing.{Listing}
 use Rattle.line_list.specs.declared.listing.Listing.TheVariants as listing
 use Rattle.call_profile.specs.CallsTold.{calls_kept}
 
--- what is kept of an event: its place in the history, its line, and the records of the calls that ended with it
+-- the stored result of an event: its position in the history, its line, and the records of the calls that ended with it
 pub record Line : Type 0 where
   pub place : ℕ
   pub text : List ℕ
   pub records : List CallRecord
 
--- what a run writes of a report
+-- the part of a report that a run writes
 abbrev pub listed : Listing → List ℕ → List ℕ
 listed listing.Report text = text
 listed listing.Nothing text = []
 
--- the line of an answer at its place; where nothing is listed, it is empty
+-- the line of an answer at its position, which is empty if nothing is listed
 abbrev pub line_of : Listing → Placed → Line
 line_of l p = record { place = p.place; text = listed l (answer_line p.answer); records = calls_kept p.answer.reply }
 
--- the text of lines, one after another
+-- the text of consecutive lines
 abbrev pub text_of : List Line → List ℕ
 text_of [] = []
 text_of (l ∷ ls) = l.text ++ text_of ls
 
--- the records of lines, one line after another
+-- the records of consecutive lines
 abbrev pub calls_of : List Line → List CallRecord
 calls_of [] = []
 calls_of (l ∷ ls) = l.records ++ calls_of ls
 
--- the place of the first of these lines
+-- the position of the first of these lines
 abbrev pub first_line : List Line → Option ℕ
 first_line [] = None
 first_line (l ∷ ls) = Some l.place
 
--- The first lines were handed to others: the first of all, and the next ones as far as they come before a place.
+-- The first lines moved to the end of others: the first one, and the next ones as long as they come before a position.
 pub record HandsLines (below : ℕ) (lines others from to : List Line) : Type 0 where
   pub run : List Line
   pub parts : lines ≡ run ++ from

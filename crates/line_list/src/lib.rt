@@ -2,14 +2,12 @@
 //!
 //! A [`LineList`] is a `Keeper` (of `call_processor`). It formats the line of an event directly from the response and
 //! the outbox of the step, and appends it to one text. It copies nothing into an answer, and it allocates only when a
-//! buffer grows. It stores the place, the line and the records of each answer (`line_of`). A run of lines moves to
+//! buffer grows. It stores the position, the line and the records of each answer (`line_of`). A run of lines moves to
 //! another list with one copy of its text, of its records and of its marks.
 //!
-//! Its type states what it lists ([`ListingKind`]): with [`ReportLines`] it has lines, and with [`NoLines`] it has only
-//! records. [`LineList::text`] returns the text of its lines and [`LineList::records`] their records (`text`,
-//! `records`).
-//!
-//! It uses `exchange_events`, `report_text`, `call_processor` and `call_profile`.
+//! Its type states the contents that it lists ([`ListingKind`]): with [`ReportLines`] it has lines, and with
+//! [`NoLines`] it has only records. [`LineList::text`] returns the text of its lines and [`LineList::records`] their
+//! records (`text`, `records`).
 #![tactic(auto)]
 
 mod lines;

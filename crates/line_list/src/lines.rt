@@ -14,10 +14,10 @@ use report_text::append_line;
 use std::alloc::{AllocError, Global};
 use std::marker::Model;
 
-/// The mark of a line: the place of its event in the history, and the number of its octets and of its records.
+/// The mark of a line: the position of its event in the history, and the number of its octets and of its records.
 #[derive(Clone, Copy, Debug, PartialEq, Eq)]
 pub struct Mark {
-    /// The place of its event in the history.
+    /// The position of its event in the history.
     pub place: u32,
     /// The number of octets of the line.
     pub octets: usize,
@@ -54,11 +54,11 @@ pub struct Buffers {
     pub marks: Vec<Mark>,
 }
 
-/// Lines, each with its place in the history and with the records of the calls that ended. The model is their list.
+/// Lines, each with its position in the history and with the records of the calls that ended. The model is their list.
 #[derive(Drop)]
 pub struct Lines {
-    // The lines that were moved to another list, and then the others. A mark has the length of its line, not its end, so
-    // a run is appended unchanged, and nothing is shifted.
+    // The lines that were moved to another list, and then the others. A mark has the length of its line, not its end,
+    // so a run is appended unchanged, and nothing is shifted.
     buffers: Buffers,
     // The extent of the lines that were moved.
     handed: Extent,
@@ -77,7 +77,7 @@ impl Model for Lines {
 }
 
 impl Lines {
-    /// No lines. It reuses the buffer of a text.
+    /// Returns an empty list. It reuses the buffer of a text.
     pub fn new(alloc: Global, mut text: Vec<u8>) -> Lines
         ensures { result ≡ [] }
     {
@@ -102,7 +102,7 @@ impl Lines {
         self.handed = NONE;
     }
 
-    /// Appends the line of an event at its place in the history, from the response and the outbox of its step. If
+    /// Appends the line of an event at its position in the history, from the response and the outbox of its step. If
     /// nothing is listed, the line is empty.
     ///
     /// # Errors
@@ -131,7 +131,7 @@ impl Lines {
         )
     }
 
-    /// The number of lines.
+    /// Returns the number of lines.
     pub fn count(&self) -> usize
         ensures { result ≡ length self.now }
     {
@@ -152,7 +152,7 @@ impl Lines {
         self.buffers.marks.truncate(end.lines);
     }
 
-    /// The place of the first line.
+    /// Returns the position of the first line.
     pub fn first_place(&self) -> Option<u32>
         ensures { result ≡ first_line self.now }
     {
@@ -162,7 +162,7 @@ impl Lines {
         }
     }
 
-    /// Moves the first line to the end of others, and the next ones as long as they come before the place `below`.
+    /// Moves the first line to the end of others, and the next ones as long as they come before the position `below`.
     ///
     /// # Errors
     ///
@@ -181,14 +181,14 @@ impl Lines {
         Ok(())
     }
 
-    /// The text of the lines.
+    /// Returns the text of the lines.
     pub fn text(&self) -> &[u8]
         ensures { result.now ≡ text_of self.now }
     {
         &self.buffers.text.as_slice()[self.handed.octets..]
     }
 
-    /// The records of the calls that ended, line by line.
+    /// Returns the records of the calls that ended, line by line.
     pub fn records(&self) -> &[CallRecord]
         ensures { result.now ≡ calls_of self.now }
     {
@@ -196,7 +196,8 @@ impl Lines {
     }
 }
 
-// Appends the line of an event, if lines are listed, its records and its mark. An error leaves the buffers unchanged.
+// Appends the line of an event if lines are listed, and its records and its mark. An error leaves the buffers
+// unchanged.
 fn append_event(
     buffers: &mut Buffers,
     listing: Listing,
@@ -265,7 +266,7 @@ fn append_listed(
     }
 }
 
-// The records of the calls that ended in a step.
+// Returns the records of the calls that ended in a step.
 fn records_told(response: Response, outbox: &Outbox) -> &[CallRecord]
     ensures { result.now ≡ calls_kept (kept_of (reply_of response outbox.now)) }
 {
@@ -313,7 +314,7 @@ fn append_marked(
     done
 }
 
-// The items from one place to another.
+// Returns the items from one position to another.
 fn between<T>(items: &Vec<T>, start: usize, end: usize) -> &[T]
     requires order { start ≤ end }
     requires within { end ≤ length items.now.items }
@@ -322,7 +323,7 @@ fn between<T>(items: &Vec<T>, start: usize, end: usize) -> &[T]
     &items.as_slice()[start..end]
 }
 
-// The marks of the lines after those that were moved.
+// Returns the marks of the lines after those that were moved.
 fn marks_left(marks: &Vec<Mark>, handed: usize) -> &[Mark]
     requires { handed ≤ length marks.now.items }
     ensures { result.now ≡ drop handed marks.now.items }
@@ -330,7 +331,7 @@ fn marks_left(marks: &Vec<Mark>, handed: usize) -> &[Mark]
     &marks.as_slice()[handed..]
 }
 
-// The length of the first run: the first line, and the next ones as long as they come before a place.
+// Returns the length of the first run: the first line, and the next ones as long as they come before a position.
 fn run_length(marks: &[Mark], below: u32) -> usize
     ensures within { result ≤ length marks.now }
     ensures some { 0 < length marks.now → 0 < result }
@@ -347,7 +348,7 @@ fn run_length(marks: &[Mark], below: u32) -> usize
     count
 }
 
-// The extent of lines together with those before them.
+// Returns the extent of lines together with those before them.
 fn behind(front: Extent, marks: &[Mark]) -> Extent
     requires lines { front.lines + length marks.now < 2 ^ 64 }
     requires octets { front.octets + octets_in marks.now < 2 ^ 64 }

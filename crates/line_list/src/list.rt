@@ -26,7 +26,7 @@ impl<L> Model for LineList<L> {
 }
 
 impl<L> LineList<L> {
-    /// An empty list, which reuses the buffer of a text.
+    /// Returns an empty list, which reuses the buffer of a text.
     pub fn new(alloc: Global, text: Vec<u8>) -> LineList<L>
         ensures { result ≡ [] }
     {
@@ -36,14 +36,14 @@ impl<L> LineList<L> {
         }
     }
 
-    /// The text of the lines.
+    /// Returns the text of the lines.
     pub fn text(&self) -> &[u8]
         ensures { result.now ≡ text_of self.now }
     {
         self.lines.text()
     }
 
-    /// The records of the calls that ended, line by line.
+    /// Returns the records of the calls that ended, line by line.
     pub fn records(&self) -> &[CallRecord]
         ensures { result.now ≡ calls_of self.now }
     {

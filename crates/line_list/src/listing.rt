@@ -3,7 +3,7 @@ ghost use Rattle.std.specs.Prelude.{◌≡◌};
 ghost use Rattle.line_list.specs.declared.listing.Listing.{Listing};
 ghost use Rattle.line_list.specs.declared.listing.Listing.TheVariants as listed;
 
-/// What a run writes for its events.
+/// The text that a run writes for its events.
 #[derive(Clone, Copy, Debug, PartialEq, Eq)]
 pub enum Listing {
     /// The lines of their report.
@@ -17,7 +17,7 @@ pub trait ListingKind {
     /// The listing.
     ghost listing: { Listing };
 
-    /// The listing.
+    /// Returns the listing.
     fn listing() -> Listing
         ensures { result ≡ listing };
 }

@@ -1,5 +1,5 @@
--- What a ring of call detail records holds and says. A call detail record tells who called whom, from when to when, and why the call ended
--- (ITU-T Q.825); its line is this exchange's own.
+-- The contents and the text of a ring of call detail records. A call detail record has the caller, the called party,
+-- the first and last frame and the cause (ITU-T Q.825); its line is defined by this project.
 use Rattle.std.specs.Prelude.{◌≡◌, ℕ, ◌-◌, List, [], ◌∷◌, ◌++◌, length, drop, codes, decimal}
 use Rattle.circuit_model.specs.declared.channel.Slot.{Slot}
 use Rattle.circuit_model.specs.Channels.{channel_at}
@@ -15,16 +15,17 @@ last_of most xs = drop (length xs - most) xs
 abbrev pub slot_text : Slot → List ℕ
 slot_text at = decimal at.line ++ codes "/" ++ decimal (channel_at at.place)
 
--- whom a caller called: a slot or a room
+-- the called party: a slot or a room
 abbrev pub party_text : Party → List ℕ
 party_text (Line at) = slot_text at
 party_text (Room number) = codes "room " ++ decimal number
 
--- a number behind a blank
+-- a number after a space
 abbrev pub figure : ℕ → List ℕ
 figure number = codes " " ++ decimal number
 
--- the line of a call: who called whom, the first frame, the one in which its clearing began, and the cause value
+-- the line of a call: the caller, the called party, the first frame, the frame in which its clearing began, and the
+-- cause value
 abbrev pub call_line : CallRecord → List ℕ
 call_line call =
     codes "call " ++ slot_text call.caller ++ codes " " ++ party_text call.called ++ figure call.from ++ figure call.to ++ figure call.cause ++ codes "\n"
@@ -37,15 +38,15 @@ call_lines (call ∷ calls) = call_line call ++ call_lines calls
 abbrev pub detail_text : ℕ → List CallRecord → List ℕ
 detail_text keep calls = call_lines (last_of keep calls)
 
--- a ring of call detail records: how many it keeps, and those that it holds, from the oldest
+-- a ring of call detail records: its capacity, and its records from the oldest
 pub record Ring : Type 0 where
   pub keep : ℕ
   pub calls : List CallRecord
 
--- it represents a list of calls
+-- the ring represents a list of calls
 abbrev pub IsRingOf : List CallRecord → Ring → Type 0
 IsRingOf calls ring = ring.calls ≡ last_of ring.keep calls
 
--- the text of a ring once it has noted these calls too
+-- the text of a ring after further calls
 abbrev pub detail_text_with : Ring → List CallRecord → List ℕ
 detail_text_with ring more = detail_text ring.keep (ring.calls ++ more)

@@ -1,4 +1,4 @@
--- Three calls, noted one after the other, and what the meters say of them. Source: worked out by hand.
+-- Three calls in sequence, and the meters' texts of them. Source: worked out by hand.
 use Rattle.std.specs.Prelude.{ℕ, Bool, true, false, List, [], ◌∷◌, codes}
 use Rattle.circuit_model.specs.declared.channel.Slot.{Slot}
 use Rattle.exchange_events.specs.declared.record.Party.{Party}
@@ -20,7 +20,7 @@ three_calls =
     ∷ call (slot 7 15) (Line (slot 0 1)) false 9 8 17
     ∷ []
 
--- a call to a room that is accepted and cleared, a change of meters, a frame, and two changes
+-- a call to a room, its acceptance and its clearing, a change of meters, a frame, and two changes
 abbrev pub first_steps : List Step
 first_steps =
     Event_done (codes "1 message moved 0 0 0:08028001021803A98381 0:0802800107\n") []
@@ -31,13 +31,13 @@ first_steps =
 abbrev pub last_steps : List Step
 last_steps = Event_done (codes "3 frame 0\n") [] ∷ Meters_changed ∷ Meters_changed ∷ []
 
--- meters that are known by their texts, some of them on and some spare
+-- active and spare meters, each known by its text
 abbrev pub Texts : Type 0
 Texts = List (List CallRecord → List ℕ)
 
 abbrev pub metering_of : Texts → Texts → Metering (List CallRecord → List ℕ)
 metering_of meters spare = handed_in meters spare
 
--- what is written of these steps by such meters
+-- the text of these steps with such meters
 abbrev pub written_by : List Step → Texts → Texts → List ℕ
 written_by steps meters spare = steps_text (λ text records. text records) steps (handed_in meters spare)

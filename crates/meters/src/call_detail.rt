@@ -11,10 +11,10 @@ use std::alloc::{AllocError, Global};
 use std::collections::VecDeque;
 use std::marker::Model;
 
-/// Keeps the records of the last calls, as many as it is made for.
+/// Stores the records of the last `keep` calls.
 ///
-/// Its text has a line for each of them, the oldest first: `call CALLER CALLED FROM TO CAUSE`, where
-/// a slot is `L/C`, its line and its channel's number, and a room is `room R`.
+/// Its text has a line for each of them, the oldest first: `call CALLER CALLED FROM TO CAUSE`. A slot is `L/C`, its
+/// line and the number of its channel, and a room is `room R`.
 #[derive(Drop)]
 pub struct CallDetail {
     keep: u32,
@@ -34,12 +34,12 @@ impl Model for CallDetail {
 }
 
 impl CallDetail {
-    /// A ring that keeps the last `keep` records, 1 to 65,535, and has noted no call. It has room
-    /// for all of them from the start.
+    /// Makes a ring that stores the last `keep` records, 1 to 65,535, and has recorded no call. It has capacity for all
+    /// of them from the start, so no record allocates or moves another.
     ///
     /// # Errors
     ///
-    /// [`AllocError`] where memory runs out.
+    /// [`AllocError`] if an allocation fails.
     pub fn new(alloc: Global, keep: u32) -> Result<CallDetail, AllocError>
         requires { (1 ≤ keep) × (keep ≤ 65535) }
         ensures keep { IfOk result (λ ring. ring.keep ≡ keep) }
@@ -56,8 +56,8 @@ impl Meter for CallDetail {
 
     ghost text = { detail_text_with };
 
-    /// Tells the meter of one more call: where it is full, the oldest record goes. It takes no memory,
-    /// moves no record and never refuses.
+    /// Records one more call. If the ring is full, its oldest record is removed first. It does not allocate and never
+    /// fails.
     fn note(&mut self, told: &CallRecord) -> Result<(), AllocError>
         ensures done { IsOk result }
         ensures keep { self.new.keep ≡ self.old.keep }
@@ -84,7 +84,7 @@ impl Meter for CallDetail {
     }
 }
 
-// Lets the oldest record go where the ring is full.
+// Removes the oldest record if the ring is full.
 fn make_room(calls: &mut VecDeque<CallRecord>, keep: u32)
     requires { (0 < keep) × (deque_len calls.old ≤ keep) }
     ensures last { calls.new.items ≡ last_of (keep - 1) calls.old.items }
@@ -96,7 +96,7 @@ fn make_room(calls: &mut VecDeque<CallRecord>, keep: u32)
     }
 }
 
-// The lines of a ring's records. A refusal leaves a prefix of them.
+// Appends the lines of a ring's records. An error leaves a prefix of them.
 fn put_ring(out: &mut Vec<u8>, calls: &VecDeque<CallRecord>) -> Result<(), AllocError>
     ensures lines { OnOk result (out.new.items ≡ out.old.items ++ call_lines calls.now.items) }
     ensures front { take (length out.old.items) out.new.items ≡ out.old.items }
@@ -106,7 +106,7 @@ fn put_ring(out: &mut Vec<u8>, calls: &VecDeque<CallRecord>) -> Result<(), Alloc
     put_calls(out, newer)
 }
 
-// The lines of some records in a row. A refusal leaves a prefix of them.
+// Appends the lines of some records. An error leaves a prefix of them.
 fn put_calls(out: &mut Vec<u8>, calls: &[CallRecord]) -> Result<(), AllocError>
     ensures lines { OnOk result (out.new.items ≡ out.old.items ++ call_lines calls.now) }
     ensures front { take (length out.old.items) out.new.items ≡ out.old.items }

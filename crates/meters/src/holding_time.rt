@@ -1,4 +1,4 @@
-//! How many frames calls took, all together and the longest.
+//! The number of frames of calls, in total and of the longest.
 ghost use Rattle.std.specs.Prelude.{◌≡◌, ◌++◌, [], ◌∷◌, List, OnOk, OnErr, IsOk};
 ghost use Rattle.exchange_events.specs.declared.record.CallRecord.{CallRecord};
 ghost use Rattle.meters.specs.Registers.{IsHeldBy, holding_text, holding_text_with};
@@ -9,9 +9,10 @@ use exchange_events::CallRecord;
 use std::alloc::AllocError;
 use std::marker::Model;
 
-/// Adds up how long calls held their circuits, and keeps the longest such time, in frames.
+/// Adds up the frames in which calls held their circuits, and stores the longest such time.
 ///
-/// Its text is the line `holding TOTAL LONGEST`. Both times stay at 18,446,744,073,709,551,615.
+/// Its text is the line `holding TOTAL LONGEST`. Both registers saturate at 18,446,744,073,709,551,615. No record
+/// reaches that for the longest call, but one rule serves all registers.
 #[derive(Drop)]
 pub struct HoldingTime {
     total: u64,
@@ -27,7 +28,7 @@ impl Model for HoldingTime {
 }
 
 impl HoldingTime {
-    /// A holding time that has noted no call. It takes no memory.
+    /// Makes a holding time that has recorded no call. It does not allocate.
     pub fn new() -> HoldingTime
         ensures stands { IsHeldBy [] result }
         ensures text { (calls : List CallRecord) → holding_text_with result calls ≡ holding_text calls }
@@ -44,7 +45,7 @@ impl Meter for HoldingTime {
 
     ghost text = { holding_text_with };
 
-    /// Tells the meter of one more call. It takes no memory and never refuses.
+    /// Records one more call. It does not allocate and never fails.
     fn note(&mut self, told: &CallRecord) -> Result<(), AllocError>
         ensures done { IsOk result }
         ensures stands { (calls : List CallRecord) → IsHeldBy calls self.old → IsHeldBy (calls ++ told.now ∷ []) self.new }

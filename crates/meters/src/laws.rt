@@ -1,4 +1,4 @@
-// Laws about the definitions alone: these functions do nothing, and their contracts are the laws.
+// Theorems about the definitions only: these functions do nothing, and their contracts are the theorems.
 ghost use Rattle.std.specs.Prelude.{◌≡◌, ◌+◌, ◌^◌, ◌++◌, ◌∷◌, List, [], codes};
 ghost use Rattle.meters.specs.Details.{Ring, IsRingOf, detail_text, detail_text_with};
 ghost use Rattle.meters.specs.Changing.{Step, Metering, AreEvents, AreMetered, HaveNoted, after_steps, handed_in, lines_of, records_of, steps_text};
@@ -7,15 +7,15 @@ ghost use Rattle.meters.specs.Registers.{Pegs, Held, register_value, ArePegsOf, 
 
 use crate::meter::Meter;
 
-/// The law of texts: what a meter that represents some calls would say once it has noted more is
-/// the text over them all. So what it says now is the text over the calls that it represents.
+/// The text of a meter after further calls is the text over all calls, those that it represents and the further ones.
+/// So its text at any time is the text over the calls that it represents.
 pub fn law_of_texts()
     ensures detail { (ring : Ring) (calls more : _) → IsRingOf calls ring → detail_text_with ring more ≡ detail_text ring.keep (calls ++ more) }
     ensures pegs { (pegs : Pegs) (calls more : _) → ArePegsOf calls pegs → peg_text_with pegs more ≡ peg_text (calls ++ more) }
     ensures holding { (held : Held) (calls more : _) → IsHeldBy calls held → holding_text_with held more ≡ holding_text (calls ++ more) }
 {}
 
-/// Three calls, and what the definitions make of them.
+/// Three calls, and the texts that the definitions give.
 pub fn worked_texts()
     ensures all { detail_text 3 three_calls ≡ codes "call 0/1 12/31 2 10 16\ncall 31/15 room 63 100 4100 102\ncall 7/17 0/2 9 8 17\n" }
     ensures last { detail_text 1 three_calls ≡ codes "call 7/17 0/2 9 8 17\n" }
@@ -25,10 +25,9 @@ pub fn worked_texts()
     ensures full { register_value (2 ^ 64 + 5) ≡ 18446744073709551615 }
 {}
 
-/// The law of changes: what is written of steps that come one after another, and the meters after them,
-/// is put together of what the first and the others make (`texts`, `meters`). Where no meter is changed,
-/// what is written is the lines of the events, each meter notes all of their records, and the spare ones
-/// are as they were (`lines`, `times`, `noted`).
+/// The text of consecutive steps, and the meters after them, are composed from the first steps and the others (`texts`,
+/// `meters`). If no meter is changed, the text has the lines of the events, each meter records all of their calls, and
+/// the spare meters are unchanged (`lines`, `times`, `noted`).
 pub fn law_of_changes<M: Meter>()
     ensures texts { (xs ys : List Step) (s : Metering M) → steps_text M.text (xs ++ ys) s ≡ steps_text M.text xs s ++ steps_text M.text ys (after_steps xs s) }
     ensures meters { (xs ys : List Step) (s : Metering M) → after_steps (xs ++ ys) s ≡ after_steps ys (after_steps xs s) }
@@ -39,8 +38,8 @@ pub fn law_of_changes<M: Meter>()
         → HaveNoted M.stands M.text (records_of steps) old new → AreMetered M.stands M.text (after_steps steps (handed_in old spare)) new spare }
 {}
 
-/// A call, a frame and three changes: what is written with one meter on and one spare, and with three of
-/// each; and what the changes leave.
+/// A call, a frame and three changes: the text with one active and one spare meter, and with three of each; and the
+/// meters after the changes.
 pub fn worked_changes()
     ensures pegs { written_by (first_steps ++ last_steps) (peg_text ∷ []) (peg_text ∷ [])
         ≡ codes "1 message moved 0 0 0:08028001021803A98381 0:0802800107\n2 message\npeg 1 1\n3 frame 0\npeg 0 0\n" }

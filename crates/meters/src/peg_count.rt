@@ -1,4 +1,4 @@
-//! How many calls there were, and how many of them were answered.
+//! The number of calls, and of answered calls.
 ghost use Rattle.std.specs.Prelude.{◌≡◌, ◌++◌, [], ◌∷◌, List, OnOk, OnErr, IsOk};
 ghost use Rattle.exchange_events.specs.declared.record.CallRecord.{CallRecord};
 ghost use Rattle.meters.specs.Registers.{ArePegsOf, peg_text, peg_text_with};
@@ -9,9 +9,9 @@ use exchange_events::CallRecord;
 use std::alloc::AllocError;
 use std::marker::Model;
 
-/// Counts calls, and those among them that were answered.
+/// Counts calls, and the answered ones among them.
 ///
-/// Its text is the line `peg CALLS ANSWERED`. Both counts stay at 18,446,744,073,709,551,615.
+/// Its text is the line `peg CALLS ANSWERED`. Both counts saturate at 18,446,744,073,709,551,615.
 #[derive(Drop)]
 pub struct PegCount {
     calls: u64,
@@ -27,7 +27,7 @@ impl Model for PegCount {
 }
 
 impl PegCount {
-    /// A peg count that has noted no call. It takes no memory.
+    /// Makes a peg count that has recorded no call. It does not allocate.
     pub fn new() -> PegCount
         ensures stands { ArePegsOf [] result }
         ensures text { (calls : List CallRecord) → peg_text_with result calls ≡ peg_text calls }
@@ -44,7 +44,7 @@ impl Meter for PegCount {
 
     ghost text = { peg_text_with };
 
-    /// Tells the meter of one more call. It takes no memory and never refuses.
+    /// Records one more call. It does not allocate and never fails.
     fn note(&mut self, told: &CallRecord) -> Result<(), AllocError>
         ensures done { IsOk result }
         ensures stands { (calls : List CallRecord) → ArePegsOf calls self.old → ArePegsOf (calls ++ told.now ∷ []) self.new }

@@ -9,7 +9,7 @@ use std::alloc::AllocError;
 ///
 /// # Errors
 ///
-/// [`AllocError`] where memory runs out, and then `out` is as it was.
+/// [`AllocError`] if an allocation fails. Then `out` is unchanged.
 pub fn append_summaries(meters: &[Box<dyn Meter>], out: &mut Vec<u8>) -> Result<(), AllocError>
     ensures texts { OnOk result (out.new.items ≡ out.old.items ++ concat (map (λ meter. text meter []) meters.now)) }
     ensures kept { OnErr result (out.new.items ≡ out.old.items) }
@@ -22,7 +22,7 @@ pub fn append_summaries(meters: &[Box<dyn Meter>], out: &mut Vec<u8>) -> Result<
     done
 }
 
-// The same, and a refusal leaves a prefix of the texts.
+// Appends each meter's text, in order. An error leaves a prefix of the texts.
 fn put_summaries(meters: &[Box<dyn Meter>], out: &mut Vec<u8>) -> Result<(), AllocError>
     ensures texts { OnOk result (out.new.items ≡ out.old.items ++ concat (map (λ meter. text meter []) meters.now)) }
     ensures front { take (length out.old.items) out.new.items ≡ out.old.items }

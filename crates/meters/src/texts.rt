@@ -1,4 +1,4 @@
-// The pieces of the meters' texts. Each leaves a prefix of what it appends where memory is wanting.
+// The parts of the meters' texts. If an allocation fails, each leaves a prefix of its part.
 ghost use Rattle.std.specs.Prelude.{◌≡◌, ◌++◌, length, take, codes, decimal, OnOk, OnErr};
 ghost use Rattle.circuit_model.specs.Channels.{channel_at};
 ghost use Rattle.meters.specs.Details.{slot_text, party_text, figure, call_line};
@@ -8,7 +8,7 @@ use exchange_events::{CallRecord, Party};
 use itoa::Buffer;
 use std::alloc::AllocError;
 
-// Appends the line of two registers. A refusal leaves the text as it was.
+// Appends the line of two registers. An error leaves the text unchanged.
 pub(crate) fn append_registers(
     out: &mut Vec<u8>,
     word: &[u8],
@@ -26,7 +26,7 @@ pub(crate) fn append_registers(
     done
 }
 
-// A word and two numbers, each behind a blank but the first.
+// Appends a word and two numbers, each number after a space.
 fn put_registers(out: &mut Vec<u8>, word: &[u8], a: u64, b: u64) -> Result<(), AllocError>
     ensures line { OnOk result (out.new.items ≡ out.old.items ++ word.now ++ decimal a ++ codes " " ++ decimal b ++ codes "\n") }
     ensures front { take (length out.old.items) out.new.items ≡ out.old.items }
@@ -38,7 +38,7 @@ fn put_registers(out: &mut Vec<u8>, word: &[u8], a: u64, b: u64) -> Result<(), A
     out.extend_from_slice(b"\n")
 }
 
-// The line of a call.
+// Appends the line of a call.
 pub(crate) fn put_call(out: &mut Vec<u8>, call: &CallRecord) -> Result<(), AllocError>
     ensures line { OnOk result (out.new.items ≡ out.old.items ++ call_line call.now) }
     ensures front { take (length out.old.items) out.new.items ≡ out.old.items }
@@ -56,7 +56,7 @@ fn put_caller(out: &mut Vec<u8>, caller: Slot) -> Result<(), AllocError>
     put_slot(out, caller)
 }
 
-// Whom the caller called, behind a blank.
+// Appends the called party after a space.
 fn put_called(out: &mut Vec<u8>, called: Party) -> Result<(), AllocError>
     ensures called { OnOk result (out.new.items ≡ out.old.items ++ codes " " ++ party_text called) }
     ensures front { take (length out.old.items) out.new.items ≡ out.old.items }
@@ -65,7 +65,7 @@ fn put_called(out: &mut Vec<u8>, called: Party) -> Result<(), AllocError>
     put_party(out, called)
 }
 
-// The frames and the cause of a call, each behind a blank, and the end of the line.
+// Appends the frames and the cause of a call, each after a space, and the end of the line.
 fn put_figures(out: &mut Vec<u8>, from: u32, to: u32, cause: u8) -> Result<(), AllocError>
     ensures figures { OnOk result (out.new.items ≡ out.old.items ++ figure from ++ figure to ++ figure cause ++ codes "\n") }
     ensures front { take (length out.old.items) out.new.items ≡ out.old.items }
@@ -76,7 +76,7 @@ fn put_figures(out: &mut Vec<u8>, from: u32, to: u32, cause: u8) -> Result<(), A
     out.extend_from_slice(b"\n")
 }
 
-// A number behind a blank.
+// Appends a number after a space.
 fn put_figure(out: &mut Vec<u8>, number: u64) -> Result<(), AllocError>
     ensures figure { OnOk result (out.new.items ≡ out.old.items ++ figure number) }
     ensures front { take (length out.old.items) out.new.items ≡ out.old.items }
@@ -85,7 +85,7 @@ fn put_figure(out: &mut Vec<u8>, number: u64) -> Result<(), AllocError>
     put_number(out, number)
 }
 
-// Whom a caller called.
+// Appends the called party.
 fn put_party(out: &mut Vec<u8>, party: Party) -> Result<(), AllocError>
     ensures party { OnOk result (out.new.items ≡ out.old.items ++ party_text party) }
     ensures front { take (length out.old.items) out.new.items ≡ out.old.items }
@@ -99,7 +99,7 @@ fn put_party(out: &mut Vec<u8>, party: Party) -> Result<(), AllocError>
     }
 }
 
-// A slot by its line and its channel's number.
+// Appends a slot: its line and the number of its channel.
 fn put_slot(out: &mut Vec<u8>, at: Slot) -> Result<(), AllocError>
     ensures slot { OnOk result (out.new.items ≡ out.old.items ++ slot_text at) }
     ensures front { take (length out.old.items) out.new.items ≡ out.old.items }
@@ -109,8 +109,8 @@ fn put_slot(out: &mut Vec<u8>, at: Slot) -> Result<(), AllocError>
     put_number(out, channel_number(at.place))
 }
 
-// The number of the channel at a place. A record may name a place that no line has, since nothing
-// is asked of it; it is numbered by the same rule.
+// Returns the number of the channel at a place. A record can have a place that no line has, since `note` requires
+// nothing of it. The same rule gives its number, in more than eight bits.
 fn channel_number(place: u8) -> u64
     ensures { result ≡ channel_at place }
 {

@@ -1,4 +1,4 @@
--- The octets of each tone, from a table for each. Source: this exchange's own.
+-- The octets of each tone, from a table for each. Source: this project.
 use Rattle.std.specs.Prelude.{ℕ, List}
 use Rattle.circuit_model.specs.declared.circuit.Kind.{Kind}
 use Rattle.circuit_model.specs.declared.circuit.Kind.TheVariants.{Ringback, Busy}

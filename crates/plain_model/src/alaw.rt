@@ -3,14 +3,14 @@
 ghost use Rattle.std.specs.Prelude.{◌≡◌, ◌<◌, ◌≤◌, slice_index};
 ghost use Rattle.circuit_model.specs.ALaw.{widths, decision_values, interval_of, expand, compress};
 
-/// How many intervals there are on each side of zero.
+/// The number of intervals on each side of zero.
 const INTERVALS: u8 = 128;
 
 /// The even bits of an octet, which are inverted on the line (ITU-T G.711, table 1a, note 2).
 const EVEN_BITS: u8 = 0x55;
 
-/// The value of an octet: the middle of its interval, found by adding up the widths of the intervals
-/// below it, with the sign of the character.
+/// Returns the value of an octet: the middle of its interval, found by adding up the widths of the intervals below it,
+/// with the sign of the character.
 pub fn expand_by_search(octet: u8) -> i32
     ensures { result ≡ expand octet }
 {
@@ -24,15 +24,15 @@ pub fn expand_by_search(octet: u8) -> i32
     }
 }
 
-/// The octet of a value: the first interval that ends beyond its magnitude, or the last one, with
-/// the sign of the value; zero is positive.
+/// Returns the octet of a value: the first interval that ends beyond its magnitude, or the last one, with the sign of
+/// the value. Zero is positive.
 pub fn compress_by_search(value: i32) -> u8
     ensures { result ≡ compress value }
 {
     octet_of_value(i128::from(value))
 }
 
-/// The octet of a value of any size, as the sum over a room may be.
+/// Returns the octet of a value of any size, such as the sum over a room.
 pub(crate) fn octet_of_value(value: i128) -> u8
     ensures { result ≡ compress value }
 {
@@ -41,7 +41,7 @@ pub(crate) fn octet_of_value(value: i128) -> u8
     (find_interval(magnitude) + sign) ^ EVEN_BITS
 }
 
-/// The interval that holds a magnitude.
+/// Returns the interval that holds a magnitude.
 fn find_interval(magnitude: u16) -> u8
     requires { magnitude < 4096 }
     ensures below { result < 128 }
@@ -55,7 +55,7 @@ fn find_interval(magnitude: u16) -> u8
     unreachable!()
 }
 
-/// A decision value, by its index: the sum of the widths of the intervals below it.
+/// Returns a decision value, by its index: the sum of the widths of the intervals below it.
 fn decision_value(index: u8) -> u16
     requires { index ≤ 128 }
     ensures value { result ≡ slice_index decision_values index }
@@ -68,7 +68,7 @@ fn decision_value(index: u8) -> u16
     value
 }
 
-/// How wide an interval is.
+/// Returns the width of an interval.
 fn width(interval: u8) -> u16
     requires { interval < 128 }
     ensures { result ≡ slice_index widths interval }

@@ -1,4 +1,4 @@
-//! An exchange that keeps everything, and looks up what is heard.
+//! An exchange that stores everything, and looks up the octet that a slot receives.
 
 use crate::hearing::octet_heard;
 use crate::names::remove_naming;
@@ -7,10 +7,11 @@ use circuit_model::{Circuit, Kind, Slot};
 use std::alloc::{AllocError, Global};
 use std::marker::Model;
 
-/// An exchange that keeps everything that ever arrived and existed in it, and looks up what is heard.
+/// An exchange that stores all octets that arrived and all circuits that existed, and looks up the octet that a slot
+/// receives.
 ///
-/// It asks nothing of its commands: that slots are idle, and that there is a port for each member,
-/// is for the caller to see to.
+/// It requires nothing of its commands: the caller checks that slots are idle, and that there is a port for each
+/// member.
 #[derive(Drop)]
 pub struct Exchange {
     circuits: Vec<Circuit>,
@@ -34,7 +35,7 @@ impl Exchange {
     ghost use Rattle.plain_model.specs.Tones.{tones_of};
     ghost use Rattle.plain_model.specs.Story.{start, after_command, after_frame};
 
-    /// An exchange before its first frame, in which nothing exists.
+    /// Makes an exchange before its first frame, without circuits.
     pub fn new(alloc: Global) -> Exchange
         ensures { result ≡ start }
     {
@@ -46,21 +47,21 @@ impl Exchange {
         }
     }
 
-    /// The number of the next frame.
+    /// Returns the number of the next frame.
     pub fn next_frame(&self) -> u32
         ensures { result ≡ self.now.holding.next }
     {
         self.next
     }
 
-    /// The circuits that exist, in the order in which they were made.
+    /// Returns the existing circuits, in the order in which they were made.
     pub fn circuits(&self) -> &[Circuit]
         ensures { result.now ≡ self.now.holding.circuits }
     {
         self.circuits.as_slice()
     }
 
-    /// Connects two slots, both ways. Where memory runs out nothing changes.
+    /// Connects two slots in both directions. Changes nothing if an allocation fails.
     pub fn connect(&mut self, x: Slot, y: Slot) -> Result<(), AllocError>
         ensures ok { OnOk result (self.new ≡ after_command self.old (Connect x y)) }
         ensures err { OnErr result (self.new ≡ self.old) }
@@ -80,7 +81,7 @@ impl Exchange {
         ])
     }
 
-    /// Seats a slot in a conference room. Where memory runs out nothing changes.
+    /// Adds a slot to a conference room. Changes nothing if an allocation fails.
     pub fn seat(&mut self, x: Slot, room: u8) -> Result<(), AllocError>
         ensures ok { OnOk result (self.new ≡ after_command self.old (Seat x room)) }
         ensures err { OnErr result (self.new ≡ self.old) }
@@ -93,7 +94,7 @@ impl Exchange {
         Ok(())
     }
 
-    /// Gives a slot a tone. Where memory runs out nothing changes.
+    /// Connects a slot to a tone. Changes nothing if an allocation fails.
     pub fn give_tone(&mut self, x: Slot, kind: Kind) -> Result<(), AllocError>
         ensures ok { OnOk result (self.new ≡ after_command self.old (Give_tone x kind)) }
         ensures err { OnErr result (self.new ≡ self.old) }
@@ -106,15 +107,15 @@ impl Exchange {
         Ok(())
     }
 
-    /// Takes away every circuit that names a slot.
+    /// Releases every circuit at a slot.
     pub fn clear(&mut self, x: Slot)
         ensures { self.new ≡ after_command self.old (Clear x) }
     {
         remove_naming(&mut self.circuits, x);
     }
 
-    /// Passes a frame's boundary: what arrives in the frame and what exists in it is kept. Where
-    /// memory runs out nothing changes.
+    /// Passes a frame's boundary: stores the input of the frame and the circuits that exist in it. Changes nothing if
+    /// an allocation fails.
     pub fn frame(&mut self, alloc: Global, input: &[Option<[u8; 30]>]) -> Result<(), AllocError>
         requires { self.old.holding.next + 1 < 2 ^ 32 }
         ensures ok { OnOk result (self.new ≡ after_frame self.old input.now) }
@@ -130,7 +131,7 @@ impl Exchange {
         Ok(())
     }
 
-    /// The octet that a slot hears in frame `f`, given the octets of the two tones.
+    /// Returns the octet that a slot receives in frame `f`, for these octets of the two tones.
     pub fn octet_heard(&self, ringback: &[u8], busy: &[u8], f: u32, y: Slot) -> u8
         ensures { result ≡ hears (tones_of ringback.now busy.now) self.now.inputs self.now.held f y }
     {

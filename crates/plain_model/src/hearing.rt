@@ -1,4 +1,4 @@
-//! What a slot hears, by walking over lists.
+//! The octet that a slot receives, by walking over lists.
 
 ghost use Rattle.std.specs.Prelude.{◌≡◌, ◌≤◌, slice_get};
 ghost use Rattle.circuit_model.specs.Circuits.{listener, heard_by};
@@ -11,7 +11,7 @@ use crate::alaw::{expand_by_search, octet_of_value};
 use crate::rows::Rows;
 use circuit_model::{Circuit, IDLE, Kind, Slot};
 
-/// The circuit by which a slot hears: the first that is for it, or none.
+/// Returns the circuit by which a slot receives: the first that is for it, or none.
 pub fn find_heard(circuits: &[Circuit], x: Slot) -> Option<Circuit>
     ensures { result ≡ heard_by circuits.now x }
 {
@@ -21,7 +21,7 @@ pub fn find_heard(circuits: &[Circuit], x: Slot) -> Option<Circuit>
         .find(|circuit| x == listener_of(*circuit))
 }
 
-/// The slot that hears something by a circuit.
+/// Returns the slot that receives something by a circuit.
 fn listener_of(circuit: Circuit) -> Slot
     ensures { result ≡ listener circuit }
 {
@@ -32,21 +32,21 @@ fn listener_of(circuit: Circuit) -> Slot
     }
 }
 
-/// The octet that arrives on a slot in frame `f`.
+/// Returns the octet that arrives on a slot in frame `f`.
 fn octet_arriving(inputs: &Rows<Option<[u8; 30]>>, f: u32, at: Slot) -> u8
     ensures { result ≡ arrives inputs.now f at }
 {
     octet_of_place(octets_of_line(inputs.row(f as usize), at.line), at.place)
 }
 
-/// The octets of a line in one frame, where the frame has the line and the line sends any.
+/// Returns the octets of a line in one frame, if the frame has the line and the line sends any.
 fn octets_of_line(input: &[Option<[u8; 30]>], line: u8) -> Option<[u8; 30]>
     ensures { result ≡ line_of (slice_get input.now line) }
 {
     input.get(usize::from(line)).copied().flatten()
 }
 
-/// The octet at a place of a line's octets; a line that sends nothing is idle.
+/// Returns the octet at a place of a line's octets. A line that sends nothing is idle.
 fn octet_of_place(octets: Option<[u8; 30]>, place: u8) -> u8
     ensures { result ≡ octet_at place octets }
 {
@@ -56,8 +56,8 @@ fn octet_of_place(octets: Option<[u8; 30]>, place: u8) -> u8
     }
 }
 
-/// The octet that slot `y` hears in frame `f`, given the octets of the two tones and, for each frame,
-/// what arrived in it and which circuits existed in it.
+/// Returns the octet that slot `y` receives in frame `f`, from the octets of the two tones and, for each frame, its
+/// input and the circuits that existed in it.
 pub fn octet_heard(
     ringback: &[u8],
     busy: &[u8],
@@ -86,7 +86,7 @@ pub fn octet_heard(
     }
 }
 
-/// The octets of a tone.
+/// Returns the octets of a tone.
 fn table_of<'a>(kind: Kind, ringback: &'a [u8], busy: &'a [u8]) -> &'a [u8]
     ensures { result.now ≡ tones_of ringback.now busy.now kind }
 {
@@ -96,8 +96,8 @@ fn table_of<'a>(kind: Kind, ringback: &'a [u8], busy: &'a [u8]) -> &'a [u8]
     }
 }
 
-/// What the bridge mixes for slot `y` in frame `g`: the values of the octets that the other members
-/// of the room sent two frames before are added up, and the sum is coded once.
+/// Returns the mix of the bridge for slot `y` in frame `g`: the values of the octets that the other members of the room
+/// sent two frames before are added up, and the sum is encoded once.
 fn room_mix(inputs: &Rows<Option<[u8; 30]>>, circuits: &[Circuit], room: u8, y: Slot, g: u32) -> u8
     ensures { result ≡ mix inputs.now circuits.now room y g }
 {
@@ -109,8 +109,8 @@ fn room_mix(inputs: &Rows<Option<[u8; 30]>>, circuits: &[Circuit], room: u8, y: 
     octet_of_value(sum)
 }
 
-/// What a circuit adds to the mix: the value of what its slot sent two frames before where it seats
-/// another member of the room who is heard, and nothing otherwise.
+/// Returns the value that a circuit adds to the mix: the value of the octet that its slot sent two frames before, if it
+/// is another member of the room whom `y` receives, and 0 otherwise.
 fn value_in_mix(inputs: &Rows<Option<[u8; 30]>>, circuit: Circuit, room: u8, y: Slot, g: u32) -> i32
     ensures { result ≡ value_in_mix inputs.now room y g circuit }
 {
@@ -121,7 +121,7 @@ fn value_in_mix(inputs: &Rows<Option<[u8; 30]>>, circuit: Circuit, room: u8, y: 
     }
 }
 
-/// Whether a circuit seats another slot than `y` in the wanted room and is two frames old in frame `g`.
+/// Returns whether a circuit joins another slot than `y` to this room and is two frames old in frame `g`.
 fn is_other(wanted: u8, y: Slot, g: u32, circuit: Circuit) -> bool
     ensures { result ≡ is_other wanted y g circuit }
 {
@@ -131,14 +131,14 @@ fn is_other(wanted: u8, y: Slot, g: u32, circuit: Circuit) -> bool
     }
 }
 
-/// Whether a circuit that has existed since `since` is two frames old in frame `f`.
+/// Returns whether a circuit that has existed since `since` is two frames old in frame `f`.
 fn is_through(since: u32, f: u32) -> bool
     ensures { result ≡ is_through since f }
 {
     f >= 2 && since <= f - 2
 }
 
-/// The octet of a tone that has sounded for n frames.
+/// Returns the octet of a tone after n frames.
 fn tone_octet(table: &[u8], frames: u32) -> u8
     ensures { result ≡ tone_octet table.now frames }
 {

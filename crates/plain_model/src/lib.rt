@@ -1,12 +1,9 @@
-//! The definitions of the exchange as a small, slow and plain program, for tests.
+//! A reference model of the definitions of the exchange: a small and slow program, for tests.
 //!
-//! Each function computes one definition of `circuit_model` by walking over lists, and its contract
-//! is that definition: [`expand_by_search`], [`compress_by_search`], [`find_heard`],
-//! [`octet_heard`]. [`Exchange`] takes commands and frames, and its `octet_heard` returns what the
-//! definitions say of them ([`law_of_stories`]). Nothing here knows a switching stage, a control
-//! memory or a port.
-//!
-//! It uses `circuit_model`.
+//! Each function computes one definition of `circuit_model` by walking over lists, and its contract is that definition:
+//! [`expand_by_search`], [`compress_by_search`], [`find_heard`], [`octet_heard`]. [`Exchange`] takes commands and
+//! frames, and its `octet_heard` returns the octets that the definitions give for them ([`law_of_stories`]). Nothing
+//! here uses a switching stage, a control memory or a port.
 #![tactic(auto)]
 
 mod alaw;

@@ -1,18 +1,18 @@
-//! Which circuits name a slot.
+//! The circuits at a slot.
 
 ghost use Rattle.std.specs.Prelude.{◌≡◌, not, filter};
 ghost use Rattle.circuit_model.specs.Circuits.{names};
 
 use circuit_model::{Circuit, Slot};
 
-/// Takes away every circuit that names a slot.
+/// Releases every circuit at a slot.
 pub(crate) fn remove_naming(circuits: &mut Vec<Circuit>, x: Slot)
     ensures { circuits.new.items ≡ filter (λ c. not (names x c)) circuits.old.items }
 {
     circuits.retain(|circuit| !is_named(x, *circuit));
 }
 
-/// Whether a circuit names a slot, as the one that hears or the one that is heard.
+/// Returns whether a circuit refers to a slot, as the receiving or the sending one.
 fn is_named(x: Slot, circuit: Circuit) -> bool
     ensures { result ≡ names x circuit }
 {

@@ -3,8 +3,8 @@
 use std::alloc::{AllocError, Global};
 use std::marker::Model;
 
-/// A list for each frame, of what arrived in it or of the circuits that existed at its boundary.
-/// Contracts see the list of these lists.
+/// A list for each frame: of the octets that arrived in it, or of the circuits that existed at its boundary. Contracts
+/// see the list of these lists.
 #[derive(Drop)]
 pub struct Rows<T> {
     rows: Vec<Vec<T>>,
@@ -21,7 +21,7 @@ impl<T> Model for Rows<T> {
 impl<T: Copy + Drop> Rows<T> {
     ghost use Rattle.std.specs.Prelude.{◌≡◌, [], ◌∷◌, ◌++◌, OnOk, OnErr, length, take, slice_index_or};
 
-    /// No frame yet.
+    /// Makes a list without frames.
     pub fn new(alloc: Global) -> Rows<T>
         ensures { result ≡ [] }
     {
@@ -30,7 +30,7 @@ impl<T: Copy + Drop> Rows<T> {
         }
     }
 
-    /// Adds the list of the next frame. Where memory runs out nothing is added.
+    /// Appends the list of the next frame. Changes nothing if an allocation fails.
     pub fn push(&mut self, alloc: Global, row: &[T]) -> Result<(), AllocError>
         ensures ok { OnOk result (self.new ≡ self.old ++ row.now ∷ []) }
         ensures err { OnErr result (self.new ≡ self.old) }
@@ -40,21 +40,21 @@ impl<T: Copy + Drop> Rows<T> {
         Ok(())
     }
 
-    /// How many frames there are.
+    /// Returns the number of frames.
     pub fn len(&self) -> usize
         ensures { result ≡ length self.now }
     {
         self.rows.len()
     }
 
-    /// Keeps the first `count` frames alone.
+    /// Removes all frames except the first `count`.
     pub fn truncate(&mut self, count: usize)
         ensures { self.new ≡ take count self.old }
     {
         self.rows.truncate(count);
     }
 
-    /// The list of frame `f`, counted from 0; an empty one where there is no such frame.
+    /// Returns the list of frame `f`, counted from 0, or an empty one if there is no such frame.
     pub fn row(&self, f: usize) -> &[T]
         ensures { result.now ≡ slice_index_or self.now f [] }
     {

@@ -1,4 +1,4 @@
-//! What no clause says: reports that were found by hand.
+//! Tests of facts that no clause states: reports that were found by hand.
 mod calls;
 mod circuits;
 mod orders;

@@ -1,15 +1,15 @@
-// Words, numbers and octets, cut from the beginning of borrowed octets.
+// Words, numbers and octets at the start of borrowed octets.
 ghost use Rattle.std.specs.Prelude.{◌≡◌, option_map};
 ghost use Rattle.report_reader.specs.Reading.{behind, digit_at, digit_value, number_at, octet_at, octet_of, pair_at, pair_of, spaced_at};
 
-/// What comes after a word, where octets begin with it.
+/// Returns the octets after a word, if they begin with it.
 pub(crate) fn behind<'a>(word: &[u8], octets: &'a [u8]) -> Option<&'a [u8]>
     ensures { option_map (λ rest. rest.now) result ≡ behind word.now octets.now }
 {
     octets.strip_prefix(word)
 }
 
-// The decimal digit at the beginning, and what follows it.
+// Returns the decimal digit at the start, and the octets after it.
 fn digit_at(octets: &[u8]) -> Option<(u32, &[u8])>
     ensures { option_map (λ cut. (cut.0, cut.1.now)) result ≡ digit_at octets.now }
 {
@@ -22,8 +22,7 @@ fn digit_at(octets: &[u8]) -> Option<(u32, &[u8])>
     Some((u32::from(*octet - b'0'), rest))
 }
 
-/// The number at the beginning, and what follows it. A numeral has no leading zero, and its number has
-/// 32 bits.
+/// Returns the number at the start, and the octets after it. It has no leading zero and 32 bits.
 pub fn number_at(octets: &[u8]) -> Option<(u32, &[u8])>
     ensures { option_map (λ cut. (cut.0, cut.1.now)) result ≡ number_at octets.now }
 {
@@ -38,14 +37,14 @@ pub fn number_at(octets: &[u8]) -> Option<(u32, &[u8])>
     Some((number, rest))
 }
 
-/// The number at the beginning, behind a space, and what follows it.
+/// Returns the number at the start, after a space, and the octets after it.
 pub(crate) fn spaced_at(octets: &[u8]) -> Option<(u32, &[u8])>
     ensures { option_map (λ cut. (cut.0, cut.1.now)) result ≡ spaced_at octets.now }
 {
     number_at(behind(b" ", octets)?)
 }
 
-/// Two numbers at the beginning, each behind a space, and what follows them.
+/// Returns two numbers at the start, each after a space, and the octets after them.
 pub(crate) fn pair_at(octets: &[u8]) -> Option<((u32, u32), &[u8])>
     ensures { option_map (λ cut. (cut.0, cut.1.now)) result ≡ pair_at octets.now }
 {
@@ -54,7 +53,7 @@ pub(crate) fn pair_at(octets: &[u8]) -> Option<((u32, u32), &[u8])>
     Some(((a, b), rest))
 }
 
-/// Two numbers to the end of a line, each behind a space.
+/// Returns two numbers at the end of a line, each after a space.
 pub(crate) fn pair_of(octets: &[u8]) -> Option<(u32, u32)>
     ensures { result ≡ pair_of octets.now }
 {
@@ -65,7 +64,7 @@ pub(crate) fn pair_of(octets: &[u8]) -> Option<(u32, u32)>
     Some(both)
 }
 
-// The value of an upper-case hexadecimal digit.
+// Returns the value of an upper-case hexadecimal digit.
 fn digit_value(digit: u8) -> Option<u8>
     ensures { result ≡ digit_value digit }
 {
@@ -78,7 +77,7 @@ fn digit_value(digit: u8) -> Option<u8>
     }
 }
 
-// The octet that two digits write, the high half first.
+// Returns the octet of two digits, the upper half first.
 fn octet_of(high: u8, low: u8) -> Option<u8>
     ensures { result ≡ octet_of high low }
 {
@@ -87,7 +86,7 @@ fn octet_of(high: u8, low: u8) -> Option<u8>
     Some(high * 16 + low)
 }
 
-/// The octet that the first two digits write, and what follows them.
+/// Returns the octet of the first two digits, and the octets after them.
 pub(crate) fn octet_at(octets: &[u8]) -> Option<(u8, &[u8])>
     ensures { option_map (λ cut. (cut.0, cut.1.now)) result ≡ octet_at octets.now }
 {

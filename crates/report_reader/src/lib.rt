@@ -1,17 +1,14 @@
-//! Reading a report: the answers that its lines spell.
+//! The parser of a report: the answers that its lines encode.
 //!
-//! What is spelled is defined by what is printed (`Spells` of `specs/Spelling.antt`): a line spells the
-//! answer in normal form whose line it is.
+//! The printer defines the encoding (`Spells` of `specs/Spelling.antt`): a line encodes the answer in normal form for
+//! which it is printed.
 //!
-//! - [`read_report_line`] returns the answer that a line spells, and none exactly where it spells none
+//! - [`read_report_line`] returns the answer that a line encodes, and `None` if and only if it encodes none
 //!   (`spelled`).
-//! - [`read_report`] returns the answers of a report, or the first line that spells none or that no
-//!   line feed ends (`read`, `refused`, `reads_each`, `refuses_each`).
-//! - A line spells at most one answer ([`one_spelling`]), and has no line feed in it
-//!   ([`no_line_feed`]). All bytes have one reading ([`one_reading`], [`some_reading`]).
-//!
-//! It uses `circuit_model`, `q931_elements`, `exchange_events` and `report_text`, and the kit's
-//! `arrayvec` and `memchr`.
+//! - [`read_report`] returns the answers of a report, or the first line that encodes none or has no line feed (`read`,
+//!   `refused`, `reads_each`, `refuses_each`).
+//! - A line encodes at most one answer ([`one_spelling`]), and has no line feed in it ([`no_line_feed`]). All bytes
+//!   have one reading ([`one_reading`], [`some_reading`]).
 #![tactic(auto)]
 
 mod cut;

@@ -1,4 +1,4 @@
-// A line of a report, read back.
+// The parser of a report's line.
 ghost use Rattle.std.specs.Prelude.{◌≡◌, ◌≢◌, ◌<◌, ◌++◌, option_map, IfOk, MatchOption};
 ghost use Rattle.exchange_events.specs.declared.answer.Answer.{Answer};
 ghost use Rattle.report_reader.specs.Reading.{frame_of, is_empty, message_of, moves_at, passing, reading, reply_of, told_of};
@@ -11,10 +11,10 @@ use crate::word::{Word, word_at};
 use exchange_events::{Answer, Kept, RecordList, Rows};
 use std::alloc::{AllocError, Global};
 
-/// How many events a trace has at most.
+/// The maximum number of events of a trace.
 const MOST_EVENTS: u32 = 65_535;
 
-// How many live paths were moved, where that is said, and what follows.
+// Returns the numbers of moved live paths, if the line has them, and the octets after them.
 fn moves_at(octets: &[u8]) -> Option<(Option<(u32, u32)>, &[u8])>
     ensures { option_map (λ cut. (cut.0, cut.1.now)) result ≡ moves_at octets.now }
 {
@@ -25,7 +25,7 @@ fn moves_at(octets: &[u8]) -> Option<(Option<(u32, u32)>, &[u8])>
     Some((Some(both), rest))
 }
 
-// What comes after `message`.
+// Returns the reply after `message`.
 fn message_of(alloc: Global, octets: &[u8]) -> Result<Option<Kept>, AllocError>
     ensures { IfOk result (λ reply. reply ≡ message_of octets.now) }
 {
@@ -45,7 +45,7 @@ fn message_of(alloc: Global, octets: &[u8]) -> Result<Option<Kept>, AllocError>
     }))
 }
 
-// What comes after `frame`.
+// Returns the reply and the rows after `frame`.
 fn frame_of(alloc: Global, octets: &[u8]) -> Result<Option<(Kept, Rows)>, AllocError>
     ensures { IfOk result (λ told. told ≡ frame_of octets.now) }
 {
@@ -66,14 +66,14 @@ fn frame_of(alloc: Global, octets: &[u8]) -> Result<Option<(Kept, Rows)>, AllocE
     Ok(Some((frame, rows)))
 }
 
-// A reply without numbers and lists, at the end of a line.
+// Returns a reply without numbers and lists, at the end of a line.
 fn at_end(reply: Kept, octets: &[u8]) -> Option<Kept>
     ensures { result ≡ passing (is_empty octets.now) reply }
 {
     if octets.is_empty() { Some(reply) } else { None }
 }
 
-// What comes after the word of a reply that isn't a frame's.
+// Returns the reply after its word, if it is not a frame's.
 fn reply_of(alloc: Global, word: Word, octets: &[u8]) -> Result<Option<Kept>, AllocError>
     ensures { IfOk result (λ reply. reply ≡ reply_of word octets.now) }
 {
@@ -89,7 +89,7 @@ fn reply_of(alloc: Global, word: Word, octets: &[u8]) -> Result<Option<Kept>, Al
     })
 }
 
-// A reply, and the octets beside it.
+// Returns a reply, and its rows of octets.
 fn told_of(alloc: Global, word: Word, octets: &[u8]) -> Result<Option<(Kept, Rows)>, AllocError>
     ensures { IfOk result (λ told. told ≡ told_of word octets.now) }
 {
@@ -102,7 +102,7 @@ fn told_of(alloc: Global, word: Word, octets: &[u8]) -> Result<Option<(Kept, Row
     Ok(Some((reply, Rows::of(Vec::new(alloc)))))
 }
 
-// The answer that a line spells.
+// Returns the answer that a line encodes.
 fn answer_of(alloc: Global, line: &[u8]) -> Result<Option<Answer>, AllocError>
     ensures { IfOk result (λ answer. answer ≡ reading line.now) }
 {
@@ -125,13 +125,13 @@ fn answer_of(alloc: Global, line: &[u8]) -> Result<Option<Answer>, AllocError>
     }))
 }
 
-/// The answer that a line of a report spells, given without the line feed that ends it; none exactly
-/// where it spells none. What is spelled is an answer in normal form: it has no records, and octets
-/// only where it is a frame's, up to the last line that sends any other than idle.
+/// Returns the answer that a report line encodes, given without its line feed. Returns `None` if and only if the line
+/// encodes none. The answer is in normal form: it has no records, and only a frame's has octets, up to the last line
+/// that is not idle.
 ///
 /// # Errors
 ///
-/// [`AllocError`] where memory runs out.
+/// [`AllocError`] if an allocation fails.
 pub fn read_report_line(alloc: Global, line: &[u8]) -> Result<Option<Answer>, AllocError>
     ensures spelled { IfOk result (λ found. MatchOption found ((answer : Answer) → Spells line.now answer → ⊥) (λ answer. Spells line.now answer)) }
 {

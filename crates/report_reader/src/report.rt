@@ -1,4 +1,4 @@
-//! A report, read back line by line.
+//! The parser of a report, line by line.
 ghost use Rattle.std.specs.Prelude.{◌≡◌, ◌<◌, ◌^◌, ◌++◌, ◌∷◌, ◌⊎◌, ℕ, List, codes, length, true, IfOk, IfErr, MatchOption, Err};
 ghost use Rattle.exchange_events.specs.declared.answer.Answer.{Answer};
 ghost use Rattle.report_reader.specs.declared.report.ReportFault.TheVariants.{Memory, Line};
@@ -12,13 +12,12 @@ use std::alloc::{AllocError, AllocFailed, Global};
 /// The octet that ends a line.
 const LINE_FEED: u8 = b'\n';
 
-/// Why bytes could not be read as a report.
+/// The error for bytes that are not a report.
 #[derive(Clone, Copy, Debug, PartialEq, Eq)]
 pub enum ReportFault {
-    /// There is not enough memory for the answers.
+    /// An allocation failed.
     Memory,
-    /// The line with this number, counted from 1, is the first that spells no answer or that no line
-    /// feed ends.
+    /// The line with this number, counted from 1, is the first that encodes no answer or has no line feed.
     Line(u32),
 }
 
@@ -44,7 +43,7 @@ impl<T: Drop> From<AllocFailed<T>> for ReportFault {
     }
 }
 
-// The first line, and what follows the line feed that ends it; none where there is no line feed.
+// Returns the first line, and the octets after its line feed, or `None` without a line feed.
 fn first_line(bytes: &[u8]) -> Option<(&[u8], &[u8])>
     ensures { MatchOption result (is_unbroken bytes.now ≡ true)
         (λ cut. (bytes.now ≡ cut.0.now ++ 10 ∷ cut.1.now) × (is_unbroken cut.0.now ≡ true)) }
@@ -53,7 +52,7 @@ fn first_line(bytes: &[u8]) -> Option<(&[u8], &[u8])>
     Some((&bytes[..end], &bytes[end + 1..]))
 }
 
-// Reads a report line by line.
+// Parses a report line by line.
 fn read_lines(alloc: Global, bytes: &[u8]) -> Result<Vec<Answer>, ReportFault>
     requires { length bytes.now < 2 ^ 32 }
     ensures read { IfOk result (λ answers. IsReport bytes.now answers.items) }
@@ -75,22 +74,22 @@ fn read_lines(alloc: Global, bytes: &[u8]) -> Result<Vec<Answer>, ReportFault>
     Ok(answers)
 }
 
-/// The answers that the lines of a report spell, in order.
+/// Returns the answers that the lines of a report encode, in order.
 ///
 /// # Errors
 ///
-/// [`ReportFault::Line`] with the number of the first line that spells no answer or that no line feed
-/// ends, and [`ReportFault::Memory`] where memory runs out.
+/// [`ReportFault::Line`] with the number of the first line that encodes no answer or has no line feed, and
+/// [`ReportFault::Memory`] if an allocation fails.
 pub fn read_report(alloc: Global, bytes: &[u8]) -> Result<Vec<Answer>, ReportFault>
     requires { length bytes.now < 2 ^ 32 }
-    // What is read is what the lines spell.
+    // The lines encode these answers.
     ensures read { IfOk result (λ answers. IsReport bytes.now answers.items) }
-    // What is refused is refused at its first faulty line.
+    // The refused line is the first wrong one.
     ensures refused { (n : ℕ) → result ≡ Err (Line n) → IsFaultyAt bytes.now n }
-    // Every report is read, unless memory runs out.
+    // Every report is accepted, unless an allocation fails.
     ensures reads_each { (answers : List Answer) → IsReport bytes.now answers
         → IfOk result (λ read. read.items ≡ answers) × IfErr result (λ e. e ≡ Memory) }
-    // All that is no report is refused, unless memory runs out.
+    // All other bytes are refused, unless an allocation fails.
     ensures refuses_each { (n : ℕ) → IsFaultyAt bytes.now n
         → (result ≡ Err (Line n)) ⊎ (result ≡ Err Memory) }
 {

@@ -1,4 +1,4 @@
-// What the lines send in a frame.
+// The octets of each line in a frame.
 ghost use Rattle.std.specs.Prelude.{◌≡◌, length, option_map, IfOk, IfSome, OnOk};
 ghost use Rattle.report_reader.specs.Spelling.{is_idle};
 ghost use Rattle.report_reader.specs.Reading.{row_at, rows_before, rows_of};
@@ -8,17 +8,17 @@ use circuit_model::IDLE;
 use exchange_events::{Rows, Signal};
 use std::alloc::{AllocError, Global};
 
-// What a line sends that sends nothing.
+// The octets of an idle line.
 const IDLE_ROW: [u8; 30] = [IDLE; 30];
 
-// Whether every octet of a line is idle.
+// Returns whether every octet of a line is idle.
 fn is_idle(octets: &[u8]) -> bool
     ensures { result ≡ is_idle octets.now }
 {
     octets.iter().all(|octet| *octet == IDLE)
 }
 
-// Thirty octets.
+// Returns a row of 30 octets.
 fn row_of(octets: &[u8]) -> [u8; 30]
     requires { length octets.now ≡ 30 }
     ensures { result ≡ octets.now }
@@ -28,8 +28,7 @@ fn row_of(octets: &[u8]) -> [u8; 30]
     row
 }
 
-// The thirty octets of a line that sends any other than idle, behind its number, and what follows
-// them.
+// Returns the 30 octets of a line that is not idle, after its number, and the octets after them.
 fn row_at(octets: &[u8]) -> Option<(Signal, &[u8])>
     ensures read { option_map (λ cut. (cut.0, cut.1.now)) result ≡ row_at octets.now }
     ensures thirty { IfSome result (λ cut. length cut.0.octets ≡ 30) }
@@ -42,7 +41,7 @@ fn row_at(octets: &[u8]) -> Option<(Signal, &[u8])>
     Some((sent, rest))
 }
 
-// Puts idle rows behind others, up to a line.
+// Appends idle rows, up to a line.
 fn fill_before(rows: &mut Vec<[u8; 30]>, line: usize) -> Result<(), AllocError>
     ensures { OnOk result (rows.new.items ≡ rows_before line rows.old.items) }
 {
@@ -52,7 +51,7 @@ fn fill_before(rows: &mut Vec<[u8; 30]>, line: usize) -> Result<(), AllocError>
     Ok(())
 }
 
-/// The rows of a frame to the end of a line.
+/// Returns the rows of a frame to the end of a line.
 pub(crate) fn rows_of(alloc: Global, octets: &[u8]) -> Result<Option<Rows>, AllocError>
     ensures { IfOk result (λ read. read ≡ rows_of octets.now) }
 {

@@ -1,4 +1,4 @@
-// Messages that a line tells, each behind the number of its line.
+// The messages of a report's line, each after the number of its external line.
 ghost use Rattle.std.specs.Prelude.{◌≡◌, option_map, IfOk};
 ghost use Rattle.report_reader.specs.Reading.{octets_at, signal_at, signals_at};
 
@@ -7,11 +7,11 @@ use arrayvec::ArrayVec;
 use exchange_events::{Encoded, Signal, SignalList};
 use std::alloc::{AllocError, Global};
 
-/// How many external lines an exchange has at most.
+/// The maximum number of external lines.
 const MOST_LINES: u32 = 32;
 
-// The octets that pairs of digits write at the beginning, where they are as many as a message may have,
-// and what follows them.
+// Returns the octets of the pairs of digits at the start, if a message may have that number of octets, and the octets
+// after them.
 fn octets_at(octets: &[u8]) -> Option<(Encoded, &[u8])>
     ensures { option_map (λ cut. (cut.0, cut.1.now)) result ≡ octets_at octets.now }
 {
@@ -30,7 +30,7 @@ fn octets_at(octets: &[u8]) -> Option<(Encoded, &[u8])>
     Some((Encoded::of(read), rest))
 }
 
-/// The octets of a line behind its number, and what follows them.
+/// Returns the octets of a line after its number, and the octets after them.
 pub(crate) fn signal_at(octets: &[u8]) -> Option<(Signal, &[u8])>
     ensures { option_map (λ cut. (cut.0, cut.1.now)) result ≡ signal_at octets.now }
 {
@@ -44,7 +44,7 @@ pub(crate) fn signal_at(octets: &[u8]) -> Option<(Signal, &[u8])>
     Some((Signal { line, octets }, rest))
 }
 
-/// The messages at the beginning, each behind a word, and what follows them.
+/// Returns the messages at the start, each after a word, and the octets after them.
 pub(crate) fn signals_at<'a>(
     alloc: Global,
     word: &[u8],

@@ -4,7 +4,7 @@ ghost use Rattle.report_reader.specs.Reading.{word_at};
 
 use crate::cut::behind;
 
-/// Which reply a line tells. Each variant is the word of the reply of that name.
+/// The kind of a reply. Each variant is the word of the reply with that name.
 #[derive(Clone, Copy)]
 pub enum Word {
     Granted,
@@ -17,7 +17,7 @@ pub enum Word {
     Frame,
 }
 
-/// The word of a reply at the beginning, behind a space, and what follows it.
+/// Returns the word of a reply at the start, after a space, and the octets after it.
 pub(crate) fn word_at(octets: &[u8]) -> Option<(Word, &[u8])>
     ensures { option_map (λ cut. (cut.0, cut.1.now)) result ≡ word_at octets.now }
 {

@@ -1,4 +1,4 @@
--- The text of a report, line by line. Source: this exchange's own.
+-- The text of a report, line by line. Source: this project.
 use Rattle.std.specs.Prelude.{ℕ, ◌+◌, ◌==◌, List, [], ◌∷◌, ◌++◌, length, map, codes, decimal, slice_index, slice_index_or, if◌then◌else◌, Option, Some, None}
 use Rattle.std.specs.List.{list_all, range_with_len}
 use Rattle.hex.specs.Hex.{encode_upper}
@@ -14,23 +14,23 @@ use Rattle.exchange_events.specs.declared.signal.Signal.{Signal}
 use Rattle.exchange_events.specs.Kept.{kept_of}
 use Rattle.exchange_events.specs.Responses.{reply_of}
 
--- the thirty octets of a line, in order of place
+-- the 30 octets of a line, in order of place
 unfoldable pub line_octets : (Slot → ℕ) → ℕ → List ℕ
 line_octets octet line = map (λ place. octet (record { line = line; place = place })) (range_with_len 0 30)
 
--- the octets that each of n lines sends, given what each slot sends
+-- the octets that each of n lines is sent, from the octet of each slot
 abbrev pub lines_sent : (Slot → ℕ) → ℕ → List (List ℕ)
 lines_sent octet lines = map (line_octets octet) (range_with_len 0 lines)
 
--- the octet at a slot of rows of octets, one for each line
+-- the octet of a slot in rows of octets, one row for each line
 abbrev pub octet_of : List (List ℕ) → Slot → ℕ
 octet_of rows at = slice_index (slice_index_or rows at.line []) at.place
 
--- octets of a line, behind its number
+-- octets of a line, after its number
 abbrev pub on_line : ℕ → List ℕ → List ℕ
 on_line line octets = codes " " ++ decimal line ++ codes ":" ++ encode_upper octets
 
--- a line's part of a frame: its number and its octets; nothing where all of them are idle
+-- a line's part of a frame: its number and its octets, or nothing if all of them are idle
 abbrev pub part : ℕ → List ℕ → List ℕ
 part line octets = if list_all (λ octet. octet == idle_octet) octets then [] else on_line line octets
 
@@ -39,30 +39,30 @@ abbrev pub parts : ℕ → List (List ℕ) → List ℕ
 parts line [] = []
 parts line (octets ∷ rest) = part line octets ++ parts (line + 1) rest
 
--- the messages that were sent, each behind the number of its line
+-- the messages that were sent, each after the number of its line
 abbrev pub messages : List Signal → List ℕ
 messages [] = []
 messages (sent ∷ rest) = on_line sent.line sent.octets ++ messages rest
 
--- how many live paths a connection or a seat moved, where there was one
+-- the numbers of live paths that a connection or a seat moved, if there was one
 abbrev pub moves : Option (ℕ × ℕ) → List ℕ
 moves None = []
 moves (Some (a, b)) = codes " moved " ++ decimal a ++ codes " " ++ decimal b
 
--- the line of a message, with what was sent for it
+-- the line of a message, with the messages sent in reply
 abbrev pub message_line : ℕ → Option (ℕ × ℕ) → List Signal → List ℕ
 message_line n moved sends = decimal n ++ codes " message" ++ moves moved ++ messages sends ++ codes "\n"
 
--- the messages that were sent at a boundary, each behind the word `send` and the number of its line
+-- the messages that were sent at a boundary, each after the word `send` and the number of its line
 abbrev pub frame_messages : List Signal → List ℕ
 frame_messages [] = []
 frame_messages (sent ∷ rest) = codes " send" ++ on_line sent.line sent.octets ++ frame_messages rest
 
--- the line of frame k, with the messages that were sent at its boundary and what each line sends in it
+-- the line of frame k, with the messages that were sent at its boundary and the octets of each line
 abbrev pub frame_line : List (List ℕ) → ℕ → ℕ → List Signal → List ℕ
 frame_line octets n k sends = decimal n ++ codes " frame " ++ decimal k ++ frame_messages sends ++ parts 0 octets ++ codes "\n"
 
--- the line of a report for event number n, given what each line sends where it is the event of a frame; the records of calls are nowhere
+-- the report line for event number n, from the octets of each line if the event is a frame; it has no call records
 abbrev pub report_line : List (List ℕ) → ℕ → Kept → List ℕ
 report_line octets n (Granted a b) = decimal n ++ codes " granted " ++ decimal a ++ codes " " ++ decimal b ++ codes "\n"
 report_line octets n Busy = decimal n ++ codes " busy\n"
@@ -77,7 +77,7 @@ report_line octets n (Frame k sends records) = frame_line octets n k sends
 abbrev pub answer_line : Answer → List ℕ
 answer_line answer = report_line (lines_sent (octet_of answer.octets) (length answer.octets)) answer.event answer.reply
 
--- the lines of answers, one after another
+-- the lines of consecutive answers
 abbrev pub answer_lines : List Answer → List ℕ
 answer_lines [] = []
 answer_lines (a ∷ answers) = answer_line a ++ answer_lines answers
@@ -86,7 +86,7 @@ answer_lines (a ∷ answers) = answer_line a ++ answer_lines answers
 abbrev pub response_line : List (List ℕ) → ℕ → Response → Outbox → List ℕ
 response_line octets n said outbox = report_line (lines_sent (octet_of octets) (length octets)) n (kept_of (reply_of said outbox))
 
--- what is kept of a response with what was moved and sent; no line tells of the records of calls
+-- the stored reply of a response with these moves and messages; no line has call records
 abbrev pub kept_with : Response → Option (ℕ × ℕ) → List Signal → Kept
 kept_with (response.Granted a b) moved sends = Granted a b
 kept_with response.Busy moved sends = Busy

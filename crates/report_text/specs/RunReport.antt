@@ -1,4 +1,4 @@
--- The report of a run. Source: this exchange's own.
+-- The report of a run. Source: this project.
 use Rattle.std.specs.Prelude.{ℕ, List, [], ◌∷◌, ◌++◌}
 use Rattle.circuit_model.specs.declared.channel.Slot.{Slot}
 use Rattle.circuit_model.specs.declared.circuit.Circuit.{Circuit}
@@ -14,19 +14,19 @@ use Rattle.call_profile.specs.Step.{next, reply, events_of}
 use Rattle.call_profile.specs.World.{World, start}
 use Rattle.report_text.specs.Report.{lines_sent, report_line}
 
--- what an engine plays on a slot in a frame once the tones are known, given each frame's input and circuits
+-- the octet that an engine outputs on a slot in a frame, with known tones, from each frame's input and circuits
 abbrev pub Played : Type 0
 Played = List Input → List (List Circuit) → ℕ → Slot → ℕ
 
--- the octet that the engine puts on a slot in frame f
+-- the octet that the engine outputs on a slot in frame f
 abbrev pub engine_octet : Played → World → ℕ → Slot → ℕ
 engine_octet played w f y = played w.inputs w.held f y
 
--- what each line sends in the frame that an event is, if it is one
+-- the octets of each line in the frame of an event, if it is a frame
 abbrev pub sent_at : Played → Setting → World → Event → List (List ℕ)
 sent_at played s w e = lines_sent (engine_octet played (next s w e) w.holding.next) s.dimensions.external
 
--- the line of an event, and the lines of events that happen one after another
+-- the line of an event, and the lines of consecutive events
 abbrev pub event_line : Played → Setting → World → ℕ → Event → List ℕ
 event_line played s w n e = report_line (sent_at played s w e) n (kept_of (reply s w e))
 
@@ -35,7 +35,7 @@ event_lines played s w [] events = []
 event_lines played s w (n ∷ order) [] = []
 event_lines played s w (n ∷ order) (e ∷ events) = event_line played s w n e ++ event_lines played s (next s w e) order events
 
--- the lines of a trace's events in this order, from the first event of all on
+-- the lines of a trace's events in this order, starting from the first state
 abbrev pub report_with : Played → ℕ → Trace → List ℕ → List ℕ
 report_with played slots trace order = let s = setting_of slots trace in event_lines played s (start s.dimensions) order (events_of trace.events order)
 

@@ -1,7 +1,6 @@
 // Rows of octets, and their hexadecimal digits.
 //
-// The octets of a line are worked on as a row of thirty-two, so that loops of fixed length become
-// vector code.
+// The octets of a line are processed as a row of 32, so that loops of fixed length become vector code.
 ghost use Rattle.std.specs.Prelude.{◌≡◌, ◌==◌, ◌++◌, ◌-◌, ◌<◌, ◌≤◌, length, drop, slice_index, replicate};
 ghost use Rattle.std.specs.List.{list_all};
 ghost use Rattle.hex.specs.Hex.{encode_upper, upper_digits};
@@ -9,7 +8,7 @@ ghost use Rattle.circuit_model.specs.FrameInput.{idle_octet};
 
 use circuit_model::IDLE;
 
-// At most thirty-two octets, and idle ones behind them.
+// At most 32 octets, and idle octets after them.
 pub(crate) fn wide_row(octets: &[u8]) -> [u8; 32]
     requires { length octets.now ≤ 32 }
     ensures { result ≡ octets.now ++ replicate (32 - length octets.now) idle_octet }
@@ -19,7 +18,7 @@ pub(crate) fn wide_row(octets: &[u8]) -> [u8; 32]
     row
 }
 
-// Whether a row holds nothing but idle octets. Every octet is looked at.
+// Returns whether all octets of a row are idle. Every octet is tested.
 pub(crate) fn is_idle(row: &[u8; 32]) -> bool
     ensures { result ≡ list_all (λ octet. octet == idle_octet) row.now }
 {
@@ -30,7 +29,7 @@ pub(crate) fn is_idle(row: &[u8; 32]) -> bool
     all
 }
 
-// Puts the digits of a row into a text, two for each octet, behind room for the number of a line.
+// Writes the digits of a row into a text, two for each octet, after space for the number of a line.
 pub(crate) fn put_row_digits(text: &mut [u8; 86], row: &[u8; 32])
     ensures { drop 22 text.new ≡ encode_upper row.now }
 {
@@ -41,7 +40,8 @@ pub(crate) fn put_row_digits(text: &mut [u8; 86], row: &[u8; 32])
     }
 }
 
-// The hexadecimal digit of a value, in upper case. It is reckoned: a table would be read digit by digit.
+// Returns the hexadecimal digit of a value, in upper case. It is computed, because a table would be read digit by
+// digit.
 fn digit(value: u8) -> u8
     requires { value < 16 }
     ensures { result ≡ slice_index upper_digits value }

@@ -1,14 +1,11 @@
 //! The text of a report: a line for each event.
 //!
-//! [`append_answer`] appends the one line of a kept answer (`line`), as `specs/Report.antt` spells
-//! it, and [`append_line`] does so from the response and the outbox of a step. Where memory runs out,
-//! the text stays as it was (`kept`).
+//! [`append_answer`] appends the line of a stored answer (`line`), as `specs/Report.antt` defines it. [`append_line`]
+//! appends it from the response and the outbox of a step (`line`). If an allocation fails, the text is unchanged
+//! (`kept`).
 //!
-//! What a whole report is, is defined beside it: `specs/RunReport.antt` has the line of each event of an
-//! order, at the world right before it.
-//!
-//! It uses `circuit_model`, `tone_rules`, `exchange_events` and `call_profile`, and the kit's `hex` and
-//! `itoa`.
+//! `specs/RunReport.antt` defines the report of a whole run: the line of each event of an order, in the exchange state
+//! right before it.
 #![tactic(auto)]
 
 mod digits;

@@ -9,7 +9,7 @@ use crate::text::{put_before, put_number_before};
 use exchange_events::Signal;
 use std::alloc::AllocError;
 
-// The line of a message, with what was sent for it.
+// Appends the line of a message, with the messages sent in reply.
 pub(crate) fn put_message(
     out: &mut Vec<u8>,
     event: u32,
@@ -25,7 +25,7 @@ pub(crate) fn put_message(
     out.extend_from_slice(b"\n")
 }
 
-// How many live paths a connection or a seat moved, where there was one.
+// Appends the numbers of live paths that a connection or a seat moved, if there was one.
 fn put_moves(out: &mut Vec<u8>, moved: Option<(u32, u32)>) -> Result<(), AllocError>
     ensures moves { OnOk result (out.new.items ≡ out.old.items ++ moves moved) }
     ensures front { take (length out.old.items) out.new.items ≡ out.old.items }
@@ -41,7 +41,7 @@ fn put_moves(out: &mut Vec<u8>, moved: Option<(u32, u32)>) -> Result<(), AllocEr
     out.extend_from_slice(&text[start..])
 }
 
-// The messages that were sent, in order.
+// Appends the messages that were sent, in order.
 fn put_signals(out: &mut Vec<u8>, sends: &[Signal]) -> Result<(), AllocError>
     ensures messages { OnOk result (out.new.items ≡ out.old.items ++ messages sends.now) }
     ensures front { take (length out.old.items) out.new.items ≡ out.old.items }
@@ -52,7 +52,7 @@ fn put_signals(out: &mut Vec<u8>, sends: &[Signal]) -> Result<(), AllocError>
     Ok(())
 }
 
-// The messages that were sent at a boundary, in order.
+// Appends the messages that were sent at a boundary, in order.
 pub(crate) fn put_frame_signals(out: &mut Vec<u8>, sends: &[Signal]) -> Result<(), AllocError>
     ensures messages { OnOk result (out.new.items ≡ out.old.items ++ frame_messages sends.now) }
     ensures front { take (length out.old.items) out.new.items ≡ out.old.items }
@@ -63,7 +63,7 @@ pub(crate) fn put_frame_signals(out: &mut Vec<u8>, sends: &[Signal]) -> Result<(
     Ok(())
 }
 
-// A message that was sent at a boundary.
+// Appends a message that was sent at a boundary.
 fn put_frame_signal(out: &mut Vec<u8>, sent: &Signal) -> Result<(), AllocError>
     ensures message { OnOk result (out.new.items ≡ out.old.items ++ codes " send" ++ on_line sent.now.line sent.now.octets) }
     ensures front { take (length out.old.items) out.new.items ≡ out.old.items }
@@ -72,7 +72,7 @@ fn put_frame_signal(out: &mut Vec<u8>, sent: &Signal) -> Result<(), AllocError>
     put_signal(out, sent)
 }
 
-// A message that was sent, behind the number of its line.
+// Appends a message that was sent, after the number of its line.
 fn put_signal(out: &mut Vec<u8>, sent: &Signal) -> Result<(), AllocError>
     ensures message { OnOk result (out.new.items ≡ out.old.items ++ on_line sent.now.line sent.now.octets) }
     ensures front { take (length out.old.items) out.new.items ≡ out.old.items }
@@ -83,7 +83,7 @@ fn put_signal(out: &mut Vec<u8>, sent: &Signal) -> Result<(), AllocError>
     put_octets(out, others)
 }
 
-// The first octets of a message that was sent, at most thirty-two, behind the number of its line.
+// Appends the first octets of a message that was sent, at most 32, after the number of its line.
 fn put_first(out: &mut Vec<u8>, line: usize, octets: &[u8]) -> Result<(), AllocError>
     requires { length octets.now ≤ 32 }
     ensures first { OnOk result (out.new.items ≡ out.old.items ++ on_line line octets.now) }
@@ -92,7 +92,7 @@ fn put_first(out: &mut Vec<u8>, line: usize, octets: &[u8]) -> Result<(), AllocE
     put_sent(out, line, &wide_row(octets), octets.len())
 }
 
-// Octets as hexadecimal digits, two each.
+// Appends octets as hexadecimal digits, two each.
 fn put_octets(out: &mut Vec<u8>, octets: &[u8]) -> Result<(), AllocError>
     ensures digits { OnOk result (out.new.items ≡ out.old.items ++ encode_upper octets.now) }
     ensures front { take (length out.old.items) out.new.items ≡ out.old.items }
@@ -106,7 +106,7 @@ fn put_octets(out: &mut Vec<u8>, octets: &[u8]) -> Result<(), AllocError>
     Ok(())
 }
 
-// At most thirty-two octets as hexadecimal digits, two each.
+// Appends at most 32 octets as hexadecimal digits, two each.
 fn put_few(out: &mut Vec<u8>, octets: &[u8]) -> Result<(), AllocError>
     requires { length octets.now ≤ 32 }
     ensures digits { OnOk result (out.new.items ≡ out.old.items ++ encode_upper octets.now) }

@@ -1,4 +1,4 @@
-//! The line of an answer, whole or of the response and the outbox of a step.
+//! The line of an answer, or of the response and the outbox of a step.
 ghost use Rattle.std.specs.Prelude.{◌≡◌, ◌++◌, ◌*◌, ◌≤◌, length, take, codes, decimal, slice_index, [], OnOk, OnErr};
 ghost use Rattle.hex.specs.Hex.{encode_upper};
 ghost use Rattle.exchange_events.specs.declared.answer.Kept.TheVariants.{Granted, Busy, Seated, NoPort, Freed, NotNailed};
@@ -10,16 +10,16 @@ use crate::text::{put_before, put_line_before, put_number_before};
 use exchange_events::{Answer, Kept, Outbox, Response, Signal};
 use std::alloc::AllocError;
 
-// Room for the words and numbers of a line: three numbers of ten digits, and what is between them.
+// Capacity for the words and numbers of a line: three numbers of ten digits, and the text between them.
 const ROOM: usize = 48;
 
-/// Appends a report's line for one event: its number and what it was answered, for a message what
-/// was sent for it, and for a frame what was sent at its boundary and the thirty octets of each line
-/// that sends an octet other than idle. The octets of an answer are read for a frame alone.
+/// Appends a report's line for one event: its number and the reply. A message has the messages sent in reply. A frame
+/// has the messages sent at its boundary, and the 30 octets of each line that sends an octet other than idle. Only a
+/// frame's octets are read.
 ///
 /// # Errors
 ///
-/// [`AllocError`] where memory runs out, and then `out` is as it was.
+/// [`AllocError`] if an allocation fails. Then `out` is unchanged.
 pub fn append_answer(out: &mut Vec<u8>, answer: &Answer) -> Result<(), AllocError>
     ensures line { OnOk result (out.new.items ≡ out.old.items ++ answer_line answer.now) }
     ensures kept { OnErr result (out.new.items ≡ out.old.items) }
@@ -34,12 +34,12 @@ pub fn append_answer(out: &mut Vec<u8>, answer: &Answer) -> Result<(), AllocErro
     )
 }
 
-/// Appends the line of an event as [`append_answer`] does, from the response and the outbox of its step,
-/// and from what each line sends where it is a frame.
+/// Appends the line of an event as [`append_answer`] does, from the response and the outbox of its step, and for a
+/// frame from the octets of each line.
 ///
 /// # Errors
 ///
-/// [`AllocError`] where memory runs out, and then `out` is as it was.
+/// [`AllocError`] if an allocation fails. Then `out` is unchanged.
 // Every line of a report goes through it, and with more than one caller LLVM would leave it a call.
 #[inline(always)]
 pub fn append_line(
@@ -62,7 +62,7 @@ pub fn append_line(
     )
 }
 
-// The response that a kept reply has.
+// Returns the response of a stored reply.
 fn response_of(reply: &Kept) -> Response
     ensures { result ≡ response_kept reply.now }
 {
@@ -78,7 +78,7 @@ fn response_of(reply: &Kept) -> Response
     }
 }
 
-// How many live paths were moved for a connection or a seat that a message made.
+// Returns the numbers of live paths that were moved for a connection or a seat of a message.
 fn moved_of(reply: &Kept) -> Option<(u32, u32)>
     ensures { result ≡ moved_kept reply.now }
 {
@@ -88,7 +88,7 @@ fn moved_of(reply: &Kept) -> Option<(u32, u32)>
     }
 }
 
-// The messages that were sent for a message, or at the boundary of a frame.
+// Returns the messages that were sent in reply to a message, or at the boundary of a frame.
 fn sends_of(reply: &Kept) -> &[Signal]
     ensures { result.now ≡ sends_kept reply.now }
 {
@@ -98,7 +98,7 @@ fn sends_of(reply: &Kept) -> &[Signal]
     }
 }
 
-// The line of a response with what was moved and sent.
+// Appends the line of a response with these moves and messages.
 #[inline(always)]
 fn append_parts(
     out: &mut Vec<u8>,
@@ -119,7 +119,7 @@ fn append_parts(
     done
 }
 
-// The same, and a refusal leaves a prefix of the line.
+// Appends the line of a response with these moves and messages. An error leaves a prefix of the line.
 #[inline(always)]
 fn put_parts_line(
     out: &mut Vec<u8>,
@@ -186,7 +186,7 @@ fn put_not_nailed(out: &mut Vec<u8>, event: u32) -> Result<(), AllocError>
     put_word(out, event, b" notnailed\n")
 }
 
-// A number and the word behind it.
+// Appends a number and the word after it.
 #[inline(always)]
 pub(crate) fn put_word(out: &mut Vec<u8>, number: u32, word: &[u8]) -> Result<(), AllocError>
     requires { length word.now ≤ 16 }
@@ -199,7 +199,7 @@ pub(crate) fn put_word(out: &mut Vec<u8>, number: u32, word: &[u8]) -> Result<()
     out.extend_from_slice(&text[start..])
 }
 
-// A number, the word behind it, and a second number.
+// Appends a number, the word after it, and a second number.
 fn put_pair(out: &mut Vec<u8>, number: u32, word: &[u8], other: u32) -> Result<(), AllocError>
     requires { length word.now ≤ 16 }
     ensures pair { OnOk result (out.new.items ≡ out.old.items ++ decimal number ++ word.now ++ decimal other) }
@@ -212,7 +212,7 @@ fn put_pair(out: &mut Vec<u8>, number: u32, word: &[u8], other: u32) -> Result<(
     out.extend_from_slice(&text[start..])
 }
 
-// A line that ends with two numbers, each behind a space.
+// Appends a line that ends with two numbers, each after a space.
 fn put_numbers(out: &mut Vec<u8>, event: u32, word: &[u8], a: u32, b: u32) -> Result<(), AllocError>
     requires { length word.now ≤ 16 }
     ensures line { OnOk result (out.new.items ≡ out.old.items ++ decimal event ++ word.now ++ decimal a ++ codes " " ++ decimal b ++ codes "\n") }
@@ -244,7 +244,7 @@ fn put_frame(
     out.extend_from_slice(b"\n")
 }
 
-// What each line sends, where it isn't idle.
+// Appends the octets of each line that is not idle.
 fn put_parts(out: &mut Vec<u8>, octets: &[[u8; 30]]) -> Result<(), AllocError>
     ensures parts { OnOk result (out.new.items ≡ out.old.items ++ parts 0 (lines_sent (octet_of octets.now) (length octets.now))) }
     ensures front { take (length out.old.items) out.new.items ≡ out.old.items }
@@ -255,7 +255,7 @@ fn put_parts(out: &mut Vec<u8>, octets: &[[u8; 30]]) -> Result<(), AllocError>
     Ok(())
 }
 
-// What one line sends, where it isn't idle, read slot by slot.
+// Appends the octets of one line, unless all are idle, read slot by slot.
 fn put_row(out: &mut Vec<u8>, line: usize, octets: &[u8; 30]) -> Result<(), AllocError>
     ensures part { OnOk result (out.new.items ≡ out.old.items ++ part line (line_octets (λ at. slice_index octets.now at.place) line)) }
     ensures front { take (length out.old.items) out.new.items ≡ out.old.items }
@@ -263,7 +263,7 @@ fn put_row(out: &mut Vec<u8>, line: usize, octets: &[u8; 30]) -> Result<(), Allo
     put_part(out, line, octets)
 }
 
-// What one line sends, where it isn't idle.
+// Appends the octets of one line, unless all are idle.
 fn put_part(out: &mut Vec<u8>, line: usize, octets: &[u8; 30]) -> Result<(), AllocError>
     ensures part { OnOk result (out.new.items ≡ out.old.items ++ part line octets.now) }
     ensures front { take (length out.old.items) out.new.items ≡ out.old.items }
@@ -275,7 +275,7 @@ fn put_part(out: &mut Vec<u8>, line: usize, octets: &[u8; 30]) -> Result<(), All
     put_sent(out, line, &row, 30)
 }
 
-// The first octets of a row, behind the number of their line.
+// Appends the first octets of a row, after the number of their line.
 pub(crate) fn put_sent(
     out: &mut Vec<u8>,
     line: usize,

@@ -3,7 +3,7 @@ ghost use Rattle.std.specs.Prelude.{◌≡◌, ◌++◌, ◌+◌, ◌≤◌, len
 
 use itoa::write_digits;
 
-// Puts octets before what is there from `end` on, and answers where they begin.
+// Writes octets before the text from `end` on, and returns their start.
 pub(crate) fn put_before(text: &mut [u8], end: usize, octets: &[u8]) -> usize
     requires { (length octets.now ≤ end) × (end ≤ length text.old) }
     ensures start { result + length octets.now ≡ end }
@@ -15,7 +15,7 @@ pub(crate) fn put_before(text: &mut [u8], end: usize, octets: &[u8]) -> usize
     start
 }
 
-// Puts the digits of a number before what is there from `end` on, and answers where they begin.
+// Writes the digits of a number before the text from `end` on, and returns their start.
 pub(crate) fn put_number_before(text: &mut [u8], end: usize, number: u32) -> usize
     requires { (10 ≤ end) × (end ≤ length text.old) }
     ensures start { result ≤ end }
@@ -26,7 +26,7 @@ pub(crate) fn put_number_before(text: &mut [u8], end: usize, number: u32) -> usi
     write_digits(u64::from(number), text, end)
 }
 
-// Puts the number of a line before what is there from `end` on, as it comes before its octets.
+// Writes the number of a line before the text from `end` on, as it precedes its octets.
 pub(crate) fn put_line_before(text: &mut [u8], line: usize) -> usize
     requires { 22 ≤ length text.old }
     ensures start { result ≤ 22 }

@@ -1,19 +1,19 @@
--- Histories: who did which event, in the order in which they were done. Source: this exchange's own.
+-- Histories: the processed events in order, each with the seat that processed it. Source: this project.
 use Rattle.std.specs.Prelude.{◌≡◌, ℕ, List, ◌++◌, length, take, drop, nat_lt, nat_eq, if◌then◌else◌, filter, All}
 
--- the number of a seat, and the event that it did
+-- the number of a seat, and the event that it processed
 abbrev pub Entry : Type 0
 Entry = ℕ × ℕ
 
--- the history begins with what was seen
+-- the history begins with the part that was seen
 abbrev pub StartsWith : List Entry → List Entry → Type 0
 StartsWith history seen = (rest : List Entry) × (history ≡ seen ++ rest)
 
--- what comes in a history behind what was seen
+-- the part of a history after the part that was seen
 abbrev pub unseen : List Entry → List Entry → List Entry
 unseen seen history = drop (length seen) history
 
--- the history before the event at this place, places being counted from 0
+-- the history before the event at this position, counted from 0
 abbrev pub before : ℕ → List Entry → List Entry
 before place history = take place history
 

@@ -1,5 +1,5 @@
-//! What a seat knows. No value of these types is made: a clause reads an array in them as a list, of
-//! any length.
+//! The knowledge of a lock seat. No value of these types is made: a clause reads an array in them as a list, of any
+//! length.
 
 /// The entries of a seat that was joined, under its number.
 pub struct JoinedSeat {
@@ -9,7 +9,7 @@ pub struct JoinedSeat {
     pub own: [(u32, u32); 0],
 }
 
-/// A seat between two calls: a right to do n events, each an entry of one history.
+/// A lock seat between two calls: a right to process n events, each an entry of one history.
 pub struct Known {
     /// 0 for the first seat.
     pub number: u64,
@@ -17,11 +17,11 @@ pub struct Known {
     pub left: u64,
     /// Whether it holds the baton.
     pub baton: bool,
-    /// The history that it has seen: who did which event, in the order in which they were done.
+    /// The history that it has seen: the processed events in order, each with the seat that processed it.
     pub seen: [(u32, u32); 0],
     /// Its own entries of that history.
     pub own: [(u32, u32); 0],
-    /// How many seats seat 0 has made.
+    /// The number of seats that seat 0 has made.
     pub made: u64,
     /// The entries of each seat that seat 0 has joined.
     pub kept: [JoinedSeat; 0],

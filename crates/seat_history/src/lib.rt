@@ -1,13 +1,11 @@
-//! The words of seats: a history of what seats did, one behind the other, and what each seat knows
-//! of it.
+//! The definitions of lock seats: a history of the events that seats processed, and the knowledge of each seat about
+//! it.
 //!
-//! They are definitions alone, in `specs/`. The turn lock and every switchboard cite the same ones,
-//! so that what is said of the one is said of the other: a seat that makes another, a step, a seat
-//! that is joined ([`Known`]), and that seat 0's knowledge adds up (`Settled`).
+//! The crate has only definitions, in `specs/`. The turn lock and every switchboard use them, so that a guarantee of
+//! the one is a guarantee of the other: a seat that makes another, a step, a seat that is joined ([`Known`]), and the
+//! knowledge of seat 0, which adds up (`Settled`).
 //!
-//! - The seat that a history begins with is settled ([`law_of_first_seat`]).
-//!
-//! It uses no other crate.
+//! - The knowledge of the seat with which a history begins adds up ([`law_of_first_seat`]).
 #![tactic(auto)]
 
 mod known;

@@ -1,4 +1,4 @@
--- What came of all workers of a segment, once their seats are joined. Source: this exchange's own.
+-- The results of all workers of a segment, once their seats are joined. Source: this project.
 use Rattle.std.specs.Prelude.{◌≡◌, ℕ, ◌+◌, ◌≤◌, IsTrue, List, length, map, vec_capacity}
 use Rattle.exchange_events.specs.declared.trace.Trace.{Trace}
 use Rattle.seat_history.specs.declared.known.Known.{Known}
@@ -15,7 +15,7 @@ use Rattle.segment_run.specs.Merging.{all_of}
 use Rattle.segment_run.specs.Rooms.{HasRoom}
 use Rattle.segment_run.specs.Segment.{AreAnswered, HasGrown, IsChief, Ran, RanWhole}
 
--- no workplace was lost, and all lists have the room that a workroom keeps
+-- no workplace was lost, and all lists have the capacity of a workroom's
 pub record IsComplete {T E K : Type 0} (g : Gathered T E K) : Type 0 where
   pub nine : length g.workplaces.items + length g.used.items ≡ 9
   pub wide : 9 ≤ vec_capacity g.workplaces
@@ -23,8 +23,8 @@ pub record IsComplete {T E K : Type 0} (g : Gathered T E K) : Type 0 where
   pub jobs : HasRoom g.crew.jobs
   pub done : HasRoom g.crew.done
 
--- From v to w all workers did their whole parts, the machine is ready for the next frame, and at the used workplaces the answers are
--- kept, which put together answer what the history grew by.
+-- From v to w all workers processed their whole parts, and the machine is ready for the next frame. The used workplaces
+-- hold answers that are, once merged, the answers to the new events of the history.
 pub record AllDone {T E K : Type 0} (holds : K → List Placed → Type 0) (plays : Plays) (carries : Carrying E) (next : E → ℕ) (sizes : E → Dimensions) (board : Board) (trace : Trace) (segment : ℕ) (v w : Known) (g : Gathered T E K) : Type 0 where
   pub whole : RanWhole trace segment v w
   pub long : HasGrown trace segment v w
@@ -35,7 +35,8 @@ pub record AllDone {T E K : Type 0} (holds : K → List Placed → Type 0) (play
   pub many : length (all_of parts) ≡ length (events_of_segment trace segment)
   pub answered : (answers : List Placed) → IsMerged parts answers → AreAnswered plays (table_of trace.tones) board v w (map (λ (p : Placed). p.answer) answers)
 
--- From v to w each worker did the first events of its part and seat 0 joined all others; where all parts are whole, all of it was done and answered.
+-- From v to w each worker processed a prefix of its part, and seat 0 joined all others. If all parts are whole, the
+-- whole segment was processed and answered.
 pub record HasWorked {T E K : Type 0} (holds : K → List Placed → Type 0) (plays : Plays) (carries : Carrying E) (next : E → ℕ) (sizes : E → Dimensions) (board : Board) (trace : Trace) (segment : ℕ) (v w : Known) (g : Gathered T E K) : Type 0 where
   pub chief : IsChief (turns_of board) w
   pub ran : Ran trace segment v w

@@ -1,4 +1,4 @@
--- The jobs of a segment's workers, and what came of them. Source: this exchange's own.
+-- The jobs of a segment's workers, and their results. Source: this project.
 use Rattle.std.specs.Prelude.{◌≡◌, ℕ, ◌+◌, ◌<◌, ◌≤◌, List, [], length, map, All, vec_len, vec_capacity}
 use Rattle.std.specs.List.{AllZip}
 use Rattle.circuit_model.specs.declared.circuit.Kind.{Kind}
@@ -21,64 +21,66 @@ use Rattle.segment_run.specs.declared.team.Team.{Team}
 use Rattle.segment_run.specs.Team.{part_numbered}
 use Rattle.tone_rules.specs.Tables.{table_of}
 
--- the call processor with this job may do its part
+-- the call processor with this job may process its part
 abbrev pub MayProcess : {T K : Type 0} → (T → Known) → Board → Trace → ℕ → Job T K → Type 0
 MayProcess known board trace segment j = (j.worker < trace.processors) × MayWork board trace segment (Processor j.worker) (known j.seat)
 
--- the call processor with this job did its part
+-- the call processor with this job processed its part
 abbrev pub HasProcessed : {T K : Type 0} → (K → List Placed → Type 0) → (T → Known) → Board → Trace → ℕ → Job T K → Finished T K → Type 0
 HasProcessed holds known board trace segment j f = HasWorked holds known board (λ w. has_no_octets) (part_of trace segment (Processor j.worker)) (known j.seat) f
 
--- each of the call processors with these jobs did its part
+-- each of the call processors with these jobs processed its part
 abbrev pub HaveProcessed : {T K : Type 0} → (K → List Placed → Type 0) → (T → Known) → Board → Trace → ℕ → List (Job T K) → List (Finished T K) → Type 0
 HaveProcessed holds known board trace segment jobs done = AllZip (HasProcessed holds known board trace segment) jobs done
 
--- what is said of the octets of an answer of the worker with this number: a frame's are what the engine plays, and no other answer has any
+-- an answer of the worker with this number has the octets that the engine outputs if it is to a frame, and none
+-- otherwise
 abbrev pub HasItsOctets : Plays → (Kind → List ℕ) → Board → Trace → ℕ → Known → Placed → Type 0
 HasItsOctets plays tones board trace i w p = (i ≡ trace.processors → HasFrame plays tones board w p) × (i < trace.processors → has_no_octets p)
 
--- the worker with this job, be it a call processor or the frame worker, did its part
+-- the worker with this job, a call processor or the frame worker, processed its part
 abbrev pub HasDone : {T K : Type 0} → (K → List Placed → Type 0) → Plays → (Kind → List ℕ) → (T → Known) → Board → Trace → ℕ → Job T K → Finished T K → Type 0
 HasDone holds plays tones known board trace segment j f =
     HasWorked holds known board (HasItsOctets plays tones board trace j.worker) (part_numbered trace segment j.worker) (known j.seat) f
 
--- each of the workers with these jobs did its part
+-- each of the workers with these jobs processed its part
 abbrev pub HaveDone : {T K : Type 0} → (K → List Placed → Type 0) → Plays → (T → Known) → Board → Trace → ℕ → List (Job T K) → List (Finished T K) → Type 0
 HaveDone holds plays known board trace segment jobs done = AllZip (HasDone holds plays (table_of trace.tones) known board trace segment) jobs done
 
--- n jobs of a crew were done, and none is left: what came of each is there, and both lists have the room that they had
+-- a crew processed n jobs, and none is left: it has the result of each, and both lists have the same capacity as before
 pub record IsThrough {T K : Type 0} (n : ℕ) (before after : Crew T K) : Type 0 where
   pub none : after.jobs.items ≡ []
   pub kept : vec_capacity after.jobs ≡ vec_capacity before.jobs
   pub room : vec_capacity before.done ≤ vec_capacity after.done
   pub count : length after.done.items ≡ n
 
--- the call processor with this job may begin; its seat is one of the board's
+-- the call processor with this job may begin, and its seat is one of the board's
 abbrev pub MayStart : {T K : Type 0} → (T → Type 0) → (T → Known) → Board → Trace → ℕ → Job T K → Type 0
 MayStart of_board known board trace segment j = of_board j.seat × MayProcess known board trace segment j
 
--- the call processors with a crew's jobs may begin: there is room for what comes of each of them and of n workers more, and nothing came of any
+-- the call processors with a crew's jobs may begin: there is capacity for the results of each of them and of n workers
+-- more, and no result yet
 pub record MayBegin {T K : Type 0} (of_board : T → Type 0) (known : T → Known) (board : Board) (trace : Trace) (segment n : ℕ) (crew : Crew T K) : Type 0 where
   pub seated : All (λ j. of_board j.seat) crew.jobs.items
   pub may : All (MayProcess known board trace segment) crew.jobs.items
   pub room : vec_len crew.jobs + n ≤ vec_capacity crew.done
   pub empty : crew.done.items ≡ []
 
--- the call processors with these jobs did their parts, and what came of each is in the crew
+-- the call processors with these jobs processed their parts, and the crew has their results
 pub record AreThrough {T K : Type 0} (holds : K → List Placed → Type 0) (of_board : T → Type 0) (known : T → Known) (board : Board) (trace : Trace) (segment : ℕ) (jobs : List (Job T K)) (before after : Crew T K) : Type 0 where
   pub through : IsThrough (length jobs) before after
   pub seated : All (λ f. of_board f.seat) after.done.items
   pub works : HaveProcessed holds known board trace segment jobs after.done.items
 
--- whichever of these jobs is the frame worker's, the machine is ready for its next frame
+-- for each of these jobs, the machine is ready for the next frame after the history that its seat has seen
 abbrev pub AreReady : {T E K : Type 0} → Carrying E → (E → ℕ) → (E → Dimensions) → (T → Known) → Board → Machine E → List (Job T K) → Type 0
 AreReady carries next sizes known board machine jobs = All (λ j. IsReadyAt carries next sizes board (known j.seat) machine) jobs
 
--- and so once it is done
+-- if the frame worker has one of these jobs, the machine is ready again after it
 abbrev pub StayReady : {T E K : Type 0} → Carrying E → (E → ℕ) → (E → Dimensions) → (T → Known) → Board → Trace → List (Job T K) → Team T E K → Type 0
 StayReady carries next sizes known board trace jobs team =
     AllZip (λ j f. j.worker ≡ trace.processors → IsReadyAt carries next sizes board (known f.seat) team.machine.value) jobs team.crew.done.items
 
--- the workers' numbers, with what their seats know
+-- the workers' numbers, with the knowledge of their seats
 abbrev pub seats_of : {T K : Type 0} → (T → Known) → List (Job T K) → List (ℕ × Known)
 seats_of known jobs = map (λ j. (j.worker, known j.seat)) jobs

@@ -1,4 +1,4 @@
--- What a run of a segment does, from what seat 0 knew before it to what it knows afterwards. Source: this exchange's own.
+-- A run of a segment, from the knowledge of seat 0 before it to its knowledge after it. Source: this project.
 use Rattle.std.specs.Prelude.{◌≡◌, ℕ, ◌+◌, ◌<◌, ◌≤◌, ◌^◌, IsTrue, List, [], ◌++◌, length, map, filter, slice_get, Some, All}
 use Rattle.circuit_model.specs.declared.circuit.Kind.{Kind}
 use Rattle.circuit_model.specs.FrameInput.{Input}
@@ -22,26 +22,27 @@ use Rattle.call_processor.specs.declared.worked.Placed.{Placed}
 use Rattle.segment_run.specs.declared.answers.SegmentAnswer.{SegmentAnswer}
 use Rattle.segment_run.specs.declared.answers.SegmentDone.{SegmentDone}
 
--- seat 0 between two segments: it holds the baton, all other seats are joined, and what it has seen is accounted for
+-- seat 0 between two segments: it holds the baton, all other seats are joined, and its knowledge accounts for the whole
+-- history
 pub record IsChief (turns : ℕ) (v : Known) : Type 0 where
   pub number : v.number ≡ 0
   pub baton : IsTrue v.baton
   pub joined : v.made ≡ length v.kept
   pub settled : Settled turns v
 
--- the numbers of the events that the history grew by, in the order in which they were done
+-- the numbers of the events that were added to the history, in the order in which they were processed
 abbrev pub new_events : Known → Known → List ℕ
 new_events v w = order_of (unseen v.seen w.seen)
 
--- the ones among these events that the worker does
+-- the events among these that the worker processes
 abbrev pub of_worker : Trace → Worker → List ℕ → List ℕ
 of_worker trace worker events = filter (is_its trace worker) events
 
--- the event is one of the segment; segments are counted from 0
+-- the event is one of the segment, counted from 0
 abbrev pub IsOfSegment : Trace → ℕ → ℕ → Type 0
 IsOfSegment trace segment n = IsEvent trace n × (segment_of trace.segments n ≡ segment)
 
--- the history grew by events of the segment alone, by the first of each worker's part in the order of the file, and each took a turn
+-- the history grew only by events of the segment: by a prefix of each worker's part in file order, with a turn for each
 pub record Ran (trace : Trace) (segment : ℕ) (v w : Known) : Type 0 where
   pub begins : StartsWith w.seen v.seen
   pub only : All (IsOfSegment trace segment) (new_events v w)
@@ -49,12 +50,12 @@ pub record Ran (trace : Trace) (segment : ℕ) (v w : Known) : Type 0 where
   pub turns : w.left + length (new_events v w) ≡ v.left
   pub few : w.made ≤ v.made + 9
 
--- and by each worker's whole part
+-- each worker's whole part is in the new history
 abbrev pub RanWhole : Trace → ℕ → Known → Known → Type 0
 RanWhole trace segment v w = (worker : Worker) → of_worker trace worker (new_events v w) ≡ part_of trace segment worker
 
--- the answer is for the history's event at this place: it keeps the exchange's reply after the history before it, and the octets of a frame
--- are those that the engine plays; of another event it has none
+-- the answer is to the history's event at this position: it has the exchange's reply after the history before it; for a
+-- frame it has the octets that the engine outputs, and otherwise none
 pub record IsAnswered (plays : Plays) (tones : Kind → List ℕ) (board : Board) (history : List Entry) (place : ℕ) (a : Answer) : Type 0 where
   pub reply : Reply
   pub given : AnswersAt board (before place history) a.event reply
@@ -64,12 +65,12 @@ pub record IsAnswered (plays : Plays) (tones : Kind → List ℕ) (board : Board
       → IsPlayed plays tones board.trace.external (world_at board (before place history)) input a.octets
   pub silent : (IsFrame board.trace a.event → ⊥) → a.octets ≡ []
 
--- the answers of what the history grew by, in its order
+-- these are the answers to the new events of the history, in its order
 pub record AreAnswered (plays : Plays) (tones : Kind → List ℕ) (board : Board) (v w : Known) (answers : List Answer) : Type 0 where
   pub events : map (λ (a : Answer). a.event) answers ≡ new_events v w
   pub each : (i : ℕ) (a : Answer) → slice_get answers i ≡ Some a → IsAnswered plays tones board w.seen (length v.seen + i) a
 
--- so an answer to a segment, with the tones of its trace
+-- the result of a segment has the answers to the new events of the history, with the tones of the trace
 abbrev pub HasAnswers : {E : Type 0} → Plays → Board → Trace → Known → Known → SegmentAnswer E → Type 0
 HasAnswers plays board trace v w a = AreAnswered plays (table_of trace.tones) board v w a.answers.items
 
@@ -77,11 +78,12 @@ HasAnswers plays board trace v w a = AreAnswered plays (table_of trace.tones) bo
 abbrev pub HasTurns : Trace → ℕ → Known → Type 0
 HasTurns trace segment v = length (events_of_segment trace segment) ≤ v.left
 
--- from v to w the history grew by as many entries as the segment has events
+-- from v to w the history grew by one entry for each event of the segment
 abbrev pub HasGrown : Trace → ℕ → Known → Known → Type 0
 HasGrown trace segment v w = length w.seen ≡ length v.seen + length (events_of_segment trace segment)
 
--- the segment may be run: seat 0 knows v, holds the baton, and has numbers left for the seats of the workers and a turn for each event
+-- the segment may be run: seat 0 knows v, holds the baton, and has numbers left for the seats of the workers and a turn
+-- for each event
 pub record MayRun (board : Board) (trace : Trace) (segment : ℕ) (v : Known) : Type 0 where
   pub trace_is : trace ≡ board.trace
   pub within : segment < length trace.segments
@@ -89,19 +91,19 @@ pub record MayRun (board : Board) (trace : Trace) (segment : ℕ) (v : Known) : 
   pub numbers : v.made + 10 < 2 ^ 32
   pub turns : HasTurns trace segment v
 
--- a keeper keeps behind what it kept before the answers of what the history grew by
+-- a keeper holds, after its earlier contents, the answers to the new events of the history
 pub record AddsAnswers {K : Type 0} (holds : K → List Placed → Type 0) (plays : Plays) (tones : Kind → List ℕ) (board : Board) (v w : Known) (kept : List Placed) (keeper : K) : Type 0 where
   pub answers : List Placed
   pub answered : AreAnswered plays tones board v w (map (λ (p : Placed). p.answer) answers)
   pub held : holds keeper (kept ++ answers)
 
--- from v to w the segment was run whole, and the machine came back ready for the next frame
+-- from v to w the whole segment was run, and the returned machine is ready for the next frame
 pub record RanTo {T E K : Type 0} (carries : Carrying E) (next : E → ℕ) (sizes : E → Dimensions) (board : Board) (trace : Trace) (segment : ℕ) (v w : Known) (a : SegmentDone T E K) : Type 0 where
   pub whole : RanWhole trace segment v w
   pub long : HasGrown trace segment v w
   pub ready : IsReadyAt carries next sizes board w a.machine.value
 
--- from v to w the segment was run whole, and this is its answer
+-- from v to w the whole segment was run, and this is its result
 pub record IsAnswerOf {E : Type 0} (plays : Plays) (carries : Carrying E) (next : E → ℕ) (sizes : E → Dimensions) (board : Board) (trace : Trace) (segment : ℕ) (v w : Known) (a : SegmentAnswer E) : Type 0 where
   pub whole : RanWhole trace segment v w
   pub long : HasGrown trace segment v w

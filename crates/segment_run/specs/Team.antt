@@ -1,4 +1,4 @@
--- The workers of a segment, their seats and their answers. Source: this exchange's own.
+-- The workers of a segment, their seats and their answers. Source: this project.
 use Rattle.std.specs.Prelude.{◌≡◌, ℕ, zero, suc, ◌+◌, ◌≤◌, ◌||◌, nat_lt, Bool, false, if◌then◌else◌, List, [], ◌∷◌, length}
 use Rattle.exchange_events.specs.declared.trace.Trace.{Trace}
 use Rattle.exchange_events.specs.Orders.{Worker, Processor, Frame_worker}
@@ -6,7 +6,7 @@ use Rattle.seat_history.specs.declared.known.Known.{Known}
 use Rattle.seat_history.specs.Seats.{after_join}
 use Rattle.call_processor.specs.Parts.{part_of}
 
--- the workers by number: the call processors by theirs, and behind them the frame worker
+-- the worker with this number: the call processors have their own, and the frame worker the next one
 abbrev pub worker_numbered : ℕ → ℕ → Worker
 worker_numbered processors i = if nat_lt i processors then Processor i else Frame_worker
 
@@ -14,23 +14,25 @@ worker_numbered processors i = if nat_lt i processors then Processor i else Fram
 abbrev pub part_numbered : Trace → ℕ → ℕ → List ℕ
 part_numbered trace segment i = part_of trace segment (worker_numbered trace.processors i)
 
--- how many events it is
+-- the number of events of that part
 abbrev pub load : Trace → ℕ → ℕ → ℕ
 load trace segment i = length (part_numbered trace segment i)
 
--- how many events the first n workers have to do
+-- the number of events of the first n workers
 unfoldable pub loads_below : Trace → ℕ → ℕ → ℕ
 loads_below trace segment zero = 0
 loads_below trace segment (suc n) = loads_below trace segment n + load trace segment n
 
--- a seat that seat 0 made when it knew v: with this number and n turns, the history that v has seen, and no entry of its own
+-- a new seat that seat 0 made when it knew v: with this number and n turns, the history that v has seen, and no own
+-- entry
 pub record IsNew (v : Known) (number turns : ℕ) (w : Known) : Type 0 where
   pub number_is : w.number ≡ number
   pub turns_are : w.left ≡ turns
   pub seen_is : w.seen ≡ v.seen
   pub own_none : w.own ≡ []
 
--- The workers have seats, whose numbers are n and on; the workers' own numbers rise, from low on. Each has a turn for each event of its part.
+-- The workers have seats, numbered from n up; the workers' own numbers rise, from `low` up. Each seat has a turn for
+-- each event of its part.
 abbrev pub AreDealt : Trace → ℕ → Known → ℕ → ℕ → List (ℕ × Known) → Type 0
 AreDealt trace segment v n low [] = Unit {0}
 AreDealt trace segment v n low (j ∷ js) =
@@ -46,7 +48,7 @@ abbrev pub any_baton : List (ℕ × Known) → Bool
 any_baton [] = false
 any_baton (j ∷ js) = j.1.baton || any_baton js
 
--- seat 0 after it made n seats, before which it knew v: except for the turns, the baton and the count it is as it was
+-- seat 0, which knew v, after it made n seats: only the turns, the baton and the count have changed
 pub record HasDealt (v : Known) (seats : ℕ) (w : Known) : Type 0 where
   pub number : w.number ≡ v.number
   pub seen : w.seen ≡ v.seen
@@ -54,7 +56,7 @@ pub record HasDealt (v : Known) (seats : ℕ) (w : Known) : Type 0 where
   pub kept : w.kept ≡ v.kept
   pub made : w.made ≡ v.made + seats
 
--- seat 0 with these seats joined, the last first
+-- the knowledge of seat 0 with these seats joined, the last first
 abbrev pub after_joins : Known → List Known → Known
 after_joins v [] = v
 after_joins v (w ∷ ws) = after_join (after_joins v ws) w

@@ -7,8 +7,8 @@ ghost use Rattle.segment_run.specs.declared.choice.TheConstants.{FEWEST_BESIDE};
 /// measurements.
 pub const FEWEST_BESIDE: u32 = 128;
 
-/// Whether a segment is worth threads, by how many events each worker has in it: all parts but the
-/// largest have enough events together.
+/// Returns whether all parts of a segment except the largest have enough events together for threads, from the number
+/// of events of each worker.
 pub fn is_worth_threads(loads: &[u32; 9]) -> bool
     ensures { IsTrue result ↔ FEWEST_BESIDE ≤ events_beside loads.now }
 {

@@ -21,7 +21,8 @@ pub struct Job<T, K> {
     pub workplace: Workplace<K>,
 }
 
-/// The number of events of each worker in a segment, by the number of the worker.
+/// Returns the number of events of each worker in a segment, by the number of the worker, counted in one pass over its
+/// events.
 pub fn loads_of(trace: &Trace, segment: u32) -> [u32; 9]
     requires sound { IsSound trace.now }
     requires segment { segment < length trace.now.segments }

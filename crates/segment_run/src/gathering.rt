@@ -9,7 +9,7 @@ ghost use Rattle.segment_run.specs.Team.{after_joins};
 use call_processor::{Finished, Keeper, Workplace};
 use exchange_core::Switchboard;
 
-/// Whether the parts of all workers are complete.
+/// Returns whether the parts of all workers are complete.
 pub fn all_whole<T, K>(workers: &[Finished<T, K>]) -> bool
     ensures { IsTrue result ↔ All (λ f. IsTrue f.whole) workers.now }
 {

@@ -23,7 +23,7 @@ pub fn first_seat_is_chief()
     ensures { (turns : ℕ) → IsChief turns (first_seat turns) }
 {}
 
-/// After the segments before one, the history has one entry for each of their events, seat 0 has a turn for each event
+/// After the segments before one, the history has one entry for each of their events. Seat 0 has a turn for each event
 /// of the next segment, and there are numbers left for the seats of its workers.
 pub fn segments_leave_room()
     ensures long { (t : Trace) (k : ℕ) (v : Known) → IsSound t → k ≤ length t.segments → HasDoneBelow t k v → length v.seen ≡ events_before t.segments k }

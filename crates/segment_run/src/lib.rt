@@ -1,19 +1,17 @@
 //! A segment of a trace: its workers, in threads or in sequence, and their answers in the order of the history.
 //!
-//! If threads pay, or if the gate requests them, [`run_segment_with`] runs the workers that have events in parallel, one
-//! of them in the calling thread. Otherwise the calling thread processes all events in file order ([`FEWEST_BESIDE`]).
-//! Its contract is the same in both cases:
+//! If threads pay, or if the gate requests them, [`run_segment_with`] runs the workers that have events in parallel,
+//! one of them in the calling thread. Otherwise the calling thread processes all events in file order
+//! ([`FEWEST_BESIDE`]). Its contract is the same in both cases:
 //!
 //! - The history grows only by events of the segment (`ran`), and on success by all of them (`whole`).
-//! - A keeper has their answers after its earlier answers. Each is the exchange's at its place of the history, with the
-//!   octets that the engine plays (`answered`).
+//! - A keeper has their answers after its earlier answers. Each is the exchange's at its position of the history, with
+//!   the octets that the engine outputs (`answered`).
 //! - The machine is ready for the next frame (`whole`).
 //!
-//! A [`Workroom`] has the buffers of the workers, which serve one segment after another. [`run_segment`] runs one segment
-//! and returns complete answers. Segments that run in sequence have a lawful order ([`segments_make_lawful_orders`]).
-//!
-//! It uses `circuit_model`, `seat_history`, `tone_rules`, `frame_engine`, `exchange_core`,
-//! `gate`, `call_processor`, `exchange_events` and `call_profile`.
+//! A [`Workroom`] has the buffers of the workers, which serve one segment after another. [`run_segment`] runs one
+//! segment and returns complete answers. Segments that run in sequence have a lawful order
+//! ([`segments_make_lawful_orders`]).
 #![tactic(auto)]
 
 mod answers;

@@ -1,4 +1,4 @@
-//! The answers of several workers, merged by their places in the history.
+//! The answers of several workers, merged by their positions in the history.
 ghost use Rattle.std.specs.Prelude.{◌≡◌, ◌≤◌, ℕ, List, length, OnOk, OnErr, vec_capacity};
 ghost use Rattle.call_processor.specs.declared.worked.Placed.{Placed};
 ghost use Rattle.call_processor.specs.Keeping.{StillHolds};
@@ -9,8 +9,8 @@ ghost use Rattle.segment_run.specs.Merging.{all_of};
 use call_processor::{Keeper, Workplace};
 use std::alloc::AllocError;
 
-// The index of the keeper that has the first event of all, the place of this event, and the place of the first event
-// of the others.
+// Returns the index of the keeper that has the first event of all, the position of this event, and the position of the
+// first event of the others.
 fn next_run<K: Keeper>(used: &[Workplace<K>]) -> Option<(usize, u32, u32)>
     ensures { IsNextRun K.holds used.now (length used.now) result }
 {
@@ -23,7 +23,7 @@ fn next_run<K: Keeper>(used: &[Workplace<K>]) -> Option<(usize, u32, u32)>
     found
 }
 
-// The earlier of what was found and an event of workplace i, with the first place of all others.
+// Returns the earlier of the result so far and an event of workplace i, with the first position of all others.
 fn earlier(found: Option<(usize, u32, u32)>, i: usize, place: u32) -> (usize, u32, u32)
     ensures { result ≡ first_of_two found i place }
 {
@@ -41,9 +41,9 @@ fn earlier(found: Option<(usize, u32, u32)>, i: usize, place: u32) -> (usize, u3
     }
 }
 
-/// Appends the answers of all these keepers to the answers of `into`, in the order of their places. The keeper whose
-/// first event comes first moves all its events that come before any other keeper's, so each round compares at most nine
-/// places. `count` is the number of all events.
+/// Appends the answers of all these keepers to the answers of `into`, in the order of their positions. The keeper whose
+/// first event comes first moves all its events that come before any other keeper's, so each round compares at most
+/// nine positions. `count` is the number of all events.
 ///
 /// # Errors
 ///

@@ -100,7 +100,7 @@ fn run_for_answers<B: Switchboard, G: Gate, C: Carrier, R: Threads + Wait + Sync
     })
 }
 
-// Moves the answers out of their places.
+// Moves the answers out of their positions.
 fn answers_of(alloc: Global, placed: &mut VecDeque<Placed>) -> Result<Vec<Answer>, AllocError>
     ensures { IfOk result (λ m. m.items ≡ map (λ p. p.answer) placed.old.items) }
 {
@@ -111,8 +111,8 @@ fn answers_of(alloc: Global, placed: &mut VecDeque<Placed>) -> Result<Vec<Answer
     Ok(answers)
 }
 
-/// Runs one segment of a board's trace as [`run_segment`] does, with a machine and in a workroom that it returns for the
-/// next segment. Appends the answers to a keeper's, in the order of the history.
+/// Runs one segment of a board's trace as [`run_segment`] does, with a machine and in a workroom that it returns for
+/// the next segment. Appends the answers to a keeper's, in the order of the history.
 ///
 /// # Errors
 ///

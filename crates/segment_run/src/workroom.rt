@@ -9,10 +9,10 @@ use std::marker::Model;
 // Eight call processors and the frame worker.
 const WORKERS: usize = 9;
 
-/// The buffers of the workers of a segment, which also serve the next segment's: nine workplaces, the most that a segment
-/// needs, and the lists of jobs and results. `T` is the type of the seats and `K` the type of the keepers.
+/// The buffers of the workers of a segment, which also serve the next segment's: nine workplaces, the most that a
+/// segment needs, and the lists of jobs and results. `T` is the type of the seats and `K` the type of the keepers.
 ///
-/// Its model is the number of workers that it has room for.
+/// Its model is the number of workers for which it has capacity.
 #[derive(Drop)]
 pub struct Workroom<T, K> {
     // The workplaces that no worker uses.
@@ -34,7 +34,7 @@ impl<T, K> Model for Workroom<T, K> {
 }
 
 impl<T: Drop, K: Keeper> Workroom<T, K> {
-    /// A new workroom, with keepers of this kind. [`AllocError`] if an allocation fails.
+    /// Returns a new workroom, with keepers of this kind. [`AllocError`] if an allocation fails.
     pub fn new(alloc: Global, keeper: &K) -> Result<Workroom<T, K>, AllocError>
         ensures { IfOk result (λ r. r ≡ 9) }
     {

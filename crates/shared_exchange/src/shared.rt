@@ -32,8 +32,8 @@ impl<'t, P: PathMap> Model for SharedExchange<'t, P> {
     ghost invariant = { λ x. IsBoard x.lock };
 }
 
-/// A seat at a shared exchange: the right to process a number of events. Contracts see what the seat of its lock knows, and
-/// whether it has kept the turn.
+/// A seat at a shared exchange: the right to process a number of events. Contracts see the knowledge of the lock's
+/// seat, and whether it has kept the turn.
 #[derive(Drop)]
 pub struct Seat<'t, P: PathMap> {
     turns: turn_lock::Seat<Exchange<'t, P>>,
@@ -49,8 +49,8 @@ impl<'t, P: PathMap> Model for Seat<'t, P> {
 }
 
 impl<'t, P: PathMap + Drop> SharedExchange<'t, P> {
-    /// Shares a core that has processed no event. Seat 0 gets a step for each event of the trace, and the baton. Returns
-    /// `AllocError` if an allocation fails, and drops the core.
+    /// Shares a core that has processed no event. Seat 0 gets a step for each event of the trace, and the baton.
+    /// Returns `AllocError` if an allocation fails, and drops the core.
     pub fn open(
         alloc: Global,
         core: Core<'t, P>,
@@ -70,8 +70,8 @@ impl<'t, P: PathMap + Drop> SharedExchange<'t, P> {
 }
 
 impl<'t, P: PathMap> SharedExchange<'t, P> {
-    /// Ends the sharing once seat 0 has joined all other seats, and returns the core. Its journal is the whole history, all
-    /// of which seat 0 has seen. Passes the turn first, if the seat kept it.
+    /// Ends the sharing once seat 0 has joined all other seats, and returns the core. Its journal is the whole history,
+    /// all of which seat 0 has seen. Passes the turn first, if the seat kept it.
     pub fn close(self, seat: Seat<'t, P>) -> Core<'t, P>
         requires of { IsSeatOf self seat }
         requires chief { seat.known.number ≡ 0 }

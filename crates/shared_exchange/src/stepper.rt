@@ -12,7 +12,7 @@ use exchange_events::{Response, Trace};
 use std::marker::Model;
 use turn_lock::Stepper;
 
-/// What no step changes. No value of it is made.
+/// The constant part of the state. No value of it is made.
 pub struct Setting {
     trace: Trace,
     slots: u64,

@@ -1,8 +1,8 @@
--- What a step leaves of what a seat knows. Source: this exchange's own.
+-- The knowledge of a seat after a step. Source: this project.
 use Rattle.std.specs.Prelude.{◌≡◌, ◌+◌, ◌≤◌, length}
 use Rattle.seat_history.specs.declared.known.Known.{Known}
 
--- one turn was taken at the most, and the number, the baton and the seats made and joined are as they were
+-- at most one turn was used, and the number, the baton and the seats made and joined are unchanged
 pub record HasStepped (v w : Known) : Type 0 where
   pub left : v.left ≤ w.left + 1
   pub baton : w.baton ≡ v.baton

@@ -1,4 +1,5 @@
-//! What no clause says: that the calls come to an end, in threads too. And a worked example, whose numbers were found by hand.
+//! Tests of facts that no clause states: the calls end, also in threads. A worked example has numbers that were found
+//! by hand.
 mod core_steps;
 mod opened;
 mod segments;
@@ -21,8 +22,8 @@ use std::thread::Threads;
 use traces::{nail_and_five_frames, nails_and_frames};
 use work::{Outcome, Step, are_answered, side_by_side};
 
-// Does steps of two seats on one thread. Whether each is answered as it should be, and the journal has them in their
-// order.
+// Processes steps of two seats on one thread. Returns whether each has the expected result, and the journal has them in
+// their order.
 fn by_turns<R: Wait>(
     rt: &R,
     alloc: Global,
@@ -41,7 +42,7 @@ fn by_turns<R: Wait>(
     Ok(answered && is_of_steps(journal.as_slice(), steps))
 }
 
-// Whether a journal has these steps in their order.
+// Returns whether a journal has these steps in their order.
 fn is_of_steps(journal: &[(u32, u32)], steps: &[Step]) -> bool {
     let mut left = journal.iter();
     for (done, _) in steps {
@@ -52,7 +53,8 @@ fn is_of_steps(journal: &[(u32, u32)], steps: &[Step]) -> bool {
     left.next().is_none()
 }
 
-// Does all nails on two threads. Whether each is granted, and the journal has each thread's in their order.
+// Processes all nails on two threads. Returns whether each is granted, and the journal has each thread's in their
+// order.
 fn in_threads<R: Threads + Wait + Sync>(
     rt: &R,
     alloc: Global,
@@ -67,12 +69,12 @@ fn in_threads<R: Threads + Wait + Sync>(
     Ok(granted == (30, 30) && has_all_nails(journal.as_slice()))
 }
 
-// Whether a journal has the nails of both seats, and nothing else.
+// Returns whether a journal has the nails of both seats, and nothing else.
 fn has_all_nails(journal: &[(u32, u32)]) -> bool {
     journal.len() == 60 && has_every_second(journal, 0, 1) && has_every_second(journal, 1, 2)
 }
 
-// The events of a seat, in the order of the journal, are every second one from `first` on, thirty in all.
+// Returns whether the events of a seat, in the order of the journal, are every second one from `first` on, 30 in all.
 fn has_every_second(journal: &[(u32, u32)], seat: u32, first: u32) -> bool {
     let mut next = first;
     for &(by, event) in journal {
@@ -86,7 +88,7 @@ fn has_every_second(journal: &[(u32, u32)], seat: u32, first: u32) -> bool {
     next == first.saturating_add(60)
 }
 
-// Seat 1 is granted a nail, which seat 0 then finds busy; seat 0 does both frames.
+// Seat 1 is granted a nail, which seat 0 then finds busy; seat 0 processes both frames.
 const STEPS: [Step; 5] = [
     ((1, 1), (0, Outcome::Granted(0, 0))),
     ((0, 1), (1, Outcome::Busy)),
@@ -95,31 +97,31 @@ const STEPS: [Step; 5] = [
     ((0, 62), (4, Outcome::Frame(1))),
 ];
 
-// Two seats with a trace of their own. (Made in a test, a trace would be dropped at each of its ways out.)
+// Tests two seats with their own trace. (A trace made in a test would be dropped at each of its ways out.)
 fn two_seats_agree(rt: &impl Wait, alloc: Global) -> Result<bool, AllocError> {
     let trace = nails_and_frames(alloc)?;
     by_turns(rt, alloc, &trace, &STEPS)
 }
 
-// Two threads with a trace of their own.
+// Tests two threads with their own trace.
 fn two_threads_agree(rt: &(impl Threads + Wait + Sync), alloc: Global) -> Result<bool, AllocError> {
     let trace = nails_and_frames(alloc)?;
     in_threads(rt, alloc, &trace)
 }
 
-// A core with a trace of its own.
+// Tests a core with its own trace.
 fn core_steps_agree(alloc: Global) -> Result<bool, AllocError> {
     let trace = nail_and_five_frames(alloc)?;
     nail_is_shown(alloc, &trace)
 }
 
-// A call processor with a trace of its own.
+// Tests a call processor with its own trace.
 fn processor_answers(rt: &impl Wait, alloc: Global) -> Result<bool, AllocError> {
     let trace = nail_and_five_frames(alloc)?;
     part_is_answered(rt, alloc, &trace)
 }
 
-// A frame worker with a trace of its own.
+// Tests a frame worker with its own trace.
 fn frame_worker_answers(
     rt: &(impl Threads + Wait + Sync),
     alloc: Global,
@@ -128,7 +130,7 @@ fn frame_worker_answers(
     frames_are_answered(rt, alloc, &trace)
 }
 
-// All workers with a trace of their own.
+// Tests all workers with their own trace.
 fn all_workers_answer<G: Gate>(
     rt: &(impl Threads + Wait + Sync),
     alloc: Global,

@@ -1,11 +1,8 @@
-//! The tests of the crates of signalling: messages from strangers, the call table row by row, the
-//! plan of numbers step by step.
+//! The tests of the signalling crates: messages from untrusted senders, the call table row by row, the number plan step
+//! by step.
 //!
-//! They are here and not beside what they test, so that each of those crates is proved once. The
-//! crate promises nothing.
-//!
-//! It uses `circuit_model`, `q931_elements`, `q931_codec`, `number_plan`, `call_states` and
-//! `clearing_rules`.
+//! They are separate from the crates that they test, so that each of those is proved once. The crate guarantees
+//! nothing.
 #![tactic(auto)]
 
 #[cfg(test)]

@@ -1,4 +1,4 @@
-//! What no clause says: octets from outside, the texts of faults, and that each call comes to an end.
+//! Tests of facts that no clause states: octets from outside, the texts of errors, and that each call ends.
 mod call_table;
 mod clearing;
 mod elements;

@@ -1,4 +1,4 @@
-//! What no clause says: octets from other programs, and that each call comes to an end.
+//! Tests of facts that no clause states: octets from other programs, and that each call ends.
 mod alaw;
 mod buffers;
 mod channels;

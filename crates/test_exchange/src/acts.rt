@@ -1,4 +1,4 @@
-//! What each act does to the calls.
+//! The operations of each act.
 
 use crate::elements::Received;
 use crate::exchange::PlainExchange;
@@ -13,9 +13,9 @@ use crate::writing::{add_cause, add_progress, bare_message};
 use circuit_model::Kind;
 use std::alloc::{AllocError, Global};
 
-// What the table asks for a message to a leg.
+// The operations that the table requires for a message to a leg.
 impl PlainExchange {
-    /// Acts on a message to a leg, and returns the cause with which it clears a call.
+    /// Processes a message to a leg, and returns the cause with which it clears a call.
     pub(crate) fn act(
         &mut self,
         alloc: Global,
@@ -48,12 +48,12 @@ impl PlainExchange {
         Ok(cause)
     }
 
-    /// The leg goes to a state.
+    /// Changes the state of the leg.
     pub(crate) fn set_state(&mut self, leg: Leg, state: State) {
         self.replace(Leg { state, ..leg });
     }
 
-    /// The leg that a leg is in a call with.
+    /// Returns the other leg of the call.
     pub(crate) fn peer_of(&self, leg: Leg) -> Option<Leg> {
         match leg.peer {
             Peer::Leg(at) => leg_at(self.legs(), at),
@@ -61,7 +61,7 @@ impl PlainExchange {
         }
     }
 
-    // The called user is alerted; the caller gets that, and hears it where there is a tone for that.
+    // The called user is alerted. The caller is sent that, with the tone if there is one.
     fn alert(&mut self, alloc: Global, leg: Leg, sent: &mut Sent) -> Result<(), AllocError> {
         self.set_state(leg, State::Alerted);
         if let Some(caller) = self.peer_of(leg) {
@@ -76,7 +76,7 @@ impl PlainExchange {
         Ok(())
     }
 
-    // The called user answers: both are connected, and both get that.
+    // The called user answers: both are connected, and both are sent that.
     fn answer(&mut self, alloc: Global, leg: Leg, sent: &mut Sent) -> Result<(), AllocError> {
         self.set_state(leg, State::Active);
         sent.tell(alloc, leg, CONNECT_ACKNOWLEDGE)?;
@@ -89,7 +89,7 @@ impl PlainExchange {
         Ok(())
     }
 
-    // The user is asked to release, and the other one is cleared.
+    // Sends RELEASE to the user, and clears the other leg.
     fn release(
         &mut self,
         alloc: Global,
@@ -102,7 +102,7 @@ impl PlainExchange {
         self.clear_peer(alloc, leg, cause, sent)
     }
 
-    // The leg is cleared, and waits for its user in this state.
+    // Clears the leg, which then waits for its user in this state.
     fn stand_alone(&mut self, leg: Leg, state: State) {
         self.forget(leg);
         self.replace(Leg {
@@ -112,20 +112,20 @@ impl PlainExchange {
         });
     }
 
-    /// The leg is gone.
+    /// Removes the leg.
     pub(crate) fn remove(&mut self, leg: Leg) {
         self.forget(leg);
         self.legs.retain(|held| held.at != leg.at);
     }
 
-    // The circuits of a leg's slot are taken away, the number that its user dials, and what was kept.
+    // Drops the circuits of a leg's slot, the number that its user dials, and the stored message.
     fn forget(&mut self, leg: Leg) {
         self.clear(leg.at);
         self.drop_kept(leg.at);
         self.waiting.retain(|passed| passed.at != leg.at);
     }
 
-    /// The leg that this one was in a call with is cleared.
+    /// Clears the other leg of the call.
     pub(crate) fn clear_peer(
         &mut self,
         alloc: Global,
@@ -139,7 +139,7 @@ impl PlainExchange {
         }
     }
 
-    /// The leg is cleared, and its user hears why where there is a tone for that.
+    /// Clears the leg. Its user hears the tone of the cause if there is one.
     pub(crate) fn clear_leg(
         &mut self,
         alloc: Global,
@@ -158,7 +158,7 @@ impl PlainExchange {
     }
 }
 
-// The cause for a message that isn't expected.
+// Returns the cause for a message that is not expected.
 fn unexpected_cause(kind: u8) -> u8 {
     if NAMED_TYPES.contains(&kind) {
         NOT_COMPATIBLE_WITH_STATE

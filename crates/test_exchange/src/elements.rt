@@ -1,10 +1,10 @@
-//! How messages are read.
+//! The reader of messages.
 
 ghost use Rattle.std.specs.Prelude.{◌<◌, ◌+◌, IfSome, length};
 
 use crate::types::{CALL_STATE, CAUSE, NORMAL_CLEARING};
 
-/// A message as it was received (ITU-T Q.931 (05/98), section 4).
+/// A received message (ITU-T Q.931 (05/98), section 4).
 #[derive(Clone, Copy)]
 pub(crate) struct Received<'a> {
     /// The flag of the call reference: set towards the side that chose the reference.
@@ -17,7 +17,7 @@ pub(crate) struct Received<'a> {
     pub elements: &'a [u8],
 }
 
-/// Reads a message with a call reference of two octets. None for octets that aren't one.
+/// Reads a message with a call reference of two octets. Returns `None` for octets that are not one.
 pub(crate) fn receive(octets: &[u8]) -> Option<Received<'_>> {
     match octets {
         [0x08, 0x02, high, low, kind, elements @ ..] => Some(Received {
@@ -30,7 +30,7 @@ pub(crate) fn receive(octets: &[u8]) -> Option<Received<'_>> {
     }
 }
 
-// What is at the beginning of octets, and what comes after it.
+// The piece at the start of octets, and the octets after it.
 #[derive(Clone, Copy)]
 struct Piece<'a> {
     code: u8,
@@ -38,7 +38,7 @@ struct Piece<'a> {
     rest: &'a [u8],
 }
 
-// Cuts one piece off. A code below 80 has a length octet and contents behind it, every other is alone.
+// Splits off one piece. A code below 80 has a length octet and contents after it, and every other is one octet.
 fn cut(octets: &[u8]) -> Option<Piece<'_>>
     ensures { IfSome result (λ piece. (length piece.rest.now < length octets.now) × (length piece.contents.now < 256)) }
 {
@@ -62,8 +62,8 @@ fn cut(octets: &[u8]) -> Option<Piece<'_>>
 }
 
 impl<'a> Received<'a> {
-    /// The contents of the first element of a code. A locking shift hides the rest of the message, a
-    /// non-locking one the piece behind it, and what isn't whole ends the list.
+    /// Returns the contents of the first element of a code. A locking shift hides the rest of the message, a
+    /// non-locking one the piece after it, and an incomplete piece ends the list.
     pub(crate) fn find(&self, code: u8) -> Option<&'a [u8]>
         ensures { IfSome result (λ contents. length contents.now < 256) }
     {
@@ -79,7 +79,7 @@ impl<'a> Received<'a> {
         None
     }
 
-    /// The cause value; 16 where none can be read.
+    /// Returns the cause value, or 16 if none can be read.
     pub(crate) fn cause(&self) -> u8
         ensures { result < 128 }
     {
@@ -90,7 +90,7 @@ impl<'a> Received<'a> {
         }
     }
 
-    /// Whether the message tells that its sender is in the null state.
+    /// Returns whether the message reports that its sender is in the null state.
     pub(crate) fn tells_null(&self) -> bool {
         matches!(self.find(CALL_STATE), Some([state, ..]) if *state % 0x40 == 0)
     }

@@ -1,4 +1,4 @@
-//! The plain exchange: its events, one by one.
+//! The reference exchange: its events, one by one.
 
 ghost use Rattle.std.specs.Prelude.{◌<◌, IfSome, IfOk};
 
@@ -16,9 +16,9 @@ use circuit_model::{Circuit, Kind, PLACES, Slot};
 use plain_model::{Exchange, find_heard};
 use std::alloc::{AllocError, Global};
 
-/// An exchange that keeps lists of legs, dialled numbers, paths and ports, beside the circuits of `plain_model`.
+/// An exchange with lists of legs, dialled numbers, paths and ports, in addition to the circuits of `plain_model`.
 ///
-/// Where memory runs out the exchange is half changed, and no use any more.
+/// If an allocation fails, the exchange is half changed and unusable.
 #[derive(Drop)]
 pub struct PlainExchange {
     pub(crate) external: u8,
@@ -26,20 +26,20 @@ pub struct PlainExchange {
     pub(crate) ports: Ports,
     pub(crate) paths: Paths,
     pub(crate) legs: Vec<Leg>,
-    // Of the callers who send their numbers in parts.
+    // The callers in overlap sending.
     pub(crate) waiting: Vec<Passed>,
     pub(crate) numbers: Vec<Number>,
     tones: PlainTones,
     pub(crate) timers: PlainTimers,
-    // What may have to be sent again.
+    // The messages that may be retransmitted.
     pub(crate) kept: Vec<Kept>,
     pub(crate) expired: Vec<Expired>,
-    // How often the two tones were put on a slot.
+    // The number of times that each of the two tones was connected to a slot.
     rung: u32,
     busy: u32,
 }
 
-/// The octets of the tones; one that isn't given has none.
+/// The octets of the tones. A tone that is not given has none.
 #[derive(Drop)]
 pub struct PlainTones {
     /// Ringing tone.
@@ -49,7 +49,7 @@ pub struct PlainTones {
 }
 
 impl PlainTones {
-    /// No tone is given.
+    /// Makes the tones with neither given.
     pub fn none(alloc: Global) -> PlainTones {
         PlainTones {
             ringback: Vec::new(alloc),
@@ -59,8 +59,8 @@ impl PlainTones {
 }
 
 impl PlainExchange {
-    /// An exchange with the given numbers of internal slots, external and bridge lines, this number plan, these
-    /// tones and the usual timers, before its first event.
+    /// Makes an exchange with these numbers of internal slots, external and bridge lines, this number plan, these tones
+    /// and the usual timers, before its first event.
     pub fn new(
         alloc: Global,
         slots: u8,
@@ -86,42 +86,42 @@ impl PlainExchange {
         }
     }
 
-    /// The same exchange with these timers.
+    /// Returns the same exchange with these timers.
     pub fn with_timers(self, timers: PlainTimers) -> PlainExchange {
         PlainExchange { timers, ..self }
     }
 
-    /// How many external lines there are.
+    /// Returns the number of external lines.
     pub fn external(&self) -> u8 {
         self.external
     }
 
-    /// The legs of the calls.
+    /// Returns the legs of the calls.
     pub fn legs(&self) -> &[Leg] {
         self.legs.as_slice()
     }
 
-    /// What was done for legs that had waited too long, in order.
+    /// Returns the expiries of timers, in order.
     pub fn expired(&self) -> &[Expired] {
         self.expired.as_slice()
     }
 
-    /// The number plan.
+    /// Returns the number plan.
     pub fn numbers(&self) -> &[Number] {
         self.numbers.as_slice()
     }
 
-    /// Which chains of paths were moved so far.
+    /// Returns the chains of paths that were moved so far.
     pub fn chains(&self) -> Chains {
         self.paths.chains
     }
 
-    /// The number of the next frame.
+    /// Returns the number of the next frame.
     pub fn next_frame(&self) -> u32 {
         self.circuits.next_frame()
     }
 
-    /// Connects two slots, and counts the paths that were moved each way. None where one isn't idle.
+    /// Connects two slots, and counts the paths that were moved in each direction. Returns `None` if one is not idle.
     pub fn nail(
         &mut self,
         alloc: Global,
@@ -135,8 +135,8 @@ impl PlainExchange {
         }
     }
 
-    /// Seats an idle slot in a room, and counts the paths that were moved each way. None where every port
-    /// is taken.
+    /// Adds an idle slot to a room, and counts the paths that were moved in each direction. Returns `None` if no port
+    /// is free.
     pub fn seat(
         &mut self,
         alloc: Global,
@@ -152,7 +152,7 @@ impl PlainExchange {
         Ok(Some((there, back)))
     }
 
-    /// Undoes a nail or a seat. False where the slot has none.
+    /// Releases a nail or a seat. Returns false if the slot has none.
     pub fn free(&mut self, x: Slot) -> bool {
         let is_nailed = self.circuit_of(x).is_some() && leg_at(self.legs(), x).is_none();
         if is_nailed {
@@ -161,7 +161,7 @@ impl PlainExchange {
         is_nailed
     }
 
-    /// Passes the boundary of a frame, tells its number, and does what is due of the legs then. None past the
+    /// Passes the boundary of a frame, returns its number, and processes the legs that are due. Returns `None` past the
     /// greatest number.
     pub fn boundary(
         &mut self,
@@ -178,21 +178,21 @@ impl PlainExchange {
         Ok(Some((frame, sent)))
     }
 
-    /// Puts a leg, in place of the one that holds its slot if there is one. It waits from the next frame on.
+    /// Places a leg, and replaces the one that holds its slot if there is one. It waits from the next frame on.
     pub(crate) fn put(&mut self, leg: Leg) -> Result<(), AllocError> {
         self.drop_kept(leg.at);
         let leg = self.begun(leg);
         put_leg(&mut self.legs, leg)
     }
 
-    /// Puts a leg in place of the one that holds its slot. It waits from the next frame on.
+    /// Replaces the leg that holds this leg's slot. It waits from the next frame on.
     pub(crate) fn replace(&mut self, leg: Leg) {
         self.drop_kept(leg.at);
         let leg = self.begun(leg);
         replace_leg(&mut self.legs, leg);
     }
 
-    // The leg as it begins to wait.
+    // Returns the leg as its wait begins.
     fn begun(&self, leg: Leg) -> Leg {
         Leg {
             since: self.next_frame(),
@@ -201,18 +201,18 @@ impl PlainExchange {
         }
     }
 
-    /// The octet that is heard on a slot in a frame.
+    /// Returns the octet that a slot receives in a frame.
     pub fn octet_heard(&self, frame: u32, at: Slot) -> u8 {
         let tones = &self.tones;
         self.circuits.octet_heard(tones.ringback.as_slice(), tones.busy.as_slice(), frame, at)
     }
 
-    /// How often ringing tone and busy tone were put on a slot.
+    /// Returns the number of times that ringing tone and busy tone were connected to a slot.
     pub fn tones_given(&self) -> (u32, u32) {
         (self.rung, self.busy)
     }
 
-    /// Puts a tone on an idle slot, where it is given. Whether it is.
+    /// Connects an idle slot to a tone if the tone is given, and returns whether it is.
     pub(crate) fn sound(&mut self, x: Slot, kind: Kind) -> Result<bool, AllocError> {
         let octets = match kind {
             Kind::Ringback => &self.tones.ringback,
@@ -229,7 +229,7 @@ impl PlainExchange {
         Ok(true)
     }
 
-    /// Takes a message from the user of a line.
+    /// Processes a message from the user of a line.
     pub fn message(&mut self, alloc: Global, line: u8, octets: &[u8]) -> Result<Sent, AllocError> {
         let mut sent = Sent::new(alloc);
         let Some(message) = receive(octets) else {
@@ -244,7 +244,7 @@ impl PlainExchange {
         Ok(sent)
     }
 
-    // Takes a message to a leg, and tells of the call that ends with it.
+    // Processes a message to a leg, and records the call that ends with it.
     fn take_for_leg(
         &mut self,
         alloc: Global,
@@ -257,7 +257,7 @@ impl PlainExchange {
         self.tell_ended(calls.as_slice(), cause, sent)
     }
 
-    // Takes a message that names no leg.
+    // Processes a message without a leg.
     fn take_without_leg(
         &mut self,
         alloc: Global,
@@ -274,12 +274,12 @@ impl PlainExchange {
         }
     }
 
-    /// Whether no circuit names a slot and no leg holds it.
+    /// Returns whether a slot has no circuit and no leg.
     pub fn is_idle(&self, x: Slot) -> bool {
         self.circuit_of(x).is_none() && leg_at(self.legs(), x).is_none()
     }
 
-    /// The lowest idle slot of a line, other than this one.
+    /// Returns the lowest idle slot of a line, other than this one.
     pub(crate) fn lowest_idle(&self, line: u8, beside: Option<Slot>) -> Option<Slot>
         ensures { IfSome result (λ x. x.place < 30) }
     {
@@ -305,20 +305,20 @@ impl PlainExchange {
         Ok((there, back))
     }
 
-    /// Takes away the circuits that name a slot, with their paths and their port.
+    /// Releases the circuits at a slot, with their paths and their port.
     pub(crate) fn clear(&mut self, x: Slot) {
         self.circuits.clear(x);
         self.paths.clear(x);
         self.ports.give(x);
     }
 
-    // The circuit that names a slot. A circuit between two slots goes both ways, so each that is named
-    // hears something.
+    // Returns the circuit at a slot. A circuit between two slots has both directions, so each of its slots receives
+    // something.
     fn circuit_of(&self, x: Slot) -> Option<Circuit> {
         find_heard(self.circuits.circuits(), x)
     }
 
-    /// The records of the calls whose clearing hasn't begun, as if it began now.
+    /// Returns the records of the calls whose clearing has not begun, as if it began now.
     pub(crate) fn calls(&self, alloc: Global) -> Result<Vec<CallRecord>, AllocError> {
         let mut calls = Vec::new(alloc);
         for leg in self.legs() {
@@ -339,7 +339,7 @@ impl PlainExchange {
         Ok(calls)
     }
 
-    /// Tells of those calls whose callers aren't in them any more.
+    /// Records the calls whose callers are no longer in them.
     pub(crate) fn tell_ended(
         &self,
         calls: &[CallRecord],
@@ -364,7 +364,7 @@ fn party_of(peer: Peer) -> Option<Party> {
     }
 }
 
-// The first frame of a circuit.
+// Returns the first frame of a circuit.
 fn since_of(circuit: Circuit) -> u32 {
     match circuit {
         Circuit::Pair { since, .. } => since,

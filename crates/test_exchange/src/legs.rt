@@ -29,13 +29,13 @@ pub enum State {
 /// The side of a call that a leg is.
 #[derive(Clone, Copy, PartialEq, Eq)]
 pub enum Side {
-    /// The user asked for the call, and chose the call reference.
+    /// The user requested the call, and chose the call reference.
     Caller,
     /// The user is called, and the exchange chose the call reference.
     Called,
 }
 
-/// What a leg is in a call with.
+/// The other side of a leg's call.
 #[derive(Clone, Copy)]
 pub enum Peer {
     /// Nothing: the call is being cleared.
@@ -46,7 +46,7 @@ pub enum Peer {
     Room(u8),
 }
 
-/// What one user has of a call.
+/// The part of a call that belongs to one user.
 #[derive(Clone, Copy)]
 pub struct Leg {
     /// The slot that the leg holds.
@@ -57,18 +57,18 @@ pub struct Leg {
     pub reference: u16,
     /// Which side of the call it is.
     pub side: Side,
-    /// What it is in a call with.
+    /// The other side of its call.
     pub peer: Peer,
-    /// With which cause it was cleared; 0 where it wasn't.
+    /// The cause with which it was cleared, or 0 if it was not.
     pub cause: u8,
-    /// The first frame that it has waited in its state, or for more digits, or since a message was sent again.
+    /// The first frame of its wait in its state, for further digits, or after a retransmission.
     pub since: u32,
-    /// Whether a message was sent again in this state.
+    /// Whether a message was retransmitted in this state.
     pub resent: bool,
 }
 
 impl Leg {
-    /// The leg of a caller whose clearing hasn't begun.
+    /// Returns whether this is the leg of a caller whose clearing has not begun.
     pub(crate) fn is_calling(&self) -> bool {
         let is_up = matches!(
             self.state,
@@ -78,13 +78,13 @@ impl Leg {
     }
 }
 
-/// The leg that holds a slot.
+/// Returns the leg that holds a slot.
 pub(crate) fn leg_at(legs: &[Leg], x: Slot) -> Option<Leg> {
     legs.iter().copied().find(|leg| leg.at == x)
 }
 
-/// The leg that a message on a line is for. The flag is set in messages to the side that chose the
-/// reference, so it is clear in a message from a caller.
+/// Returns the leg of a message on a line. The flag is set in messages to the side that chose the reference, so it is
+/// clear in a message from a caller.
 pub(crate) fn leg_named(legs: &[Leg], line: u8, flag: bool, reference: u16) -> Option<Leg> {
     let side = if flag { Side::Called } else { Side::Caller };
     legs.iter().copied().find(|leg| leg.at.line == line
@@ -92,14 +92,14 @@ pub(crate) fn leg_named(legs: &[Leg], line: u8, flag: bool, reference: u16) -> O
         && leg.reference == reference)
 }
 
-/// The lowest reference that no called leg of a line has. A line has no more legs than places.
+/// Returns the lowest reference that no called leg of a line has. A line has no more legs than places.
 pub(crate) fn new_reference(legs: &[Leg], line: u8) -> u16 {
     (1..0x7FFF)
         .find(|reference| leg_named(legs, line, true, *reference).is_none())
         .unwrap_or(0x7FFF)
 }
 
-/// Puts a leg in place of the one that holds its slot.
+/// Replaces the leg that holds this leg's slot.
 pub(crate) fn replace_leg(legs: &mut Vec<Leg>, leg: Leg) {
     for held in legs.iter_mut() {
         if held.at == leg.at {
@@ -108,7 +108,7 @@ pub(crate) fn replace_leg(legs: &mut Vec<Leg>, leg: Leg) {
     }
 }
 
-/// Puts a leg, in place of the one that holds its slot if there is one.
+/// Places a leg, and replaces the one that holds its slot if there is one.
 pub(crate) fn put_leg(legs: &mut Vec<Leg>, leg: Leg) -> Result<(), AllocError> {
     legs.retain(|held| held.at != leg.at);
     legs.push(leg)?;

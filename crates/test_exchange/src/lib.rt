@@ -1,16 +1,12 @@
-//! The calls of the exchange as a small, slow and plain program, for tests.
+//! A reference model of the calls of the exchange: a small and slow program, for tests.
 //!
-//! [`PlainExchange`] takes the events of a trace one by one, and returns what the exchange has to
-//! reply to each: the numbers of moved paths, the messages that are sent, the call records. It
-//! walks over lists of legs, paths, ports and numbers, and in a frame over the legs that have waited too
-//! long. It reads and writes messages of ITU-T Q.931
-//! (05/98) by code of its own, and has its own call table and number plan, so that two programs
-//! which were written apart can be compared. Circuits, and what is heard by them, come from
-//! `plain_model`.
+//! [`PlainExchange`] takes the events of a trace one by one, and returns the required reply to each: the numbers of
+//! moved paths, the messages that are sent, the call records. It walks over lists of legs, paths, ports and numbers,
+//! and in a frame over the legs whose timers have expired. It has its own code for messages of ITU-T Q.931 (05/98), its
+//! own call table and its own number plan, because two independent programs are worth comparing. Circuits, and the
+//! octets that their slots receive, come from `plain_model`.
 //!
-//! It is proved safe, and each call returns. No clause says what it returns: that is compared.
-//!
-//! It uses `circuit_model` and `plain_model`.
+//! It is proved safe, and each call returns. No clause states its results, which the tests compare.
 #![tactic(auto)]
 
 mod acts;

@@ -1,4 +1,4 @@
-//! A call that is set up: its channels and its first messages.
+//! A new call: its channels and its first messages.
 
 ghost use Rattle.std.specs.Prelude.{◌<◌, IfOk, IfSome};
 
@@ -15,7 +15,7 @@ use crate::writing::{add_cause, add_channel, bare_message};
 use circuit_model::Slot;
 use std::alloc::{AllocError, Global};
 
-/// Why there is no call.
+/// The reason for which there is no call.
 #[derive(Drop)]
 pub(crate) enum Halt {
     Refused(Refusal),
@@ -34,9 +34,9 @@ impl From<AllocError> for Halt {
     }
 }
 
-// The calls that a SETUP asks for.
+// The calls that a SETUP requests.
 impl PlainExchange {
-    /// Takes a SETUP whose reference names no leg.
+    /// Processes a SETUP whose reference has no leg.
     pub(crate) fn set_up(
         &mut self,
         alloc: Global,
@@ -55,7 +55,7 @@ impl PlainExchange {
         sent.send(line, octets)
     }
 
-    // Makes the call, or awaits more digits, if nothing is against it.
+    // Makes the call, or waits for further digits, if no check fails.
     fn call(
         &mut self,
         alloc: Global,
@@ -84,7 +84,7 @@ impl PlainExchange {
         Ok(())
     }
 
-    /// Where dialled octets lead, and None where the number isn't whole and more comes.
+    /// Returns the target of dialled octets, or `None` if the number is not complete and more may come.
     pub(crate) fn target_of(
         &self,
         dialled: &[u8],
@@ -101,8 +101,8 @@ impl PlainExchange {
         }
     }
 
-    /// Makes the call to where its number leads, if there is a slot or a port for it. The caller gets its
-    /// channel where that is given here.
+    /// Makes the call to the target of its number, if there is a slot or a port for it. The caller is sent this channel
+    /// if there is one.
     pub(crate) fn lead(
         &mut self,
         alloc: Global,
@@ -127,7 +127,7 @@ impl PlainExchange {
         Ok(())
     }
 
-    // The named slot where it is idle, else the line's lowest idle slot.
+    // Returns the requested slot if it is idle, otherwise the line's lowest idle slot.
     fn caller_slot(&self, line: u8, channel: Channel) -> Result<Slot, Refusal>
         ensures { IfOk result (λ x. x.place < 30) }
     {
@@ -144,7 +144,7 @@ impl PlainExchange {
         }
     }
 
-    // The slot of a channel, where it is idle.
+    // Returns the slot of a channel, if it is idle.
     fn idle_channel(&self, line: u8, number: u8) -> Option<Slot>
         ensures { IfSome result (λ x. x.place < 30) }
     {
@@ -153,7 +153,7 @@ impl PlainExchange {
         if self.is_idle(x) { Some(x) } else { None }
     }
 
-    // The lowest idle slot of the called line beside the caller's.
+    // Returns the lowest idle slot of the called line, other than the caller's.
     fn called_slot(&self, line: u8, caller: Slot) -> Result<Slot, Refusal>
         ensures { IfOk result (λ x. x.place < 30) }
     {
@@ -161,7 +161,7 @@ impl PlainExchange {
             .ok_or(Refusal::CalledLineFull)
     }
 
-    // The caller learns its channel, and is to send the rest of the number.
+    // The caller is sent its channel, and is to send the rest of the number.
     fn wait_for_digits(
         &mut self,
         alloc: Global,
@@ -183,7 +183,7 @@ impl PlainExchange {
         )
     }
 
-    // The caller gets CALL PROCEEDING, and the call is offered to the called user.
+    // The caller is sent CALL PROCEEDING, and the called user SETUP.
     fn offer(
         &mut self,
         alloc: Global,
@@ -218,7 +218,7 @@ impl PlainExchange {
         self.send_and_keep(alloc, called, setup, sent)
     }
 
-    // The caller is seated, and learns that the room has answered.
+    // The caller joins the room, and is sent CONNECT.
     fn answer_by_room(
         &mut self,
         alloc: Global,
@@ -243,7 +243,7 @@ impl PlainExchange {
     }
 }
 
-// A message of this type to the caller, with this channel where there is one.
+// Sends a message of this type to the caller, with this channel if there is one.
 fn tell_channel(
     alloc: Global,
     caller: Leg,

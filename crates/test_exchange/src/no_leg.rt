@@ -1,4 +1,4 @@
-//! What answers a message that names no leg.
+//! The reply to a message without a leg.
 
 use crate::elements::Received;
 use crate::legs::Side;
@@ -10,8 +10,8 @@ use crate::types::{
 use crate::writing::{add_cause, add_element, bare_message};
 use std::alloc::{AllocError, Global};
 
-/// Answers a message whose call reference, other than 0, names no leg: a STATUS ENQUIRY by a STATUS with
-/// state 0, most others by a RELEASE COMPLETE. The answer has the other flag.
+/// Returns the reply to a message whose call reference, other than 0, has no leg: a STATUS with state 0 to a STATUS
+/// ENQUIRY, and a RELEASE COMPLETE to most others. The reply has the other flag.
 pub(crate) fn answer_without_leg(
     alloc: Global,
     line: u8,
@@ -35,7 +35,7 @@ pub(crate) fn answer_without_leg(
     sent.send(line, octets)
 }
 
-// What is in a STATUS or a RELEASE COMPLETE that answers a message which names no leg.
+// Adds the elements of a STATUS or a RELEASE COMPLETE in reply to a message without a leg.
 fn add_answer(octets: &mut Vec<u8>, kind: u8) -> Result<(), AllocError> {
     if kind == STATUS {
         add_cause(octets, RESPONSE_TO_STATUS_ENQUIRY)?;

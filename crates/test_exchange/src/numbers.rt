@@ -1,6 +1,6 @@
 //! The number plan, as a list.
 
-/// Where calls to a number go.
+/// The target of calls to a number.
 #[derive(Clone, Copy)]
 pub enum Target {
     /// To this line.
@@ -14,18 +14,18 @@ pub enum Target {
 pub struct Number {
     /// Its digits, as characters.
     pub digits: Vec<u8>,
-    /// Where calls to it go.
+    /// The target of calls to it.
     pub target: Target,
 }
 
-// What a plan says of digits.
+// The entry of a plan for digits.
 pub(crate) enum Found {
     Target(Target),
     More,
     Nothing,
 }
 
-/// What the plan says of dialled octets, of which the low seven bits count. No number begins another.
+/// Looks up dialled octets, of which the low seven bits count. No number is a prefix of another.
 pub(crate) fn look(numbers: &[Number], dialled: &[u8]) -> Found {
     for number in numbers {
         let digits = number.digits.as_slice();
@@ -40,7 +40,7 @@ pub(crate) fn look(numbers: &[Number], dialled: &[u8]) -> Found {
     Found::Nothing
 }
 
-// Whether one begins the other.
+// Returns whether one is a prefix of the other.
 fn is_same_so_far(digits: &[u8], dialled: &[u8]) -> bool {
     digits
         .iter()
@@ -48,7 +48,7 @@ fn is_same_so_far(digits: &[u8], dialled: &[u8]) -> bool {
         .all(|(digit, octet)| *digit == *octet % 0x80)
 }
 
-/// Whether dialled octets are digits 0 to 9.
+/// Returns whether dialled octets are digits 0 to 9.
 pub(crate) fn are_digits(dialled: &[u8]) -> bool {
     dialled
         .iter()

@@ -1,4 +1,4 @@
-//! Numbers that are dialled in parts: overlap sending (ITU-T Q.931 (05/98), 5.1.3).
+//! Overlap sending: numbers whose digits come in several messages (ITU-T Q.931 (05/98), 5.1.3).
 
 use crate::elements::Received;
 use crate::exchange::PlainExchange;
@@ -12,17 +12,16 @@ use crate::types::{CALLED_PARTY_NUMBER, SENDING_COMPLETE};
 use circuit_model::Slot;
 use std::alloc::{AllocError, Global};
 
-// What a caller in overlap sending sends.
+// The messages of a caller in overlap sending.
 impl PlainExchange {
-    /// The contents of the called party number so far, from the caller at a slot of whom more digits are
-    /// awaited.
+    /// Returns the contents of the called party number so far, from the caller at a slot whose number is not complete.
     pub fn dialled(&self, at: Slot) -> Option<&[u8]> {
         let passed = self.waiting.iter().find(|passed| passed.at == at)?;
         Some(passed.called.as_slice())
     }
 
-    /// Takes INFORMATION from a caller in overlap sending. With what is dialled then the call is made,
-    /// more digits are awaited, or the caller is cleared.
+    /// Processes INFORMATION from a caller in overlap sending. With the further digits the call is made, more digits
+    /// are awaited, or the caller is cleared.
     pub(crate) fn take_digits(
         &mut self,
         alloc: Global,
@@ -45,14 +44,14 @@ impl PlainExchange {
         }
     }
 
-    /// Keeps what a caller said until the rest of its number comes.
+    /// Stores the elements of a caller until the rest of its number comes.
     pub(crate) fn keep(&mut self, passed: Passed) -> Result<(), AllocError> {
         self.waiting.push(passed)?;
         Ok(())
     }
 
-    // Goes on with the digits of a message behind those before. The caller knows its channel already, so
-    // CALL PROCEEDING doesn't name it.
+    // Adds the digits of a message to those before. The caller knows its channel already, so CALL PROCEEDING does not
+    // name it.
     fn dial(
         &mut self,
         alloc: Global,
@@ -84,7 +83,7 @@ impl PlainExchange {
     }
 }
 
-// Adds the contents of a called party number to those before: whole where there are none, else without
+// Appends the contents of a called party number to those before: all of them if there are none, otherwise all except
 // the type octet.
 fn add_digits(called: &mut Vec<u8>, contents: &[u8]) -> Result<(), Halt> {
     let more = match contents {

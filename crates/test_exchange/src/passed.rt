@@ -1,4 +1,4 @@
-//! What a caller says for the called user.
+//! The elements that are passed from a caller to the called user.
 
 ghost use Rattle.std.specs.Prelude.{◌<◌, length};
 
@@ -12,8 +12,8 @@ use crate::writing::{add_channel, add_element, bare_message};
 use circuit_model::Slot;
 use std::alloc::{AllocError, Global};
 
-/// The contents of the elements that are passed on from a caller to the called user, as they were
-/// received; none where there is no such element.
+/// The contents of the elements that are passed from a caller to the called user unchanged; empty if there is no such
+/// element.
 #[derive(Drop)]
 pub(crate) struct Passed {
     /// The caller's slot.
@@ -27,7 +27,7 @@ pub(crate) struct Passed {
 }
 
 impl Passed {
-    /// What a SETUP of the user at a slot says.
+    /// Returns the elements in a SETUP of the user at a slot.
     pub(crate) fn of(alloc: Global, at: Slot, setup: &Received) -> Result<Passed, AllocError> {
         Ok(Passed {
             at,
@@ -39,12 +39,12 @@ impl Passed {
         })
     }
 
-    /// The octets of the digits so far.
+    /// Returns the octets of the digits so far.
     pub(crate) fn digits(&self) -> &[u8] {
         self.called.get(1..).unwrap_or(&[])
     }
 
-    /// SETUP to the called user: the number is whole, what the caller said, and the called user's channel.
+    /// Returns the SETUP to the called user: the complete number, the caller's elements, and the called user's channel.
     pub(crate) fn setup(
         &self,
         alloc: Global,
@@ -75,7 +75,7 @@ fn contents_of(alloc: Global, setup: &Received, code: u8) -> Result<Vec<u8>, All
     Vec::from_slice(alloc, setup.find(code).unwrap_or(&[]))
 }
 
-// Passes an element on as it was received, unless it is empty or too long.
+// Passes an element on unchanged, unless it is empty or too long.
 fn pass_on(octets: &mut Vec<u8>, code: u8, contents: &[u8], longest: u8) -> Result<(), AllocError> {
     if contents.is_empty() || contents.len() > usize::from(longest) {
         return Ok(());

@@ -13,37 +13,36 @@ struct Path {
 
 /// The layout of the paths, as a list.
 ///
-/// A path joins by Paull's rule: it gets the lowest internal slot that is free on both lines. Where
-/// there is none, let `a` be the lowest slot that is free on the incoming line and `b` the lowest that
-/// is free on the outgoing line. One chain starts with the path to the outgoing line in `a`, another with
-/// the path from the incoming line in `b`. Both go on from a path in `a` with the path from the same
-/// incoming line in `b`, and from a path in `b` with the path to the same outgoing line in `a`. The paths
-/// of one chain exchange `a` and `b`: of that from the incoming line where it has fewer paths, and then
-/// the new path gets `b`; else of that to the outgoing line, and it gets `a`. With 59 internal slots one
-/// is always free on both.
+/// A path joins by Paull's rule: it gets the lowest internal slot that is free on both lines. If there is none, let `a`
+/// be the lowest slot that is free on the incoming line and `b` the lowest that is free on the outgoing line. One chain
+/// starts with the path to the outgoing line in `a`, another with the path from the incoming line in `b`. Both go on
+/// from a path in `a` with the path from the same incoming line in `b`, and from a path in `b` with the path to the
+/// same outgoing line in `a`. The paths of one chain exchange `a` and `b`. If the chain from the incoming line has
+/// fewer paths, it is that one, and the new path gets `b`. Otherwise it is the chain to the outgoing line, and the new
+/// path gets `a`. With 59 internal slots one is always free on both.
 #[derive(Drop)]
 pub(crate) struct Paths {
-    // How many internal slots each line has.
+    // The number of internal slots of each line.
     slots: u8,
     paths: Vec<Path>,
     pub(crate) chains: Chains,
 }
 
-/// How often paths were moved for a new one, by the chain that was taken.
+/// The number of times that paths were moved for a new one, by the chain that was exchanged.
 #[derive(Clone, Copy, Default)]
 pub struct Chains {
-    /// That from the incoming line.
+    /// The chain from the incoming line.
     pub incoming: u32,
-    /// That to the outgoing line, which had fewer paths.
+    /// The chain to the outgoing line, which had fewer paths.
     pub outgoing: u32,
-    /// That to the outgoing line, where both had as many.
+    /// The chain to the outgoing line, where both had the same number.
     pub tied: u32,
-    /// The most paths that were moved for one.
+    /// The maximum number of paths that were moved for one.
     pub longest: u32,
 }
 
 impl Chains {
-    /// Counts what others count too.
+    /// Adds the counts of another run.
     pub fn add(&mut self, other: &Chains) {
         self.incoming = self.incoming.saturating_add(other.incoming);
         self.outgoing = self.outgoing.saturating_add(other.outgoing);
@@ -51,7 +50,7 @@ impl Chains {
         self.longest = self.longest.max(other.longest);
     }
 
-    // Counts a chain that was taken, of n paths from the incoming line and m to the outgoing line.
+    // Counts an exchanged chain, where n paths were from the incoming line and m to the outgoing line.
     fn count(&mut self, incoming: usize, outgoing: usize) {
         let taken = if incoming < outgoing {
             &mut self.incoming
@@ -67,7 +66,7 @@ impl Chains {
 }
 
 impl Paths {
-    /// No path, on n internal slots.
+    /// Returns a layout without paths, on n internal slots.
     pub(crate) fn new(alloc: Global, slots: u8) -> Paths {
         Paths {
             slots,
@@ -92,13 +91,13 @@ impl Paths {
         Ok(0)
     }
 
-    /// Takes away the paths from and to a slot.
+    /// Releases the paths from and to a slot.
     pub(crate) fn clear(&mut self, x: Slot) {
         self.paths.retain(|path| path.from != x && path.to != x);
     }
 
-    // The internal slot for a path from one line to another, free on both once the paths of the chain
-    // have moved. None where a line has no free slot at all.
+    // Returns the internal slot for a path from one line to another, free on both once the paths of the chain have
+    // moved. `None` if a line has no free slot at all.
     fn make_room(&mut self, alloc: Global, from: u8, to: u8) -> Result<Option<u8>, AllocError> {
         if let Some(internal) = self.common_free(from, to) {
             return Ok(Some(internal));
@@ -118,7 +117,7 @@ impl Paths {
         }
     }
 
-    // The lowest internal slot that is free on both lines.
+    // Returns the lowest internal slot that is free on both lines.
     fn common_free(&self, from: u8, to: u8) -> Option<u8> {
         for internal in 0..self.slots {
             if self.from_line(from, internal).is_none() && self.to_line(to, internal).is_none() {
@@ -128,17 +127,17 @@ impl Paths {
         None
     }
 
-    // The lowest internal slot in which no path comes from a line.
+    // Returns the lowest internal slot in which no path comes from a line.
     fn free_from(&self, line: u8) -> Option<u8> {
         (0..self.slots).find(|internal| self.from_line(line, *internal).is_none())
     }
 
-    // The lowest internal slot in which no path goes to a line.
+    // Returns the lowest internal slot in which no path goes to a line.
     fn free_to(&self, line: u8) -> Option<u8> {
         (0..self.slots).find(|internal| self.to_line(line, *internal).is_none())
     }
 
-    // The places in the list of the paths of the chain that starts with one of them.
+    // Returns the places in the list of the paths of the chain that starts with one of them.
     fn chain(
         &self,
         alloc: Global,
@@ -156,7 +155,7 @@ impl Paths {
         Ok(chain)
     }
 
-    // The chain's next path.
+    // Returns the chain's next path.
     fn after(&self, place: usize, a: u8, b: u8) -> Option<usize> {
         let path = self.paths.get(place)?;
         if path.internal == a {
@@ -174,21 +173,21 @@ impl Paths {
         }
     }
 
-    // The path that comes from a line in an internal slot.
+    // Returns the path that comes from a line in an internal slot.
     fn from_line(&self, line: u8, internal: u8) -> Option<usize> {
         self.paths
             .iter()
             .position(|path| path.from.line == line && path.internal == internal)
     }
 
-    // The path that goes to a line in an internal slot.
+    // Returns the path that goes to a line in an internal slot.
     fn to_line(&self, line: u8, internal: u8) -> Option<usize> {
         self.paths
             .iter()
             .position(|path| path.to.line == line && path.internal == internal)
     }
 
-    // How many paths have another internal slot than they had.
+    // Returns the number of paths whose internal slot has changed.
     fn moved_since(&self, before: &[Path]) -> u32 {
         let mut moved = 0u32;
         for (now, then) in self.paths.iter().zip(before) {

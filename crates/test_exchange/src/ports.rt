@@ -12,8 +12,8 @@ struct Port {
     at: Slot,
 }
 
-/// Who has which conference port, as a list. The bridge lines come after the external ones, and each
-/// has thirty ports.
+/// The members at the conference ports, as a list. The bridge lines come after the external ones, and each has 30
+/// ports.
 #[derive(Drop)]
 pub(crate) struct Ports {
     first_line: u8,
@@ -22,7 +22,7 @@ pub(crate) struct Ports {
 }
 
 impl Ports {
-    /// Every port of n lines is free.
+    /// Makes n lines with every port free.
     pub(crate) fn new(alloc: Global, first_line: u8, lines: u8) -> Ports {
         Ports {
             first_line,
@@ -31,7 +31,7 @@ impl Ports {
         }
     }
 
-    /// Whether every port is taken.
+    /// Returns whether no port is free.
     pub(crate) fn is_full(&self) -> bool {
         self.lowest_free().is_none()
     }

@@ -10,13 +10,13 @@ use std::alloc::{AllocError, Global};
 pub enum PlainEvent {
     /// Connect two slots.
     Nail(Slot, Slot),
-    /// Seat a slot in a room.
+    /// A slot joins a room.
     Seat(Slot, u8),
-    /// Undo a nail or a seat.
+    /// A nail or a seat is released.
     Free(Slot),
     /// A message from the user of a line.
     Message(u8, Vec<u8>),
-    /// A frame, with the octets of each line that isn't idle.
+    /// A frame, with the octets of each line that is not idle.
     Frame(Vec<Option<[u8; 30]>>),
 }
 
@@ -31,7 +31,7 @@ pub struct PlainRun {
 }
 
 impl PlainRun {
-    /// Before the first event of this exchange.
+    /// Starts before the first event of this exchange.
     pub fn new(alloc: Global, exchange: PlainExchange) -> PlainRun {
         PlainRun {
             exchange,
@@ -42,27 +42,27 @@ impl PlainRun {
         }
     }
 
-    /// The exchange as the events so far have left it.
+    /// Returns the exchange after the events so far.
     pub fn exchange(&self) -> &PlainExchange {
         &self.exchange
     }
 
-    /// The report so far.
+    /// Returns the report so far.
     pub fn report(&self) -> &str {
         self.report.as_str()
     }
 
-    /// The records of the calls whose clearing has begun.
+    /// Returns the records of the calls whose clearing has begun.
     pub fn records(&self) -> &[CallRecord] {
         self.records.as_slice()
     }
 
-    /// How many paths were moved so far.
+    /// Returns the number of paths that were moved so far.
     pub fn paths_moved(&self) -> u32 {
         self.moved
     }
 
-    /// Takes an event and adds its line to the report. What became of a message.
+    /// Processes an event and appends its line to the report. Returns the result of a message.
     pub fn step(
         &mut self,
         alloc: Global,
@@ -130,7 +130,7 @@ impl PlainRun {
         }
     }
 
-    // What is sent in a frame, and what the lines hear in it.
+    // Appends the messages that are sent in a frame, and the octets that the lines receive in it.
     fn tell_frame(&mut self, frame: u32, sent: &Sent) -> Result<(), AllocError> {
         self.records.extend_from_slice(sent.records.as_slice())?;
         write!(self.report, "frame {frame}")?;
@@ -145,7 +145,7 @@ impl PlainRun {
         self.moved = self.moved.saturating_add(there).saturating_add(back);
     }
 
-    // What a line hears in a frame, where that isn't all idle.
+    // Appends the octets that a line receives in a frame, unless all are idle.
     fn line(&mut self, frame: u32, line: u8) -> Result<(), AllocError> {
         let mut octets = [IDLE; 30];
         for place in 0..PLACES {
@@ -167,7 +167,7 @@ fn append_sent(report: &mut String, sent: &Sent) -> Result<(), AllocError> {
     append_sends(report, " ", sent.sends.as_slice())
 }
 
-// Adds messages, each behind these characters and its line.
+// Appends messages, each after these characters and its line.
 fn append_sends(report: &mut String, front: &str, sends: &[Signal]) -> Result<(), AllocError> {
     for signal in sends {
         write!(report, "{front}{}:", signal.line)?;

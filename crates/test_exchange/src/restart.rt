@@ -1,4 +1,4 @@
-//! RESTART, as this plain program does it.
+//! RESTART in this reference model.
 
 use crate::channels::place_of_channel;
 use crate::elements::Received;
@@ -12,8 +12,8 @@ use crate::writing::{add_channel, add_element};
 use circuit_model::{PLACES, Slot};
 use std::alloc::{AllocError, Global};
 
-// What a RESTART names: the place of one channel, or with None every channel of the line; and the octet
-// of its restart indicator.
+// The scope of a RESTART: the place of one channel, or every channel of the line if it is `None`; and the octet of its
+// restart indicator.
 #[derive(Clone, Copy)]
 struct Scope {
     place: Option<u8>,
@@ -21,7 +21,7 @@ struct Scope {
 }
 
 impl Scope {
-    // The scope of a RESTART that is taken.
+    // Returns the scope of a RESTART that is accepted.
     fn of(message: &Received) -> Option<Scope> {
         if message.kind != RESTART || message.flag {
             return None;
@@ -45,7 +45,7 @@ impl Scope {
     }
 }
 
-// The place of the channel that a message names, exclusively or as preferred.
+// Returns the place of the channel of a message, exclusive or preferred.
 fn place_named(message: &Received) -> Option<u8> {
     match message.find(CHANNEL_IDENTIFICATION)? {
         [0xA9 | 0xA1, 0x83, channel] => place_of_channel(*channel % 0x80),
@@ -54,9 +54,8 @@ fn place_named(message: &Received) -> Option<u8> {
 }
 
 impl PlainExchange {
-    /// Takes a message on call reference 0, where a RESTART alone does something: the legs of the slots that
-    /// it names are gone, one after another, and those that they were in calls with are cleared where
-    /// they aren't named too.
+    /// Processes a message on call reference 0, where only a RESTART has an effect: the legs of its slots are removed
+    /// in sequence, and the other legs of their calls are cleared unless the RESTART includes them.
     pub(crate) fn restart(
         &mut self,
         alloc: Global,
@@ -75,7 +74,7 @@ impl PlainExchange {
         acknowledge(alloc, line, scope, sent)
     }
 
-    // The legs are gone of the slots of a line that are restarted.
+    // Removes the legs of the restarted slots of a line.
     fn restart_legs(
         &mut self,
         alloc: Global,
@@ -93,7 +92,7 @@ impl PlainExchange {
         Ok(())
     }
 
-    // A leg is gone whose slot is restarted. Its call is recorded at the first of its legs.
+    // Removes a leg whose slot is restarted. Its call is recorded at the first of its legs.
     fn restart_leg(
         &mut self,
         alloc: Global,
@@ -116,7 +115,7 @@ impl PlainExchange {
     }
 }
 
-// Tells of a caller's call, if that isn't told yet.
+// Records a caller's call, if it is not yet recorded.
 fn tell_restarted(calls: &[CallRecord], caller: Slot, sent: &mut Sent) -> Result<(), AllocError> {
     let told = calls.iter().find(|call| call.caller == caller).copied();
     if let (Some(call), false) = (told, is_told(sent.records.as_slice(), caller)) {
@@ -132,7 +131,7 @@ fn is_told(records: &[CallRecord], caller: Slot) -> bool {
     records.iter().any(|told| told.caller == caller)
 }
 
-// The answer to a RESTART, which names what it named.
+// Sends the acknowledgement of a RESTART, with the same scope.
 fn acknowledge(alloc: Global, line: u8, scope: Scope, sent: &mut Sent) -> Result<(), AllocError> {
     let mut octets = Vec::from_slice(alloc, &[0x08, 0x02, 0x80, 0x00, RESTART_ACKNOWLEDGE])?;
     match scope.place {

@@ -1,4 +1,4 @@
-//! What is sent for a message, and what is recorded.
+//! The replies to a message, and the records.
 
 use crate::legs::Leg;
 use crate::setup::Refusal;
@@ -8,14 +8,14 @@ use crate::writing::{add_cause, add_state, bare_message};
 use circuit_model::Slot;
 use std::alloc::{AllocError, Global};
 
-/// What became of a message.
+/// The result of a message.
 #[derive(Clone, Copy, PartialEq, Eq)]
 pub enum Course {
-    /// The octets are no message.
+    /// The octets are not a message.
     Discarded,
-    /// It names no leg and asks for no call, and nothing answers it.
+    /// It has no leg, requests no call, and has no reply.
     Unanswered,
-    /// It names no leg, and the answer says so.
+    /// It has no leg, and the reply states that.
     NoLeg,
     /// It restarted one channel.
     RestartedChannel,
@@ -23,21 +23,21 @@ pub enum Course {
     RestartedLine,
     /// It was for a leg.
     For(Act),
-    /// It asked for a call whose number isn't whole yet: the caller is to send more digits.
+    /// It requested a call whose number is not complete: the caller is to send more digits.
     Overlap,
-    /// It had digits of a number that isn't whole yet, or none.
+    /// It had digits of a number that is not complete, or none.
     MoreDigits,
-    /// It had the last digits of a number of a line: the call is offered to the called user.
+    /// It had the last digits of the number of a line: the call is offered to the called user.
     DialledLine,
-    /// It had the last digits of a room's number: the call is answered.
+    /// It had the last digits of a room's number: the call is connected.
     DialledRoom,
-    /// With what it had no call can be made: the caller is cleared.
+    /// No call can be made with it: the caller is cleared.
     GivenUp(Refusal),
-    /// It asked for a call, which was refused.
+    /// It requested a call, which was refused.
     Refused(Refusal),
-    /// It asked for a call to a line, which is offered to the called user.
+    /// It requested a call to a line, which is offered to the called user.
     Offered,
-    /// It asked for a call to a room, which is answered.
+    /// It requested a call to a room, which is connected.
     Seated,
 }
 
@@ -50,7 +50,7 @@ pub struct Signal {
     pub octets: Vec<u8>,
 }
 
-/// Whom a caller called.
+/// The called party.
 #[derive(Clone, Copy, PartialEq, Eq)]
 pub enum Party {
     /// The user at a slot.
@@ -59,38 +59,38 @@ pub enum Party {
     Room(u8),
 }
 
-/// What is recorded of a call whose clearing begins.
+/// The record of a call whose clearing begins.
 #[derive(Clone, Copy, PartialEq, Eq)]
 pub struct CallRecord {
     /// The caller's slot.
     pub caller: Slot,
-    /// Whom the caller called.
+    /// The called party.
     pub called: Party,
     /// Whether the call was answered.
     pub answered: bool,
-    /// The first frame of the conversation; where there was none, `to`.
+    /// The first frame of the conversation, or `to` if there was none.
     pub from: u32,
-    /// The next frame when the clearing begins.
+    /// The number of the next frame when the clearing begins.
     pub to: u32,
     /// The cause value with which the clearing begins.
     pub cause: u8,
 }
 
-/// What is answered to a message.
+/// The reply to a message.
 #[derive(Drop)]
 pub struct Sent {
-    /// What became of the message.
+    /// The result of the message.
     pub course: Course,
     /// The messages that are sent, in order.
     pub sends: Vec<Signal>,
-    /// How many paths were moved each way, where a connection or a seat was made.
+    /// The numbers of paths that were moved in each direction, if a connection or a seat was made.
     pub moved: Option<(u32, u32)>,
     /// The records of the calls whose clearing begins.
     pub records: Vec<CallRecord>,
 }
 
 impl Sent {
-    /// Nothing yet, for octets that are no message.
+    /// Returns the empty reply of octets that are not a message.
     pub(crate) fn new(alloc: Global) -> Sent {
         Sent {
             course: Course::Discarded,

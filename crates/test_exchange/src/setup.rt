@@ -6,37 +6,37 @@ use crate::types::{
     BEARER_CAPABILITY, CALLED_PARTY_NUMBER, CHANNEL_IDENTIFICATION, SENDING_COMPLETE,
 };
 
-/// Why a SETUP is refused, or a caller is cleared who dials in parts; the first of these that holds.
+/// The reason for which a SETUP is refused, or a caller in overlap sending is cleared: the first of these that holds.
 #[derive(Clone, Copy, PartialEq, Eq)]
 pub enum Refusal {
     /// There is no bearer capability.
     NoBearer,
     /// The bearer capability has fewer than 2 octets or more than 10.
     BearerLength,
-    /// It is none of speech, 3.1 kHz audio and unrestricted digital information, in circuit mode.
+    /// It is not one of speech, 3.1 kHz audio and unrestricted digital information, in circuit mode.
     BearerNotCarried,
-    /// The channel identification can't be read.
+    /// The channel identification cannot be read.
     ChannelInvalid,
-    /// The called party number has no octet or more than 21, or there is none and nothing more comes.
+    /// The called party number has no octet or more than 21, or it is missing and nothing more comes.
     NoNumber,
-    /// The number has something else than digits.
+    /// The number has characters other than digits.
     NoDigits,
-    /// The plan doesn't know the number.
+    /// The plan does not have the number.
     UnknownNumber,
-    /// The number isn't whole, and nothing more comes.
+    /// The number is not complete, and nothing more comes.
     UnfinishedNumber,
-    /// The only channel that the caller accepts isn't idle.
+    /// The only channel that the caller accepts is not idle.
     ChannelTaken,
     /// The caller's line has no idle slot.
     LineFull,
-    /// The called line has no idle slot beside the caller's.
+    /// The called line has no idle slot other than the caller's.
     CalledLineFull,
-    /// Every conference port is taken.
+    /// No conference port is free.
     NoPort,
 }
 
 impl Refusal {
-    /// The cause value (ITU-T Q.931 (05/98), 4.5.12; ITU-T Q.850).
+    /// Returns the cause value (ITU-T Q.931 (05/98), 4.5.12; ITU-T Q.850).
     pub fn cause(self) -> u8 {
         match self {
             Refusal::NoBearer => 96,
@@ -51,7 +51,7 @@ impl Refusal {
     }
 }
 
-/// The channel that a caller asks for, by its number.
+/// The channel that a caller requests, by its number.
 #[derive(Clone, Copy)]
 pub(crate) enum Channel {
     Any,
@@ -59,16 +59,16 @@ pub(crate) enum Channel {
     Exclusive(u8),
 }
 
-/// What a SETUP asks for.
+/// The contents of a SETUP.
 #[derive(Clone, Copy)]
 pub(crate) struct Asked<'a> {
     pub channel: Channel,
     pub dialled: &'a [u8],
-    /// Nothing more of the number comes.
+    /// Whether nothing more of the number comes.
     pub is_complete: bool,
 }
 
-/// Reads what a SETUP asks for.
+/// Reads the contents of a SETUP.
 pub(crate) fn read_setup<'a>(setup: &Received<'a>) -> Result<Asked<'a>, Refusal> {
     check_bearer(setup)?;
     let channel = channel_asked(setup)?;
@@ -85,7 +85,7 @@ pub(crate) fn read_setup<'a>(setup: &Received<'a>) -> Result<Asked<'a>, Refusal>
     })
 }
 
-// The octets of the digits of a called party number.
+// Returns the octets of the digits of a called party number.
 fn digits_of(called: &[u8]) -> Result<&[u8], Refusal> {
     match called {
         [_, dialled @ ..] if dialled.len() <= 20 => Ok(dialled),

@@ -1,4 +1,4 @@
-//! The call table, as this plain program has it.
+//! The call table of this reference model.
 
 use crate::elements::Received;
 use crate::legs::State;
@@ -8,14 +8,14 @@ use crate::types::{
     USER_INFORMATION,
 };
 
-/// What the exchange does for a message to a leg.
+/// The act of the exchange for a message to a leg.
 #[derive(Clone, Copy, PartialEq, Eq)]
 pub enum Act {
-    /// The message is passed over.
+    /// The message is ignored.
     Nothing,
-    /// A STATUS says that the message isn't expected.
+    /// A STATUS reports that the message is not expected.
     Unexpected,
-    /// A STATUS tells the leg's state.
+    /// A STATUS reports the leg's state.
     Enquiry,
     /// The called user has the whole number.
     Proceeding,
@@ -25,11 +25,11 @@ pub enum Act {
     Answer,
     /// The caller sends more of the number.
     Digits,
-    /// The user asks for clearing.
+    /// The user clears the call.
     Disconnect,
-    /// The user has given the channel up.
+    /// The user has released the channel.
     Released,
-    /// The user has given the channel and the reference up.
+    /// The user has released the channel and the reference.
     Gone,
 }
 
@@ -63,7 +63,7 @@ const NOT_RELEASING: &[State] = &[
     State::Disconnected,
 ];
 
-// This exchange's profile of basic call control; what isn't listed is unexpected.
+// The profile of basic call control of this project. A message that is not listed is unexpected.
 const TABLE: [Row; 17] = [
     Row {
         kind: INFORMATION,
@@ -152,7 +152,7 @@ const TABLE: [Row; 17] = [
     },
 ];
 
-/// The act of a message in a state. A STATUS of the null state ends the leg in every state.
+/// Returns the act of a message in a state. A STATUS of the null state ends the leg in every state.
 pub(crate) fn act_of(state: State, message: &Received) -> Act {
     if message.kind == STATUS && message.tells_null() {
         return Act::Gone;
@@ -165,7 +165,7 @@ pub(crate) fn act_of(state: State, message: &Received) -> Act {
     Act::Unexpected
 }
 
-/// The cause with which the message clears a call.
+/// Returns the cause with which the message clears a call.
 pub(crate) fn clearing_cause(message: &Received) -> u8 {
     if message.kind == STATUS {
         TEMPORARY_FAILURE

@@ -1,4 +1,4 @@
-//! The timers of calls, as this plain program counts them: each leg says since which frame it has waited.
+//! The timers of calls in this reference model: each leg stores the first frame of its wait.
 
 use crate::exchange::PlainExchange;
 use crate::legs::{Leg, State, leg_at};
@@ -11,23 +11,23 @@ use std::alloc::{AllocError, Global};
 // Frames in a second.
 const SECOND: u32 = 8000;
 
-/// How many frames a leg may wait, by the timers of ITU-T Q.931 (05/98), 9.1.
+/// The number of frames that a leg may wait, by the timers of ITU-T Q.931 (05/98), 9.1.
 #[derive(Clone, Copy)]
 pub struct PlainTimers {
     /// For more digits.
     pub t302: u32,
-    /// For any answer to a SETUP.
+    /// For any reply to a SETUP.
     pub t303: u32,
-    /// For the RELEASE that answers a DISCONNECT.
+    /// For the RELEASE in reply to a DISCONNECT.
     pub t305: u32,
-    /// For the answer to a RELEASE.
+    /// For the reply to a RELEASE.
     pub t308: u32,
-    /// For what follows the called user's CALL PROCEEDING.
+    /// For the message after the called user's CALL PROCEEDING.
     pub t310: u32,
 }
 
 impl PlainTimers {
-    /// What a trace has that gives no timer.
+    /// Returns the timers of a trace that gives none.
     pub fn usual() -> PlainTimers {
         PlainTimers {
             t302: 15 * SECOND,
@@ -39,12 +39,12 @@ impl PlainTimers {
     }
 }
 
-/// What is done for a leg that has waited too long.
+/// The action for a leg that has waited too long.
 #[derive(Clone, Copy, PartialEq, Eq)]
 pub enum Expiry {
-    /// A caller who dials in parts is cleared.
+    /// A caller in overlap sending is cleared.
     Digits,
-    /// SETUP is sent once more.
+    /// SETUP is retransmitted.
     SetupAgain,
     /// The called user, who was sent SETUP twice, is given up.
     SetupOver,
@@ -52,31 +52,31 @@ pub enum Expiry {
     Proceeding,
     /// RELEASE follows DISCONNECT.
     Disconnect,
-    /// RELEASE is sent once more.
+    /// RELEASE is retransmitted.
     ReleaseAgain,
-    /// The leg, whose user was sent RELEASE twice, is gone.
+    /// The leg, whose user was sent RELEASE twice, is removed.
     ReleaseOver,
 }
 
-/// An expiry in the turn of a frame.
+/// An expiry in a frame.
 #[derive(Clone, Copy)]
 pub struct Expired {
     /// The number of the frame.
     pub frame: u32,
     /// The slot of the leg.
     pub at: Slot,
-    /// What was done.
+    /// The action.
     pub expiry: Expiry,
 }
 
-/// What was sent to the user at a slot and may have to be sent again.
+/// A message to the user at a slot that may be retransmitted.
 #[derive(Drop)]
 pub(crate) struct Kept {
     at: Slot,
     octets: Vec<u8>,
 }
 
-// How long a leg may wait in its state, and what is done then.
+// Returns the time that a leg may wait in its state, and the action after it.
 fn limit(leg: Leg, timers: PlainTimers) -> Option<(u32, Expiry)> {
     match leg.state {
         State::Overlap => Some((timers.t302, Expiry::Digits)),
@@ -91,7 +91,7 @@ fn limit(leg: Leg, timers: PlainTimers) -> Option<(u32, Expiry)> {
 }
 
 impl PlainExchange {
-    /// Looks at one place of each line behind the boundary of a frame, and does what is due of the legs there.
+    /// Examines one place of each line after the boundary of a frame, and processes the legs there that are due.
     pub(crate) fn expire(
         &mut self,
         alloc: Global,
@@ -105,7 +105,7 @@ impl PlainExchange {
         Ok(())
     }
 
-    // Does what is due of the leg at a slot, and tells of the call that ends with it.
+    // Processes the leg at a slot if it is due, and records the call that ends with it.
     fn expire_at(
         &mut self,
         alloc: Global,
@@ -122,7 +122,7 @@ impl PlainExchange {
         self.tell_ended(calls.as_slice(), NO_USER_RESPONDING, sent)
     }
 
-    // The leg at a slot, where it has waited long enough for something to be done.
+    // Returns the leg at a slot, if its timer has expired.
     fn due(&self, at: Slot, frame: u32) -> Option<(Leg, Expiry)> {
         let leg = leg_at(self.legs(), at)?;
         let (frames, expiry) = limit(leg, self.timers)?;
@@ -165,7 +165,7 @@ impl PlainExchange {
         }
     }
 
-    // The last message once more.
+    // Retransmits the last message.
     fn send_again(&mut self, alloc: Global, leg: Leg, sent: &mut Sent) -> Result<(), AllocError> {
         self.wait_again(leg.at);
         if let Some(kept) = self.kept.iter().find(|kept| kept.at == leg.at) {
@@ -175,7 +175,7 @@ impl PlainExchange {
         Ok(())
     }
 
-    // The leg at a slot, whose message is sent once more, waits from the next frame on.
+    // The leg at a slot, whose message is retransmitted, waits from the next frame on.
     fn wait_again(&mut self, at: Slot) {
         let since = self.next_frame();
         for held in self.legs.iter_mut() {
@@ -186,7 +186,7 @@ impl PlainExchange {
         }
     }
 
-    /// Sends RELEASE to the user of a leg, with a cause or without, and keeps it.
+    /// Sends RELEASE to the user of a leg, with or without a cause, and stores it.
     pub(crate) fn send_release(
         &mut self,
         alloc: Global,
@@ -201,7 +201,7 @@ impl PlainExchange {
         self.send_and_keep(alloc, leg.at, octets, sent)
     }
 
-    /// Sends a message to the user at a slot, and keeps it.
+    /// Sends a message to the user at a slot, and stores it.
     pub(crate) fn send_and_keep(
         &mut self,
         alloc: Global,
@@ -215,7 +215,7 @@ impl PlainExchange {
         sent.send(at.line, octets)
     }
 
-    /// Forgets what was kept for a slot.
+    /// Drops the stored message of a slot.
     pub(crate) fn drop_kept(&mut self, at: Slot) {
         self.kept.retain(|kept| kept.at != at);
     }

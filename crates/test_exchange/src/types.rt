@@ -87,7 +87,7 @@ pub const SENDING_COMPLETE: u8 = 0xA1;
 pub const NORMAL_CLEARING: u8 = 16;
 /// Cause: user busy.
 pub const USER_BUSY: u8 = 17;
-/// Cause: no user responding.
+/// Cause: invalid number format, also for an incomplete number.
 pub const NO_USER_RESPONDING: u8 = 18;
 /// Cause: invalid number format, which is an incomplete number too.
 pub const INVALID_NUMBER: u8 = 28;

@@ -1,4 +1,4 @@
-//! How messages are written.
+//! The writer of messages.
 
 ghost use Rattle.std.specs.Prelude.{◌<◌, length};
 
@@ -7,8 +7,7 @@ use crate::legs::{Side, State};
 use crate::types::{CALL_STATE, CAUSE, CHANNEL_IDENTIFICATION, PROGRESS_INDICATOR};
 use std::alloc::{AllocError, Global};
 
-/// A message without elements to the user of a side. The flag is set towards the side that chose the
-/// reference.
+/// Returns a message without elements to the user of a side. The flag is set towards the side that chose the reference.
 pub(crate) fn bare_message(
     alloc: Global,
     side: Side,
@@ -36,7 +35,7 @@ pub(crate) fn add_cause(octets: &mut Vec<u8>, cause: u8) -> Result<(), AllocErro
     add_element(octets, CAUSE, &[0x82, cause | 0x80])
 }
 
-/// Adds a progress indicator: there is something to be heard in band.
+/// Adds a progress indicator: in-band information is available.
 pub(crate) fn add_progress(octets: &mut Vec<u8>) -> Result<(), AllocError> {
     add_element(octets, PROGRESS_INDICATOR, &[0x82, 0x88])
 }

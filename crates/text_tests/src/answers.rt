@@ -1,4 +1,4 @@
-// One line for each answer, kept as the exchange keeps it.
+// The line of each answer, stored as the exchange stores it.
 use arrayvec::ArrayVec;
 use circuit_model::{IDLE, Slot};
 use exchange_events::{Answer, CallRecord, Encoded, Party, Records, Reply, Signal, Signals};
@@ -6,7 +6,7 @@ use report_text::append_answer;
 use std::alloc::{AllocError, Global};
 use std::test::Fail;
 
-// The record of a call, which no line shows.
+// The record of a call, which no line has.
 const TOLD: CallRecord = CallRecord {
     caller: Slot { line: 0, place: 7 },
     called: Party::Line(Slot { line: 1, place: 8 }),
@@ -16,7 +16,7 @@ const TOLD: CallRecord = CallRecord {
     cause: 16,
 };
 
-/// A text in which `+` means twenty-eight idle octets.
+/// Returns the bytes of a text in which `+` means 28 idle octets.
 pub(crate) fn spelled(alloc: Global, text: &str) -> Result<Vec<u8>, AllocError> {
     let mut bytes = Vec::new(alloc);
     for byte in text.bytes() {
@@ -43,7 +43,7 @@ fn signals(sends: &[(u8, &[u8])]) -> Result<Signals, Fail> {
     Ok(Signals::of(signals))
 }
 
-// What is sent for a message: these octets to these lines. A call is recorded as well.
+// Returns the reply to a message: these octets to these lines. A call is recorded as well.
 fn sent(moved: Option<(u32, u32)>, sends: &[(u8, &[u8])]) -> Result<Reply, Fail> {
     let mut records = Records::new();
     records.push(TOLD);
@@ -54,7 +54,7 @@ fn sent(moved: Option<(u32, u32)>, sends: &[(u8, &[u8])]) -> Result<Reply, Fail>
     })
 }
 
-// A frame at whose boundary these octets are sent to these lines.
+// Returns a frame at whose boundary these octets are sent to these lines.
 fn frame(number: u32, sends: &[(u8, &[u8])]) -> Result<Reply, Fail> {
     Ok(Reply::Frame {
         number,
@@ -63,7 +63,7 @@ fn frame(number: u32, sends: &[(u8, &[u8])]) -> Result<Reply, Fail> {
     })
 }
 
-// The line of an answer behind another octet.
+// Returns the line of an answer after another octet.
 fn printed(
     alloc: Global,
     event: u32,
@@ -76,7 +76,7 @@ fn printed(
     Ok(out)
 }
 
-// Whether the line of an answer is this one, behind what was there before.
+// Returns whether the line of an answer is this one, after an earlier text.
 fn has_line(
     alloc: Global,
     event: u32,
@@ -126,7 +126,7 @@ fn each_answer_has_its_line(rt: HostRuntime) -> Result<(), Fail> {
     Ok(())
 }
 
-/// An event, the paths that its message moved, what is sent, and the line.
+/// An event, the paths that its message moved, the messages that are sent, and the line.
 type Told<'a> = (u32, Option<(u32, u32)>, &'a [(u8, &'a [u8])], &'a str);
 
 // CONNECT ACKNOWLEDGE to a called user and CONNECT to a caller; one octet; no messages.

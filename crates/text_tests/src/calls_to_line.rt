@@ -1,4 +1,4 @@
-// A meter of a program's own that never refuses a record: it counts the calls to one line.
+// A program's own meter that never refuses a record: it counts the calls to one line.
 ghost use Rattle.std.specs.Prelude.{◌≡◌, ◌++◌, [], ◌∷◌, List, string_bytes, OnOk, OnErr, IsOk, IfOk};
 ghost use Rattle.exchange_events.specs.declared.record.CallRecord.{CallRecord};
 ghost use Rattle.text_tests.specs.CallsTo.{IsCountOf, calls_to, is_to, to_line, to_text_with};
@@ -9,8 +9,7 @@ use meters::Meter;
 use std::alloc::{AllocError, Global};
 use std::marker::Model;
 
-/// Counts the calls to one line. Its text is the line `to L: N`, where N stays at
-/// 18,446,744,073,709,551,615.
+/// Counts the calls to one line. Its text is the line `to L: N`, where N saturates at 18,446,744,073,709,551,615.
 #[derive(Drop)]
 pub(crate) struct CallsToLine {
     line: u8,
@@ -26,7 +25,7 @@ impl Model for CallsToLine {
 }
 
 impl CallsToLine {
-    /// A count of the calls to this line that has noted no call. It takes no memory.
+    /// Makes a count of the calls to this line that has recorded no call. It does not allocate.
     pub(crate) fn new(line: u8) -> CallsToLine
         ensures stands { IsCountOf [] result }
         ensures text { (calls : List CallRecord) → to_text_with result calls ≡ to_line line (register_value (calls_to line calls)) }
@@ -40,7 +39,7 @@ impl Meter for CallsToLine {
 
     ghost text = { to_text_with };
 
-    /// Tells the meter of one more call. It takes no memory and never refuses.
+    /// Records one more call. It does not allocate and never fails.
     fn note(&mut self, told: &CallRecord) -> Result<(), AllocError>
         ensures done { IsOk result }
         ensures stands { (calls : List CallRecord) → IsCountOf calls self.old → IsCountOf (calls ++ told.now ∷ []) self.new }
@@ -64,7 +63,7 @@ impl Meter for CallsToLine {
     }
 }
 
-// Whether a call to this party is one to the line.
+// Returns whether a call to this party is one to the line.
 fn is_to(line: u8, called: Party) -> bool
     ensures { result ≡ is_to line called }
 {
@@ -74,7 +73,7 @@ fn is_to(line: u8, called: Party) -> bool
     }
 }
 
-// The text of a count.
+// Returns the text of a count.
 fn line_of(alloc: Global, line: u8, calls: u64) -> Result<String, AllocError>
     ensures line { IfOk result (λ text. string_bytes text ≡ to_line line calls) }
 {

@@ -1,4 +1,4 @@
-// The answers of calls in turn, by the rules that the ends in memory are documented with.
+// The results of consecutive calls, by the documented rules of the in-memory streams.
 ghost use Rattle.std.specs.Prelude.{◌≤◌};
 
 use ex_io::{MemSink, MemSource, Sink, Source};
@@ -7,8 +7,7 @@ use std::test::Fail;
 
 const TEXT: &[u8] = b"abcdefg";
 
-// Whether a text is read in buffers of five bytes with these answers, which have None where a read is to
-// fail.
+// Returns whether a text is read in buffers of five bytes with these results, which are `None` if a read is to fail.
 fn reads(
     alloc: Global,
     piece: usize,
@@ -46,7 +45,7 @@ fn a_source_gives_its_bytes_between_its_faults(rt: HostRuntime) -> Result<(), Fa
     Ok(())
 }
 
-// Whether a text is written with these answers, each time all that is left of it.
+// Returns whether a text is written with these results, each time all that is left of it.
 fn writes(
     alloc: Global,
     room: usize,

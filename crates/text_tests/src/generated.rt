@@ -1,10 +1,10 @@
-// The events, frames and segments of generated traces, beside the counts of a program outside.
+// The events, frames and segments of generated traces, compared with the counts of another program.
 use exchange_events::{Event, Trace};
 use generated_trace::generated;
 use std::alloc::{AllocError, Global};
 use std::test::Fail;
 
-// How many frames a trace has.
+// Returns the number of frames of a trace.
 fn frames(trace: &Trace) -> usize {
     let mut count: usize = 0;
     for event in trace.events.as_slice() {
@@ -15,14 +15,14 @@ fn frames(trace: &Trace) -> usize {
     count
 }
 
-// Whether a trace has this many events, frames and segments.
+// Returns whether a trace has this many events, frames and segments.
 fn has_counts(trace: &Trace, events: usize, of_frames: usize, segments: usize) -> bool {
     trace.events.as_slice().len() == events
         && frames(trace) == of_frames
         && trace.segments.as_slice().len() == segments
 }
 
-// A seed and a number of calls, and how many events, frames and segments the trace has.
+// A seed and a number of calls, and the numbers of events, frames and segments of the trace.
 const COUNTS: [(u64, u32, usize, usize, usize); 5] = [
     (0, 1, 87, 2, 7),
     (6, 1, 84, 1, 5),

@@ -1,4 +1,4 @@
-// A meter of a program's own: it keeps all that it notes, and takes memory to do so.
+// A program's own meter: it stores all calls, and allocates for them.
 ghost use Rattle.std.specs.Prelude.{◌≡◌, ◌++◌, List, length, map, take, if◌then◌else◌, OnOk};
 ghost use Rattle.exchange_events.specs.declared.record.CallRecord.{CallRecord};
 
@@ -7,7 +7,7 @@ use meters::Meter;
 use std::alloc::{AllocError, Global};
 use std::marker::Model;
 
-/// Keeps every record. Its text has a letter for each: A for a call that was answered, N for another.
+/// Stores every record. Its text has a letter for each: A for a call that was answered, N for another.
 #[derive(Drop)]
 pub(crate) struct Keeper {
     calls: Vec<CallRecord>,
@@ -50,7 +50,7 @@ impl Meter for Keeper {
     }
 }
 
-// A letter for each call. A refusal leaves a prefix of them.
+// Appends a letter for each call. An error leaves a prefix of them.
 fn put_letters(out: &mut Vec<u8>, calls: &[CallRecord]) -> Result<(), AllocError>
     ensures letters { OnOk result (out.new.items ≡ out.old.items ++ map (λ call. if call.answered then 65 else 78) calls.now) }
     ensures front { take (length out.old.items) out.new.items ≡ out.old.items }

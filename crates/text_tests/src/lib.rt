@@ -1,13 +1,9 @@
-//! Tests of the texts: what traces say, generated traces, lines of answers, lines and reports read back,
-//! what meters say, the ends in memory that texts pass through, and what a refusal of memory leaves. Two
-//! meters of a program's own are with them.
+//! Tests of the texts: traces, reports, answers, meters, in-memory streams, and the state after a failed allocation.
+//! Two meters of a program are with them.
 //!
-//! They are here and not beside what they test, so that none of it is proved a second time with its
-//! tests. What is refused of traces and of words is in the tables of `examples/`. The crate promises
-//! nothing; its meters are proved as any program's own would be.
-//!
-//! It uses `ex_io`, `circuit_model`, `number_plan`, `exchange_events`, `trace_text`, `report_text`,
-//! `report_reader`, `meters`, `traffic_gen` and `generated_trace`, and the kit's `arrayvec`.
+//! They are separate from the crates that they test, so that none of these is proved a second time with its tests. The
+//! refusals of traces and of arguments are in the tables of `examples/`. The crate guarantees nothing; its meters are
+//! proved as any program's meters.
 #![tactic(auto)]
 
 #[cfg(test)]

@@ -1,6 +1,5 @@
-// Calls that may be refused memory, and what they were to change: it is as it was then, and the call
-// does its work once it is made again. One request of these tests may be refused, whichever it is
-// (`.ci/memory --calls`).
+// Calls whose allocation may fail: their subject is then unchanged, and the call succeeds when it is repeated. Any one
+// request of these tests can be refused (`.ci/memory --calls`).
 use crate::keeper::Keeper;
 use circuit_model::Slot;
 use exchange_events::{Answer, CallRecord, Party, Reply};
@@ -10,7 +9,7 @@ use report_text::append_answer;
 use std::alloc::Global;
 use std::test::Fail;
 
-// Whether a number is added that the plan does not know, at once or at the second time.
+// Returns whether a number is added that the plan does not have, at once or at the second time.
 fn adds(plan: &mut Plan, digits: &[u8], line: u8) -> bool {
     if !is_number(digits) {
         return false;
@@ -32,14 +31,14 @@ fn a_plan_that_refuses_a_number_is_as_it_was(rt: HostRuntime) {
     assert!(rt; plan.look(b"39") == Found::Nothing);
 }
 
-// Whether the line of an answer is appended, at once or at the second time.
+// Returns whether the line of an answer is appended, at once or at the second time.
 fn appends(out: &mut Vec<u8>, answer: &Answer) -> bool {
     let before = out.len();
     append_answer(out, answer).is_ok()
         || (out.len() == before && append_answer(out, answer).is_ok())
 }
 
-// An answer without lists, which asks for no memory.
+// Returns an answer without lists, which requests no memory.
 fn granted(alloc: Global, event: u32) -> Option<Answer> {
     Answer::keep(alloc, event, &Reply::Granted(0, 62), &[]).ok()
 }
@@ -58,7 +57,7 @@ fn a_report_that_refuses_a_line_is_as_it_was(rt: HostRuntime) {
     assert!(rt; out.as_slice() == wanted);
 }
 
-// The record of a call to a room.
+// Returns the record of a call to a room.
 fn record(cause: u8, answered: bool) -> CallRecord {
     CallRecord {
         caller: Slot { line: 0, place: 0 },
@@ -70,12 +69,12 @@ fn record(cause: u8, answered: bool) -> CallRecord {
     }
 }
 
-// Whether a meter notes a call, at once or at the second time.
+// Returns whether a meter records a call, at once or at the second time.
 fn notes<M: Meter>(meter: &mut M, call: &CallRecord) -> bool {
     meter.note(call).is_ok() || meter.note(call).is_ok()
 }
 
-// Whether a meter's text is appended, at once or at the second time.
+// Returns whether a meter's text is appended, at once or at the second time.
 fn says<M: Meter>(meter: &M, out: &mut Vec<u8>) -> bool {
     let before = out.len();
     meter.summary(out).is_ok() || (out.len() == before && meter.summary(out).is_ok())

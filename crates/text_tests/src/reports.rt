@@ -6,10 +6,10 @@ use report_text::append_answer;
 use std::alloc::{AllocError, Global};
 use std::test::Fail;
 
-// How many bytes a report of these tests has at most.
+// The maximum number of bytes of a report in these tests.
 const LONGEST: usize = 100;
 
-// Lines that spell an answer. In these texts `+` means twenty-eight idle octets.
+// Lines that encode an answer. In these texts `+` means 28 idle octets.
 const READ: [&str; 17] = [
     "1 granted 0 62",
     "1 granted 4294967295 0",
@@ -30,8 +30,8 @@ const READ: [&str; 17] = [
     "8 frame 0 send 9:D5D5+ 8:2AD5+",
 ];
 
-// Lines that spell none, though each is nearly one that does: by its number, its blanks, its word,
-// what follows the word, its messages, its parts.
+// Lines that encode none, though each is nearly one that does: by its number, its spaces, its word, the octets after
+// the word, its messages, its parts.
 const UNREAD: [&str; 64] = [
     "0 busy",
     "01 busy",
@@ -99,14 +99,14 @@ const UNREAD: [&str; 64] = [
     "1 frame 0 32:2AD5+",
 ];
 
-// What came of reading a line.
+// The result of reading a line.
 #[derive(Clone, Copy, PartialEq, Eq)]
 enum Came {
-    // No answer is spelled.
+    // The line encodes no answer.
     Nothing,
-    // An answer is, whose line is this one.
+    // The line encodes an answer, whose line is the same.
     Back,
-    // An answer is, whose line is another one.
+    // The line encodes an answer, whose line is another one.
     Changed,
 }
 
@@ -128,7 +128,7 @@ fn comes(alloc: Global, text: &str) -> Result<Came, AllocError> {
     read_back(alloc, line.as_slice())
 }
 
-// Whether this comes of each of these texts.
+// Returns whether each of these texts has this result.
 fn all_come(alloc: Global, texts: &[&str], wanted: Came) -> Result<bool, AllocError> {
     for text in texts {
         if comes(alloc, text)? != wanted {
@@ -150,8 +150,7 @@ fn what_spells_none_is_not_read(rt: HostRuntime) -> Result<(), Fail> {
     Ok(())
 }
 
-// Whether a line is read as none or as itself, whichever of these octets is in the place of one of its
-// own.
+// Returns whether a line is read as none or as itself, if any one octet is replaced by any of these octets.
 fn keeps_to_itself(alloc: Global, line: &mut Vec<u8>) -> Result<bool, AllocError> {
     for place in 0..line.len() {
         let own = line[place];
@@ -182,7 +181,7 @@ fn a_line_with_another_octet_is_none_or_itself(rt: HostRuntime) -> Result<(), Fa
     Ok(())
 }
 
-// Whether the answer is the second event's, of a message that moved paths, with one message to line 31.
+// Returns whether the answer is the second event's, of a message that moved paths, with one message to line 31.
 fn is_sent(answer: &Answer) -> bool {
     let Kept::Sent {
         sends,
@@ -203,7 +202,7 @@ fn is_sent(answer: &Answer) -> bool {
         && answer.octets.as_slice().is_empty()
 }
 
-// Whether it is the third event's, of frame 7, in which line 1 alone sends octets other than idle.
+// Returns whether it is the third event's, of frame 7, in which only line 1 sends octets other than idle.
 fn is_frame(answer: &Answer) -> bool {
     let Kept::Frame {
         number,
@@ -249,10 +248,10 @@ fn an_answer_has_what_its_line_tells(rt: HostRuntime) -> Result<(), Fail> {
     Ok(())
 }
 
-// Reports, and how many answers each has.
+// Reports, and the number of answers of each.
 const WHOLE: [(&str, usize); 3] = [("", 0), ("1 busy\n", 1), ("2 busy\n1 busy\n2 freed\n", 3)];
 
-// Reports with a faulty line, and the number of the first one.
+// Reports with a wrong line, and the number of the first one.
 const FAULTY: [(&str, u32); 8] = [
     ("1 busy\n2 freed", 2),
     ("1 busy\n2 freed\n\n", 3),
@@ -264,7 +263,7 @@ const FAULTY: [(&str, u32); 8] = [
     ("1 busy", 1),
 ];
 
-// Whether a report has this many answers.
+// Returns whether a report has this many answers.
 fn has_answers(alloc: Global, report: &[u8], count: usize) -> Result<bool, AllocError> {
     if report.len() > LONGEST {
         return Ok(false);
@@ -285,7 +284,7 @@ fn have_answers(alloc: Global, reports: &[(&str, usize)]) -> Result<bool, AllocE
     Ok(true)
 }
 
-// Whether this is the first line of a report that is faulty.
+// Returns whether this is the first wrong line of a report.
 fn is_faulty_at(alloc: Global, report: &[u8], line: u32) -> Result<bool, AllocError> {
     if report.len() > LONGEST {
         return Ok(false);

@@ -1,4 +1,4 @@
-// Each meter through the trait, beside two of a program's own.
+// Each meter through the trait, together with two meters of a program.
 use crate::calls_to_line::CallsToLine;
 use crate::keeper::Keeper;
 use circuit_model::Slot;
@@ -7,8 +7,8 @@ use meters::{CallDetail, HoldingTime, Meter, PegCount, append_summaries};
 use std::alloc::{AllocError, Global};
 use std::test::Fail;
 
-// An answered call between slots, one to a room that lasted longer, and one that wasn't answered
-// and is noted with its frames the wrong way round.
+// An answered call between slots, a longer one to a room, and one that was not answered and is recorded with its frames
+// in the wrong order.
 const CALLS: [CallRecord; 3] = [
     CallRecord {
         caller: Slot { line: 0, place: 0 },
@@ -70,7 +70,7 @@ enum Kind {
 
 use Kind::{CallsTo, Details, Holding, Peg};
 
-/// Meters, what they say of no call, how many calls end then, and what the meters say of these.
+/// Meters, their texts without a call, the number of calls that then end, and the texts after these.
 struct Told<'a> {
     kinds: &'a [Kind],
     before: &'a str,
@@ -78,7 +78,7 @@ struct Told<'a> {
     after: &'a str,
 }
 
-// Whether the meters say so behind what was there before.
+// Returns whether the meters append these texts to an earlier one.
 fn say_behind(
     alloc: Global,
     meters: &mut [Box<dyn Meter>],
@@ -94,7 +94,8 @@ fn say_behind(
     Ok(said.strip_prefix(told.before.as_bytes()) == Some(told.after.as_bytes()))
 }
 
-// Makes the meters of all tests, since each way out of a function that makes them drops those before. Whether they say so.
+// Makes the meters of all tests, because each way out of a function that makes them drops those made before. Returns
+// whether they have these texts.
 fn say(alloc: Global, told: &Told) -> Result<bool, AllocError> {
     let mut meters: Vec<Box<dyn Meter>> = Vec::new(alloc);
     for kind in told.kinds {
@@ -123,8 +124,8 @@ fn meters_say_what_they_were_told(rt: HostRuntime) -> Result<(), Fail> {
     Ok(())
 }
 
-// Two counts of the calls to one line, the same or another, beside a peg count. None counts the line of
-// a caller, or a room with the number of the line.
+// Two counts of the calls to one line, the same or another, next to a peg count. None counts the line of a caller, or a
+// room with the number of the line.
 const OF_LINES: [Told; 5] = [
     Told {
         kinds: &[CallsTo(12), Peg, CallsTo(0)],

@@ -1,17 +1,17 @@
-// What traces say. Other inputs are in the tables of examples/.
+// The contents of traces. Other inputs are in the tables of `examples/`.
 use circuit_model::Slot;
 use exchange_events::{Event, Trace};
 use number_plan::Found;
 use std::test::Fail;
 use trace_text::read_trace;
 
-// What comes before a case, so that the case is line 2 of an exchange of one line.
+// The lines before a case, so that the case is line 2 of an exchange of one line.
 const HEADER: &str = "exchange 1 1 0 1\n";
 
-// Thirty octets, with digits of both cases.
+// The 30 octets of a line, with digits of both cases.
 const OCTETS: &str = "00010203040506070809a0B1c2D3e4F5FFfF0123456789abcdefABCDEF55";
 
-// The trace that a text is. That it has no clause keeps the grammar out of the tests.
+// Returns the trace of a text. It has no clause, so that the tests do not depend on the grammar.
 fn read(rt: &HostRuntime, text: &str) -> Result<Trace, Fail> {
     Ok(
         read_trace(rt.alloc(), text.as_bytes())
@@ -20,7 +20,7 @@ fn read(rt: &HostRuntime, text: &str) -> Result<Trace, Fail> {
     )
 }
 
-// Whether these are the octets of ringing tone and of busy tone.
+// Returns whether these are the octets of ringing tone and of busy tone.
 fn has_tones(trace: &Trace, ringback: &[u8], busy: &[u8]) -> bool {
     trace.tones.ringback.as_slice() == ringback && trace.tones.busy.as_slice() == busy
 }
@@ -33,7 +33,7 @@ fn tones_have_their_octets(rt: HostRuntime) -> Result<(), Fail> {
     Ok(())
 }
 
-// Whether the segments end behind these events.
+// Returns whether the segments end after these events.
 fn ends_at(trace: &Trace, ends: &[u32]) -> bool {
     trace.segments.as_slice() == ends
 }
@@ -44,7 +44,7 @@ fn has_two_numbers(trace: &Trace) -> bool {
         && trace.plan.look(b"2") == Found::Nothing
 }
 
-// Whether the events are two messages of line 0, the second one without octets.
+// Returns whether the events are two messages of line 0, the second one without octets.
 fn has_two_messages(trace: &Trace) -> bool {
     let [Event::Message(one, octets), Event::Message(other, none)] = trace.events.as_slice() else {
         return false;
@@ -69,7 +69,7 @@ fn has_sizes(trace: &Trace, external: u8, bridges: u8, processors: u8) -> bool {
     trace.external == external && trace.bridges == bridges && trace.processors == processors
 }
 
-// Whether the first two lines alone send these octets.
+// Returns whether only the first two lines send, with these octets.
 fn sends(input: &[Option<[u8; 30]>], first: Option<[u8; 30]>, second: Option<[u8; 30]>) -> bool {
     let [one, other] = input else {
         return false;
@@ -77,7 +77,7 @@ fn sends(input: &[Option<[u8; 30]>], first: Option<[u8; 30]>, second: Option<[u8
     *one == first && *other == second
 }
 
-// Whether the events are a nail and two frames, the first one with these octets of line 1.
+// Returns whether the events are a nail and two frames, the first one with these octets of line 1.
 fn has_nail_and_frames(trace: &Trace, octets: [u8; 30]) -> bool {
     let [
         Event::Nail(one, other),
@@ -108,7 +108,7 @@ fn whole_trace(rt: HostRuntime) -> Result<(), Fail> {
     Ok(())
 }
 
-// Whether the events are these: a seat in room 63, a slot that is freed, and a seat in room 0.
+// Returns whether the events are these: a seat in room 63, a slot that is freed, and a seat in room 0.
 fn has_seats_and_free(trace: &Trace) -> bool {
     let [
         Event::Seat(one, last),

@@ -1,4 +1,4 @@
-// Traces beside the traces of a program outside, and Adler-32 sums of its octets by zlib.
+// Traces compared with another program's traces, and with Adler-32 sums of its octets by zlib.
 use std::alloc::{AllocError, Global};
 use std::test::Fail;
 use traffic_gen::generate;
@@ -11,7 +11,7 @@ const LINES: [(u64, usize, &str); 15] = [
     (0, 10, "nail 0/11 6/11"),
     (0, 89, "nail 3/31 4/31"),
     (0, 90, "sync"),
-    // Line 7 calls line 3, and both speak.
+    // Line 7 calls line 3, and both send.
     (0, 91, "M 7 080200010504038090A37003803233"),
     (0, 93, "M 3 0802800107"),
     (
@@ -36,7 +36,7 @@ const LINES: [(u64, usize, &str); 15] = [
     ),
 ];
 
-// A seed and a number of calls, and how many octets the trace has, and what they sum up to.
+// A seed and a number of calls, and the number of octets of the trace and their sum.
 const SUMS: [(u64, u32, usize, u32); 7] = [
     (0, 1, 1764, 979084483),
     (6, 1, 1533, 2721345699),
@@ -47,12 +47,12 @@ const SUMS: [(u64, u32, usize, u32); 7] = [
     (4294967295, 2000, 710474, 1273983832),
 ];
 
-// Whether a text has this line at an index.
+// Returns whether a text has this line at an index.
 fn has_line(text: &[u8], index: usize, line: &str) -> bool {
     text.split(|octet| *octet == b'\n').nth(index) == Some(line.as_bytes())
 }
 
-// The Adler-32 sum of octets (RFC 1950).
+// Returns the Adler-32 sum of octets (RFC 1950).
 fn adler32(octets: &[u8]) -> u32 {
     let mut low: u32 = 1;
     let mut high: u32 = 0;

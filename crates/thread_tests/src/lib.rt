@@ -1,9 +1,6 @@
 //! Worked examples of the turn lock and of the gates, on one thread and on several.
 //!
-//! They are here and not beside what they test, so that the lock is proved once. The crate promises
-//! nothing.
-//!
-//! It uses `seat_history`, `turn_lock` and `gate`.
+//! They are separate from the lock, so that it is proved once. The crate guarantees nothing.
 #![tactic(auto)]
 
 #[cfg(test)]

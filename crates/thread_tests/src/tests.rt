@@ -1,3 +1,3 @@
-// What no clause says: that the calls come to an end, in threads too.
+// Tests of facts that no clause states: the calls end, also in threads.
 mod gates;
 mod lock;

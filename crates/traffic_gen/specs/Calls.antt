@@ -1,4 +1,4 @@
--- Generated calls: who calls whom, and the lines of a call. This exchange's own.
+-- Generated calls: the caller and the called party, and the lines of a call. Defined by this project.
 use Rattle.std.specs.Prelude.{ℕ, zero, suc, ◌+◌, ◌<◌, ◌==◌, List, [], ◌∷◌, ◌++◌, Option, Some, None, codes, decimal, if◌then◌else◌}
 use Rattle.traffic_gen.specs.Draws.{drawn, octets_drawn, state_after}
 use Rattle.traffic_gen.specs.Lines.{Line, Part, Message, Frame, Sync}
@@ -21,7 +21,7 @@ abbrev pub IsCallee : Callee → Type 0
 IsCallee (callee.Line line) = line < 8
 IsCallee callee.Room = Unit {0}
 
--- a call takes three draws: the caller's line, the callee, and how many frames it lasts
+-- a call takes three draws: the caller's line, the callee, and the number of its frames
 unfoldable pub call_drawn : ℕ → Call
 call_drawn state = record {
   caller = drawn 8 (state_after 1 state);
@@ -33,25 +33,25 @@ call_drawn state = record {
 abbrev pub segment : List Line → List Line
 segment lines = lines ++ Sync ∷ []
 
--- a message of a line, in a segment of its own
+-- a message of a line, as a segment by itself
 abbrev pub message_of : ℕ → List ℕ → List Line
 message_of line octets = segment (Message line octets ∷ [])
 
--- a message of the callee. A room has no signalling
+-- a message of the callee; a room has no signalling
 abbrev pub message_from : Callee → List ℕ → List Line
 message_from (callee.Line line) octets = message_of line octets
 message_from callee.Room octets = []
 
--- what the caller clears a call with
+-- the messages with which the caller clears a call
 abbrev pub clearing_of : ℕ → List Line
 clearing_of caller = message_of caller disconnect ++ message_of caller release_complete
 
--- the line that speaks beside the caller's, where there is one: nobody else does where a line calls itself
+-- the line that sends in addition to the caller's, if there is one: a line that calls itself sends once
 abbrev pub far_line : ℕ → Callee → Option ℕ
 far_line caller (callee.Line line) = if line == caller then None else Some line
 far_line caller callee.Room = None
 
--- what a line sends in a frame: thirty draws
+-- the octets of a line in a frame: 30 draws
 abbrev pub part_drawn : ℕ → ℕ → Part
 part_drawn line state = record { line = line; octets = octets_drawn 30 state }
 
@@ -74,11 +74,11 @@ abbrev pub state_after_frames : Option ℕ → ℕ → ℕ → ℕ
 state_after_frames far zero state = state
 state_after_frames far (suc count) state = state_after_frames far count (state_after_frame far state)
 
--- the frames of a call, which begin at a state
+-- the frames of a call, drawn from this state on
 abbrev pub frames_of : Call → ℕ → List Line
 frames_of call state = frames_drawn call.caller (far_line call.caller call.callee) call.frames state
 
--- the lines of a call, its frames drawn from a state on: the caller is the one that clears
+-- the lines of a call, with its frames drawn from this state on; the caller clears
 abbrev pub call_lines : Call → ℕ → List Line
 call_lines call state =
     message_of call.caller (setup (number_of call.callee))
@@ -90,7 +90,7 @@ call_lines call state =
 abbrev pub state_after_call : Call → ℕ → ℕ
 state_after_call call state = state_after_frames (far_line call.caller call.callee) call.frames state
 
--- n calls, one after the other
+-- n calls in sequence
 abbrev pub calls_drawn : ℕ → ℕ → List Line
 calls_drawn zero state = []
 calls_drawn (suc count) state =

@@ -12,8 +12,8 @@ increment = 1442695040888963407
 unfoldable pub next_state : ℕ → ℕ
 next_state state = (state * multiplier + increment) % 2 ^ 64
 
--- what a draw below a bound gives, at the state that it left: the low bits of such a generator have
--- short periods, so the upper 31 are taken
+-- the value of a draw below a bound, from the state after it: the low bits of such a generator have short periods, so
+-- the upper 31 are used
 unfoldable pub drawn : ℕ → ℕ → ℕ
 drawn bound state = state / 2 ^ 33 % bound
 

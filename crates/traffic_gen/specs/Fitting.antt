@@ -1,4 +1,4 @@
--- What the lines of a generated trace keep to: they name the lines, places and rooms of the exchange that its header describes.
+-- The lines of a generated trace fit its exchange: they refer to the lines, places and rooms that its header describes.
 use Rattle.std.specs.Prelude.{◌≡◌, ◌≢◌, ℕ, ◌+◌, ◌<◌, ◌≤◌, Bool, true, false, ◌&&◌, nat_lt, nat_le, List, [], ◌∷◌, length, if◌then◌else◌}
 use Rattle.std.specs.List.{list_all}
 use Rattle.traffic_gen.specs.Lines.{Line, Part, Header, ToLine, ToRoom, Nail, Message, Frame, Sync}
@@ -25,20 +25,20 @@ pub record FitsMessage (line : ℕ) (octets : List ℕ) : Type 0 where
   pub each : list_all is_octet octets ≡ true
   pub most : length octets ≤ 15
 
--- one of the eight lines sends thirty octets
+-- one of the eight lines sends 30 octets
 pub record FitsPart (part : Part) : Type 0 where
   pub line_is : part.line < 8
   pub each : list_all is_octet part.octets ≡ true
   pub thirty : length part.octets ≡ 30
 
--- one line sends octets, or two do
+-- one line sends octets, or two lines do
 abbrev pub FitsParts : List Part → Type 0
 FitsParts [] = ⊥
 FitsParts (one ∷ []) = FitsPart one
 FitsParts (one ∷ other ∷ []) = FitsPart one × FitsPart other × (other.line ≢ one.line)
 FitsParts (one ∷ other ∷ third ∷ parts) = ⊥
 
--- two different lines are nailed at one of the upper twenty places
+-- two different lines are nailed at one of the upper 20 places
 pub record FitsNail (one other place : ℕ) : Type 0 where
   pub one_is : one < 4
   pub other_is : (4 ≤ other) × (other < 8)
@@ -64,7 +64,7 @@ is_event (Message line octets) = true
 is_event (Frame parts) = true
 is_event Sync = false
 
--- how many of the lines are events
+-- the number of events among the lines
 abbrev pub event_count : List Line → ℕ
 event_count [] = 0
 event_count (line ∷ lines) = (if is_event line then 1 else 0) + event_count lines

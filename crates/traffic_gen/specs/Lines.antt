@@ -1,10 +1,11 @@
--- The lines of a trace that is generated, and how each is spelled: words and numerals, one space
--- between them. The form of a trace is this exchange's own.
+-- The lines of a generated trace, and the text of each: words and decimal numbers, with one space between them. A line
+-- is data with one function for its text, so that facts are proved line by line. The form of a trace is defined by this
+-- project.
 use Rattle.std.specs.Prelude.{ℕ, ◌+◌, List, ◌++◌, codes, decimal, nat_lt, if◌then◌else◌}
 use Rattle.std.specs.List.{flat_map}
 use Rattle.hex.specs.Hex.{encode_upper}
 
--- what one external line sends in a frame
+-- the octets of one external line in a frame
 pub record Part : Type 0 where
   pub line : ℕ
   pub octets : List ℕ
@@ -19,7 +20,7 @@ pub data Line : Type 0 where
   Nail : (one other place : ℕ) → Line
   -- a message arrives on a line
   Message : (line : ℕ) (octets : List ℕ) → Line
-  -- a frame arrives: what the lines send that aren't idle
+  -- a frame arrives: the octets of the lines that are not idle
   Frame : (parts : List Part) → Line
   -- the segment ends
   Sync : Line
@@ -47,6 +48,6 @@ line_text (Message line octets) = codes "M " ++ decimal line ++ codes " " ++ enc
 line_text (Frame parts) = codes "F" ++ flat_map part_text parts
 line_text Sync = codes "sync"
 
--- lines, each ended by a line feed
+-- lines, each with a line feed at its end
 unfoldable pub text : List Line → List ℕ
 text lines = flat_map (λ line. line_text line ++ codes "\n") lines

@@ -1,7 +1,7 @@
 -- The messages of a generated call: ITU-T Q.931 (05/98), one call reference for all of them.
 use Rattle.std.specs.Prelude.{ℕ, List, [], ◌∷◌, ◌++◌, length}
 
--- the octet of the call reference that holds its flag: set from the side that didn't choose the reference
+-- the octet of the call reference that holds its flag: set by the side that did not choose the reference
 abbrev pub from_originator : ℕ
 from_originator = 0x00
 

@@ -1,5 +1,5 @@
--- A generated trace. This exchange's own: eight external lines, with the upper twenty places of lines
--- 0 to 3 nailed to the upper twenty of lines 4 to 7, and calls on what is left.
+-- A generated trace. Defined by this project: eight external lines, with the upper 20 places of lines 0 to 3 nailed to
+-- the upper 20 of lines 4 to 7, and calls on the other places.
 use Rattle.std.specs.Prelude.{ℕ, ◌+◌, ◌%◌, List, [], ◌∷◌, ◌++◌, map}
 use Rattle.std.specs.List.{flat_map, range_with_len}
 use Rattle.traffic_gen.specs.Lines.{Line, Header, ToLine, ToRoom, Nail, text}

@@ -9,7 +9,7 @@ use crate::draws::Draws;
 use crate::lines::{put_message, put_part, put_sync};
 use std::alloc::AllocError;
 
-/// A call of a line, and how many frames it lasts.
+/// A call of a line, and the number of its frames.
 #[derive(Clone, Copy)]
 pub struct Call {
     caller: u8,
@@ -18,7 +18,7 @@ pub struct Call {
 }
 
 impl Call {
-    /// The next call.
+    /// Returns the next call.
     pub fn drawn(draws: &mut Draws) -> Call
         ensures call { result ≡ call_drawn draws.old.state }
         ensures state { draws.new.state ≡ state_after 3 draws.old.state }
@@ -34,7 +34,7 @@ impl Call {
         }
     }
 
-    /// Appends the lines of the call, and draws what its frames carry.
+    /// Appends the lines of the call, and draws the octets of its frames.
     pub fn put(&self, out: &mut Vec<u8>, draws: &mut Draws) -> Result<(), AllocError>
         requires { IsCallee self.now.callee }
         ensures lines { OnOk result (out.new.items ≡ out.old.items ++ text (call_lines self.now draws.old.state)) }
@@ -47,7 +47,7 @@ impl Call {
         self.callee.put_release(out)
     }
 
-    // Appends what the caller clears the call with.
+    // Appends the messages with which the caller clears the call.
     fn put_clearing(&self, out: &mut Vec<u8>) -> Result<(), AllocError>
         ensures { OnOk result (out.new.items ≡ out.old.items ++ text (clearing_of self.now.caller)) }
     {
@@ -55,7 +55,7 @@ impl Call {
         put_message(out, self.caller, b"080200015A")
     }
 
-    // The line that speaks beside the caller's. A line that calls itself speaks once.
+    // Returns the line that sends in addition to the caller's, if there is one. A line that calls itself sends once.
     fn far_line(&self) -> Option<u8>
         ensures { result ≡ far_line self.now.caller self.now.callee }
     {
@@ -65,7 +65,7 @@ impl Call {
         }
     }
 
-    // Appends the frames of the call, a segment.
+    // Appends the frames of the call as a segment.
     fn put_frames(&self, out: &mut Vec<u8>, draws: &mut Draws) -> Result<(), AllocError>
         ensures lines { OnOk result (out.new.items ≡ out.old.items ++ text (segment (frames_of self.now draws.old.state))) }
         ensures state { OnOk result (draws.new.state ≡ state_after_call self.now draws.old.state) }
@@ -78,7 +78,7 @@ impl Call {
     }
 }
 
-// Appends a frame, in which the caller's line speaks, and the far one where there is one.
+// Appends a frame, in which the caller's line sends, and the far one if there is one.
 #[tactic(auto, unfolding(crate::specs::Lines::text))]
 fn put_frame(
     out: &mut Vec<u8>,

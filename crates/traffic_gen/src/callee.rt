@@ -1,4 +1,4 @@
-//! Whom a generated call is to.
+//! The called party of a generated call.
 ghost use Rattle.std.specs.Prelude.{◌≡◌, ◌<◌, ◌++◌, OnOk};
 ghost use Rattle.hex.specs.Hex.{encode_upper};
 ghost use Rattle.traffic_gen.specs.Calls.{IsCallee, callee_drawn, message_from, number_of};
@@ -8,10 +8,11 @@ ghost use Rattle.traffic_gen.specs.Messages.{connect, release, setup};
 use crate::lines::put_message;
 use std::alloc::AllocError;
 
-// The SETUP of a call to the room, as a trace spells it.
+// The SETUP of a call to the room, as a trace encodes it. Messages are octets in the definitions and digits here, so
+// that each checks the other.
 const SETUP: [u8; 30] = *b"080200010504038090A37003803330";
 
-/// What a call calls: one of the eight lines, or the conference room.
+/// The called party: one of the eight lines, or the conference room.
 #[derive(Clone, Copy)]
 pub enum Callee {
     Line(u8),
@@ -19,7 +20,7 @@ pub enum Callee {
 }
 
 impl Callee {
-    /// The lines in order, and then the room.
+    /// Returns the callee with this number: the lines in order, and then the room.
     pub fn of(choice: u8) -> Callee
         requires { choice < 9 }
         ensures callee { result ≡ callee_drawn choice }
@@ -32,7 +33,7 @@ impl Callee {
         }
     }
 
-    /// The digits of a SETUP that calls it.
+    /// Returns the digits of a SETUP that calls it.
     pub fn setup(self) -> [u8; 30]
         requires { IsCallee self }
         ensures { result ≡ encode_upper (setup (number_of self)) }
@@ -48,7 +49,7 @@ impl Callee {
         }
     }
 
-    /// Appends its CONNECT, where it is a line.
+    /// Appends its CONNECT, if it is a line.
     pub fn put_connect(self, out: &mut Vec<u8>) -> Result<(), AllocError>
         ensures { OnOk result (out.new.items ≡ out.old.items ++ text (message_from self connect)) }
     {
@@ -58,7 +59,7 @@ impl Callee {
         }
     }
 
-    /// Appends its RELEASE, where it is a line.
+    /// Appends its RELEASE, if it is a line.
     pub fn put_release(self, out: &mut Vec<u8>) -> Result<(), AllocError>
         ensures { OnOk result (out.new.items ≡ out.old.items ++ text (message_from self release)) }
     {

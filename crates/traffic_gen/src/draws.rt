@@ -20,7 +20,7 @@ impl Draws {
         Draws { state: seed }
     }
 
-    /// A number below a bound.
+    /// Draws a number below a bound.
     pub fn draw(&mut self, bound: u64) -> u64
         requires { 0 < bound }
         ensures state { self.new.state ≡ next_state self.old.state }
@@ -31,7 +31,7 @@ impl Draws {
         (self.state >> 33) % bound
     }
 
-    /// The octets that a line sends in a frame.
+    /// Draws the octets of a line in a frame.
     pub fn octets(&mut self) -> [u8; 30]
         ensures octets { result ≡ octets_drawn 30 self.old.state }
         ensures state { self.new.state ≡ state_after 30 self.old.state }

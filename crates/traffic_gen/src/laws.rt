@@ -1,4 +1,4 @@
-//! Laws of the definitions, for every seed and every number of calls.
+//! Theorems on the definitions, for every seed and every number of calls.
 ghost use Rattle.std.specs.Prelude.{◌≡◌, ℕ, true, ◌+◌, ◌*◌, ◌/◌, ◌^◌, ◌≤◌, length};
 ghost use Rattle.std.specs.List.{AllByRecursion, list_all};
 ghost use Rattle.traffic_gen.specs.Draws.{drawn, state_after};
@@ -6,16 +6,15 @@ ghost use Rattle.traffic_gen.specs.Fitting.{Fits, event_count, is_printable};
 ghost use Rattle.traffic_gen.specs.Lines.{Line, line_text};
 ghost use Rattle.traffic_gen.specs.Traffic.{traffic, traffic_lines};
 
-/// Each line fits the exchange of the trace, and each line that fits is spelled in printable octets, at
-/// most 127 of them.
+/// Each line fits the exchange of the trace, and the text of each line that fits has at most 127 printable octets.
 pub fn law_of_lines()
     ensures fits { (seed calls : ℕ) → AllByRecursion Fits (traffic_lines seed calls) }
     ensures printable { (line : Line) → Fits line → list_all is_printable (line_text line) ≡ true }
     ensures short { (line : Line) → Fits line → length (line_text line) ≤ 127 }
 {}
 
-/// How long a trace is: 91 lines before the first call and at most 14 for a call, of which 80 and at
-/// most 8 are events.
+/// The length of a trace: 91 lines before the first call and at most 14 for each call, of which 80 and at most 8 are
+/// events.
 pub fn law_of_lengths()
     ensures lines { (seed calls : ℕ) → length (traffic_lines seed calls) ≤ 91 + 14 * calls }
     ensures events { (seed calls : ℕ) → event_count (traffic_lines seed calls) ≤ 80 + 8 * calls }

@@ -28,7 +28,7 @@ pub fn put_sync(out: &mut Vec<u8>) -> Result<(), AllocError>
     out.extend_from_slice(b"sync\n")
 }
 
-/// Appends what a line sends in a frame.
+/// Appends the octets of a line in a frame.
 pub fn put_part(out: &mut Vec<u8>, line: u8, octets: &[u8; 30]) -> Result<(), AllocError>
     ensures { OnOk result (out.new.items ≡ out.old.items ++ part_text (record { line = line; octets = octets.now })) }
 {
@@ -51,7 +51,7 @@ pub fn put_nail(out: &mut Vec<u8>, one: u8, other: u8, place: u8) -> Result<(), 
     out.extend_from_slice(b"\n")
 }
 
-// A slot, its place written as the number of its channel.
+// Appends a slot: its line and the number of its channel.
 fn put_slot(out: &mut Vec<u8>, line: u8, place: u8) -> Result<(), AllocError>
     requires { place < 30 }
     ensures { OnOk result (out.new.items ≡ out.old.items ++ slot_text line place) }
@@ -61,7 +61,7 @@ fn put_slot(out: &mut Vec<u8>, line: u8, place: u8) -> Result<(), AllocError>
     put_number(out, channel_at(place))
 }
 
-// The bearer channel at a place. Channel 16 carries the signalling.
+// Returns the bearer channel at a place. Channel 16 has the signalling.
 fn channel_at(place: u8) -> u8
     requires { place < 30 }
     ensures { result ≡ channel_at place }
@@ -77,7 +77,7 @@ pub fn put_number(out: &mut Vec<u8>, number: u8) -> Result<(), AllocError>
     out.extend_from_slice(buffer.format(number).as_bytes())
 }
 
-// The octets of a line as hexadecimal digits, two each.
+// Returns the octets of a line as hexadecimal digits, two each.
 fn hex_digits(octets: &[u8; 30]) -> [u8; 60]
     ensures { result ≡ encode_upper octets.now }
 {
@@ -90,7 +90,7 @@ fn hex_digits(octets: &[u8; 30]) -> [u8; 60]
     digits
 }
 
-// The hexadecimal digit of a value, in upper case.
+// Returns the hexadecimal digit of a value, in upper case.
 fn digit(value: u8) -> u8
     requires { value < 16 }
     ensures { result ≡ slice_index upper_digits value }

@@ -9,21 +9,21 @@ use crate::draws::Draws;
 use crate::lines::{put_nail, put_number, put_sync};
 use std::alloc::{AllocError, Global};
 
-// Room for the lines before the first call, and for the lines of a call, in octets: a call of three
-// frames in which two lines speak takes 517.
+// Capacity in octets for the lines before the first call, and for the lines of a call: a call of three frames in which
+// two lines send has 517. All of it is reserved at once, so that nothing grows while lines are written.
 const ROOM_BEFORE: usize = 1500;
 
 const ROOM_OF_A_CALL: usize = 520;
 
-/// The trace of a seed with n calls, 1 to 2000, as octets: lines, each ended by a line feed.
+/// Generates the trace of a seed with n calls, 1 to 2000, as octets: lines, each with a line feed at its end.
 ///
-/// The exchange has eight external lines, one bridge line and four call processors. Twenty places of
-/// the lines 0 to 3 are nailed to the lines 4 to 7; then each call is set up, lasts one to three
-/// frames, and is cleared by its caller before the next one begins.
+/// The exchange has eight external lines, one bridge line and four call processors. The lines 0 to 3 are nailed to the
+/// lines 4 to 7 at 20 places of each. Then each call is set up, lasts one to three frames, and is cleared by its caller
+/// before the next one begins.
 ///
 /// # Errors
 ///
-/// [`AllocError`] where memory runs out.
+/// [`AllocError`] if an allocation fails.
 pub fn generate(alloc: Global, seed: u64, calls: u32) -> Result<Vec<u8>, AllocError>
     requires some { 1 ≤ calls }
     requires most { calls ≤ 2000 }
@@ -38,7 +38,7 @@ pub fn generate(alloc: Global, seed: u64, calls: u32) -> Result<Vec<u8>, AllocEr
     Ok(out)
 }
 
-// The sizes of the exchange, and the number plan.
+// Appends the sizes of the exchange, and the number plan.
 fn put_header(out: &mut Vec<u8>) -> Result<(), AllocError>
     ensures { OnOk result (out.new.items ≡ out.old.items ++ text header) }
 {
@@ -55,14 +55,14 @@ fn put_sizes(out: &mut Vec<u8>) -> Result<(), AllocError>
     out.extend_from_slice(b"exchange 1 8 1 4\n")
 }
 
-// The number of the conference room.
+// Appends the number of the conference room.
 fn put_room_line(out: &mut Vec<u8>) -> Result<(), AllocError>
     ensures { OnOk result (out.new.items ≡ out.old.items ++ text (room_line ∷ [])) }
 {
     out.extend_from_slice(b"number 30 room 0\n")
 }
 
-// The number of a line.
+// Appends the number of a line.
 #[tactic(auto, unfolding(crate::specs::Lines::text))]
 fn put_number_line(out: &mut Vec<u8>, line: u8) -> Result<(), AllocError>
     ensures { OnOk result (out.new.items ≡ out.old.items ++ text (number_line line ∷ [])) }
@@ -74,7 +74,7 @@ fn put_number_line(out: &mut Vec<u8>, line: u8) -> Result<(), AllocError>
     out.extend_from_slice(b"\n")
 }
 
-// The nails of all places.
+// Appends the nails of all places.
 fn put_nails(out: &mut Vec<u8>) -> Result<(), AllocError>
     ensures { OnOk result (out.new.items ≡ out.old.items ++ text nails) }
 {
@@ -84,7 +84,7 @@ fn put_nails(out: &mut Vec<u8>) -> Result<(), AllocError>
     Ok(())
 }
 
-// The nails of one place.
+// Appends the nails of one place.
 fn put_nails_at(out: &mut Vec<u8>, place: u8) -> Result<(), AllocError>
     requires { place < 30 }
     ensures { OnOk result (out.new.items ≡ out.old.items ++ text (nails_at place)) }
@@ -95,7 +95,7 @@ fn put_nails_at(out: &mut Vec<u8>, place: u8) -> Result<(), AllocError>
     Ok(())
 }
 
-// The calls, one after the other.
+// Appends the calls in sequence.
 fn put_calls(out: &mut Vec<u8>, seed: u64, calls: u32) -> Result<(), AllocError>
     ensures { OnOk result (out.new.items ≡ out.old.items ++ text (calls_drawn calls seed)) }
 {

@@ -1,5 +1,5 @@
-// Runs in which meters are changed: what they say in the report and once it ended, and where a write of the
-// report fails.
+// Runs in which meters are changed: their summaries in the report and after the run, and the effect of a failed write
+// of the report.
 use crate::tests::{ACCEPTED, Kind, Metered, called_with};
 use ex_io::{MemSink, MemSource};
 use frame_engine::Engine;
@@ -14,7 +14,7 @@ const SETUP_TO_ROOM: &str =
 
 const CLEARING: &str = "M 0 080200015A\n";
 
-// The report of a trace with meters of these kinds that are on and spare ones of these, and what is left of both.
+// Returns the report of a trace with active and spare meters of these kinds, and the meters that are left.
 pub(crate) fn changed(
     rt: &(impl Threads + Wait + Sync),
     alloc: Global,
@@ -33,8 +33,8 @@ pub(crate) fn changed(
 
 pub(crate) const ONE_PEG: [Kind; 1] = [Kind::Peg];
 
-/// A run in which meters are changed: the meters that are on and the spare ones, the lines, the report
-/// behind its first line, and what is left of those that are on and of the spare ones.
+/// A run in which meters are changed: the active and spare meters, the lines, the report after its first line, and the
+/// active and spare meters that are left.
 struct ChangedRun {
     on: &'static [Kind],
     spare: &'static [Kind],
@@ -58,7 +58,7 @@ const RUNS: [ChangedRun; 6] = [
         report: "2 message\npeg 1 1\n3 frame 0\n",
         left: ("peg 0 0\n", ""),
     },
-    // The call ends in the time of the spare one.
+    // The call ends in the active period of the spare meter.
     ChangedRun {
         on: &[Kind::Peg],
         spare: &[Kind::Peg, Kind::Peg],
@@ -66,7 +66,7 @@ const RUNS: [ChangedRun; 6] = [
         report: "peg 0 0\n2 message\n",
         left: ("peg 1 1\n", "peg 0 0\n"),
     },
-    // No meter is on at first, or there is no spare one.
+    // No meter is active at first, or there is no spare one.
     ChangedRun {
         on: &[],
         spare: &[Kind::Peg],
@@ -91,7 +91,7 @@ const RUNS: [ChangedRun; 6] = [
     },
 ];
 
-// Whether a run is reported so, and leaves its meters so.
+// Returns whether a run has this report, and leaves its meters so.
 fn is_changed(
     rt: &(impl Threads + Wait + Sync),
     alloc: Global,
@@ -111,8 +111,8 @@ fn is_changed(
     )
 }
 
-// Each meter has the records of its time, and says so where it is taken out; the next one has none of
-// them.
+// Each meter has the records of its active period, and writes its summary when it is removed. The next meter has none
+// of these records.
 #[test]
 fn meters_are_changed_between_segments(rt: HostRuntime) -> Result<(), Fail> {
     for run in &RUNS {
@@ -121,7 +121,7 @@ fn meters_are_changed_between_segments(rt: HostRuntime) -> Result<(), Fail> {
     Ok(())
 }
 
-/// A call to a room, which ends in the second segment; a change behind it, and two behind the frame of the
+/// A call to a room, which ends in the second segment, with a change after it and two changes after the frame of the
 /// third segment.
 pub(crate) const LINES: [&str; 5] = [
     SETUP_TO_ROOM,
@@ -131,19 +131,19 @@ pub(crate) const LINES: [&str; 5] = [
     "change\nchange\n",
 ];
 
-/// Its report where one peg count is on, and one is spare.
+/// Its report with one active and one spare peg count.
 pub(crate) const REPORT: &str =
     "1 message moved 0 0 0:08028001021803A98381 0:0802800107\n2 message\npeg 1 1\n3 frame 0\npeg 0 0\n";
 
-/// How many octets of it are written behind the first change.
+/// The number of its octets that are written after the first change.
 pub(crate) const BEHIND_FIRST: usize = 74;
 
-/// Whether octets are the first of the report.
+/// Returns whether octets are a prefix of the report.
 pub(crate) fn is_front(octets: &[u8]) -> bool {
     REPORT.as_bytes().starts_with(octets)
 }
 
-// The write that fails, and how many octets are written before it. The lines of events take eleven writes and
+// The write that fails, and the number of octets that are written before it. The lines of events take eleven writes and
 // then two, and each meter's line takes two.
 const WRITES: [(u32, usize); 17] = [
     (1, 0),
@@ -165,8 +165,8 @@ const WRITES: [(u32, usize); 17] = [
     (17, 90),
 ];
 
-// Whether a run one write of which fails has written this many octets of its report, and whether it has done
-// the events, and left the meters, that belong to them.
+// Returns whether a run with a failed write has written this number of octets of its report, processed the events of
+// these octets, and left the meters as they are there.
 fn is_cut(
     rt: &(impl Threads + Wait + Sync),
     alloc: Global,

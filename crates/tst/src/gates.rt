@@ -1,4 +1,4 @@
-// Gates that a program hands in: what they see of the workers, and what comes of a worker that they hold up.
+// Gates of the tests: the calls of the workers at a gate, and the result of a worker that a gate holds.
 use crate::tests::ran_at;
 use frame_engine::Engine;
 use gate::{Gate, TestGate};
@@ -9,7 +9,7 @@ use std::sync::atomic::{AtomicU64, Ordering};
 use std::test::Fail;
 use std::thread::Threads;
 
-/// Holds one event's turn up until another event's turn is over.
+/// Holds one event's turn until another event's turn is over.
 #[derive(Drop)]
 struct Behind {
     held: u32,
@@ -40,7 +40,7 @@ impl Gate for Behind {
     fn after_crossing(&self, _frame: u32) {}
 }
 
-// Whether a gate that holds one event up until another one is done has this order and this report.
+// Returns whether a gate that holds one event until another one is processed has this order and this report.
 fn is_behind(
     rt: &(impl Threads + Wait + Sync),
     alloc: Global,
@@ -59,7 +59,7 @@ fn is_behind(
     Ok(ended.order.as_slice() == order && ended.sink.bytes() == report.as_bytes())
 }
 
-// Two call processors want one slot: the one whose turn comes first gets it.
+// Two call processors request one slot: the one with the earlier turn gets it.
 #[test]
 fn one_slot_goes_to_whose_turn_comes_first(rt: HostRuntime) -> Result<(), Fail> {
     let alloc = rt.alloc();
@@ -68,7 +68,7 @@ fn one_slot_goes_to_whose_turn_comes_first(rt: HostRuntime) -> Result<(), Fail> 
     Ok(())
 }
 
-// The octets of a frame move when the turn was given on, beside a call processor in its turn.
+// The octets of a frame move after the turn was passed, concurrently with a call processor in its turn.
 #[test]
 fn octets_move_beside_the_call_processors(rt: HostRuntime) -> Result<(), Fail> {
     let gate = TestGate::new(1, 0);
@@ -80,24 +80,24 @@ fn octets_move_beside_the_call_processors(rt: HostRuntime) -> Result<(), Fail> {
     Ok(())
 }
 
-/// A gate that sees which worker calls it at each event, and whether the calls are two, in their order.
+/// A gate that records which worker calls it at each event, and whether there are two calls, in their order.
 #[derive(Drop)]
 struct Watched {
     apart: bool,
-    // By the event's number less one: how far its turn is, and who has it.
+    // By the event's number less one: the progress of its turn, and its worker.
     turns: Vec<AtomicU64>,
-    // By the frame's number: the number of its event, and how far its crossing is.
+    // By the frame's number: the number of its event, and the progress of its crossing.
     frames: Vec<(u32, AtomicU64)>,
 }
 
-// How far a turn or a crossing is, before a worker's number; another call than the next one stays wrong.
+// The progress of a turn or a crossing, added to a worker's number; a call other than the next one stays wrong.
 const UNDER_WAY: u64 = 100;
 
 const OVER: u64 = 200;
 
 const WRONG: u64 = 300;
 
-// Goes from one word to another, or is wrong.
+// Moves from one value to another, or to the wrong one.
 fn go(word: Option<&AtomicU64>, from: u64, to: u64) {
     if let Some(word) = word {
         let right = word.load(Ordering::SeqCst) == from;
@@ -130,7 +130,7 @@ impl Watched {
         self.turns.get(event.checked_sub(1)? as usize)
     }
 
-    // Whether the turn at an event is over.
+    // Returns whether the turn at an event is over.
     fn is_over(&self, event: u32) -> bool {
         match self.turn(event) {
             Some(word) => word.load(Ordering::SeqCst) >= OVER,
@@ -138,7 +138,7 @@ impl Watched {
         }
     }
 
-    // Whether each event had its two calls by these workers, and each frame its two.
+    // Returns whether each event had two calls by these workers, and each frame two.
     fn saw(&self, workers: &[u32]) -> bool {
         self.turns.len() == workers.len()
             && self.turns.iter().zip(workers.iter()).all(|(word, worker)| word.load(
@@ -183,8 +183,8 @@ impl Gate for Watched {
     }
 }
 
-// Each event has its two calls at the gate by its own worker, and each frame its two once its turn is over,
-// in threads and by one caller, who does all in the order of the file.
+// Each event has two calls at the gate by its own worker, and each frame two once its turn is over. This holds in
+// threads, and for one caller who processes all in file order.
 #[test]
 fn each_event_is_called_at_the_gate_by_its_worker(rt: HostRuntime) -> Result<(), Fail> {
     let alloc = rt.alloc();
@@ -200,7 +200,7 @@ fn each_event_is_called_at_the_gate_by_its_worker(rt: HostRuntime) -> Result<(),
     Ok(())
 }
 
-/// Holds each worker's turn up until n workers came.
+/// Holds each worker's turn until n workers have come.
 #[derive(Drop)]
 struct Meeting {
     workers: u64,
@@ -227,7 +227,7 @@ impl Gate for Meeting {
     fn after_crossing(&self, _frame: u32) {}
 }
 
-// Eight call processors and the frame worker are at work at once.
+// Eight call processors and the frame worker are at work concurrently.
 #[test]
 fn nine_workers_meet(rt: HostRuntime) -> Result<(), Fail> {
     let trace = b"exchange 1 8 0 8\nnail 0/1 0/2\nnail 1/1 1/2\nnail 2/1 2/2\nnail 3/1 3/2\n\

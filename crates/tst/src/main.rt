@@ -1,15 +1,14 @@
-//! A digital telephone exchange as a filter: a trace of its events on standard input, the report of
-//! what it did on standard output, with `run`; with `run --strict` the same on a fabric where no path ever
-//! moves; with `gen SEED CALLS` the summary of a generated trace; with `check` the verdict on a report that
-//! is read behind its trace.
+//! A digital telephone exchange as a filter from standard input to standard output.
 //!
-//! It makes the two standard ends, three meters and three spare ones, calls `exchange_top::exchange` with the engine of
-//! three stages in a box, and ends with its status. The promise is that call's; `main` has no contract of its own. Of
-//! standard input and output nothing can be proved, so the tests here run whole traces over ends in
-//! memory.
+//! - `run` reads a trace of events and writes the report of its run. `run --strict` does the same on a fabric that
+//!   never moves a path.
+//! - `gen SEED CALLS` writes the summary of a generated trace.
+//! - `check` reads a trace and a report, and writes the verdict on the report.
 //!
-//! It uses `ex_io`, `frame_engine`, `gate`, `meters` and `exchange_top`; its tests on
-//! `traffic_gen` too.
+//! The program makes the standard source and sink, three meters and three spare ones. It calls `exchange_top::exchange`
+//! with the engine of three stages in a box, and ends with its status. The guarantee is that call's, because `main` has
+//! no contract. Nothing is proved about standard input and output, so the tests here run whole traces over in-memory
+//! streams.
 #![tactic(auto)]
 
 #[cfg(test)]
@@ -36,7 +35,7 @@ use std::process::ExitCode;
 use std::sync::Wait;
 use std::thread::Threads;
 
-// The words after the program's name. Arguments that are no text are no command.
+// Returns the arguments after the program's name. An argument that is not text is not a command.
 fn words_of(rt: &HostRuntime) -> io::Result<Vec<String>> {
     let arguments = match env::args(rt) {
         Ok(arguments) => arguments,
@@ -46,8 +45,8 @@ fn words_of(rt: &HostRuntime) -> io::Result<Vec<String>> {
     Ok(arguments.skip(1).collect(rt.alloc())?)
 }
 
-// The status of a call with three meters: the details of the last ten calls, a peg count and the holding
-// time; and with three spare ones like them. They are boxed here, where they are used.
+// Returns the status of a call with three meters: the details of the last ten calls, a peg count and the holding time;
+// and with three spare ones of the same kinds. They are boxed here, where they are used.
 fn status_of<S: Source, K: Sink, R: Threads + Wait + Sync>(
     rt: &R,
     alloc: Global,
@@ -64,7 +63,7 @@ fn status_of<S: Source, K: Sink, R: Threads + Wait + Sync>(
     let half = boxed.len() / 2;
     let mut spare = boxed.split_off(half)?;
     let mut meters = Vec::from(boxed);
-    // In its box the engine goes from segment to segment as one word.
+    // In a box the engine moves from segment to segment as one word.
     let outcome: Outcome<Box<Engine>> = exchange(
         rt,
         alloc,
@@ -79,7 +78,7 @@ fn status_of<S: Source, K: Sink, R: Threads + Wait + Sync>(
 }
 
 fn main(rt: HostRuntime) -> ExitCode {
-    // What is left is that memory ran out.
+    // Otherwise an allocation failed.
     let Ok(words) = words_of(&rt) else {
         return ExitCode::from(5);
     };

@@ -1,5 +1,5 @@
-// A run in which meters are changed, where memory may run out: no meter is lost or is in both lists. One
-// request of it may be refused, whichever it is (`.ci/memory --calls`).
+// A run in which meters are changed and an allocation may fail: no meter is lost or is in both lists. Any one request
+// of the run can be refused (`.ci/memory --calls`).
 use crate::changes::{BEHIND_FIRST, LINES, ONE_PEG, REPORT, changed, is_front};
 use crate::tests::Metered;
 use ex_io::MemSink;
@@ -7,23 +7,23 @@ use std::alloc::{AllocError, Global};
 use std::sync::Wait;
 use std::thread::Threads;
 
-// What is said of the meters that are on, and of the spare one. Before the call ended, and before the first change.
+// The texts of the active meters and of the spare one, before the call ended, and before the first change.
 const UNTOLD: (&str, &str) = ("peg 0 0\n", "peg 0 0\n");
 
 const TOLD: (&str, &str) = ("peg 1 1\n", "peg 0 0\n");
 
-// After the first change, and after the next.
+// The texts after the first change, and after the next.
 const CHANGED: (&str, &str) = ("peg 0 0\n", "");
 
 const NONE: (&str, &str) = ("", "");
 
-// Whether this is left.
+// Returns whether the texts of these meters are left.
 fn has_left(call: &Metered, left: (&str, &str)) -> bool {
     let (said, spare) = left;
     call.said.as_slice() == said.as_bytes() && call.spare.as_slice() == spare.as_bytes()
 }
 
-// Whether a run ends as it may, once there was memory for what is handed in and for what is left.
+// Returns whether a run ends as it may, once there was memory for its input and for the check of its result.
 fn is_kept(rt: &(impl Threads + Wait + Sync), alloc: Global) -> Result<bool, AllocError> {
     let sink = MemSink::new(alloc, 100, 4096, Vec::new(alloc))?;
     let call = changed(rt, alloc, &LINES, &ONE_PEG, &ONE_PEG, sink)?;

@@ -1,4 +1,4 @@
-// Worked traces, from bytes to bytes, over ends in memory.
+// Worked traces, from bytes to bytes, over in-memory streams.
 use ex_io::{MemSink, MemSource};
 use exchange_top::{Outcome, exchange};
 use frame_engine::{Carrier, Engine, Marker};
@@ -11,7 +11,7 @@ use std::test::Fail;
 use std::thread::Threads;
 use traffic_gen::generate;
 
-// A text in which `+` means twenty-nine idle octets.
+// Returns the bytes of a text in which `+` means 29 idle octets.
 fn spelled(alloc: Global, text: &str) -> Result<Vec<u8>, AllocError> {
     let mut bytes = Vec::new(alloc);
     for byte in text.bytes() {
@@ -26,7 +26,7 @@ fn spelled(alloc: Global, text: &str) -> Result<Vec<u8>, AllocError> {
     Ok(bytes)
 }
 
-/// What came of a call.
+/// The result of a call.
 #[derive(Drop)]
 pub(crate) struct Ended {
     pub(crate) status: u8,
@@ -37,8 +37,8 @@ pub(crate) struct Ended {
     pub(crate) sink: MemSink,
 }
 
-// One call of the exchange. That it has no clause keeps what a call promises out of the tests, which
-// only look at what came of it.
+// One call of the exchange. It has no clause, so that the tests depend only on the result of the call and not on its
+// contract.
 fn called<C: Carrier, G: Gate>(
     rt: &(impl Threads + Wait + Sync),
     alloc: Global,
@@ -69,7 +69,7 @@ fn called<C: Carrier, G: Gate>(
     }
 }
 
-// How the command `run` ends on an input, and what it writes.
+// Returns the end of the command `run` on an input, and its output.
 fn ran<C: Carrier>(
     rt: &(impl Threads + Wait + Sync),
     alloc: Global,
@@ -78,7 +78,7 @@ fn ran<C: Carrier>(
     ran_at::<C, OpenGate>(rt, alloc, input, &OpenGate)
 }
 
-// The same, held up at a gate.
+// Does the same as `ran` held at a gate.
 pub(crate) fn ran_at<C: Carrier, G: Gate>(
     rt: &(impl Threads + Wait + Sync),
     alloc: Global,
@@ -106,13 +106,13 @@ pub(crate) fn ran_at<C: Carrier, G: Gate>(
 pub(crate) enum Kind {
     /// The details of the last call.
     LastCall,
-    /// The details of the last twenty calls.
+    /// The details of the last 20 calls.
     Calls,
     Peg,
     Holding,
 }
 
-/// What came of a call with meters: what those say then that are on, and what the spare ones do.
+/// The result of a call with meters: the texts of the active meters and of the spare ones.
 #[derive(Drop)]
 pub(crate) struct Metered {
     pub(crate) ended: Ended,
@@ -120,7 +120,7 @@ pub(crate) struct Metered {
     pub(crate) spare: Vec<u8>,
 }
 
-/// How a call ends with meters of these kinds and with spare ones of these.
+/// Returns the end of a call with active and spare meters of these kinds.
 pub(crate) fn called_with<C: Carrier>(
     rt: &(impl Threads + Wait + Sync),
     alloc: Global,
@@ -172,14 +172,14 @@ fn add_meters(
     Ok(())
 }
 
-// What meters say.
+// Returns the texts of meters.
 fn said_by(alloc: Global, meters: &[Box<dyn Meter>]) -> Result<Vec<u8>, AllocError> {
     let mut said = Vec::new(alloc);
     append_summaries(meters, &mut said)?;
     Ok(said)
 }
 
-// Words as texts of their own.
+// Returns the arguments as strings.
 fn given(alloc: Global, words: &[&str]) -> Result<Vec<String>, AllocError> {
     let mut given = Vec::new(alloc);
     for word in words {
@@ -198,19 +198,19 @@ const DELAY_REPORT: &str = "1 granted 0 0\n2 frame 0\n3 frame 1\n\
 const TRACES: [(&str, u32, &str); 8] = [
     ("exchange 1 1 0 1\nF\n", 1, "1 frame 0\n"),
     (DELAY, 6, DELAY_REPORT),
-    // A circuit that is made later is silent for two frames more; one direction may be idle.
+    // A circuit is silent for two frames after it is made; one direction may be idle.
     (
         "exchange 1 2 0 1\nF 0:0a+\nsync\nnail 0/1 1/1\nsync\nF 0:0b+\nF 0:0c+\nF 0:0d+\n",
         5,
         "1 frame 0\n2 granted 0 0\n3 frame 1\n4 frame 2\n5 frame 3 1:0B+\n",
     ),
-    // A slot is busy whether it comes first or second, and a refused nail leaves both as they were.
+    // A slot is busy whether it comes first or second, and a refused nail leaves both unchanged.
     (
         "exchange 1 3 0 1\nnail 0/1 1/1\nnail 0/1 2/1\nnail 2/1 1/1\nnail 2/1 2/2\n",
         4,
         "1 granted 0 0\n2 busy\n3 busy\n4 granted 0 0\n",
     ),
-    // A slot that is used again is silent until the newcomer's first octet has come through.
+    // A slot that is used again is silent until the newcomer's first octet has arrived.
     (
         "exchange 1 3 0 1\nnail 0/1 1/1\nsync\nF 0:01+ 1:81+ 2:C1+\nF 0:02+ 1:82+ 2:C2+\nsync\n\
         free 0/1\nnail 0/1 2/1\nsync\n\
@@ -231,8 +231,8 @@ const TRACES: [(&str, u32, &str); 8] = [
         2,
         "1 noport\n2 notnailed\n",
     ),
-    // The caller hears ringing tone from the frame after ALERTING, busy tone after cause 17, and nothing once its
-    // line is restarted.
+    // The caller hears ringing tone from the frame after ALERTING, busy tone after cause 17, and nothing after its line
+    // is restarted.
     (
         "exchange 1 2 0 1\nnumber 101 line 1\ntone ringback 112233\ntone busy 44\n\
         M 0 080200010504038090A31803A98381700480313031\nsync\nM 1 0802800101\nsync\nF\nF\nF\nF\nsync\n\
@@ -244,7 +244,7 @@ const TRACES: [(&str, u32, &str); 8] = [
     ),
 ];
 
-// Whether the run of a trace ends with this event, an engine and this report.
+// Returns whether the run of a trace ends with this event, an engine and this report.
 fn is_answered(
     rt: &(impl Threads + Wait + Sync),
     alloc: Global,
@@ -283,7 +283,7 @@ fn another_engine_is_heard(rt: HostRuntime) -> Result<(), Fail> {
     Ok(())
 }
 
-// Inputs that are no trace, and what is said of each.
+// Inputs that are not a trace, and the refusal of each.
 const REFUSED: [(&str, &str); 8] = [
     ("", "refused 1 header\n"),
     ("exchange 1 1 0 1\nF 0:D", "refused 2 hex\n"),
@@ -304,7 +304,7 @@ const REFUSED: [(&str, &str); 8] = [
     ("exchange 1 1 1 1\nseat 0/1 64\n", "refused 2 number\n"),
 ];
 
-// Whether an input is refused with this line, and nothing is done.
+// Returns whether an input is refused with this line, and no event is processed.
 fn is_refused(
     rt: &(impl Threads + Wait + Sync),
     alloc: Global,
@@ -320,7 +320,7 @@ fn is_refused(
     )
 }
 
-// A trace with one event too many.
+// Returns a trace with one event too many.
 fn too_many(alloc: Global) -> Result<Vec<u8>, AllocError> {
     let mut trace = b"exchange 1 1 0 1".to_vec(alloc)?;
     for _ in 0..65_536 {
@@ -345,7 +345,7 @@ fn what_is_no_trace_is_refused_at_its_first_fault(rt: HostRuntime) -> Result<(),
 
 const WORDS: [&[&str]; 4] = [&[], &["gen"], &["Run"], &["run", "run"]];
 
-// Whether words are refused, and nothing is read: the first read would fail.
+// Returns whether arguments are refused, and nothing is read: the first read would fail.
 fn is_no_command(
     rt: &(impl Threads + Wait + Sync),
     alloc: Global,
@@ -369,8 +369,8 @@ fn words_other_than_run_are_refused_unread(rt: HostRuntime) -> Result<(), Fail> 
     Ok(())
 }
 
-// That each read and each write ends a call is shown of the program itself (`.ci/ends`); here, what it
-// did by then.
+// `.ci/ends` tests on the program itself that each failed read and each failed write ends a call. These tests show the
+// events that were processed by then, which the program does not print.
 #[test]
 fn a_failing_read_or_write_ends_the_call(rt: HostRuntime) -> Result<(), Fail> {
     for cut in &CUTS {
@@ -379,8 +379,9 @@ fn a_failing_read_or_write_ends_the_call(rt: HostRuntime) -> Result<(), Fail> {
     Ok(())
 }
 
-/// The ends of a call: its word, its input, the read and the write that fail, and how long pieces of reads
-/// and writes are; and what comes of it: the status, the faults, how many events were done, and what was written.
+/// A call with a failing read or write: its command, its input, the read and the write that fail, and the length of the
+/// pieces of reads and writes; and its result: the status, the error counts, the number of processed events, and the
+/// output.
 struct Cut {
     word: &'static str,
     input: &'static str,
@@ -435,7 +436,7 @@ const CUTS: [Cut; 4] = [
     },
 ];
 
-// Whether this comes of a call.
+// Returns whether a call has this result.
 fn is_cut(rt: &(impl Threads + Wait + Sync), alloc: Global, cut: &Cut) -> Result<bool, AllocError> {
     let (read, read_piece) = cut.read;
     let (write, write_piece) = cut.write;
@@ -459,7 +460,7 @@ fn is_cut(rt: &(impl Threads + Wait + Sync), alloc: Global, cut: &Cut) -> Result
     )
 }
 
-// A call that is answered, 5000 frames, and in the next segment its end.
+// Returns a call that is connected, 5000 frames, and in the next segment its end.
 fn long_call(alloc: Global) -> Result<Vec<u8>, AllocError> {
     let mut trace = b"exchange 1 2 0 1\nnumber 101 line 1\n\
         M 0 080200010504038090A31803A98381700480313031\nM 1 0802800107\n"
@@ -471,8 +472,8 @@ fn long_call(alloc: Global) -> Result<Vec<u8>, AllocError> {
     Ok(trace)
 }
 
-// How a run of it ends one write of which fails: the status and the faults, how many events were done, how
-// many octets were written, and what a peg count says then.
+// Returns the end of a run of it with a failed write: the status, the error counts, the number of processed events, the
+// number of written octets, and the text of a peg count.
 fn is_cut_at(
     rt: &(impl Threads + Wait + Sync),
     alloc: Global,
@@ -495,8 +496,8 @@ fn is_cut_at(
     )
 }
 
-// The report of the first segment is more than one piece, so it is written before the next segment
-// begins, which ends a call.
+// The report of the first segment is more than one piece, so it is written before the next segment begins, which ends a
+// call.
 #[test]
 fn a_run_is_cut_between_segments(rt: HostRuntime) -> Result<(), Fail> {
     let alloc = rt.alloc();
@@ -506,12 +507,12 @@ fn a_run_is_cut_between_segments(rt: HostRuntime) -> Result<(), Fail> {
     Ok(())
 }
 
-/// The line of a call to a room that is taken.
+/// The line of a call to a room that is accepted.
 pub(crate) const ACCEPTED: &str = "1 message moved 0 0 0:08028001021803A98381 0:0802800107\n";
 
 const METERS: [Kind; 4] = [Kind::LastCall, Kind::Peg, Kind::Holding, Kind::Peg];
 
-// Whether a call without a fault writes this, and its meters say that.
+// Returns whether a call without an error writes this, and its meters have these texts.
 fn is_told(
     rt: &(impl Threads + Wait + Sync),
     alloc: Global,
@@ -530,7 +531,7 @@ fn is_told(
     )
 }
 
-// A generated trace is run and summed up; the meters of a run note its calls and say so.
+// A generated trace is run and summed up; the meters of a run record its calls and write their summaries.
 #[test]
 fn meters_are_told_of_the_calls(rt: HostRuntime) -> Result<(), Fail> {
     let alloc = rt.alloc();
@@ -549,7 +550,7 @@ fn meters_are_told_of_the_calls(rt: HostRuntime) -> Result<(), Fail> {
     Ok(())
 }
 
-// What three meters noted in one call of the exchange, in text.
+// Returns the texts of three meters after one call of the exchange.
 fn told(
     rt: &(impl Threads + Wait + Sync),
     alloc: Global,
@@ -562,7 +563,7 @@ fn told(
     Ok(called_with::<Marker>(rt, alloc, words, source, sink, &on, &[])?.said)
 }
 
-// `gen` and `run` of the octets that it draws tell meters of the same calls.
+// `gen`, and `run` of the octets that it draws, record the same calls on the meters.
 #[test]
 fn generated_calls_are_those_of_their_trace(rt: HostRuntime) -> Result<(), Fail> {
     let alloc = rt.alloc();

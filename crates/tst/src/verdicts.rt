@@ -1,4 +1,4 @@
-// Reports that are verified against their traces, from bytes to bytes, over ends in memory.
+// Reports that are verified against their traces, from bytes to bytes, over in-memory streams.
 use crate::changes::ONE_PEG;
 use crate::tests::{ACCEPTED, Metered, called_with};
 use ex_io::{MemSink, MemSource};
@@ -8,7 +8,7 @@ use std::sync::Wait;
 use std::test::Fail;
 use std::thread::Threads;
 
-// How the command `check` ends on an input, with another word.
+// Returns the end of the command `check` on an input, with another argument.
 fn checked(
     rt: &(impl Threads + Wait + Sync),
     alloc: Global,
@@ -24,7 +24,7 @@ fn checked(
     called_with::<Box<Engine>>(rt, alloc, words, source, sink, &ONE_PEG, &[])
 }
 
-// Whether it ends with this status and this line, no event done, no engine handed out, and no call noted.
+// Returns whether it ends with this status and this line, no event processed, no engine returned, and no call recorded.
 fn is_answered(
     rt: &(impl Threads + Wait + Sync),
     alloc: Global,
@@ -43,14 +43,14 @@ fn is_answered(
     )
 }
 
-// Two processors want one slot.
+// Two processors request one slot.
 const TWO_NAILS: &str = "exchange 1 3 0 2\nnail 0/1 2/1\nnail 1/1 2/1\n";
 
 // A call to a room, and its end.
 const CALL: &str =
     "exchange 1 1 1 1\nnumber 30 room 0\nM 0 080200010504038090A37003803330\nsync\nM 0 080200015A\n";
 
-// The words, the trace, the report, and the status and the line that come of it.
+// The arguments, the trace, the report, and the resulting status and line.
 const VERDICTS: [(&[&str], &str, &str, u8, &str); 8] = [
     (
         &["check"],
@@ -92,8 +92,7 @@ const VERDICTS: [(&[&str], &str, &str, u8, &str); 8] = [
     (&["check", "-x"], TWO_NAILS, "", 2, "refused words\n"),
 ];
 
-// Each verdict is the one that the report gets in an order that is lawful; no event is done, and no meter
-// notes a call.
+// Each verdict is correct for a lawful order. No event is processed, and no meter records a call.
 #[test]
 fn reports_are_verified(rt: HostRuntime) -> Result<(), Fail> {
     let alloc = rt.alloc();

@@ -1,4 +1,4 @@
--- A lock and its seats as a caller knows them. Source: this exchange's own.
+-- A lock and its seats, as a caller knows them. Source: this project.
 use Rattle.std.specs.Prelude.{◌≡◌, ℕ, Bool, Option, Some}
 use Rattle.atomic_table.specs.Seated.{TableId}
 use Rattle.seat_history.specs.declared.known.Known.{Known}
@@ -10,7 +10,7 @@ pub record Lock (C : Type 0) : Type 0 where
   pub setting : C
   pub budget : ℕ
 
--- a seat between two calls: its lock, with setting and budget, what it knows, and whether its last step kept the turn
+-- a seat between two calls: its lock, with setting and budget, its knowledge, and whether its last step kept the turn
 pub record SeatAt (C : Type 0) : Type 0 where
   pub lock : TableId
   pub setting : Option C

@@ -1,4 +1,4 @@
--- The view after each of the ten moves, and what its seat learns. Source: defined by this project.
+-- The view after each of the ten moves, and the knowledge that its seat gains. Source: this project.
 use Rattle.std.specs.Prelude.{◌≡◌, ◌≢◌, ℕ, ◌-◌, ◌<◌, ◌^◌, Bool, true, false, IsTrue, List, [], ◌∷◌, ◌++◌, length, Option, Some, None}
 use Rattle.std.specs.List.{AllByRecursion as Every}
 use Rattle.atomic_table.specs.Table.{Me, Step}
@@ -12,11 +12,11 @@ use Rattle.turn_lock.specs.Views.{Under, IsLive}
 use Rattle.turn_lock.specs.Rule.{IsAt, Reserves}
 
 module _ {C : Type 0} where
-  -- seat 0's view where the lock is opened
+  -- seat 0's view after the lock is opened
   abbrev pub first_view : C → ℕ → View C
   first_view opening budget = record { setting = Some opening; budget = budget; known = first_seat budget; stage = Idle; event = 0; due = 0; first = []; second = [] }
 
-  -- the view of a seat that was joined: it knows nothing any more
+  -- the view of a joined seat: it has no knowledge
   abbrev pub spent_view : View C
   spent_view = record { setting = None; budget = 0; known = record { number = 0; left = 0; baton = false; seen = []; own = []; made = 0; kept = [] }; stage = Idle; event = 0; due = 0; first = []; second = [] }
 
@@ -28,7 +28,7 @@ module _ {C : Type 0} where
   abbrev pub new_view : ℕ → Bool → View C → View C
   new_view n b v = record { setting = v.setting; budget = v.budget; known = new_seat n b v.known; stage = Idle; event = 0; due = 0; first = []; second = [] }
 
-  -- join: what seat 0 knows, and both old histories, which are kept for now
+  -- join: the knowledge of seat 0, and both old histories, which stay until meet
   abbrev pub view_after_join : View C → View C → View C
   view_after_join v w = record v { known = after_join v.known w.known; first = v.known.seen; second = w.known.seen }
 
@@ -44,7 +44,8 @@ module _ {C : Type 0} where
   abbrev pub view_after_renew : ℕ → View C → View C
   view_after_renew event v = record v { known = record v.known { left = v.known.left - 1 }; event = event; due = 1 }
 
-  -- append: the history that the seat has seen and its own entries have the entry of the step, which is not due any more
+  -- append: the history that the seat has seen and its own entries have the entry of the step, which is not due any
+  -- more
   abbrev pub view_after_append : View C → View C
   view_after_append v = record v { known = record v.known { seen = v.known.seen ++ (v.known.number, v.event) ∷ []; own = v.known.own ++ (v.known.number, v.event) ∷ [] }; due = 0 }
 
@@ -52,12 +53,13 @@ module _ {C : Type 0} where
   abbrev pub view_after_pass : View C → View C
   view_after_pass v = record v { stage = Idle }
 
-  -- what seat 0 knows adds up
+  -- the knowledge of seat 0 adds up
   abbrev pub KnowsAll : View C → Type 0
   KnowsAll v = Settled v.budget v.known
 
 module _ {C : Type 0} (reserved : C → ℕ → Type 0) where
-  -- an entry that a seat need not have seen: neither its own nor one that it keeps, and no reserved one where the seat holds the baton
+  -- an entry that a seat need not have seen: neither its own nor a joined seat's, and not a reserved one if the seat
+  -- holds the baton
   pub record IsForeign (setting : Option C) (number : ℕ) (baton : Bool) (kept : List JoinedSeat) (e : Entry) : Type 0 where
     pub number_is : e.0 ≢ number
     pub kept_are : Every (λ (k : JoinedSeat). e.0 ≢ k.number) kept
@@ -71,7 +73,7 @@ module _ {S C : Type 0} (setting : S → C) (journal : S → List Entry) (room :
   abbrev pub HoldsState : Me (Option S) (View C) → List Entry → Type 0
   HoldsState m log = (x : S) × (m.1 ≡ (0, Some x) ∷ []) × IsAt setting journal room m.0.setting m.0.budget log x
 
-  -- with its own entry behind the history that it has seen
+  -- the seat holds the slot, with its own entry after the history that it has seen
   abbrev pub HoldsOwnEntry : Me (Option S) (View C) → Type 0
   HoldsOwnEntry m = HoldsState m (m.0.known.seen ++ (m.0.known.number, m.0.event) ∷ [])
 
@@ -96,8 +98,8 @@ module _ {S C : Type 0} (setting : S → C) (journal : S → List Entry) (room :
   abbrev pub IsLook : Step (Option S) → Me (Option S) (View C) → ℕ → Me (Option S) (View C) → Type 0
   IsLook st m n m' = (t : ℕ) → m.0.stage ≡ Waits t → (n ≡ t → Gets t m m') × (n ≢ t → m' ≡ m)
 
-  -- The seat has the turn for an event, with the state at the whole history. v is its view before the call. Other seats stepped rest in between, which
-  -- is empty if the seat kept the turn.
+  -- The seat has the turn for an event, with the state at the whole history. v is its view before the call. Other seats
+  -- stepped rest in between, which is empty if the seat kept the turn.
   pub record HasTurn (keeps : Bool) (event : ℕ) (v : View C) (m : Me (Option S) (View C)) : Type 0 where
     pub rest : List Entry
     pub ticket : ℕ
@@ -115,15 +117,16 @@ module _ {S C : Type 0} where
   abbrev pub IsRenew : ℕ → Step (Option S) → Me (Option S) (View C) → ℕ → Me (Option S) (View C) → Type 0
   IsRenew event st m n m' = (m' ≡ (view_after_renew event m.0, m.1)) × (m.0.known.own ≡ entries_of m.0.known.number m.0.known.seen) × (length m.0.known.seen < m.0.budget)
 
-  -- append: the entry of the step is appended to the history, at the place that was found; the view of seat 0 accounts for the history
+  -- append: the entry of the step is appended to the history, at the position that was found; the view of seat 0
+  -- accounts for the history
   abbrev pub IsAppend : Step (Option S) → Me (Option S) (View C) → ℕ → Me (Option S) (View C) → Type 0
   IsAppend st m n m' = (m' ≡ (view_after_append m.0, m.1)) × (n ≡ length m.0.known.seen) × (m.0.known.number ≡ 0 → KnowsAll (view_after_append m.0))
 
-  -- pass: the slot is no seat's
+  -- pass: no seat owns the slot
   abbrev pub IsPass : Step (Option S) → Me (Option S) (View C) → ℕ → Me (Option S) (View C) → Type 0
   IsPass st m n m' = m' ≡ (view_after_pass m.0, [])
 
-  -- meet: both old histories begin what the seat has seen
+  -- meet: both old histories are prefixes of the one that the seat has seen
   abbrev pub IsMeet : Step (Option S) → Me (Option S) (View C) → ℕ → Me (Option S) (View C) → Type 0
   IsMeet st m n m' = (m' ≡ (view_after_meet m.0, m.1)) × StartsWith m.0.known.seen m.0.first × StartsWith m.0.known.seen m.0.second × KnowsAll m.0
 
@@ -148,8 +151,9 @@ module _ {S C : Type 0} (setting : S → C) (journal : S → List Entry) (room :
   Rests false m = IsFree m
 
 module _ {C R T : Type 0} (reserved : C → ℕ → Type 0) (answers : C → List Entry → ℕ → ℕ → R → T → Type 0) where
-  -- A step: draw and look, or renew if the seat kept the turn, then take, give and append. Other seats stepped rest between the history that the seat had
-  -- seen and its step. rest is empty if the seat kept the turn. The stage is not determined, because pass may follow.
+  -- A step: draw and look, or renew if the seat kept the turn, then take, give and append. Other seats stepped rest
+  -- between the history that the seat had seen and its step. rest is empty if the seat kept the turn. The stage is not
+  -- determined, because pass may follow.
   pub record IsStep (keeps : Bool) (v : View C) (event place : ℕ) (reply : R) (tool : T) (w : View C) : Type 0 where
     pub rest : List Entry
     pub stage : Stage

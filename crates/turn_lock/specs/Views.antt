@@ -1,5 +1,5 @@
--- The views of the seats at a lock, in the order in which the seats were made. A seat that was joined leaves a spent view, which has no
--- setting. The definitions below speak only of live views.
+-- The views of the seats at a lock, in the order in which the seats were made. A seat that was joined leaves a spent
+-- view, which has no setting. The definitions below speak only of live views.
 use Rattle.std.specs.Prelude.{◌≡◌, ◌≢◌, ℕ, ◌+◌, IsTrue, is_some, List, [], ◌∷◌, slice_index, Option, Some, None}
 use mathlib.Core.Option.{some}
 use lib.ListN.{get_elem?}
@@ -20,13 +20,13 @@ IsServed Idle = ⊥
 IsServed (Waits u) = ⊥
 IsServed (Served u) = Unit {0}
 
--- how many tickets a seat holds
+-- the number of tickets that a seat holds
 abbrev pub tickets_of : Stage → ℕ
 tickets_of Idle = 0
 tickets_of (Waits u) = 1
 tickets_of (Served u) = 1
 
--- P holds of the setting, which is there
+-- there is a setting, and P holds of it
 abbrev pub Under : {C : Type 0} → Option C → (C → Type 0) → Type 0
 Under None P = ⊥
 Under (Some c) P = P c
@@ -41,7 +41,7 @@ weigh None n = 0
 weigh (Some c) n = n
 
 module _ {C : Type 0} where
-  -- a live view is at this place
+  -- a live view is at this position
   abbrev pub Sits : List (View C) → ℕ → View C → Type 0
   Sits views j v = (get_elem? views j ≡ some v) × IsLive v.setting
 
@@ -49,7 +49,7 @@ module _ {C : Type 0} where
   abbrev pub Each : List (View C) → (View C → Type 0) → Type 0
   Each views P = (j : ℕ) (v : View C) → Sits views j v → P v
 
-  -- R holds of each two live views, both ways
+  -- R holds of each two live views, in both orders
   abbrev pub Pairs : (View C → View C → Type 0) → List (View C) → Type 0
   Pairs R views = (i j : ℕ) (v w : View C) → Sits views i v → Sits views j w → i ≢ j → R v w
 
@@ -58,7 +58,7 @@ module _ {C : Type 0} where
   total f [] = 0
   total f (v ∷ vs) = weigh v.setting (f v) + total f vs
 
-  -- it is no seat's turn
+  -- no seat has the turn
   abbrev pub NoneServed : List (View C) → Type 0
   NoneServed views = (j : ℕ) (v : View C) → Sits views j v → IsServed v.stage → ⊥
 
@@ -71,6 +71,6 @@ module _ {X V : Type 0} where
   abbrev pub now_serving : State X V → ℕ
   now_serving s = slice_index s.words 16
 
-  -- the word with the place of the next entry
+  -- the word with the position of the next entry
   abbrev pub next_place : State X V → ℕ
   next_place s = slice_index s.words 32

@@ -1,5 +1,5 @@
 //! The views of the seats of a lock, and the rule of the table that they share. Word 0 is the next ticket to be drawn,
-//! word 16 the served ticket, and word 32 the place of the next entry. Slot 0 holds the state.
+//! word 16 the served ticket, and word 32 the position of the next entry. Slot 0 holds the state.
 ghost use Rattle.std.specs.Prelude.{ℕ, Bool, false};
 
 use crate::stepper::Stepper;
@@ -23,7 +23,7 @@ pub struct View<C> {
     /// `None` if the seat was joined.
     pub setting: Option<C>,
     pub budget: u64,
-    /// What the seat knows.
+    /// The knowledge of the seat.
     pub known: Known,
     pub stage: Stage,
     /// The event of the last step that began.

@@ -1,4 +1,5 @@
-//! A ticket lock over a state that many threads step in turn. The state keeps a journal of all steps.
+//! A ticket lock over a state that many threads step in turn. The state keeps a journal of all steps. A lock seat, here
+//! only seat, is a thread's right to steps.
 //!
 //! - The reply of each step is the reply of the state at the whole history before it, whichever seats made that history
 //!   (`reply`, `begins`, `place` of [`TurnLock::step`]).

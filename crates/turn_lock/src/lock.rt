@@ -29,7 +29,7 @@ impl<S: Stepper> Model for TurnLock<S> {
     } };
 }
 
-/// A thread's right to a number of steps. Contracts see the lock of the seat, what the seat knows, and whether it has
+/// A lock seat: the right to a number of steps. Contracts see the lock of the seat, its knowledge, and whether it has
 /// kept the turn.
 #[derive(Drop)]
 pub struct Seat<S: Stepper> {
@@ -53,8 +53,8 @@ impl<S: Stepper> Model for Seat<S> {
 }
 
 impl<S: Stepper> TurnLock<S> {
-    /// Opens a lock over a state whose journal is empty and has capacity for `budget` entries. Seat 0 gets all steps and
-    /// the baton. Returns the state if an allocation fails.
+    /// Opens a lock over a state whose journal is empty and has capacity for `budget` entries. Seat 0 gets all steps
+    /// and the baton. Returns the state if an allocation fails.
     pub fn open(
         alloc: Global,
         state: S,
@@ -79,15 +79,15 @@ impl<S: Stepper> TurnLock<S> {
         Ok((TurnLock { board }, seat))
     }
 
-    /// Steps the state by an event in the turn of the seat, and returns the place of this step in the history and the
-    /// reply. Waits for the turn, unless the seat kept it. Does not allocate. A reserved event requires the baton.
+    /// Steps the state by an event in the turn of the seat, and returns the position of this step in the history and
+    /// the reply. Waits for the turn, unless the seat kept it. Does not allocate. A reserved event requires the baton.
     ///
     /// If `keep` is true, the seat keeps the turn and its next step does not wait. No other seat steps until this one
     /// passes the turn, by a step with `keep` false, or by [`Seat::release`], [`Seat::split`], [`Seat::join`] or
     /// [`close`](TurnLock::close). If `keep` is false, the step passes the turn.
     ///
-    /// After a step of seat 0, its view accounts for the whole history (`settled`). If all other seats are joined, no other
-    /// seat has stepped in between (`alone`).
+    /// After a step of seat 0, its view accounts for the whole history (`settled`). If all other seats are joined, no
+    /// other seat has stepped in between (`alone`).
     pub fn step<R: Wait>(
         &self,
         rt: &R,
@@ -128,8 +128,8 @@ impl<S: Stepper> TurnLock<S> {
         (place as u32, reply)
     }
 
-    /// Ends the lock once seat 0 has joined all other seats, and returns the state. Its journal is the whole history, all
-    /// of which seat 0 has seen. Passes the turn first, if the seat kept it.
+    /// Ends the lock once seat 0 has joined all other seats, and returns the state. Its journal is the whole history,
+    /// all of which seat 0 has seen. Passes the turn first, if the seat kept it.
     pub fn close(self, seat: Seat<S>) -> S
         requires of { IsSeatOf self seat }
         requires chief { seat.known.number ≡ 0 }
@@ -161,21 +161,21 @@ impl<S: Stepper> Seat<S> {
         self.number
     }
 
-    /// The number of steps left.
+    /// Returns the number of steps left.
     pub fn left(&self) -> u32
         ensures { result ≡ self.now.known.left }
     {
         self.left
     }
 
-    /// Whether the seat has the turn, because its last step kept it.
+    /// Returns whether the seat has the turn, because its last step kept it.
     pub fn has_turn(&self) -> bool
         ensures { result ≡ self.now.keeps }
     {
         self.keeps
     }
 
-    /// Whether this seat holds the baton.
+    /// Returns whether this seat holds the baton.
     pub fn baton(&self) -> bool
         ensures { result ≡ self.now.known.baton }
     {
@@ -196,7 +196,7 @@ impl<S: Stepper> Seat<S> {
     }
 
     /// Makes a new seat, which gets `budget` steps of seat 0, and the baton if `baton` is true. Seat 0 passes the turn
-    /// first, if it kept it.
+    /// first, if it kept it. It makes fewer than 2^32 seats, so no number repeats.
     pub fn split(&mut self, lock: &TurnLock<S>, budget: u32, baton: bool) -> Seat<S>
         requires of { IsSeatOf lock.now self.old }
         requires chief { self.old.known.number ≡ 0 }
@@ -225,7 +225,7 @@ impl<S: Stepper> Seat<S> {
         }
     }
 
-    /// Takes over another seat with its steps, its baton and its entries. Both seats pass the turn first, if they kept it.
+    /// Joins another seat, with its steps, its baton and its entries. Both seats pass the turn first, if they kept it.
     pub fn join(&mut self, lock: &TurnLock<S>, other: Seat<S>)
         requires of { IsSeatOf lock.now self.old × IsSeatOf lock.now other }
         requires chief { self.old.known.number ≡ 0 }

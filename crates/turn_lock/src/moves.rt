@@ -3,28 +3,29 @@
 //! A *ticket lock* works like the counter of a shop, where the wall shows two numbers: the next ticket to be drawn, and
 //! the ticket that is served. A customer draws a ticket, which raises the first number by 1, and waits until the second
 //! number is the ticket's. After the service, the second number rises by 1. (J. M. Mellor-Crummey and M. L. Scott,
-//! "Algorithms for scalable synchronization on shared-memory multiprocessors", ACM Transactions on Computer Systems
-//! 9 (1), 1991, section 2.2; an older relative is L. Lamport's bakery algorithm, Communications of the ACM 17 (8), 1974.)
+//! "Algorithms for scalable synchronization on shared-memory multiprocessors", ACM Transactions on Computer Systems 9
+//! (1), 1991, section 2.2; an older relative is L. Lamport's bakery algorithm, Communications of the ACM 17 (8), 1974.)
 //!
-//! A ticket gives its seat a *turn* of one or more steps. A step that keeps the turn leaves out `pass`, and the next step
-//! of the seat begins with `renew` instead of `draw` and `look`. Each call is a sequence of moves:
+//! A ticket gives its seat a *turn* of one or more steps. A step that keeps the turn leaves out `pass`, and the next
+//! step of the seat begins with `renew` instead of `draw` and `look`. Each call is a sequence of moves:
 //!
-//! | Call | Move | One step on | Effect | Seen by other threads |
+//! | Call | Move | One step | Effect | Seen by other threads |
 //! |---|---|---|---|---|
-//! | `split` | split | a load of the next ticket | a new seat gets some of the steps, and the baton if requested | no |
-//! | `join` | join | a load of the next ticket | seat 0 has the longer of two histories, and keeps the entries of the other seat | no |
-//! | | meet | a load of the next ticket | seat 0 learns that both histories are prefixes of the one that it has seen | no |
-//! | `step` | draw | an addition to the next ticket | the seat has one step less, and a ticket for its event | yes: the next seat draws a later ticket |
-//! | | look | a load of the served ticket | if it is the ticket of the seat, the seat has seen the whole history and owns the slot | no |
-//! | | renew | a load of the served ticket | the seat, which kept its ticket, has one step less and the next event | no |
-//! | | take | an exchange of the slot | the state leaves the slot, and is stepped | no: the seat owns the slot |
-//! | | give | an exchange of the slot | the state returns to the slot | no |
-//! | | append | an addition to the place of the next entry | the history has the entry | no: waiting seats load only the served ticket |
-//! | | pass | an addition to the served ticket | no seat owns the slot | yes: the turn of the next ticket begins |
+//! | `split` | split | loads the next ticket | a new seat gets some of the steps, and the baton if requested | no |
+//! | `join` | join | loads the next ticket | seat 0 has the longer history, and the entries of the other seat | no |
+//! | | meet | loads the next ticket | seat 0 learns that both histories are prefixes of the one it has seen | no |
+//! | `step` | draw | adds to the next ticket | the seat has one step less, and a ticket | yes: the next one is later |
+//! | | look | loads the served ticket | if it is its own, the seat has seen the whole history and owns the slot | no |
+//! | | renew | loads the served ticket | the seat, which kept its ticket, has one step less and the next event | no |
+//! | | take | exchanges the slot | the state leaves the slot, and is stepped | no: the seat owns the slot |
+//! | | give | exchanges the slot | the state returns to the slot | no |
+//! | | append | adds to the next position | the history has the entry | no: waiting seats load only the served ticket |
+//! | | pass | adds to the served ticket | no seat owns the slot | yes: the turn of the next ticket begins |
 //! | `release` | pass | the same | the same, between two steps | yes |
 //!
-//! A waiting seat repeats `look`, and sleeps between two looks until a turn is passed. No other move is repeated. A seat
-//! that is dropped keeps its steps, so the lock cannot be closed. If that seat has kept the turn, all others wait forever.
+//! A waiting seat repeats `look`, and sleeps between two looks until a turn is passed. No other move is repeated. A
+//! seat that is dropped keeps its steps, so the lock cannot be closed. If that seat has kept the turn, all others wait
+//! forever.
 ghost use Rattle.std.specs.Prelude.{◌≡◌, ℕ, ◌+◌, ◌-◌, ◌<◌, ◌++◌, [], ◌∷◌, ◌≤◌, length, Some, None, true, false, IfOk, IfErr, IsTrue};
 ghost use Rattle.turn_lock.specs.declared.board.Stage.TheVariants.{Idle, Waits, Served};
 ghost use Rattle.seat_history.specs.Histories.{StartsWith};
@@ -43,9 +44,9 @@ use std::marker::Brand;
 use std::snapshot::Snapshot;
 use std::sync::Wait;
 
-// The words: the next ticket, the served ticket, and the place of the next entry in the history. No move touches the
-// words between them, so each has a cache line of its own: a draw does not delay the looks of waiting seats, and these
-// do not delay the seat that has the turn.
+// The words: the next ticket, the served ticket, and the position of the next entry in the history. No move touches the
+// words between them, so each has its own cache line. A draw does not delay the looks of waiting seats, and these do
+// not delay the seat that has the turn.
 const NEXT_TICKET: usize = 0;
 
 const NOW_SERVING: usize = 16;
@@ -68,7 +69,7 @@ pub struct Board<S: Stepper> {
 }
 
 impl<S: Stepper> Board<S> {
-    // The table with the state in its slot, and seat 0. Returns the state if an allocation fails.
+    // Makes the table with the state in its slot, and seat 0. Returns the state if an allocation fails.
     pub(crate) fn open(
         alloc: Global,
         state: S,
@@ -121,8 +122,8 @@ impl<S: Stepper> Board<S> {
         self.cut::<Brand>(seat, turns, baton)
     }
 
-    // Join and meet: seat 0 takes over another seat and keeps its entries, and learns that both histories are prefixes of
-    // the one that it has seen.
+    // Join and meet: seat 0 takes over another seat and keeps its entries, and learns that both histories are prefixes
+    // of the one that it has seen.
     pub(crate) fn join(&self, seat: &mut Token<S>, other: Token<S>)
         requires lock { (seat.old.table_id ≡ self.now.table.shared.table_id) × (other.table_id ≡ self.now.table.shared.table_id) }
         requires chief { IsFree seat.old.me × (seat.old.me.0.known.number ≡ 0) }
@@ -171,8 +172,8 @@ impl<S: Stepper> Board<S> {
     }
 
     // Waits between two looks. The next seat in turn spins at first, because a turn can be short. Otherwise the thread
-    // sleeps until a turn is passed: if threads outnumber processors, a scheduler runs a woken thread sooner than one that
-    // yields. Returns the number of spins so far.
+    // sleeps until a turn is passed: if threads outnumber processors, a scheduler runs a woken thread sooner than one
+    // that yields. Returns the number of spins so far.
     fn pause<R: Wait>(&self, rt: &R, serving: u64, ahead: u64, spins: u32) -> u32 {
         if ahead == 1 && spins < MAX_SPINS {
             hint::spin_loop();
@@ -206,7 +207,7 @@ impl<S: Stepper> Board<S> {
         reply
     }
 
-    // Append: the history has the entry of the step. Returns the place of the entry.
+    // Append: the history has the entry of the step. Returns the position of the entry.
     fn append(&self, seat: &mut Token<S>) -> u64
         requires lock { seat.old.table_id ≡ self.now.table.shared.table_id }
         requires turn { IsLive seat.old.me.0.setting × ((t : ℕ) × (seat.old.me.0.stage ≡ Served t)) × (seat.old.me.0.due ≡ 1) }
@@ -220,8 +221,8 @@ impl<S: Stepper> Board<S> {
             .fetch_add::<Append<S>>(seat, NEXT_PLACE, 1)
     }
 
-    // Pass: the turn of the next ticket begins. A wake is a system call, and is needed only if that ticket is drawn: a seat
-    // that draws it later finds its turn at its first look.
+    // Pass: the turn of the next ticket begins. A wake is a system call, and is needed only if that ticket is drawn: a
+    // seat that draws it later finds its turn at its first look.
     pub(crate) fn pass(&self, seat: &mut Token<S>)
         requires lock { seat.old.table_id ≡ self.now.table.shared.table_id }
         requires keeps { HasKept S.setting S.journal S.room seat.old.me }
@@ -257,7 +258,7 @@ impl<S: Stepper> Board<S> {
         self.wait(rt, seat, ticket);
     }
 
-    // The turn for the event that `E` names: the turn that the seat kept, or a new ticket's.
+    // Begins the turn for the event that `E` names: the turn that the seat kept, or a new ticket's.
     fn begin<E: Aim, R: Wait>(&self, rt: &R, seat: &mut Token<S>, event: u32, keeps: bool)
         requires lock { seat.old.table_id ≡ self.now.table.shared.table_id }
         requires rests { Rests S.setting S.journal S.room keeps seat.old.me }
@@ -274,8 +275,9 @@ impl<S: Stepper> Board<S> {
         }
     }
 
-    // The moves of a step but pass, so that the seat has the turn afterwards. If it kept the turn before (`keeps`), the
-    // step draws no ticket and does not wait. Returns the place of the entry in the history, and the reply.
+    // Makes the moves of a step except pass, so that the seat has the turn afterwards. If it kept the turn before
+    // (`keeps`), the step draws no ticket and does not wait. Returns the position of the entry in the history, and the
+    // reply.
     pub(crate) fn step<R: Wait>(
         &self,
         rt: &R,
@@ -301,7 +303,7 @@ impl<S: Stepper> Board<S> {
         (place, reply)
     }
 
-    // The state, once all other seats are joined.
+    // Returns the state, once all other seats are joined.
     pub(crate) fn close(self, seat: Token<S>) -> S
         requires lock { seat.table_id ≡ self.table.shared.table_id }
         requires chief { IsFree seat.me × (seat.me.0.known.number ≡ 0) }
@@ -319,7 +321,7 @@ impl<S: Stepper> Board<S> {
     }
 }
 
-// A list of the one state.
+// Returns a list of the one state.
 fn one_slot<S>(alloc: Global, state: S) -> Result<Vec<Option<S>>, S>
     ensures ok { IfOk result (λ v. v.items ≡ Some state ∷ []) }
     ensures err { IfErr result (λ s. s ≡ state) }
@@ -334,7 +336,7 @@ fn one_slot<S>(alloc: Global, state: S) -> Result<Vec<Option<S>>, S>
     }
 }
 
-// The one state of such a list.
+// Returns the one state of such a list.
 fn only<S>(mut slots: Vec<Option<S>>) -> S
     requires { (s : S) × (slots.items ≡ Some s ∷ []) }
     ensures { slots.items ≡ Some result ∷ [] }

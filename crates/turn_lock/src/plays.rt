@@ -1,4 +1,5 @@
-//! The moves, in the form that the table requires: what the seat learns from each, and the views after a split and a join.
+//! The moves, in the form that the table requires: the knowledge that the seat gets from each, and the views after a
+//! split and a join.
 ghost use Rattle.turn_lock.specs.Moves.{IsDraw, IsLook, IsMeet, IsPass, IsRenew, IsAppend, view_after_split, new_view, view_after_join, spent_view};
 
 use crate::board::{Aim, Gift, View};

@@ -1,15 +1,15 @@
-//! What the state in a turn lock has to keep.
+//! The interface of the state in a turn lock.
 ghost use Rattle.std.specs.Prelude.{◌≡◌, ℕ, ◌+◌, ◌<◌, ◌++◌, [], ◌∷◌, List};
 ghost use Rattle.seat_history.specs.Histories.{Entry};
 
 /// A state that is stepped by one event at a time, and keeps a journal of its steps.
 pub trait Stepper {
-    /// What a step works with beside the state. The caller hands it in.
+    /// The value that a step uses in addition to the state. The caller passes it.
     type Tool;
 
     type Reply;
 
-    /// What no step changes. No value of it need be made.
+    /// The constant part of the state. No value of it need be made.
     type Setting;
 
     ghost setting: { Self → Self.Setting };
@@ -17,19 +17,19 @@ pub trait Stepper {
     /// The steps so far.
     ghost journal: { Self → List Entry };
 
-    /// How many entries the journal still has room for.
+    /// The number of entries for which the journal has capacity left.
     ghost room: { Self → ℕ };
 
     /// The events that only the holder of the baton may step.
     ghost reserved: { Self.Setting → ℕ → Type 0 };
 
-    /// What a step asks of its event and of its tool.
+    /// The condition of a step on its event and its tool.
     ghost ready: { Self.Setting → ℕ → Self.Tool → Type 0 };
 
-    /// What the step replies, and the tool afterwards, from the journal before a step, the seat's number and the event.
+    /// The reply of a step and the tool after it, from the journal before it, the seat's number and the event.
     ghost answers: { Self.Setting → List Entry → ℕ → ℕ → Self.Reply → Self.Tool → Type 0 };
 
-    /// Steps the event of the seat with the number `by`, and puts its entry behind the journal.
+    /// Steps the event of the seat with the number `by`, and appends its entry to the journal.
     fn step(&mut self, by: u32, event: u32, tool: &mut Self::Tool) -> Self::Reply
         requires room { 0 < room self.old }
         requires ready { ready (setting self.old) event tool.old }

@@ -10,7 +10,7 @@ use std::marker::Brand;
 use std::sync::ledger::{Blank, Ledger};
 use std::test::Fail;
 
-/// On three lines room is made with sixteen looks at the most.
+/// Room is made on three lines with at most 16 lookups.
 fn make_room_on_three_lines<L: Ledger>(
     matrix: &mut PaullMatrix,
     i: u8,
@@ -29,8 +29,8 @@ fn make_room_on_three_lines<L: Ledger>(
     make_room(matrix, i, j, moves, steps)
 }
 
-/// Paths on three lines and two slots, by row, column and slot; a row and a column without a common
-/// slot, and the slot that each lacks; and what making room there answers.
+/// Paths on three lines and two slots, by row, column and slot; a row and a column without a common slot, and the slot
+/// that each lacks; and the result of making room there.
 #[derive(Drop)]
 struct Case<'a> {
     paths: &'a [(u8, u8, u8)],
@@ -42,7 +42,7 @@ struct Case<'a> {
     moves: &'a [Move],
 }
 
-/// Puts paths on three lines and two slots. Whether each is put.
+/// Adds paths on three lines and two slots. Returns whether each is added.
 fn put_all<L: Ledger>(
     matrix: &mut PaullMatrix,
     paths: &[(u8, u8, u8)],
@@ -59,7 +59,7 @@ fn put_all<L: Ledger>(
     true
 }
 
-/// Whether each path that moved has its new slot.
+/// Returns whether each path that moved has its new slot.
 fn have_moved<L: Ledger>(matrix: &PaullMatrix, moves: &[Move], steps: &mut Steps<L>) -> bool
     requires { (matrix.now.lines ≡ 3) × (matrix.now.slots ≡ 2) }
 {
@@ -74,7 +74,7 @@ fn have_moved<L: Ledger>(matrix: &PaullMatrix, moves: &[Move], steps: &mut Steps
     true
 }
 
-/// Whether making room answers what is wanted, and moves the paths that are.
+/// Returns whether making room has the expected result, and moves the expected paths.
 fn makes_room<L: Ledger>(matrix: &mut PaullMatrix, case: &Case, blank: Blank) -> bool
     requires sizes { (matrix.old.lines ≡ 3) × (matrix.old.slots ≡ 2) }
     requires ledger { (blank.name ≡ L.name) × (blank.parts ≡ L.parts) × (0 < L.parts) }
@@ -105,7 +105,7 @@ fn makes_room<L: Ledger>(matrix: &mut PaullMatrix, case: &Case, blank: Blank) ->
         && have_moved(matrix, case.moves, &mut steps)
 }
 
-/// Whether nothing moves where a slot is common.
+/// Returns whether nothing moves if a slot is common.
 fn takes_a_common_slot<L: Ledger>(matrix: &mut PaullMatrix, blank: Blank) -> bool
     requires sizes { (matrix.old.lines ≡ 2) × (matrix.old.slots ≡ 3) }
     requires ledger { (blank.name ≡ L.name) × (blank.parts ≡ L.parts) × (0 < L.parts) }
@@ -123,7 +123,7 @@ fn takes_a_common_slot<L: Ledger>(matrix: &mut PaullMatrix, blank: Blank) -> boo
         && matrix.row_slot(0, 0, &mut steps) == Some(1)
 }
 
-/// The path of a row and a column that goes from one slot to another.
+/// Returns the path of a row and a column that moves from one slot to another.
 const fn moved(row: u8, column: u8, old: u8, new: u8) -> Move {
     Move {
         row,
@@ -155,7 +155,7 @@ fn exchanges_the_shorter_chain(rt: HostRuntime) -> Result<(), Fail> {
         freed: 1,
         moves: &[moved(2, 0, 1, 0)],
     };
-    // Both chains have two paths, and the column's is taken.
+    // Both chains have two paths, and the column's is exchanged.
     let tied = Case {
         paths: &[(2, 1, 0), (2, 0, 1), (0, 2, 1), (1, 2, 0)],
         row: 0,

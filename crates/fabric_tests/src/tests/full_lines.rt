@@ -14,8 +14,7 @@ fn on(line: u8, place: u8) -> Slot
     Slot { line, place }
 }
 
-// Connects where both ends are free, and answers the slot: whether it is the one that is wanted, and
-// no path moved.
+// Connects two slots if both are free. Returns whether the path gets the expected slot, and no path moved.
 fn gets(map: &mut StrictMap, from: Slot, to: Slot, slot: u8) -> bool
     requires from { IsSlot map.old.lines from }
     requires to { IsSlot map.old.lines to }
@@ -27,7 +26,7 @@ fn gets(map: &mut StrictMap, from: Slot, to: Slot, slot: u8) -> bool
         && map.slot_of(from) == Some(slot)
 }
 
-// The same for a path that is taken out again.
+// Does the same as `gets` for a path that is released again.
 fn gets_for_a_while(map: &mut StrictMap, from: Slot, to: Slot, slot: u8) -> bool
     requires from { IsSlot map.old.lines from }
     requires to { IsSlot map.old.lines to }
@@ -42,7 +41,7 @@ fn gets_for_a_while(map: &mut StrictMap, from: Slot, to: Slot, slot: u8) -> bool
     right
 }
 
-// The first places of a line, each to the outlet of the same number: the slots from 0 up.
+// Connects the first places of a line, each to the outlet of the same number, in the slots from 0 up.
 fn fill(map: &mut StrictMap, line: u8, places: u8) -> bool
     requires lines { map.old.lines ≡ 34 }
     requires line { line < 34 }
@@ -57,8 +56,8 @@ fn fill(map: &mut StrictMap, line: u8, places: u8) -> bool
     true
 }
 
-// Twenty-nine paths of outgoing line 31 in the slots 29 to 57: each is the last of an incoming line
-// whose other paths use the slots below.
+// Adds 29 paths of outgoing line 31 in the slots 29 to 57: each is the last of an incoming line whose other paths use
+// the slots below.
 fn fill_column(map: &mut StrictMap) -> bool
     requires lines { map.old.lines ≡ 34 }
     ensures lines { map.new.lines ≡ 34 }
@@ -71,8 +70,7 @@ fn fill_column(map: &mut StrictMap) -> bool
     true
 }
 
-// Twenty-eight paths of incoming line 0 in the slots 0 to 28 except 3, which outgoing line 30 has
-// from another line.
+// Adds 28 paths of incoming line 0 in the slots 0 to 28 except 3, which outgoing line 30 has from another line.
 fn fill_row(map: &mut StrictMap) -> bool
     requires lines { map.old.lines ≡ 34 }
     ensures lines { map.new.lines ≡ 34 }
@@ -88,7 +86,7 @@ fn fill_row(map: &mut StrictMap) -> bool
     true
 }
 
-// Whether the worst case takes the last slot.
+// Returns whether the path of the worst case gets the last slot.
 fn takes_the_last_slot(map: &mut StrictMap) -> bool
     requires lines { map.old.lines ≡ 34 }
 {
@@ -108,7 +106,7 @@ fn the_worst_case_takes_the_last_slot(rt: HostRuntime) -> Result<(), AllocError>
     Ok(())
 }
 
-// Whether a line without paths connects with itself, each slot once.
+// Returns whether a line without paths connects with itself, each slot once.
 fn connects_with_itself(map: &mut StrictMap) -> bool
     requires lines { map.old.lines ≡ 1 }
 {

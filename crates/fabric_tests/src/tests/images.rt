@@ -1,4 +1,4 @@
-//! What is read of a control memory after it was written.
+//! The contents of a control memory after it was written.
 ghost use Rattle.std.specs.Prelude.{◌≡◌};
 ghost use Rattle.control_memory.specs.Layout.{IsSlot};
 
@@ -9,7 +9,7 @@ use std::alloc::AllocError;
 
 const PORT: Slot = Slot { line: 2, place: 4 };
 
-// Writes one path, what a port hears, and who sits there.
+// Writes one path, the octets for a port, and the member at the port.
 fn write(image: &mut Image, frame: u32)
     requires sizes { (image.old.external ≡ 2) × (image.old.bridges ≡ 1) × (image.old.slots ≡ 5) }
     ensures sizes { (image.new.external ≡ 2) × (image.new.bridges ≡ 1) × (image.new.slots ≡ 5) }
@@ -20,7 +20,7 @@ fn write(image: &mut Image, frame: u32)
     image.set_room(PORT, 40, 6);
 }
 
-// Whether what was written is read, and nothing beside it.
+// Returns whether the written entries are read, and no others.
 fn is_written(image: &Image, frame: u32) -> bool
     requires sizes { (image.now.external ≡ 2) × (image.now.bridges ≡ 1) × (image.now.slots ≡ 5) }
 {
@@ -35,7 +35,7 @@ fn is_written(image: &Image, frame: u32) -> bool
         && image.room(PORT) == Some((40, 6))
 }
 
-// Whether nothing of it is read.
+// Returns whether nothing of it is read.
 fn is_cleared(image: &Image) -> bool
     requires sizes { (image.now.external ≡ 2) × (image.now.bridges ≡ 1) × (image.now.slots ≡ 5) }
 {
@@ -56,14 +56,14 @@ fn one_path_is_written_into_three_tables(rt: HostRuntime) -> Result<(), AllocErr
     Ok(())
 }
 
-// A slot of the first line.
+// Returns a slot of the first line.
 fn on(place: u8) -> Slot
     ensures { (result.line ≡ 0) × (result.place ≡ place) }
 {
     Slot { line: 0, place }
 }
 
-// Connects two slots where both are free, for good or for a while. Whether they are.
+// Connects two slots if both are free, permanently or for a while. Returns whether they are.
 fn connect(map: &mut FabricMap, from: Slot, to: Slot, for_good: bool) -> bool
     requires from { IsSlot map.old.lines from }
     requires to { IsSlot map.old.lines to }
@@ -79,7 +79,8 @@ fn connect(map: &mut FabricMap, from: Slot, to: Slot, for_good: bool) -> bool
     true
 }
 
-// Connects two slots for good, in internal slot 0, and two for a while, in internal slot 1. Whether they are free.
+// Connects two slots permanently, in internal slot 0, and two for a while, in internal slot 1. Returns whether they are
+// free.
 fn connect_two(map: &mut FabricMap) -> bool
     requires lines { map.old.lines ≡ 1 }
     ensures lines { map.new.lines ≡ map.old.lines }
@@ -92,7 +93,7 @@ const TONE: Heard = Heard::Tone {
     since: 1,
 };
 
-// Whether the tables of a map with one path are there whole, and what is heard is kept.
+// Returns whether the tables of a map with one path are complete, and the circuits of the slots are unchanged.
 fn are_taken_over(image: &Image) -> bool
     requires sizes { (image.now.external ≡ 1) × (image.now.bridges ≡ 0) × (image.now.slots ≡ 30) }
 {

@@ -1,4 +1,4 @@
-//! Looks at the matrix, and the lowest free slots.
+//! Lookups in the matrix, and the lowest free slots.
 ghost use Rattle.std.specs.Prelude.{◌≡◌, ◌<◌};
 ghost use Rattle.paull_matrix.specs.Matrix.{SameSizes};
 
@@ -7,7 +7,7 @@ use std::marker::Brand;
 use std::sync::ledger::{Blank, Ledger};
 use std::test::Fail;
 
-/// Puts a path into a slot, where that is free in its row and in its column. Whether it is.
+/// Adds a path in a slot, if that is free in its row and in its column. Returns whether it is.
 pub fn put<L: Ledger>(matrix: &mut PaullMatrix, i: u8, j: u8, s: u8, steps: &mut Steps<L>) -> bool
     requires { (i < matrix.old.lines) × (j < matrix.old.lines) × (s < matrix.old.slots) }
     ensures { SameSizes matrix.old matrix.new }
@@ -19,7 +19,7 @@ pub fn put<L: Ledger>(matrix: &mut PaullMatrix, i: u8, j: u8, s: u8, steps: &mut
     true
 }
 
-/// Puts four paths into a matrix of three lines and two slots. Whether each is put.
+/// Adds four paths to a matrix of three lines and two slots. Returns whether each is added.
 fn put_four<L: Ledger>(matrix: &mut PaullMatrix, steps: &mut Steps<L>) -> bool
     requires { (matrix.old.lines ≡ 3) × (matrix.old.slots ≡ 2) }
     ensures { SameSizes matrix.old matrix.new }
@@ -30,7 +30,7 @@ fn put_four<L: Ledger>(matrix: &mut PaullMatrix, steps: &mut Steps<L>) -> bool
         && put(matrix, 0, 2, 1, steps)
 }
 
-/// Whether the four paths are found from both of their ends.
+/// Returns whether the four paths are found from both of their ends.
 fn are_found<L: Ledger>(matrix: &mut PaullMatrix, blank: Blank) -> bool
     requires sizes { (matrix.old.lines ≡ 3) × (matrix.old.slots ≡ 2) }
     requires ledger { (blank.name ≡ L.name) × (blank.parts ≡ L.parts) × (0 < L.parts) }
@@ -61,7 +61,7 @@ fn are_found<L: Ledger>(matrix: &mut PaullMatrix, blank: Blank) -> bool
     true
 }
 
-/// Whether the lowest free slots are found beside the four paths, and after one of them is lifted.
+/// Returns whether the lowest free slots are found with the four paths, and after one of them is removed.
 fn are_free<L: Ledger>(matrix: &mut PaullMatrix, blank: Blank) -> bool
     requires sizes { (matrix.old.lines ≡ 3) × (matrix.old.slots ≡ 2) }
     requires ledger { (blank.name ≡ L.name) × (blank.parts ≡ L.parts) × (0 < L.parts) }
@@ -79,7 +79,7 @@ fn are_free<L: Ledger>(matrix: &mut PaullMatrix, blank: Blank) -> bool
         && matrix.common_free(0, 0, &mut steps) == Some(0)
 }
 
-/// Whether the lowest free slots are those beside the four paths.
+/// Returns whether the lowest free slots are found with the four paths.
 fn are_free_beside<L: Ledger>(matrix: &PaullMatrix, steps: &mut Steps<L>) -> bool
     requires { (matrix.now.lines ≡ 3) × (matrix.now.slots ≡ 2) }
 {

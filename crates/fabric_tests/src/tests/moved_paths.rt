@@ -1,4 +1,4 @@
-//! Paths on thirty internal slots.
+//! Paths on 30 internal slots.
 ghost use Rattle.std.specs.Prelude.{◌≡◌, ◌<◌};
 
 use circuit_model::Slot;
@@ -6,7 +6,7 @@ use control_memory::PathMap;
 use fabric_map::FabricMap;
 use std::alloc::AllocError;
 
-// Connects where both ends are free.
+// Connects two slots if both are free.
 fn connect_free(map: &mut FabricMap, from: Slot, to: Slot) -> Option<u32>
     requires lines { map.old.lines ≡ 2 }
     requires from { (from.line < 2) × (from.place < 30) }
@@ -20,7 +20,7 @@ fn connect_free(map: &mut FabricMap, from: Slot, to: Slot) -> Option<u32>
     }
 }
 
-// Whether each path takes the lowest slot that both of its lines have free, on two lines without paths.
+// Returns whether each path takes the lowest slot that both of its lines have free, on two lines without paths.
 fn takes_common_slots(map: &mut FabricMap) -> bool
     requires lines { map.old.lines ≡ 2 }
 {

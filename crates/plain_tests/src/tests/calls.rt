@@ -11,9 +11,9 @@ use test_exchange::{
 enum Step {
     /// A message on a line, in hexadecimal digits.
     Message(u8, &'static str),
-    /// The first bearer channels of two lines are nailed.
+    /// A nail of the first bearer channels of two lines.
     Nail(u8, u8),
-    /// All bearer channels of a line are nailed, each with its neighbour.
+    /// A nail of each bearer channel of a line with its neighbour.
     Fill(u8),
     /// A frame in which lines 0, 1, .. send these octets on their first bearer channels.
     Frame(&'static [u8]),
@@ -21,7 +21,7 @@ enum Step {
 
 use Step::{Fill, Frame, Message, Nail};
 
-// Calls to 101 go to line 1, and those to 30 to room 0.
+// Calls to 101 are routed to line 1, and those to 30 to room 0.
 fn numbers(alloc: Global) -> Result<Vec<Number>, AllocError> {
     let mut numbers = Vec::new(alloc);
     for (digits, target) in [
@@ -87,22 +87,21 @@ fn tones(alloc: Global, given: bool) -> Result<PlainTones, AllocError> {
     })
 }
 
-/// What came of a worked example.
+/// The result of a worked example.
 #[derive(Clone, Copy)]
 struct Came {
-    /// Whether the report ends with the lines that are wanted.
+    /// Whether the report ends with the expected lines.
     is_reported: bool,
-    /// How many calls ended, and the record of the last one.
+    /// The number of calls that ended, and the record of the last one.
     calls: usize,
     last: Option<CallRecord>,
-    /// How many legs there are at the end.
+    /// The number of legs at the end.
     legs: usize,
-    /// How often ringing tone and busy tone were put on a slot.
+    /// The number of times that ringing tone and busy tone were connected to a slot.
     tones: (u32, u32),
 }
 
-// Takes the steps on n bridge lines, with tones or without, and compares the report's last lines
-// with these.
+// Processes the steps on n bridge lines, with or without tones, and compares the last lines of the report.
 fn came_of(
     alloc: Global,
     bridges: u8,
@@ -239,8 +238,8 @@ const SHIFTED: [Step; 4] = [
     Message(0, "080200017B9EA17002803170028039"),
 ];
 
-// Callers who are cleared for what they dial: the SETUP, the INFORMATION, and what is sent. Line 1 is full,
-// and there is no port.
+// Callers who are cleared for the number that they dial: the SETUP, the INFORMATION, and the messages that are sent.
+// Line 1 is full, and no port is free.
 const GIVEN_UP: [(&str, &str, &str); 9] = [
     ("080200010504038090A3", "080200017B7000", "9C"),
     (
@@ -261,7 +260,7 @@ const GIVEN_UP: [(&str, &str, &str); 9] = [
     ("080200010504038090A370028033", "080200017B70028030", "AA"),
 ];
 
-// Whether a caller is cleared for this cause.
+// Returns whether a caller is cleared for this cause.
 fn is_cleared(
     alloc: Global,
     setup: &'static str,
@@ -308,8 +307,8 @@ const UNEXPECTED: [Step; 4] = [
 ];
 
 // Worked examples on n bridge lines, without tones: their steps, and the last lines of the report. Clearing from both
-// sides at once, lenient reading, more digits awaited, a number in parts, digits and shifts, unexpected messages, a full
-// line, and a call to a room with and without a port.
+// sides at once, lenient reading, further digits, overlap sending, digits and shifts, unexpected messages, a full line,
+// and a call to a room with and without a port.
 const REPORTED: [(u8, &[Step], &str); 9] = [
     (
         0,
@@ -388,7 +387,7 @@ const REPORTED: [(u8, &[Step], &str); 9] = [
     (0, &[TO_A_ROOM], "1 message 0:080280015A080282AA\n"),
 ];
 
-// Whether each example is reported so.
+// Returns whether each example has these last lines.
 fn are_reported(alloc: Global, rows: &[(u8, &[Step], &str)]) -> Result<bool, Fail> {
     for (bridges, steps, wanted) in rows {
         if !came_of(alloc, *bridges, false, steps, wanted)?.is_reported {
@@ -440,7 +439,7 @@ const WITH_TONES: [Step; 8] = [
     Frame(&[]),
 ];
 
-// What the first line hears: this octet on its first bearer channel, and nothing on the others.
+// The octet of the first line in its first bearer channel, with idle octets in the others.
 #[test]
 fn tones_are_heard(rt: HostRuntime) -> Result<(), Fail> {
     let alloc = rt.alloc();

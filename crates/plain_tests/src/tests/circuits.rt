@@ -9,7 +9,7 @@ use std::test::Fail;
 #[derive(Clone, Copy)]
 enum Step<'a> {
     Connect(u8, u8),
-    /// The line takes a seat in the room.
+    /// The line joins the room.
     Seat(u8, u8),
     Tone(u8, Kind),
     Clear(u8),
@@ -50,7 +50,7 @@ fn take(
     }
 }
 
-/// Takes the steps. Whether lines hear what a table of frames, lines and octets says.
+/// Processes the steps, and returns whether lines receive the octets of a table of frames, lines and octets.
 fn are_heard(
     rt: &impl Abort,
     alloc: Global,

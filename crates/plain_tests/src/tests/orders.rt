@@ -1,20 +1,19 @@
-// Which orders are lawful.
+// Lawful and other orders.
 use test_traffic::{Post, is_lawful};
 
 fn post(worker: u8, segment: u32) -> Post {
     Post { worker, segment }
 }
 
-// Orders of five events, of which 1 to 3 are of one segment, 4 and 5 of the next but one; and whether each is
-// lawful.
+// Orders of five events, and whether each is lawful. Events 1 to 3 are of one segment, 4 and 5 of the next but one.
 const ORDERS: [(&[u32], bool); 11] = [
     (&[1, 2, 3, 4, 5], true),
     (&[2, 1, 3, 5, 4], true),
     (&[1, 3, 2, 4, 5], true),
-    // An event of a worker's overtakes an earlier one, or an event of an earlier segment.
+    // An event overtakes an earlier one of its worker, or an event of an earlier segment.
     (&[3, 2, 1, 4, 5], false),
     (&[1, 2, 4, 3, 5], false),
-    // One is missing, comes twice, or is none of the trace.
+    // One event is missing, occurs twice, or is not one of the trace.
     (&[1, 2, 3, 4], false),
     (&[1, 2, 3, 4, 4], false),
     (&[1, 2, 2, 4, 5], false),
@@ -23,7 +22,7 @@ const ORDERS: [(&[u32], bool); 11] = [
     (&[1, 2, 3, 4, 6], false),
 ];
 
-// Whether each order is lawful or not, as it should be.
+// Returns whether each order is lawful if and only if it should be.
 fn are_so(posts: &[Post], orders: &[(&[u32], bool)]) -> bool {
     for (order, lawful) in orders {
         if is_lawful(posts, order) != *lawful {

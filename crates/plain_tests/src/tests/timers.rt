@@ -1,4 +1,4 @@
-//! Legs that wait too long: what is sent in frames, and the records, found by hand.
+//! Legs that wait too long: the messages in frames, and the records, found by hand.
 use circuit_model::Slot;
 use std::alloc::{AllocError, Global};
 use std::test::Fail;
@@ -11,19 +11,20 @@ use test_exchange::{
 enum Step {
     /// A message on a line, in hexadecimal digits.
     Message(u8, &'static str),
-    /// Frames in which nothing arrives.
+    /// Frames without octets.
     Frames(u8),
 }
 
 use Step::{Frames, Message};
 
-/// A worked example: its timers, its steps, and the lines of the report except frames that send nothing.
+/// A worked example: its timers, its steps, and the lines of the report, without the lines of frames that send no
+/// message.
 struct Worked {
     /// The frames of T302, T303, T305, T308 and T310.
     timers: [u32; 5],
     steps: &'static [Step],
     wanted: &'static [&'static str],
-    /// When the last call ended, and with which cause.
+    /// The frame in which the last call ended, and its cause.
     ended: Option<(u32, u8)>,
 }
 
@@ -131,7 +132,7 @@ const WORKED: [Worked; 11] = [
         ],
         ended: Some((0, 31)),
     },
-    // RELEASE without a cause, again.
+    // RELEASE without a cause, and its retransmission.
     Worked {
         timers: [LONG, LONG, LONG, 30, LONG],
         steps: &[
@@ -199,7 +200,7 @@ const WORKED: [Worked; 11] = [
         ],
         ended: Some((121, 18)),
     },
-    // Channels 31, 1 and 2 of three lines, whose callers wait since frames 0, 1 and 3.
+    // Channels 31, 1 and 2 of three lines, whose callers began to wait in frames 0, 1 and 3.
     Worked {
         timers: [29, LONG, LONG, LONG, LONG],
         steps: &[
@@ -237,7 +238,7 @@ const WORKED: [Worked; 11] = [
     },
 ];
 
-// Calls to 101 go to line 1.
+// Calls to 101 are routed to line 1.
 fn numbers(alloc: Global) -> Result<Vec<Number>, AllocError> {
     let mut numbers = Vec::new(alloc);
     numbers.push(Number {
@@ -283,7 +284,8 @@ fn run_of(alloc: Global, worked: &Worked) -> Result<PlainRun, Fail> {
     Ok(run)
 }
 
-// Whether the lines of a report are the wanted ones, beside the lines of frames that have their number alone.
+// Returns whether the lines of a report are the expected ones, apart from the lines of frames that have only their
+// number.
 fn is_wanted(report: &str, wanted: &[&str]) -> bool {
     let mut left = wanted.iter();
     for line in report.lines() {
@@ -295,7 +297,7 @@ fn is_wanted(report: &str, wanted: &[&str]) -> bool {
     left.next().is_none()
 }
 
-// The record of the call between the first channels of lines 0 and 1.
+// Returns the record of the call between the first channels of lines 0 and 1.
 fn unanswered((to, cause): (u32, u8)) -> CallRecord {
     let place = 0;
     CallRecord {
@@ -308,7 +310,7 @@ fn unanswered((to, cause): (u32, u8)) -> CallRecord {
     }
 }
 
-// Whether the example is reported as it should be, with the record of its last call.
+// Returns whether the example has the expected report, and the record of its last call.
 fn comes_out(alloc: Global, worked: &Worked) -> Result<bool, Fail> {
     let run = run_of(alloc, worked)?;
     Ok(

@@ -1,10 +1,9 @@
-//! That pseudo-random traces of calls come to each course of a message, and to each expiry of a timer.
+//! Pseudo-random traces of calls have each result of a message, and each expiry of a timer.
 use std::alloc::{AllocError, Global};
 use std::test::Fail;
 use test_traffic::{Counts, Expiries, Random, draw_traffic};
 
-// Draws n traces, and tells what became of their messages, which timers ran out, and how many paths were
-// moved.
+// Draws n traces, and counts the results of their messages, the expired timers, and the moved paths.
 fn draw(alloc: Global, traces: u32, events: u32) -> Result<(Counts, Expiries, u32), AllocError> {
     let mut random = Random::new(1976);
     let mut counts = Counts::new();

@@ -1,4 +1,4 @@
-//! A core that does a nail and a frame, and the control memory of that frame.
+//! A core that processes a nail and a frame, and the control memory of that frame.
 ghost use Rattle.std.specs.Prelude.{◌≡◌, ◌≤◌, [], length};
 ghost use Rattle.exchange_events.specs.Sound.{IsSound};
 
@@ -14,7 +14,7 @@ const NEAR: Slot = Slot { line: 0, place: 0 };
 
 const FAR: Slot = Slot { line: 1, place: 0 };
 
-// Does the nail. Whether it is granted, and no control memory is there.
+// Processes the nail. Returns whether it is granted without a control memory.
 fn is_granted(core: &mut Core<FabricMap>, trace: &Trace) -> bool
     requires trace { core.old.trace ≡ trace.now }
     requires begun { core.old.journal ≡ [] }
@@ -32,7 +32,7 @@ fn is_granted(core: &mut Core<FabricMap>, trace: &Trace) -> bool
     }
 }
 
-// Does the first frame. Whether it is frame 0, and its control memory shows the nail.
+// Processes the first frame. Returns whether it is frame 0, and its control memory shows the nail.
 fn is_shown(core: &mut Core<FabricMap>, trace: &Trace, image: Image) -> bool
     requires trace { core.old.trace ≡ trace.now }
     requires lines { (trace.now.external ≡ 2) × (trace.now.bridges ≡ 0) }
@@ -50,7 +50,8 @@ fn is_shown(core: &mut Core<FabricMap>, trace: &Trace, image: Image) -> bool
     }
 }
 
-// Whether the control memory is of frame 0, and has the two slots joined since then, each path in internal slot 0.
+// Returns whether the control memory is of frame 0, and has the two slots joined since then, each path in internal slot
+// 0.
 fn has_nail(tool: &mut Tool) -> bool {
     let Some(image) = tool.image() else {
         return false;
@@ -76,8 +77,8 @@ fn has_nail(tool: &mut Tool) -> bool {
         && back == (Some(0), Some(1), Some(0))
 }
 
-/// Does the nail and the first frame of a trace of two lines. Whether the nail is granted and shown, and the journal
-/// has both.
+/// Processes the nail and the first frame of a trace of two lines. Returns whether the nail is granted and shown, and
+/// the journal has both.
 pub fn nail_is_shown(alloc: Global, trace: &Trace) -> Result<bool, AllocError>
     requires sound { IsSound trace.now }
     requires lines { (trace.now.external ≡ 2) × (trace.now.bridges ≡ 0) }

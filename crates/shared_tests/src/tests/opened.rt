@@ -10,7 +10,7 @@ use fabric_map::FabricMap;
 use shared_exchange::{Seat, SharedExchange};
 use std::alloc::{AllocError, Global};
 
-/// An exchange over the fabric of thirty internal slots for a trace of n lines without bridges, with seat 0 of it.
+/// Returns an exchange over the fabric of 30 internal slots for a trace of n lines without bridges, with seat 0 of it.
 pub fn opened<'t>(
     alloc: Global,
     trace: &'t Trace,

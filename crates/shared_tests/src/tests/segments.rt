@@ -1,4 +1,4 @@
-//! Segments by the calls that keep whole answers: by one worker, by the frame worker, and by all of them.
+//! Segments by the calls that store whole answers: by one worker, by the frame worker, and by all of them.
 ghost use Rattle.std.specs.Prelude.{◌≡◌, ◌+◌, ◌*◌, ◌<◌, ◌≤◌, length, IfOk};
 ghost use Rattle.exchange_events.specs.Sound.{IsSound};
 ghost use Rattle.exchange_core.specs.Boards.{turns_of};
@@ -24,14 +24,14 @@ use std::alloc::{AllocError, Global};
 use std::sync::Wait;
 use std::thread::Threads;
 
-/// What is shown of an answer: the number of its event, what it says, and the octet that each of two lines
-/// sends in its first place, where the event is a frame.
+/// The compared part of an answer: the number of its event, the kind of reply, and for a frame the octet that each of
+/// two lines sends in its first place.
 type Shown = (u32, Outcome, Option<(u8, u8)>);
 
-/// What the nail is answered.
+/// The answer to the nail.
 const NAIL: [Shown; 1] = [(1, Outcome::Granted(0, 0), None)];
 
-/// What the five frames are answered: an octet leaves two frames after it came.
+/// The answers to the five frames: an octet leaves two frames after its arrival.
 const FIVE_FRAMES: [Shown; 5] = [
     (2, Outcome::Frame(0), Some((0xD5, 0xD5))),
     (3, Outcome::Frame(1), Some((0xD5, 0xD5))),
@@ -48,7 +48,7 @@ fn shown(answer: &Answer) -> Shown {
     (answer.event, kept_outcome(answer), octets)
 }
 
-// Whether this is shown of the answers, and of no more.
+// Returns whether these are the compared parts of the answers, and there are no more.
 fn show(answers: &[Answer], wanted: &[Shown]) -> bool {
     let mut left = wanted.iter();
     for answer in answers {
@@ -59,7 +59,7 @@ fn show(answers: &[Answer], wanted: &[Shown]) -> bool {
     left.next().is_none()
 }
 
-// Whether this is shown of a worker's answers, and of no more.
+// Returns whether these are the compared parts of a worker's answers, and there are no more.
 fn are_shown(answers: &[Placed], wanted: &[Shown]) -> bool {
     let mut left = wanted.iter();
     for placed in answers {
@@ -70,7 +70,7 @@ fn are_shown(answers: &[Placed], wanted: &[Shown]) -> bool {
     left.next().is_none()
 }
 
-// An exchange for a trace, with seat 0 of it, and an engine and a control memory for its first frame.
+// Returns an exchange for a trace, with seat 0 of it, and an engine and a control memory for its first frame.
 fn equipped<'t, C: Carrier>(
     alloc: Global,
     trace: &'t Trace,
@@ -90,7 +90,8 @@ fn equipped<'t, C: Carrier>(
     Ok((board, seat, engine, Tool::Image(image)))
 }
 
-// Runs a segment of a trace, where all before it were run. Whether it is answered so, and what the next one needs.
+// Runs a segment of a trace, after all segments before it. Returns whether it has the expected answers, and the values
+// for the next one.
 fn run_next<B: Switchboard, G: Gate, C: Carrier, R: Threads + Wait + Sync>(
     rt: &R,
     alloc: Global,
@@ -126,7 +127,7 @@ fn run_next<B: Switchboard, G: Gate, C: Carrier, R: Threads + Wait + Sync>(
     Ok((show(answers.as_slice(), wanted), engine, tool))
 }
 
-// Runs both segments of a trace. Whether the nail and the five frames are answered as they should be.
+// Runs both segments of a trace. Returns whether the nail and the five frames have the expected answers.
 fn run_both<B: Switchboard, G: Gate, C: Carrier, R: Threads + Wait + Sync>(
     rt: &R,
     alloc: Global,
@@ -164,7 +165,7 @@ fn run_both<B: Switchboard, G: Gate, C: Carrier, R: Threads + Wait + Sync>(
     Ok(nailed && carried)
 }
 
-/// Whether both segments of a trace of two lines are answered as they should be, one after the other.
+/// Returns whether both segments of a trace of two lines have the expected answers, in sequence.
 pub fn segments_are_answered<G: Gate, R: Threads + Wait + Sync>(
     rt: &R,
     alloc: Global,
@@ -179,7 +180,7 @@ pub fn segments_are_answered<G: Gate, R: Threads + Wait + Sync>(
     run_both(rt, alloc, &board, seat, trace, engine, tool, gate)
 }
 
-// Whether a call processor answers the nail as it should be, and nothing else.
+// Returns whether a call processor has the expected answer to the nail, and no other.
 fn processes<B: Switchboard, R: Wait>(
     rt: &R,
     alloc: Global,
@@ -197,7 +198,7 @@ fn processes<B: Switchboard, R: Wait>(
     worked.whole && are_shown(worked.answers.as_slice(), &NAIL)
 }
 
-/// Whether the call processor of a trace of two lines answers its part of the first segment, all of it.
+/// Returns whether the call processor of a trace of two lines answers its whole part of the first segment.
 pub fn part_is_answered<R: Wait>(rt: &R, alloc: Global, trace: &Trace) -> Result<bool, AllocError>
     requires sound { IsSound trace.now }
     requires sizes { (trace.now.external ≡ 2) × (trace.now.bridges ≡ 0) }
@@ -208,8 +209,8 @@ pub fn part_is_answered<R: Wait>(rt: &R, alloc: Global, trace: &Trace) -> Result
     Ok(processes(rt, alloc, &board, seat, trace))
 }
 
-// Runs the first segment, and has the frame worker do the second one. Whether the five frames are answered as they
-// should be.
+// Runs the first segment, and then the frame worker with the second one. Returns whether the five frames have the
+// expected answers.
 fn carries<B: Switchboard, C: Carrier, R: Threads + Wait + Sync>(
     rt: &R,
     alloc: Global,
@@ -235,7 +236,8 @@ fn carries<B: Switchboard, C: Carrier, R: Threads + Wait + Sync>(
     Ok(nailed && framed.worked.whole && are_shown(framed.worked.answers.as_slice(), &FIVE_FRAMES))
 }
 
-/// Whether the frame worker of a trace of two lines answers the second segment, all of it, once the first one was run.
+/// Returns whether the frame worker of a trace of two lines answers the whole second segment, after the first one was
+/// run.
 pub fn frames_are_answered<R: Threads + Wait + Sync>(
     rt: &R,
     alloc: Global,

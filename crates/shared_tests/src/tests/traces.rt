@@ -9,7 +9,7 @@ use number_plan::Plan;
 use std::alloc::{AllocError, Global};
 use tone_rules::Tones;
 
-// The timers of a trace: nothing in it takes time.
+// The timers of a trace in which nothing waits.
 const TIMERS: Timers = Timers {
     t302: 1,
     t303: 1,
@@ -37,14 +37,14 @@ fn nails(alloc: Global) -> Result<Vec<Event>, AllocError>
     Ok(events)
 }
 
-// What arrives in a frame without octets.
+// Returns the input of a frame without octets.
 fn silence(alloc: Global) -> Result<Input, AllocError>
     ensures { IfOk result (λ i. length i ≡ 4) }
 {
     Ok(Input::of(vec![in alloc; None; 4]?))
 }
 
-// The nails, and two frames without octets.
+// Returns the nails, and two frames without octets.
 fn nails_and_two_frames(alloc: Global) -> Result<Vec<Event>, AllocError>
     ensures count { IfOk result (λ v. length v.items ≡ 62) }
     ensures fits { IfOk result (λ v. All (Fits 4) v.items) }
@@ -55,7 +55,7 @@ fn nails_and_two_frames(alloc: Global) -> Result<Vec<Event>, AllocError>
     Ok(events)
 }
 
-/// A trace of four lines: events 1 to 60 are nails, and events 61 and 62 are frames without octets.
+/// Returns a trace of four lines: events 1 to 60 are nails, and events 61 and 62 are frames without octets.
 pub fn nails_and_frames(alloc: Global) -> Result<Trace, AllocError>
     ensures sound { IfOk result IsSound }
     ensures sizes { IfOk result (λ t. (t.external ≡ 4) × (t.bridges ≡ 0)) }
@@ -76,14 +76,14 @@ pub fn nails_and_frames(alloc: Global) -> Result<Trace, AllocError>
     })
 }
 
-// What a line sends that has this octet in its first place.
+// Returns the octets of a line with this octet in its first place.
 fn first_octet(octet: u8) -> Option<[u8; 30]> {
     let mut row = [IDLE; 30];
     row[0] = octet;
     Some(row)
 }
 
-// What arrives in a frame on two lines, an octet in the first place of each.
+// Returns the input of a frame of two lines, with an octet in the first place of each.
 fn two_octets(alloc: Global, zero: u8, one: u8) -> Result<Input, AllocError>
     ensures { IfOk result (λ i. length i ≡ 2) }
 {
@@ -105,7 +105,7 @@ fn push_frames(alloc: Global, events: &mut Vec<Event>) -> Result<(), AllocError>
     Ok(())
 }
 
-// A nail, and five frames.
+// Returns a nail, and five frames.
 fn nail_and_frames(alloc: Global) -> Result<Vec<Event>, AllocError>
     ensures count { IfOk result (λ v. length v.items ≡ 6) }
     ensures fits { IfOk result (λ v. All (Fits 2) v.items) }
@@ -116,8 +116,8 @@ fn nail_and_frames(alloc: Global) -> Result<Vec<Event>, AllocError>
     Ok(events)
 }
 
-/// A trace of two lines and one call processor: a nail of their first slots in a segment of its own, and
-/// then five frames, in which line 0 sends the octets 1 to 5 there, and line 1 the octets 129 to 133.
+/// Returns a trace of two lines and one call processor: a nail of their first slots as one segment, and then five
+/// frames, in which line 0 sends the octets 1 to 5 there, and line 1 the octets 129 to 133.
 pub fn nail_and_five_frames(alloc: Global) -> Result<Trace, AllocError>
     ensures sound { IfOk result IsSound }
     ensures sizes { IfOk result (λ t. (t.external ≡ 2) × (t.bridges ≡ 0) × (t.processors ≡ 1)) }

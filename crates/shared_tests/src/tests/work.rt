@@ -1,4 +1,4 @@
-//! Seats at work at any switchboard, one after the other and in threads of their own.
+//! Seats at work at any switchboard, in sequence and in their own threads.
 ghost use Rattle.std.specs.Prelude.{◌≡◌, ◌≤◌, ◌<◌, ◌+◌, ◌^◌, length, IfSome, IsTrue, true};
 ghost use Rattle.std.specs.Thread.{IsSync};
 ghost use Rattle.exchange_events.specs.Orders.{IsEvent};
@@ -14,7 +14,7 @@ use std::alloc::Global;
 use std::sync::Wait;
 use std::thread::{Threads, join};
 
-/// What an event is answered.
+/// The reply to an event.
 #[derive(Clone, Copy, PartialEq, Eq)]
 pub enum Outcome {
     Granted(u32, u32),
@@ -23,7 +23,7 @@ pub enum Outcome {
     Other,
 }
 
-/// What a reply says.
+/// Returns the outcome of a reply.
 pub fn answer_of(reply: &Reply) -> Outcome {
     match reply {
         Reply::Granted(there, back) => Outcome::Granted(*there, *back),
@@ -33,7 +33,7 @@ pub fn answer_of(reply: &Reply) -> Outcome {
     }
 }
 
-/// What a kept answer says.
+/// Returns the outcome of a stored answer.
 pub fn kept_outcome(answer: &Answer) -> Outcome {
     match &answer.reply {
         Kept::Granted(there, back) => Outcome::Granted(*there, *back),
@@ -43,7 +43,7 @@ pub fn kept_outcome(answer: &Answer) -> Outcome {
     }
 }
 
-/// The event with this number, where there is one.
+/// Returns the event with this number, if there is one.
 pub fn event_numbered(trace: &Trace, event: u32) -> Option<&Event>
     ensures known { IfSome result (λ e. IsEvent trace.now event) }
     ensures number { IfSome result (λ e. IsNumbered trace.now event e.now) }
@@ -52,7 +52,7 @@ pub fn event_numbered(trace: &Trace, event: u32) -> Option<&Event>
     trace.events.as_slice().get(index)
 }
 
-// Does a nail, at a desk or with a tool in hand. `None` where the event is none.
+// Processes a nail, at a desk or with a tool. Returns `None` if the event is not a nail.
 fn nail<B: Switchboard, R: Wait>(
     rt: &R,
     board: &B,
@@ -81,7 +81,8 @@ fn nail<B: Switchboard, R: Wait>(
     Some((place, answer_of(&reply)))
 }
 
-// Does a nail or a frame, by the holder of the baton. `None` where the event is neither, or memory is lacking.
+// Processes a nail or a frame, by the holder of the baton. Returns `None` if the event is neither, or if an allocation
+// fails.
 fn nail_or_frame<B: Switchboard, R: Wait>(
     rt: &R,
     alloc: Global,
@@ -110,11 +111,11 @@ fn nail_or_frame<B: Switchboard, R: Wait>(
     Some((place, answer_of(&reply)))
 }
 
-/// A step of two seats: a seat's number and an event, and the place and the answer of it.
+/// A step of two seats: a seat's number and an event, and its place and its reply.
 pub type Step = ((u32, u32), (u32, Outcome));
 
-/// Does steps of two seats in this order; seat 0 holds the baton, and the other one works at a desk. Whether each is
-/// answered as it should be.
+/// Processes steps of two seats in this order; seat 0 holds the baton, and the other one works at a desk. Returns
+/// whether each has the expected reply.
 pub fn are_answered<B: Switchboard, R: Wait>(
     rt: &R,
     alloc: Global,
@@ -144,7 +145,7 @@ pub fn are_answered<B: Switchboard, R: Wait>(
     true
 }
 
-/// Every second event from `first` on is done, n. How many were granted.
+/// Processes every second event from `first` on, n in all. Returns the number of granted ones.
 pub fn every_second<B: Switchboard, R: Wait>(
     rt: &R,
     board: &B,
@@ -176,7 +177,8 @@ pub fn every_second<B: Switchboard, R: Wait>(
     granted
 }
 
-/// Two seats do the nails, each every second one and in a thread of its own. How many each was granted, and seat 0, which has joined the other.
+/// Two seats process the nails, each every second one and in its own thread. Returns the number of nails that each was
+/// granted, and seat 0, which has joined the other.
 pub fn side_by_side<B: Switchboard, R: Threads + Wait + Sync>(
     rt: &R,
     board: &B,

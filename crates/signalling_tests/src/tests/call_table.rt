@@ -1,4 +1,4 @@
-//! The call table, row by row, and the STATUS that answers what is not expected.
+//! The call table, row by row, and the STATUS in reply to an unexpected message.
 use call_states::{Act, Leg, Peer, Side, on_message, status, unexpected};
 use circuit_model::Slot;
 use q931_codec::{MessageKind, read};
@@ -8,13 +8,13 @@ const EVERY: &[u8] = &[2, 3, 4, 6, 7, 9, 10, 12, 19];
 
 const UNRELEASED: &[u8] = &[2, 3, 4, 6, 7, 9, 10, 12];
 
-// A message, and its acts by the leg's state. In every other state it isn't expected.
+// A message, and its acts by the leg's state. In every other state it is not expected.
 struct Row {
     octets: &'static [u8],
     acts: &'static [(&'static [u8], Act)],
 }
 
-// The call table: a message of each type, with its cause where it has one.
+// The call table: a message of each type, with its cause if it has one.
 const TABLE: [Row; 23] = [
     Row {
         octets: b"\x08\x02\x80\x01\x02",
@@ -56,7 +56,7 @@ const TABLE: [Row; 23] = [
         octets: b"\x08\x02\x00\x01\x45\x08\x02\x80\x91",
         acts: &[(UNRELEASED, Act::Disconnect(17))],
     },
-    // No cause, and one cut short.
+    // No cause, and a truncated one.
     Row {
         octets: b"\x08\x02\x00\x01\x45",
         acts: &[(UNRELEASED, Act::Disconnect(16))],
@@ -79,7 +79,7 @@ const TABLE: [Row; 23] = [
         octets: b"\x08\x02\x00\x01\x5A\x08\x02\x80\xAC",
         acts: &[(EVERY, Act::ReleaseComplete(44))],
     },
-    // STATUS that tells the null state, another state, and none.
+    // A STATUS with the null state, with another state, and with none.
     Row {
         octets: b"\x08\x02\x00\x01\x7D\x08\x02\x80\x9E\x14\x01\x00",
         acts: &[(EVERY, Act::ReleaseComplete(41))],
@@ -139,7 +139,7 @@ fn wanted(row: &Row, state: u8) -> Act {
     Act::Unexpected
 }
 
-// Whether the message has the row's act in this state.
+// Returns whether the message has the row's act in this state.
 fn fits(row: &Row, state: u8) -> bool {
     match read(row.octets) {
         Ok(message) => on_message(&leg(state, Side::Caller), &message) == wanted(row, state),
@@ -156,7 +156,7 @@ fn gives_the_acts_of_the_table(rt: HostRuntime) {
     }
 }
 
-// The flag, the cause and the state of the STATUS for a message that isn't expected.
+// Returns the flag, the reference, the cause and the state of the STATUS for a message that is not expected.
 fn told(octets: &[u8], leg: &Leg) -> Option<(bool, u16, Option<u8>, Option<u8>)> {
     let answer = unexpected(leg, &read(octets).ok()?);
     if answer.kind != MessageKind::Status {

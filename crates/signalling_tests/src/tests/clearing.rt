@@ -1,10 +1,10 @@
-//! What answers a message on no call, and what a RESTART asks for.
+//! The reply to a message without a call, and the contents of a RESTART.
 use clearing_rules::{Restart, acknowledgement, cause_in, restart, unknown_reference};
 use q931_codec::{MessageKind, read};
 use std::test::*;
 
-// Octets on a call reference that names no leg, and of what answers them the flag, the call reference,
-// the type, the cause and the state.
+// Octets on a call reference without a leg, and the flag, the call reference, the type, the cause and the state of the
+// reply.
 type Answer = (bool, u16, MessageKind, Option<u8>, Option<u8>);
 
 const STATUS: MessageKind = MessageKind::Status;
@@ -57,7 +57,7 @@ fn answers_on_no_call(rt: HostRuntime) {
     }
 }
 
-// RESTARTs, what they ask for, and the channel and the restart indicator of the acknowledgement.
+// RESTARTs, their contents, and the channel and the restart indicator of the acknowledgement.
 const RESTARTS: [(&[u8], Option<(Restart, Option<u8>, u8)>); 9] = [
     (
         b"\x08\x02\x00\x00\x46\x79\x01\x86",
@@ -75,7 +75,7 @@ const RESTARTS: [(&[u8], Option<(Restart, Option<u8>, u8)>); 9] = [
         b"\x08\x02\x00\x00\x46\x79\x01\x80\x18\x03\xA1\x83\x9F",
         Some((Restart::Channel(29), Some(31), 0x80)),
     ),
-    // No channel, any channel, the D-channel, another class, and a call reference of its own.
+    // No channel, any channel, the D-channel, another class, and a call reference other than 0.
     (b"\x08\x02\x00\x00\x46\x79\x01\x80", None),
     (b"\x08\x02\x00\x00\x46\x18\x01\xA3\x79\x01\x80", None),
     (

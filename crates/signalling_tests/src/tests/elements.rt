@@ -1,8 +1,8 @@
-//! Information elements: octets from strangers, and what is found in them.
+//! Information elements: octets from untrusted senders, and the elements in them.
 use q931_elements::{Elements, Writer};
 use std::test::*;
 
-// Whether the elements of the octets are those with these codes and contents.
+// Returns whether the elements of the octets are those with these codes and contents.
 fn lists(octets: &[u8], wanted: &[(u8, &[u8])]) -> bool {
     let mut elements = Elements::new(octets);
     for (code, contents) in wanted {
@@ -18,26 +18,26 @@ const CALLED: (u8, &[u8]) = (0x70, b"\x80101");
 
 const CAUSE: (u8, &[u8]) = (0x08, b"\x80\x90");
 
-// Strings of octets from strangers, and the elements that each has.
+// Strings of octets from untrusted senders, and the elements of each.
 const ROWS: [(&[u8], &[(u8, &[u8])]); 20] = [
     (b"", &[]),
     (b"\x9E\x70\x01\x80\x70\x04\x80101", &[CALLED]),
     (b"\x98\xA1\xA1", &[(0xA1, b"")]),
     (b"\x70\x04\x8010", &[]),
-    // Elements come in any order, and one code twice.
+    // Elements in any order, and one code twice.
     (b"\x70\x04\x80101\x08\x02\x80\x90", &[CALLED, CAUSE]),
     (b"\x08\x00\x08\x02\x80\x90", &[(0x08, b""), CAUSE]),
-    // A locking shift, alone and with elements around it.
+    // A locking shift, by itself and with elements around it.
     (b"\x96", &[]),
     (b"\xA1\x97\x70\x04\x80101", &[(0xA1, b"")]),
     (b"\x90\xA1", &[]),
-    // A non-locking shift before another shift, before what is cut short, and at the end.
+    // A non-locking shift before another shift, before a truncated element, and at the end.
     (b"\x98\x90\x70\x04\x80101", &[CALLED]),
     (b"\x9F\x9F\xA1", &[(0xA1, b"")]),
     (b"\xA1\x98\x70\x04\x8010", &[(0xA1, b"")]),
     (b"\xA1\x98\x70", &[(0xA1, b"")]),
     (b"\xA1\x98", &[(0xA1, b"")]),
-    // Unknown elements, of no contents and of more octets than there are.
+    // Unknown elements, one without contents, and one with more octets than there are.
     (
         b"\x01\x00\xB0\x7F\x00",
         &[(0x01, b""), (0xB0, b""), (0x7F, b"")],

@@ -1,4 +1,4 @@
-//! Messages read and written: octets as primary rate interfaces carry them, and from strangers.
+//! Messages read and written: octets as primary rate interfaces carry them, and octets from untrusted senders.
 ghost use Rattle.q931_codec.specs.Outgoing.{IsWritable, outgoing_of};
 
 use q931_codec::codes::*;
@@ -9,7 +9,7 @@ use q931_codec::{
 use std::alloc::Global;
 use std::test::*;
 
-// A message, and the parts that it has.
+// A message, and its parts.
 struct Row {
     octets: &'static [u8],
     flag: bool,
@@ -20,7 +20,7 @@ struct Row {
 
 // Messages as primary rate interfaces carry them, coded by Q.931's figures for each element.
 const MESSAGES: [Row; 6] = [
-    // Speech over A-law, channel 1 alone, from a national number to a subscriber number, telephony.
+    // Speech over A-law, only channel 1, from a national number to a subscriber number, telephony.
     Row {
         octets: b"\x08\x02\x00\x03\x05\xA1\x04\x03\x80\x90\xA3\x18\x03\xA9\x83\x81\x6C\x09\x21\x835551234\x70\x08\xC15559876\x7D\x02\x91\x81",
         flag: false,
@@ -42,7 +42,7 @@ const MESSAGES: [Row; 6] = [
         kind: MessageKind::CallProceeding,
         elements: &[(CHANNEL_IDENTIFICATION, b"\xA9\x83\x9F")],
     },
-    // The greatest call reference value, and cause 96 with the identifier that is missing.
+    // The greatest call reference value, and cause 96 with the identifier of the missing element.
     Row {
         octets: b"\x08\x02\xFF\xFF\x5A\x08\x03\x82\xE0\x18",
         flag: true,
@@ -67,7 +67,7 @@ const MESSAGES: [Row; 6] = [
         kind: MessageKind::Connect,
         elements: &[],
     },
-    // SUSPEND, which this exchange doesn't have.
+    // SUSPEND, which this exchange does not have.
     Row {
         octets: b"\x08\x02\x12\x34\x25\x10\x01\x00",
         flag: false,
@@ -77,7 +77,7 @@ const MESSAGES: [Row; 6] = [
     },
 ];
 
-// Whether the row's octets are read as the row's parts.
+// Returns whether the row's octets are read as the row's parts.
 fn is_read(row: &Row) -> bool {
     let Ok(message) = read(row.octets) else {
         return false;
@@ -106,7 +106,7 @@ fn is_discarded(octets: &[u8], wanted: Discard) -> bool {
     matches!(read(octets), Err(discard) if discard == wanted)
 }
 
-// Octets that are no message, and why.
+// Octets that are not a message, and the reason.
 const DISCARDED: [(&[u8], Discard); 7] = [
     (b"\x08\x02\x80", Discard::Short),
     (b"\x08\x02\x00\x01", Discard::Short),
@@ -127,7 +127,7 @@ fn discards(rt: HostRuntime) {
     assert!(rt; are_discarded(Discard::ReferenceLength, 0, 255));
 }
 
-// Whether this many messages of one octet are discarded for this reason, and this many of two octets.
+// Returns whether this many messages of one octet are discarded for this reason, and this many of two octets.
 fn are_discarded(wanted: Discard, of_one: usize, of_two: usize) -> bool {
     let ones = (0..256u16).filter(|n| is_discarded(&[(n % 256) as u8], wanted));
     let twos = (0..65_536u32).filter(|n| is_discarded(
@@ -137,7 +137,7 @@ fn are_discarded(wanted: Discard, of_one: usize, of_two: usize) -> bool {
     ones.count() == of_one && twos.count() == of_two
 }
 
-// Whether a discard has this number and this text.
+// Returns whether the reason of a discard has this number and this text.
 fn is_named(alloc: Global, discard: Discard, number: u8, text: &str) -> Result<bool, Fail> {
     Ok(discard as u8 == number && format!(in alloc; "{discard}")?.as_str() == text)
 }
@@ -158,18 +158,18 @@ fn names_discards(rt: HostRuntime) -> Result<(), Fail> {
     Ok(())
 }
 
-// The first cause of these elements, behind a header.
+// Returns the first cause of these elements, after a header.
 fn cause_in(octets: &[u8]) -> Option<u8> {
     read(octets).ok()?.cause()
 }
 
 // Messages, and the cause of each.
 const CAUSES: [(&[u8], Option<u8>); 7] = [
-    // A location and a value, a diagnostic behind it, and a recommendation before it.
+    // A location and a value, a diagnostic after it, and a recommendation before it.
     (b"\x08\x02\x00\x01\x45\x08\x02\x80\x90", Some(16)),
     (b"\x08\x02\x00\x01\x45\x08\x03\x82\xE0\x18", Some(96)),
     (b"\x08\x02\x00\x01\x45\x08\x03\x02\x80\x91", Some(17)),
-    // No value, in the first cause though not in the next one, and a cause of another codeset.
+    // No value in the first cause although the next one has one, and a cause of another codeset.
     (b"\x08\x02\x00\x01\x45", None),
     (b"\x08\x02\x00\x01\x45\x08\x02\x02\x80", None),
     (b"\x08\x02\x00\x01\x45\x08\x00\x08\x02\x80\x90", None),
@@ -186,7 +186,7 @@ fn reads_causes(rt: HostRuntime) {
     }
 }
 
-// What the one channel identification of a message asks for.
+// Returns the contents of the one channel identification of a message.
 fn channel_in(octets: &[u8]) -> Option<ChannelIdentification> {
     read(octets).ok()?.channel()
 }
@@ -226,14 +226,14 @@ fn reads_channels(rt: HostRuntime) {
     }
 }
 
-// Whether a message is written as these octets.
+// Returns whether a message is written as these octets.
 fn is_written(message: &Outgoing, octets: &[u8]) -> bool
     requires { IsWritable (outgoing_of message.now) }
 {
     write(message).as_slice() == octets
 }
 
-// The call state and the restart indicator of a message.
+// Returns the call state and the restart indicator of a message.
 fn state_and_class(octets: &[u8]) -> Option<(Option<u8>, Option<u8>)> {
     let message = read(octets).ok()?;
     Some((message.call_state(), message.restart_indicator()))
@@ -303,7 +303,7 @@ fn writes_the_longest(rt: HostRuntime) {
     assert!(rt; state_and_class(LONGEST) == Some((Some(63), Some(0x87))));
 }
 
-// The contents of bearer capabilities, and what each asks for.
+// The contents of bearer capabilities, and the result of each.
 const BEARERS: [(&[u8], BearerCapability); 11] = [
     (b"\x80\x90\xA3", BearerCapability::Carried),
     (b"\x90\x90\xA3", BearerCapability::Carried),
@@ -326,7 +326,7 @@ fn reads_bearers(rt: HostRuntime) {
     }
 }
 
-// Whether these contents of a called party number have these digits.
+// Returns whether these contents of a called party number have these digits.
 fn has_digits(contents: &[u8], wanted: Option<&[u8]>) -> bool {
     if contents.len() > 21 {
         return false;
@@ -355,7 +355,7 @@ fn reads_digits(rt: HostRuntime) {
     }
 }
 
-// What a SETUP asks for, as it is read from its elements.
+// The contents of a SETUP, as they are read from its elements.
 struct Asked {
     octets: &'static [u8],
     bearer: Option<&'static [u8]>,
@@ -378,8 +378,8 @@ const ASKED: [Asked; 4] = [
         low: b"\x88\x90",
         high: b"\x91\x81",
     },
-    // A bearer capability without contents, a called number without any, and too much of a high
-    // layer compatibility.
+    // A bearer capability without contents, a called number without any, and a high layer compatibility that is too
+    // long.
     Asked {
         octets: b"\x08\x02\x00\x01\x05\x04\x00\x70\x00\x7D\x04\x91\x81\x80\x80",
         bearer: Some(b""),

@@ -1,9 +1,9 @@
-//! The plan of numbers, step by step.
+//! The number plan, step by step.
 use number_plan::{Found, Plan, PlanFault, Target, is_number};
 use std::alloc::Global;
 use std::test::*;
 
-// What a step asks of a plan, and what it is answered.
+// A step on a plan, and its result.
 enum Step {
     Add(&'static [u8], Target, Result<(), PlanFault>),
     Look(&'static [u8], Found),
@@ -29,12 +29,12 @@ const STEPS: [Step; 24] = [
     Step::Look(b"102", Found::Nothing),
     Step::Look(b"11", Found::Nothing),
     Step::Look(b"0", Found::Nothing),
-    // The same, one that it begins, and one that it continues.
+    // The same number, a prefix of it, and a continuation of it.
     Step::Add(b"101", Target::Room(3), Err(PlanFault::Prefix)),
     Step::Add(b"1", Target::Room(3), Err(PlanFault::Prefix)),
     Step::Add(b"1010", Target::Room(3), Err(PlanFault::Prefix)),
     Step::Look(b"101", Found::Line(1)),
-    // Numbers before it, after it and beside it.
+    // Numbers before it, after it and next to it.
     Step::Add(b"30", Target::Room(0), Ok(())),
     Step::Add(b"0", Target::Line(7), Ok(())),
     Step::Add(b"100", Target::Line(2), Ok(())),
@@ -80,7 +80,7 @@ fn is_full_with_256(rt: HostRuntime) {
     assert!(rt; plan.look(b"999") == Found::Nothing);
 }
 
-// Whether a fault has this number and this text.
+// Returns whether an error has this number and this text.
 fn is_named(alloc: Global, fault: PlanFault, number: u8, text: &str) -> Result<bool, Fail> {
     Ok(fault as u8 == number && format!(in alloc; "{fault}")?.as_str() == text)
 }

@@ -1,4 +1,4 @@
-//! A-law octets and values, beside another program's.
+//! A-law octets and values, compared with another program's.
 use alaw_codec::{CodeTable, compress, expand};
 use std::alloc::AllocError;
 
@@ -82,7 +82,7 @@ static ENCODED: [(i32, u8); 52] = [
     (-4095, 0x2A),
 ];
 
-// Whether each octet has an eighth of its entry as its value.
+// Returns whether each octet has an eighth of its entry as its value.
 fn decode_so(decoded: &[i16; 256]) -> bool {
     for octet in 0..=255u8 {
         if 8 * expand(octet) != i32::from(decoded[usize::from(octet)]) {
@@ -97,8 +97,8 @@ fn octets_decode_as_elsewhere(rt: HostRuntime) {
     assert!(rt; decode_so(&DECODED));
 }
 
-/// Values that the standard leaves open, and their octets here: a decision value is the lower end of
-/// its interval, below zero too, and the highest interval has no end.
+/// Values that the standard leaves open, and their octets here: a decision value is the lower end of its interval, also
+/// below zero, and the highest interval has no end.
 static LEFT_OPEN: [(i32, u8); 5] = [
     (-64, 0x75),
     (9000, 0xAA),
@@ -107,12 +107,12 @@ static LEFT_OPEN: [(i32, u8); 5] = [
     (i32::MIN, 0x2A),
 ];
 
-// Whether a value has this octet, by search and by the table.
+// Returns whether a value has this octet, by search and by the table.
 fn is_coded(codes: &CodeTable, value: i32, octet: u8) -> bool {
     compress(value) == octet && codes.code(value) == octet
 }
 
-// Whether each value has its octet.
+// Returns whether each value has its octet.
 fn are_coded(codes: &CodeTable, rows: &[(i32, u8)]) -> bool {
     for (value, octet) in rows {
         if !is_coded(codes, *value, *octet) {

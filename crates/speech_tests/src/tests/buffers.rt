@@ -1,11 +1,11 @@
-//! Speech memories, highways and the delay line: what is read was written.
+//! Speech memories, highways and the delay line: each returns the octets that were written.
 ghost use Rattle.std.specs.Prelude.{◌≡◌};
 
 use circuit_model::{IDLE, Slot};
 use frame_buffer::{Crossed, DelayLine, FrameBuffer, Highway};
 use std::alloc::AllocError;
 
-// What the last slot of the second line hears in a frame, in which the lines send these octets.
+// Returns the octet that the last slot of the second line receives in a frame in which the lines send these octets.
 fn heard_in_frame(line: &mut DelayLine, sent: [Option<u8>; 2]) -> u8
     requires { line.old.external ≡ 2 }
     ensures { line.new.external ≡ 2 }
@@ -32,7 +32,7 @@ fn two_frames_late(rt: HostRuntime) -> Result<(), AllocError> {
     Ok(())
 }
 
-// Fills a line with an octet, and changes the halves: what is read of the line before that and after it.
+// Fills a line with an octet, and swaps the halves. Returns the octets that are read from the line before and after.
 fn heard_around_swap(buffer: &mut FrameBuffer, octet: u8) -> (u8, u8)
     requires { buffer.old.lines ≡ 2 }
     ensures { buffer.new.lines ≡ 2 }

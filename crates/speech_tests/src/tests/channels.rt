@@ -1,4 +1,4 @@
-//! The bearer channels of a line: the ends of both halves, and the numbers that carry no bearer.
+//! The bearer channels of a line: the ends of both halves, and the numbers that are not a bearer channel's.
 use circuit_model::{channel_of, slot_of_channel};
 
 #[test]

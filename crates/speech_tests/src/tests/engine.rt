@@ -17,15 +17,15 @@ const FAR: Slot = Slot { line: 1, place: 29 };
 
 const RINGING: Slot = Slot { line: 1, place: 1 };
 
-/// A frame over two external lines, and what is heard in it. A path leads from NEAR to FAR since
+/// A frame over two external lines, and the octets that are received in it. There is a path from NEAR to FAR since
 /// frame 0, and RINGING has a tone since frame 1.
 #[derive(Clone, Copy)]
 struct Turn {
     /// The internal slot of the path.
     slot: u8,
-    /// What the first line sends in each place.
+    /// The octet that the first line sends in each place.
     sent: u8,
-    /// What FAR hears, and what RINGING does.
+    /// The octets that FAR and RINGING receive.
     heard: (u8, u8),
 }
 
@@ -45,7 +45,7 @@ fn show(image: &mut Image, frame: u32, slot: u8)
     }
 }
 
-// Carries a frame, and tells what FAR and RINGING hear in it.
+// Carries a frame, and returns the octets that FAR and RINGING receive in it.
 fn carry(
     rt: &(impl Threads + Sync),
     engine: &mut Engine,
@@ -90,7 +90,7 @@ pub(super) struct Parts {
     pub(super) engine: Engine,
 }
 
-/// The parts for these sizes. Memory may run out at each, so they are made apart from what is done with them.
+/// Makes the parts for these sizes. An allocation can fail at each, so they are made separately from their use.
 pub(super) fn parts_for(
     alloc: Global,
     external: u8,
@@ -112,7 +112,7 @@ pub(super) fn parts_for(
     })
 }
 
-// That there is memory is beside every contract.
+// Tests that there is memory, which no contract states.
 #[test]
 fn a_full_engine_is_made(rt: HostRuntime) -> Result<(), Fail> {
     let full = Engine::new(rt.alloc(), 32, 2, 59)?;
@@ -156,7 +156,7 @@ const TURNS: [Turn; 6] = [
     },
 ];
 
-// Whether the frames are heard as they should be, by an engine that has carried none.
+// Returns whether the frames have the expected octets, with an engine that has carried none.
 fn are_heard(
     rt: &(impl Threads + Sync),
     engine: &mut Engine,

@@ -1,5 +1,5 @@
-//! Two traces of `examples/` by control memories that are written by hand. An engine plays the octets of their
-//! reports, and so do stages that are shared by halves.
+//! Two traces of `examples/` with control memories that are written by hand. An engine outputs the octets of their
+//! reports, and so do stages whose lines are halved.
 ghost use Rattle.std.specs.Prelude.{◌≡◌, ◌+◌, ◌≤◌, ◌<◌};
 ghost use Rattle.circuit_model.specs.declared.circuit.Kind.{Kind};
 ghost use Rattle.tone_rules.specs.Tables.{IsGiven};
@@ -14,7 +14,7 @@ use std::test::Fail;
 use std::thread::Threads;
 use tone_rules::Tones;
 
-/// A trace of six frames on three lines, each with thirty internal slots.
+/// A trace of six frames on three lines, each with 30 internal slots.
 #[derive(Clone, Copy)]
 enum Trace {
     /// `examples/rearrangement`: two paths move before frame 3.
@@ -23,7 +23,7 @@ enum Trace {
     LoudRoom,
 }
 
-/// What is heard of a frame with an even number in `examples/rearrangement`.
+/// The octets of the lines in a frame with an even number in `examples/rearrangement`.
 const EVEN: [[u8; 30]; 3] = [
     [
         0x80, 0x82, 0x84, 0x86, 0x88, 0x8A, 0x8C, 0x8E, 0x90, 0x92, 0x94, 0x96, 0x98, 0x9A, 0x9C,
@@ -39,7 +39,7 @@ const EVEN: [[u8; 30]; 3] = [
     ],
 ];
 
-/// What is heard of one with an odd number.
+/// The octets of the lines in a frame with an odd number.
 const ODD: [[u8; 30]; 3] = [
     [
         0x81, 0x83, 0x85, 0x87, 0x89, 0x8B, 0x8D, 0x8F, 0x91, 0x93, 0x95, 0x97, 0x99, 0x9B, 0x9D,
@@ -55,7 +55,7 @@ const ODD: [[u8; 30]; 3] = [
     ],
 ];
 
-/// What is heard of the last but two, in which the newest path carries too.
+/// The octets of the lines in the last frame but two, in which the newest path carries too.
 const LAST: [[u8; 30]; 3] = [
     [
         0x81, 0x83, 0x85, 0x87, 0x89, 0x8B, 0x8D, 0x8F, 0x91, 0x93, 0x95, 0x97, 0x99, 0x9B, 0x9D,
@@ -71,16 +71,16 @@ const LAST: [[u8; 30]; 3] = [
     ],
 ];
 
-/// A line on which nothing is heard.
+/// The octets of a silent line.
 const SILENT: [u8; 30] = [IDLE; 30];
 
-/// A line on which the loudest positive octet is heard in the first place.
+/// The octets of a line that receives the loudest positive octet in the first place.
 const LOUD: [u8; 30] = [
     0xAA, IDLE, IDLE, IDLE, IDLE, IDLE, IDLE, IDLE, IDLE, IDLE, IDLE, IDLE, IDLE, IDLE, IDLE, IDLE,
     IDLE, IDLE, IDLE, IDLE, IDLE, IDLE, IDLE, IDLE, IDLE, IDLE, IDLE, IDLE, IDLE, IDLE,
 ];
 
-// Joins two slots, there and back, by these internal slots.
+// Joins two slots in both directions by these internal slots.
 fn join(image: &mut Image, near: Slot, far: Slot, there: u8, back: u8, since: u32)
     requires sizes { (image.old.external ≡ 3) × (image.old.bridges ≡ 1) × (image.old.slots ≡ 30) }
     requires near { (near.line < 3) × (near.place < 30) }
@@ -95,8 +95,8 @@ fn join(image: &mut Image, near: Slot, far: Slot, there: u8, back: u8, since: u3
     image.set_heard(far, Heard::Path { since });
 }
 
-// Writes the paths of lines 0 and 1 to line 2 and back, thirty of each. Once they moved, two of those back
-// are in other internal slots, and lines 0 and 1 are joined too.
+// Writes the paths of lines 0 and 1 to line 2 and back, 30 of each. After the move, two of those back are in other
+// internal slots, and lines 0 and 1 are joined too.
 fn lay_pairs(image: &mut Image, moved: bool)
     requires sizes { (image.old.external ≡ 3) × (image.old.bridges ≡ 1) × (image.old.slots ≡ 30) }
     ensures sizes { (image.new.external ≡ 3) × (image.new.bridges ≡ 1) × (image.new.slots ≡ 30) }
@@ -153,7 +153,7 @@ fn show(trace: Trace, image: &mut Image, frame: u32)
     }
 }
 
-// What a line sends in a frame.
+// Returns the octets that a line sends in a frame.
 fn sent(trace: Trace, frame: u32, line: u8) -> [u8; 30] {
     let mut octets = SILENT;
     match trace {
@@ -168,7 +168,7 @@ fn sent(trace: Trace, frame: u32, line: u8) -> [u8; 30] {
     octets
 }
 
-// What the lines hear in a frame, as the report of the trace has it.
+// Returns the octets that the lines receive in a frame of the trace's report.
 fn reported(trace: Trace, frame: u32) -> [[u8; 30]; 3] {
     match (trace, frame) {
         (Trace::Rearrangement, 2 | 4) => EVEN,
@@ -180,7 +180,7 @@ fn reported(trace: Trace, frame: u32) -> [[u8; 30]; 3] {
     }
 }
 
-// What the lines send in a frame.
+// Returns the octets that the lines send in a frame.
 fn sent_by_all(trace: Trace, frame: u32) -> [[u8; 30]; 3] {
     [
         sent(trace, frame, 0),
@@ -189,7 +189,7 @@ fn sent_by_all(trace: Trace, frame: u32) -> [[u8; 30]; 3] {
     ]
 }
 
-// Carries a frame, and tells whether the lines hear what the report has.
+// Carries a frame, and returns whether the lines receive the octets of the report.
 fn hears_as_reported(
     rt: &(impl Threads + Sync),
     engine: &mut Engine,
@@ -221,8 +221,8 @@ fn hears_as_reported(
     out == reported(trace, frame)
 }
 
-// Whether an engine that has carried no frame plays the frames of a trace as the report has them. (A bridge line in
-// which nobody sits gives nothing.)
+// Returns whether an engine that has carried no frame outputs the octets of a trace's report. (A bridge line without
+// members sends nothing.)
 fn are_heard_as_reported(
     rt: &(impl Threads + Sync),
     engine: &mut Engine,
@@ -244,7 +244,7 @@ fn are_heard_as_reported(
     true
 }
 
-// Whether a new engine whose stages have n levels of halves plays a trace as the report has it.
+// Returns whether a new engine whose stages have n levels of halves outputs the octets of a trace's report.
 fn sounds_with(
     rt: &(impl Threads + Sync),
     alloc: Global,
@@ -271,7 +271,7 @@ fn traces_sound_as_reported_whatever_the_levels(rt: HostRuntime) -> Result<(), F
     Ok(())
 }
 
-// Whether stages of halves that have carried no frame send the octets of a trace's report.
+// Returns whether halved stages that have carried no frame send the octets of a trace's report.
 fn are_sent_as_reported(
     rt: &(impl Threads + Sync),
     stages: &mut HalvedStages,
@@ -295,7 +295,7 @@ fn are_sent_as_reported(
     true
 }
 
-// Whether stages of halves send a trace as the report has it.
+// Returns whether halved stages send a trace as its report states.
 fn sounds_by_halves(
     rt: &(impl Threads + Sync),
     alloc: Global,

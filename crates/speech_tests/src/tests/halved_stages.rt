@@ -1,5 +1,4 @@
-//! The stages of an engine of three external lines and a bridge line, whose halves each have a thread of
-//! their own.
+//! The stages of an engine of three external lines and a bridge line, with a thread for each half.
 ghost use Rattle.std.specs.Prelude.{◌≡◌, IfOk};
 
 use circuit_model::{IDLE, Slot};
@@ -12,10 +11,10 @@ use std::mem;
 use std::thread::Threads;
 use time_stage::{incoming_by_halves, outgoing_by_halves};
 
-/// How often the lines of a stage are halved: some parts have one line, and others have none.
+/// The number of times that the lines of a stage are halved: some parts have one line, and others have none.
 const LEVELS: u8 = 3;
 
-/// A half has a thread of its own, however few octets it has.
+/// Each half has its own thread, however few octets it has.
 const NO_OCTETS: usize = 0;
 
 /// The memories of the stages, and the control memory of the frame that crossed last.
@@ -28,7 +27,7 @@ pub(super) struct HalvedStages {
     pub(super) crossed: Crossed,
 }
 
-// Two speech memories of four lines.
+// Returns two speech memories of four lines.
 fn memories(alloc: Global) -> Result<(FrameBuffer, FrameBuffer), AllocError>
     ensures lines { IfOk result (λ m. (m.0.lines ≡ 4) × (m.1.lines ≡ 4)) }
 {
@@ -37,7 +36,7 @@ fn memories(alloc: Global) -> Result<(FrameBuffer, FrameBuffer), AllocError>
     Ok((speech, read))
 }
 
-// The highways of four lines before the space stage and after it.
+// Returns the highways of four lines before the space stage and after it.
 fn highways(alloc: Global) -> Result<(Highway, Crossed), AllocError>
     ensures lines { IfOk result (λ h. (h.0.lines ≡ 4) × (h.1.lines ≡ 4)) }
     ensures slots { IfOk result (λ h. (h.0.slots ≡ 30) × (h.1.slots ≡ 30)) }
@@ -66,7 +65,7 @@ pub(super) fn halved_stages(alloc: Global) -> Result<HalvedStages, AllocError>
     })
 }
 
-/// Carries a frame as an engine does, and returns what the external lines send in it.
+/// Carries a frame as an engine does, and returns the octets that the external lines send in it.
 pub(super) fn carry_halved(
     rt: &(impl Threads + Sync),
     stages: &mut HalvedStages,
@@ -121,12 +120,12 @@ pub(super) fn carry_halved(
     out
 }
 
-// Whether a path that exists since a frame carries octets in this one.
+// Returns whether a path that exists since a frame carries octets in this one.
 fn is_through(since: u32, frame: u32) -> bool {
     since < frame.saturating_sub(1)
 }
 
-// Gives each port of the bridge line what the members of the other ports sent. All members are of one room.
+// Writes for each port of the bridge line the mix of the other ports. All members are of one room.
 fn mix_room(read: &FrameBuffer, image: &Image, speech: &mut FrameBuffer)
     requires read { read.now.lines ≡ 4 }
     requires image { (image.now.external ≡ 3) × (image.now.bridges ≡ 1) }
@@ -147,7 +146,7 @@ fn mix_room(read: &FrameBuffer, image: &Image, speech: &mut FrameBuffer)
     speech.put_line(3, &octets);
 }
 
-// What the external lines send of the octets that were read out.
+// Returns the octets that the external lines send, from those that were read.
 fn sent_by(read: &FrameBuffer, image: &Image) -> [[u8; 30]; 3]
     requires read { read.now.lines ≡ 4 }
     requires image { (image.now.external ≡ 3) × (image.now.bridges ≡ 1) }

@@ -1,4 +1,4 @@
-//! The ports of the bridges: one that is given back is given again.
+//! The ports of the bridges: one that is returned is allocated again.
 use circuit_model::Slot;
 use conference_ports::Ports;
 use std::alloc::AllocError;

@@ -1,10 +1,10 @@
-//! Conference rooms, beside what another program adds up.
+//! Conference rooms, compared with the sums of another program.
 use alaw_codec::CodeTable;
 use conference_mix::{MAX_MEMBERS, Mixer, Seated, mix};
 use std::alloc::AllocError;
 
-/// Five members, and what each of them hears: the other octets decoded, added and encoded again by
-/// Python's `audioop` (`alaw2lin`, `add`, `lin2alaw`, at sixteen bits), which saturates as this bridge.
+/// Five members, and the octet that each hears: the other octets decoded, added and encoded again by Python's `audioop`
+/// (`alaw2lin`, `add`, `lin2alaw`, at sixteen bits), which saturates as this bridge does.
 static MIXED: [([Option<u8>; 5], [u8; 5]); 6] = [
     (
         [None, Some(0xCA), Some(0x18), Some(0x25), Some(0x30)],
@@ -32,10 +32,10 @@ static MIXED: [([Option<u8>; 5], [u8; 5]); 6] = [
     ),
 ];
 
-/// Rooms of other sizes. The loudest positive octet three times: each sum of two, 8064, saturates. With
-/// one of them as loud below zero, the sum of the two others is 0, which is the idle octet, and the third
-/// still saturates: a total that saturated before the own value is taken out would give other octets.
-/// Alone in a room a member hears the idle octet, and two hear each other unchanged.
+/// Rooms of other sizes. The loudest positive octet three times: each sum of two, 8064, saturates. If one of them is as
+/// loud below zero, the sum of the two others is 0, which is the idle octet, and the third still saturates. A total
+/// that saturated before the own value is subtracted would give other octets. The only member of a room hears the idle
+/// octet, and two members hear each other unchanged.
 const ROOMS: [(&[Option<u8>], &[u8]); 9] = [
     (&[Some(0xAA), Some(0xAA), Some(0xAA)], &[0xAA, 0xAA, 0xAA]),
     (&[Some(0xAA), Some(0xAA), Some(0x2A)], &[0xD5, 0xD5, 0xAA]),
@@ -48,7 +48,7 @@ const ROOMS: [(&[Option<u8>], &[u8]); 9] = [
     (&[None; MAX_MEMBERS], &[0xD5; MAX_MEMBERS]),
 ];
 
-// Whether the members of a room hear these octets.
+// Returns whether the members of a room hear these octets.
 fn sounds(members: &[Option<u8>], heard: &[u8]) -> bool {
     if members.len() > MAX_MEMBERS {
         return false;
@@ -83,8 +83,8 @@ fn rooms_sound_as_elsewhere(rt: HostRuntime) {
     assert!(rt; all_sound_so(&ROOMS));
 }
 
-// What is heard where these five members sit in one room, five loud ones in another, port by port in
-// turn, and nobody in a last port.
+// Returns the octets that are heard if these five members are in one room, five loud ones in another, port by port in
+// turn, and no member at a last port.
 fn heard_beside(codes: &CodeTable, members: &[Option<u8>; 5]) -> [u8; 11] {
     let mut mixer = Mixer::new(11);
     for k in 0..5 {
@@ -98,7 +98,7 @@ fn heard_beside(codes: &CodeTable, members: &[Option<u8>; 5]) -> [u8; 11] {
     out
 }
 
-// Whether five members hear what they do alone, and the loud ones and the last port what they do.
+// Returns whether five members hear the octets of a room by itself, and the loud ones and the last port theirs.
 fn sounds_beside(codes: &CodeTable, members: &[Option<u8>; 5], heard: &[u8; 5]) -> bool {
     let [a, v, b, w, c, x, d, y, e, z, free] = heard_beside(codes, members);
     [a, b, c, d, e] == *heard && [v, w, x, y, z, free] == [0xAA, 0xAA, 0xAA, 0xAA, 0xAA, 0xD5]
@@ -113,7 +113,7 @@ fn all_sound_beside(codes: &CodeTable, rows: &[([Option<u8>; 5], [u8; 5])]) -> b
     true
 }
 
-/// Members of two rooms in turn, and a place where nobody sits: each room sounds as it does alone.
+/// Members of two rooms in turn, and a port without a member: each room sounds as it does by itself.
 #[test]
 fn rooms_do_not_hear_each_other(rt: HostRuntime) -> Result<(), AllocError> {
     let mixed = MIXED;

@@ -1,4 +1,4 @@
-//! Octets that pass the three stages of a fabric of two lines, by one call each and by halves of them.
+//! Octets that pass through the three stages of a fabric of two lines, by one call each and by halves of them.
 mod halves;
 
 ghost use Rattle.std.specs.Prelude.{◌≡◌, ◌<◌, ◌≤◌, IfOk};
@@ -45,7 +45,7 @@ fn join_three(image: &mut Image)
     join(image, second, second, 0);
 }
 
-// What passes from stage to stage, and the tables that say where to.
+// The octets between the stages, and the tables of their paths.
 #[derive(Drop)]
 struct Parts {
     image: Image,
@@ -55,7 +55,7 @@ struct Parts {
     out: FrameBuffer,
 }
 
-// Two speech memories.
+// Returns two speech memories.
 fn memories(alloc: Global, lines: u8) -> Result<(FrameBuffer, FrameBuffer), AllocError>
     ensures lines { IfOk result (λ m. (m.0.lines ≡ lines) × (m.1.lines ≡ lines)) }
 {
@@ -64,7 +64,7 @@ fn memories(alloc: Global, lines: u8) -> Result<(FrameBuffer, FrameBuffer), Allo
     Ok((buffer, out))
 }
 
-// The highways in front of the space stage and behind it.
+// Returns the highways before the space stage and after it.
 fn highways(alloc: Global, lines: u8, slots: u8) -> Result<(Highway, Crossed), AllocError>
     ensures lines { IfOk result (λ h. (h.0.lines ≡ lines) × (h.1.lines ≡ lines)) }
     ensures slots { IfOk result (λ h. (h.0.slots ≡ slots) × (h.1.slots ≡ slots)) }
@@ -74,8 +74,8 @@ fn highways(alloc: Global, lines: u8, slots: u8) -> Result<(Highway, Crossed), A
     Ok((highway, crossed))
 }
 
-// The parts for n lines with their internal slots, without a path. Memory may run out at each, so they are made apart
-// from what is done with them.
+// Returns the parts for n lines with their internal slots, without a path. An allocation can fail at each, so they are
+// made separately from their use.
 fn parts_for(alloc: Global, lines: u8, slots: u8) -> Result<Parts, AllocError>
     requires lines { (1 ≤ lines) × (lines ≤ 34) }
     requires slots { (1 ≤ slots) × (slots ≤ 59) }
@@ -95,7 +95,7 @@ fn parts_for(alloc: Global, lines: u8, slots: u8) -> Result<Parts, AllocError>
     })
 }
 
-// Says what two lines say.
+// Writes the octets of two lines.
 fn speak(buffer: &mut FrameBuffer)
     requires lines { buffer.old.lines ≡ 2 }
     ensures lines { buffer.new.lines ≡ 2 }
@@ -110,7 +110,7 @@ fn speak(buffer: &mut FrameBuffer)
     buffer.swap();
 }
 
-// Two lines that speak, with two internal slots and three paths.
+// Returns two lines that send, with two internal slots and three paths.
 fn two_lines(alloc: Global) -> Result<Parts, AllocError>
     ensures image { IfOk result (λ p. (p.image.external ≡ 2) × (p.image.bridges ≡ 0) × (p.image.slots ≡ 2)) }
     ensures buffers { IfOk result (λ p. (p.buffer.lines ≡ 2) × (p.out.lines ≡ 2)) }
@@ -123,7 +123,7 @@ fn two_lines(alloc: Global) -> Result<Parts, AllocError>
     Ok(parts)
 }
 
-// How many slots of the lines are not idle.
+// Returns the number of slots of the lines that are not idle.
 fn speaking(out: &FrameBuffer) -> usize {
     out.rows_from(0)
         .iter()
@@ -131,7 +131,7 @@ fn speaking(out: &FrameBuffer) -> usize {
         .count()
 }
 
-// What the two lines send in their two internal slots, and what they get.
+// Returns the octets that the two lines send in their two internal slots, and the octets that they get.
 fn stage_by_stage(
     rt: &(impl Threads + Sync),
     alloc: Global,
@@ -167,7 +167,7 @@ fn stage_by_stage(
     Ok([sent, got])
 }
 
-// Whether the two lines send and get the octets of their paths.
+// Returns whether the two lines send and get the octets of their paths.
 fn pass_stage_by_stage(
     rt: &(impl Threads + Sync),
     alloc: Global,
@@ -189,7 +189,8 @@ fn octets_pass_stage_by_stage(rt: HostRuntime) -> Result<(), Fail> {
     Ok(())
 }
 
-// Whether the slots of the two lines hear the octets of their paths, and no other slot hears one.
+// Returns whether the slots of the two lines receive the octets of their paths, and no other slot receives one of these
+// octets.
 fn have_reached(out: &FrameBuffer) -> bool
     requires lines { out.now.lines ≡ 2 }
 {

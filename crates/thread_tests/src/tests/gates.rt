@@ -1,4 +1,4 @@
-// What a gate says it saw.
+// The record of a gate.
 use gate::{Gate, OpenGate, TestGate};
 use std::test::Fail;
 use std::thread::{Threads, join};
@@ -21,8 +21,8 @@ fn make<G: Gate>(gate: &G, call: Call) {
     }
 }
 
-// One thread that makes these calls in order at a gate for event 7 and frame 3. No hold is answered
-// while it waits, so the gate passes only where none had to wait.
+// One thread that makes these calls in order at a gate for event 7 and frame 3. No other thread ends a hold, so the
+// gate passes only if neither call had to wait.
 fn passes(calls: &[Call]) -> bool {
     let gate = TestGate::patient(7, 3, 5);
     for call in calls {
@@ -40,7 +40,7 @@ fn a_new_gate_has_not_passed(rt: HostRuntime) -> Result<(), Fail> {
     Ok(())
 }
 
-// What one thread calls, and whether the gate passes.
+// The calls of one thread, and whether the gate passes.
 const CALLS: [([Call; 3], bool); 6] = [
     // The turn was over when the crossing began, and other events and frames are not held.
     (
@@ -59,7 +59,7 @@ const CALLS: [([Call; 3], bool); 6] = [
         ],
         true,
     ),
-    // The turn waits for a crossing that doesn't begin.
+    // The turn waits for a crossing that does not begin.
     (
         [
             Call::BeforeTurn(7),
@@ -68,7 +68,7 @@ const CALLS: [([Call; 3], bool); 6] = [
         ],
         false,
     ),
-    // The crossing waits for a turn that doesn't end.
+    // The crossing waits for a turn that does not end.
     (
         [
             Call::BeforeCrossing(3),
@@ -77,7 +77,7 @@ const CALLS: [([Call; 3], bool); 6] = [
         ],
         false,
     ),
-    // Other events and frames don't count.
+    // Other events and frames do not count.
     (
         [
             Call::AfterTurn(8),
@@ -96,7 +96,7 @@ const CALLS: [([Call; 3], bool); 6] = [
     ),
 ];
 
-// Whether the gate passes where it should, and nowhere else.
+// Returns whether the gate passes if and only if it should.
 fn pass_as_wanted(rows: &[([Call; 3], bool)]) -> bool {
     for (calls, wanted) in rows {
         if passes(calls) != *wanted {

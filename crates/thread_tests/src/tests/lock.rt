@@ -10,8 +10,8 @@ use std::thread::Threads;
 use sum::Sum;
 use turn_lock::TurnLock;
 
-/// What came of a run: whether each step was answered as it should be, none where one found no turn or no baton;
-/// what seat 0 has after the joins, and the journal.
+/// The result of a run: whether each step had the expected result, or `None` if one found no turn or no baton; the
+/// turns and the baton of seat 0 after the joins, and the journal.
 #[derive(Drop)]
 struct Run {
     answered: Option<bool>,
@@ -20,8 +20,8 @@ struct Run {
     journal: Vec<(u32, u32)>,
 }
 
-// Seat 0 gives turns to seat 1, and turns and the baton to seat 2. The steps are made in their order, each a seat's number and an event, and then
-// the others are joined, seat 2 first where `swapped`.
+// Seat 0 gives turns to seat 1, and turns and the baton to seat 2. The steps are made in their order, each a seat's
+// number and an event, and then the others are joined, seat 2 first if `swapped` is true.
 fn three_seats<R: Wait>(
     rt: &R,
     alloc: Global,
@@ -60,7 +60,8 @@ fn three_seats<R: Wait>(
     })
 }
 
-// The journal of n seats that step the events 1 to `count`, each in its own thread and in turns of `turn` events.
+// Returns the journal of n seats that step the events 1 to `count`, each in its own thread and in turns of `turn`
+// events.
 fn in_threads<R: Threads + Wait + Sync>(
     rt: &R,
     alloc: Global,
@@ -82,7 +83,7 @@ fn in_threads<R: Threads + Wait + Sync>(
     Some(lock.close(zero).into_journal())
 }
 
-// Each seat's steps are in the journal in their order, each once, and nothing else does.
+// Returns whether each seat's steps are in the journal in their order, each once, and nothing else is.
 fn has_all(journal: &[(u32, u32)], seats: u32, count: u32) -> bool {
     for seat in 0..seats {
         let mut last = 0;
@@ -101,7 +102,7 @@ fn has_all(journal: &[(u32, u32)], seats: u32, count: u32) -> bool {
     Some(journal.len()) == (seats as usize).checked_mul(count as usize)
 }
 
-// Whether no other seat steps within a turn: the seat changes only after the last event of a turn.
+// Returns whether no other seat steps within a turn: the seat changes only after the last event of a turn.
 fn has_whole_turns(journal: &[(u32, u32)], count: u32, turn: u32) -> bool {
     let next = journal.iter().skip(1);
     journal.iter().zip(next).all(|(one, next)| one.0 == next.0
@@ -109,8 +110,8 @@ fn has_whole_turns(journal: &[(u32, u32)], count: u32, turn: u32) -> bool {
         || one.1.checked_rem(turn) == Some(0))
 }
 
-// Whether these steps are answered so, are in the journal in their order, and leave seat 0 n turns and the baton. None answered: a step
-// finds no turn or no baton.
+// Returns whether these steps have these results, are in the journal in their order, and leave seat 0 n turns and the
+// baton. Without results, a step finds no turn or no baton.
 fn comes_out<R: Wait>(
     rt: &R,
     alloc: Global,
@@ -156,7 +157,7 @@ fn seats_step_in_turn(rt: HostRuntime) -> Result<(), Fail> {
     let steps = [(0, 5), (1, 7), (0, 1)];
     let answers = [(0, 5), (1, 12), (2, 13)];
     assert!(rt; comes_out(&rt, rt.alloc(), [2, 2, 0], &steps, false, &answers, 1));
-    // The baton is seat 2's, who steps the reserved event; seat 0 may not.
+    // Seat 2 has the baton and steps the reserved event; seat 0 may not.
     assert!(rt; comes_out(&rt, rt.alloc(), [1, 1, 1], &[(2, 0)], false, &[(0, 0)], 2));
     assert!(rt; comes_out(&rt, rt.alloc(), [1, 1, 1], &[(0, 0)], false, &[], 0));
     // A second step of one turn.
@@ -165,8 +166,8 @@ fn seats_step_in_turn(rt: HostRuntime) -> Result<(), Fail> {
     Ok(())
 }
 
-// The journal of seat 0 and another one. Each steps several events in one turn, and passes the turn by a split, a join
-// or the close. `None` if a seat lacks the turn after its steps, or has it after a split.
+// Returns the journal of seat 0 and another one. Each steps several events in one turn, and passes the turn by a split,
+// a join or the close. `None` if a seat lacks the turn after its steps, or has it after a split.
 fn in_long_turns<R: Wait>(rt: &R, alloc: Global) -> Option<Vec<(u32, u32)>> {
     let Ok(sum) = Sum::new(alloc, 6) else {
         return None;
@@ -191,7 +192,7 @@ fn in_long_turns<R: Wait>(rt: &R, alloc: Global) -> Option<Vec<(u32, u32)>> {
     if kept && passed { Some(journal) } else { None }
 }
 
-// Whether the seats keep and pass their turns, and the journal has all steps.
+// Returns whether the seats keep and pass their turns, and the journal has all steps.
 fn keeps_turns<R: Wait>(rt: &R, alloc: Global) -> bool {
     let wanted = [(0, 1), (0, 2), (1, 3), (1, 4), (1, 5), (0, 6)];
     match in_long_turns(rt, alloc) {
@@ -206,7 +207,7 @@ fn a_seat_keeps_the_turn_until_it_passes_it(rt: HostRuntime) -> Result<(), Fail>
     Ok(())
 }
 
-// Whether each of n seats steps all events in its own thread, in whole turns of `turn` events.
+// Returns whether each of n seats steps all events in its own thread, in whole turns of `turn` events.
 fn all_step<R: Threads + Wait + Sync>(
     rt: &R,
     alloc: Global,

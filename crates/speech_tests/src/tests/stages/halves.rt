@@ -1,5 +1,5 @@
-//! Stages that are shared by halves of their lines, beside one call: that halves in threads of their own
-//! come to an end, with what one call gives.
+//! Stages whose lines are divided by halves, compared with one call: halves in their own threads end, with the result
+//! of one call.
 ghost use Rattle.std.specs.Prelude.{◌≡◌, ◌≤◌, ◌<◌};
 ghost use Rattle.frame_buffer.specs.Highways.{SameHighwaySize};
 ghost use Rattle.control_memory.specs.Image.{lines_of};
@@ -16,14 +16,14 @@ use time_stage::{
     incoming, incoming_by_halves, incoming_shared, outgoing, outgoing_by_halves, outgoing_shared,
 };
 
-/// How a stage is done.
+/// The way in which a stage is computed.
 #[derive(Clone, Copy)]
 pub(super) enum Way {
     /// By one call.
     Plain,
-    /// By halves, where they are worth threads.
+    /// By halves, if they are worth threads.
     Shared,
-    /// By halves, each in a thread of its own.
+    /// By halves, each in its own thread.
     Halved,
 }
 
@@ -67,7 +67,7 @@ pub(super) fn carry_by(
     }
 }
 
-// A path from each place to the same place of a line, by some internal slot: a layout that is not legal,
+// Writes a path from each place to the same place of a line, by some internal slot: a layout that is not legal,
 // in which some slots of a line have several paths.
 fn connect_all(image: &mut Image, lines: u8)
     requires few { lines ≤ 34 }
@@ -95,7 +95,7 @@ fn fill(octets: &mut [u8]) {
     }
 }
 
-// What the lines send, what crosses to them, and what they read, one after the other.
+// Returns the octets that the lines send, those that cross to them, and those that they read, in sequence.
 fn carried(
     rt: &(impl Threads + Sync),
     alloc: Global,
@@ -123,7 +123,7 @@ fn carried(
     octets_of(alloc, &mut parts)
 }
 
-// The octets on both highways, and those that were read.
+// Returns the octets on both highways, and those that were read.
 fn octets_of(alloc: Global, parts: &mut Parts) -> Result<Vec<u8>, AllocError> {
     let mut octets = Vec::new(alloc);
     octets.extend_from_slice(parts.highway.parts())?;
@@ -132,7 +132,7 @@ fn octets_of(alloc: Global, parts: &mut Parts) -> Result<Vec<u8>, AllocError> {
     Ok(octets)
 }
 
-// Whether the lines carry the same by each of the ways as by one call for each stage.
+// Returns whether the lines carry the same by each of the ways as by one call for each stage.
 fn carry_alike(rt: &(impl Threads + Sync), alloc: Global, lines: u8) -> Result<bool, AllocError>
     requires lines { (1 ≤ lines) × (lines ≤ 34) }
 {
@@ -145,7 +145,7 @@ fn carry_alike(rt: &(impl Threads + Sync), alloc: Global, lines: u8) -> Result<b
     Ok(true)
 }
 
-// Whether the lines carry these octets.
+// Returns whether the lines carry these octets.
 fn carry_these(
     rt: &(impl Threads + Sync),
     alloc: Global,
@@ -170,7 +170,7 @@ fn shared_stages_carry_what_plain_ones_do(rt: HostRuntime) -> Result<(), Fail> {
     Ok(())
 }
 
-// Whether each line gets by itself what it gets by one call for all lines.
+// Returns whether each line gets by itself the octets that it gets by one call for all lines.
 fn gets_alike(highway: &Highway, image: &Image, crossed: &Crossed) -> bool
     requires lines { highway.now.lines ≡ lines_of image.now }
     requires slots { (highway.now.slots ≡ 59) × (image.now.slots ≡ 59) }
@@ -186,7 +186,7 @@ fn gets_alike(highway: &Highway, image: &Image, crossed: &Crossed) -> bool
     true
 }
 
-// Whether each of n lines gets by itself what it gets with the others.
+// Returns whether each of n lines gets by itself the octets that it gets with the others.
 fn cross_alike(alloc: Global, lines: u8) -> Result<bool, AllocError>
     requires lines { (1 ≤ lines) × (lines ≤ 34) }
 {

@@ -28,8 +28,8 @@ pub fn step_once<R: Wait>(
     Some(lock.step(rt, seat, event, &mut tool, keep))
 }
 
-/// Steps of three seats in this order, each a seat's number and an event. Whether the place and the sum of each are these;
-/// none where a step finds no turn or no baton.
+/// Steps of three seats in this order, each a seat's number and an event. Returns whether the place and the sum of each
+/// are these, or `None` if a step finds no turn or no baton.
 pub fn step_all<R: Wait>(
     rt: &R,
     lock: &TurnLock<Sum>,

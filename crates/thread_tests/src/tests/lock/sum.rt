@@ -1,10 +1,10 @@
-//! A sum that many seats add to.
+//! A sum to which many seats add.
 ghost use Rattle.std.specs.Prelude.{◌≡◌, ◌-◌, ◌≤◌, [], length, vec_capacity, IfOk};
 
 use std::alloc::{AllocError, Global};
 use turn_lock::Stepper;
 
-/// A step adds its event and answers the sum. The tool counts the steps. Event 0 is reserved.
+/// A step adds its event and returns the sum. The tool counts the steps. Event 0 is reserved.
 #[derive(Drop)]
 pub struct Sum {
     total: u64,
@@ -14,7 +14,7 @@ pub struct Sum {
 }
 
 impl Sum {
-    /// No sum yet, and room for n entries.
+    /// Makes an empty sum, with capacity for n entries.
     pub fn new(alloc: Global, most: u32) -> Result<Sum, AllocError>
         ensures { IfOk result (λ s. (s.journal.items ≡ []) × (s.most ≡ most)) }
     {
