@@ -14,6 +14,7 @@ from dataclasses import dataclass, field, replace
 
 from commands import Refused
 from q931 import (
+    ALERTING,
     CALL_PROCEEDING,
     CONNECT,
     DISCONNECT,
@@ -80,8 +81,10 @@ class Call:
     rows: list = field(default_factory=list)
     caller: Leg | None = None
     called: Leg | None = None
+    alerted: int | None = None  # the frame
     answered: int | None = None  # the frame
     cleared: tuple | None = None  # the frame and the cause
+    released: int | None = None  # the frame, once no leg is left
     refused: int | None = None  # the cause
 
 
@@ -212,6 +215,8 @@ class Run:
         if leg.dials and row.message.kind == INFORMATION:
             self._information(leg, row, sent)
         self._note(call, row, leg, sent)
+        if any(message.kind == ALERTING for _, message in sent):
+            call.alerted = row.frame
         if any(message.kind == CONNECT for _, message in sent):
             self._answer(call, row.frame)
         if ends_leg(row.message) or row.message.kind == DISCONNECT:
@@ -268,9 +273,11 @@ class Run:
         return leg
 
     def _end(self, name):
-        slot = self._legs.pop(name).slot
-        self._leave(slot)
-        self.uses.pop(slot, None)
+        leg = self._legs.pop(name)
+        self._leave(leg.slot)
+        self.uses.pop(leg.slot, None)
+        if all(other.call is not leg.call for other in self._legs.values()):
+            leg.call.released = self.frames
 
     def _note(self, call, row, leg, sent):
         call.rows.append(replace(row, leg=leg))

@@ -7,12 +7,13 @@ import tempfile
 import time
 from pathlib import Path
 
-from commands import Refused, say
+from commands import NAME, Refused, say
 from reading import METER, MOST_BYTES, MOST_EVENTS, reply
 
 TOP = Path(__file__).resolve().parent.parent
 PROGRAM = TOP / "crates" / "tst" / "out" / "tst"  # proved
 UNPROVED = TOP / "tools" / "out" / "tst"
+BUILD_SECONDS = 10  # between two lines on how long a build takes
 TEXT = ("utf-8", "surrogateescape")  # how octets of scripts and comments are read and written: none is lost
 
 
@@ -42,14 +43,18 @@ def build_unproved():
     place = PROGRAM.relative_to(TOP)
     if shutil.which("rt") is None:
         raise Refused(f"{place} is not built, and the commands of the Rattle kit are not on the path")
-    say(f"{place} is not built: `rt try` builds an unproved program, which takes a minute or two")
+    say(f"{place} is not built: `rt try` builds an unproved program, which takes about two minutes")
     UNPROVED.parent.mkdir(exist_ok=True)
     UNPROVED.unlink(missing_ok=True)
     with tempfile.TemporaryDirectory(dir=UNPROVED.parent) as folder:
-        words = ["rt", "try", "--", "gen", "1", "2000"]  # a run that is long enough for the program to be found
+        words = ["rt", "try", "--seconds", "600", "--", "gen", "1", "200"]  # long enough for the program to be found
         streams = dict.fromkeys(("stdin", "stdout", "stderr"), subprocess.DEVNULL)
+        begun = said = time.monotonic()
         build = subprocess.Popen(words, cwd=PROGRAM.parent.parent, env={**os.environ, "TMPDIR": folder}, **streams)
         while build.poll() is None:
+            if time.monotonic() - said >= BUILD_SECONDS:
+                said = time.monotonic()
+                say(f"{NAME}: `rt try` has been building for {said - begun:.0f} s")
             for found in Path(folder).glob("**/program"):
                 if not UNPROVED.exists():
                     os.link(found, UNPROVED)
