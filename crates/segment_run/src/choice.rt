@@ -5,7 +5,7 @@ ghost use Rattle.segment_run.specs.declared.choice.TheConstants.{FEWEST_BESIDE};
 
 /// The least number of events outside the largest part of a segment for which threads pay. `bench/README.md` has the
 /// measurements.
-pub const FEWEST_BESIDE: u32 = 128;
+pub const FEWEST_BESIDE: u32 = 4096;
 
 /// Returns whether all parts of a segment except the largest have enough events together for threads, from the number
 /// of events of each worker.
