@@ -7,10 +7,10 @@
 //! processors, and their segments are of any length. Behind them comes one long trace of each kind, whose one segment
 //! has enough events for threads. Up to four meters are handed in and up to four spare
 //! ones, which are changed between segments: their lines in the report, and what is left of them, have to
-//! be what plain meters say of the calls that the plain program saw end. Each trace is run four times: all segments in
-//! threads by turns of one event, as the program decides, where small ones have to come in the order of the file, in
-//! threads that keep their turns, within which no other worker may have an event, and in threads
-//! on a strict fabric, where each number of moved paths has to be 0. The order of each report has to hold
+//! be what plain meters say of the calls that the plain program saw end. Each trace is run three times: all segments in
+//! threads by turns of one event, as the program decides, where small ones have to come in the order of the file, and
+//! on a strict fabric in threads that keep their turns, within which no other worker may have an event; there each number
+//! of moved paths has to be 0. The order of each report has to hold
 //! every event once and be a lawful one, and the plain program takes the events in that order, from
 //! nothing.
 //!
@@ -57,8 +57,8 @@ const SEED: u64 = 1976;
 /// How many events a trace of calls has.
 const EVENTS: u32 = 250;
 
-/// Runs a trace in threads by turns of one event, as the program decides, in threads that keep their turns, and in
-/// threads on a strict fabric. It counts the trace if each report is the plain program's. Whether they are.
+/// Runs a trace in threads by turns of one event, as the program decides, and on a strict fabric in threads that keep
+/// their turns. It counts the trace if each report is the plain program's. Whether they are.
 ///
 /// A long trace is never run by turns of one event: each is a hand-over between threads, which takes long on a machine that
 /// has other work.
@@ -80,12 +80,9 @@ fn run_each_way<S: Setting, R: Threads + Wait + Sync>(
     let Some(decided) = agreed(rt, alloc, script, setting, false, &OpenGate)? else {
         return Ok(false);
     };
-    let Some(kept) = agreed(rt, alloc, script, setting, false, &keeping)? else {
+    let Some(kept) = agreed(rt, alloc, script, setting, true, &keeping)? else {
         return Ok(false);
     };
-    if agreed(rt, alloc, script, setting, true, &mixed)?.is_none() {
-        return Ok(false);
-    }
     orders.add(script, in_threads, decided, kept);
     Ok(true)
 }
