@@ -1,30 +1,28 @@
-//! The test of the headline: pseudo-random traces through the whole exchange, whose reports are
-//! compared with the reports of plain programs in the very order that the threads took.
+//! The test of the main theorem: pseudo-random traces through the whole exchange, whose reports are compared with the
+//! reports of reference models in the order that the threads took.
 //!
-//! `random_tests TRACES` draws that many traces of nails, whose octets are compared with the octets of
-//! a delay line; that many with seats too, compared with the definitions' own program; and that
-//! many of calls, tones and timers, compared with a plain program of calls. They are for one to eight call
-//! processors, and their segments are of any length. Behind them comes one long trace of each kind, whose one segment
-//! has enough events for threads. Up to four meters are handed in and up to four spare
-//! ones, which are changed between segments: their lines in the report, and what is left of them, have to
-//! be what plain meters say of the calls that the plain program saw end. Each trace is run three times: all segments in
-//! threads by turns of one event, as the program decides, where small ones have to come in the order of the file, and
-//! on a strict fabric in threads that keep their turns, within which no other worker may have an event; there each number
-//! of moved paths has to be 0. The order of each report has to hold
-//! every event once and be a lawful one, and the plain program takes the events in that order, from
-//! nothing.
+//! `random_tests TRACES` draws that many traces of each of three kinds. The octets of nails are compared with the
+//! octets of a delay line. The octets of rooms are compared with a program of the definitions. Calls with tones and
+//! timers are compared with a reference model of calls. The traces are for one to eight call processors, and their
+//! segments have any length. One long trace of each kind follows, whose one segment has enough events for threads.
 //!
-//! Each report is given to the verifier, which has to find it valid; and the plain program's reports of
-//! calls, in lawful orders that are drawn, are given to it as they are and changed in ten ways, some for each
-//! trace, beside the plain program, which does the events again in the order of the lines.
+//! Up to four active and four spare meters are passed, and changed between segments. Their lines in the report, and
+//! their texts at the end, must be the texts of reference meters for the calls that the reference model saw end.
 //!
-//! It names a trace whose report differs, and then its status is 1. Which order threads take is
-//! chance, so all that it prints is of the traces, or of their events in file order; only the error
-//! output says in how many traces threads took another order than the file's, and the status is 1
-//! where that is none. It is proved safe; what it compares is tested, not proved.
+//! Each trace is run three times: all segments in threads by turns of one event, as the program decides, and on a
+//! strict fabric in threads that keep their turns. If the program decides, small segments must have the order of the
+//! file. No other worker may have an event within a turn that is kept, and on a strict fabric no path may move. Each
+//! report must have every event once, in a lawful order. The reference model processes the events in that order, from
+//! the start.
 //!
-//! It uses `ex_io`, `circuit_model`, `frame_buffer`, `plain_model`, `test_exchange`,
-//! `test_traffic`, `frame_engine`, `meters`, `gate`, `call_processor`, `segment_run`, `run_verifier` and `exchange_top`.
+//! The verifier must accept each report. It is also given the reference model's reports of calls in lawful orders that
+//! are drawn, unchanged and corrupted in ten ways. A plain program that processes the events in the order of the lines
+//! checks each verdict.
+//!
+//! The program names each trace whose report differs, and its status is then 1. The order that the threads take is not
+//! reproducible. Standard output therefore depends only on the traces and on file order. Standard error counts the
+//! traces whose events ran in another order. The status is 1 if there are none. The program is proved safe; what it
+//! compares is tested, not proved.
 #![tactic(auto)]
 
 mod changes;
@@ -60,8 +58,8 @@ const EVENTS: u32 = 250;
 /// Runs a trace in threads by turns of one event, as the program decides, and on a strict fabric in threads that keep
 /// their turns. It counts the trace if each report is the plain program's. Whether they are.
 ///
-/// A long trace is never run by turns of one event: each is a hand-over between threads, which takes long on a machine that
-/// has other work.
+/// A long trace is never run by turns of one event: each is a hand-over between threads, which takes long on a machine
+/// that has other work.
 ///
 /// No run leaves more than what is said of its order, so that there is nothing to drop where memory runs
 /// out in the next.

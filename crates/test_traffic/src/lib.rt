@@ -1,13 +1,11 @@
-//! Pseudo-random traces of calls, for tests: what the users of several lines send, beside nails,
-//! seats, frees and frames.
+//! Pseudo-random traces of calls, for tests: messages of the users of several lines, with nails, seats, frees and
+//! frames.
 //!
-//! [`draw_traffic`] and [`draw_long_traffic`] look at the legs of a plain exchange that takes the same events, so that most
-//! messages are expected ones, and calls come far. The rest are unexpected, damaged or no messages
-//! at all. In some traces frames come in runs, so that legs wait too long. [`Counts`] tells how often each
-//! course of a message came, [`Expiries`] how often each timer ran out, and [`is_lawful`] which orders the
-//! events of a trace may take. It is proved safe; no clause says what is drawn.
-//!
-//! It uses `circuit_model` and `test_exchange`.
+//! [`draw_traffic`] and [`draw_long_traffic`] look at the legs of a reference model that processes the same events.
+//! Therefore most messages are expected ones, and calls proceed to their end. The others are unexpected or damaged, or
+//! are no messages. In some traces frames come in sequences, so that timers expire. [`Counts`] counts each act for a
+//! message, [`Expiries`] each timer that expired, and [`is_lawful`] decides whether an order of the events is lawful.
+//! The crate is proved safe; no clause says what is drawn.
 #![tactic(auto)]
 
 mod counts;
