@@ -243,28 +243,28 @@ change_events : (s : SoFar) (said : Said) → happening.Change ≡ happening_of 
 change_events s Change is = refl
 change_events s said is = absurd cc
 
-module _ (d : Draft) (told : List Said) (h : Holds d told) (line : List ℕ) (after : SoFar) (n : Draft) where
-  pub holds_nothing : IsLineRead trace_limits d.heading line happening.Nothing after → n.heading ≡ after
-      → n.events.items ≡ d.events.items → n.ends.items ≡ d.ends.items → n.begun ≡ d.begun → n.changes.items ≡ d.changes.items → HoldsMore told line n
-  holds_nothing r a b c e g = nothing_said d told h n line r.said r.meets (a ∙ r.behind told h.heading) r.happens b c e g
+-- a draft with another heading
+abbrev pub with_heading : Draft → SoFar → Draft
+with_heading d heading = record d { heading = heading }
 
-  pub holds_event : (event : Event) → IsLineRead trace_limits d.heading line (happening.Event event) after → n.heading ≡ after
+module _ (d : Draft) (told : List Said) (h : Holds d told) (line : List ℕ) (after : SoFar) where
+  pub holds_nothing : IsLineRead trace_limits d.heading line happening.Nothing after → HoldsMore told line (with_heading d after)
+  holds_nothing r = nothing_said d told h (with_heading d after) line r.said r.meets (r.behind told h.heading) r.happens refl refl refl refl
+
+  pub holds_event : (n : Draft) (event : Event) → IsLineRead trace_limits d.heading line (happening.Event event) after → n.heading ≡ after
       → n.events.items ≡ d.events.items ++ event ∷ [] → n.ends.items ≡ d.ends.items → n.begun ≡ d.begun → n.changes.items ≡ d.changes.items → HoldsMore told line n
-  holds_event event r a b c e g = event_said_so d told h n line r.said event r.meets (a ∙ r.behind told h.heading) r.happens b c e g
+  holds_event n event r a b c e g = event_said_so d told h n line r.said event r.meets (a ∙ r.behind told h.heading) r.happens b c e g
 
-  -- the draft with the heading after the line, whose open segment has ended
-  pub holds_end : (m : Draft) → IsLineRead trace_limits d.heading line happening.SegmentEnd after → m.heading ≡ after
-      → m.events.items ≡ d.events.items → m.ends.items ≡ d.ends.items → m.begun ≡ d.begun → m.changes.items ≡ d.changes.items → IsEnded m n → HoldsMore told line n
-  holds_end m r a b c e g ended =
-      let same : m.heading.events ≡ d.heading.events = ap (λ (s : SoFar). s.events) (a ∙ r.known) ∙ sync_events d.heading r.said r.happens in
-      sync_said d told h n line r.said r.meets (ended.heading ∙ a ∙ r.behind told h.heading) r.happens (ended.events ∙ b)
-      (ended.ends ∙ rw (c, e, same) refl) (ended.begun ∙ same) (ended.changes ∙ g)
+  pub holds_end : (n : Draft) → IsLineRead trace_limits d.heading line happening.SegmentEnd after → IsEnded (with_heading d after) n → HoldsMore told line n
+  holds_end n r ended =
+      let same : after.events ≡ d.heading.events = ap (λ (s : SoFar). s.events) r.known ∙ sync_events d.heading r.said r.happens in
+      sync_said d told h n line r.said r.meets (ended.heading ∙ r.behind told h.heading) r.happens ended.events
+      (ended.ends ∙ ap (λ count. d.ends.items ++ open_segment_end d.begun count) same) (ended.begun ∙ same) ended.changes
 
-  pub holds_change : (m ended : Draft) → IsLineRead trace_limits d.heading line happening.Change after → m.heading ≡ after
-      → m.events.items ≡ d.events.items → m.ends.items ≡ d.ends.items → m.begun ≡ d.begun → m.changes.items ≡ d.changes.items → IsEnded m ended
-      → n.heading ≡ ended.heading → n.events.items ≡ ended.events.items → n.ends.items ≡ ended.ends.items → n.begun ≡ ended.begun → n.changes.items ≡ ended.changes.items ++ ended.begun ∷ []
-      → HoldsMore told line n
-  holds_change m ended r a b c e g is heading events ends begun changes =
-      let same : m.heading.events ≡ d.heading.events = ap (λ (s : SoFar). s.events) (a ∙ r.known) ∙ change_events d.heading r.said r.happens in
-      change_said_so d told h n line r.said r.meets (heading ∙ is.heading ∙ a ∙ r.behind told h.heading) r.happens (events ∙ is.events ∙ b)
-      (ends ∙ is.ends ∙ rw (c, e, same) refl) (begun ∙ is.begun ∙ same) (changes ∙ rw (is.changes, g, is.begun, same) refl)
+  pub holds_change : (e n : Draft) → IsLineRead trace_limits d.heading line happening.Change after → IsEnded (with_heading d after) e
+      → n.heading ≡ e.heading → n.events.items ≡ e.events.items → n.ends.items ≡ e.ends.items → n.begun ≡ e.begun → n.changes.items ≡ e.changes.items ++ e.begun ∷ [] → HoldsMore told line n
+  holds_change e n r ended heading events ends begun changes =
+      let same : after.events ≡ d.heading.events = ap (λ (s : SoFar). s.events) r.known ∙ change_events d.heading r.said r.happens in
+      change_said_so d told h n line r.said r.meets (heading ∙ ended.heading ∙ r.behind told h.heading) r.happens (events ∙ ended.events)
+      (ends ∙ ended.ends ∙ ap (λ count. d.ends.items ++ open_segment_end d.begun count) same) (begun ∙ ended.begun ∙ same)
+      (changes ∙ ap (λ (ns : List ℕ). ns ++ e.begun ∷ []) ended.changes ∙ ap (λ count. d.changes.items ++ count ∷ []) (ended.begun ∙ same))
