@@ -1,4 +1,4 @@
-//! Tests of the texts: what traces say, as a whole and line by line, generated traces, lines of answers, lines and reports read back,
+//! Tests of the texts: what traces say, generated traces, lines of answers, lines and reports read back,
 //! what meters say, the ends in memory that texts pass through, and what a refusal of memory leaves. Two
 //! meters of a program's own are with them.
 //!

@@ -4,6 +4,9 @@
 //!
 //! - [`read_trace`] returns a trace exactly where the bytes are one (`read`, `reads_each`), and
 //!   else the first line that fails with its first failing check (`refused`, `refuses_each`).
+//! - [`Heading::read_line`] reads one line after those before it, within [`Limits`], and returns its
+//!   [`Happening`] (`read`, `refused`). It leaves the heading unchanged if it fails (`kept`). It is the
+//!   reader of a trace that arrives line by line, and [`read_trace`] reads by it.
 //! - All bytes have one reading, a trace or a refusal ([`one_reading`], [`some_reading`]).
 //! - Every trace that is read is sound: its lines exist, and its sizes are an exchange's
 //!   ([`traces_are_sound`]).
