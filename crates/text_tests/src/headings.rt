@@ -9,11 +9,32 @@ use trace_text::{Happening, Heading, Limits, LineFault, Reason, read_trace};
 // The lines of traces, with each kind of line among them.
 const TRACES: [&[&str]; 3] = [
     &[
-        "", "#\0", "  exchange 1  2 1 3 ", "number 12 line 1", "sync", "number 00 room 63", "tone busy  44",
-        "timer T303 7", "M 0 08fF05", "sync", "F", "#", "sync", "sync", " nail 0/1  1/17",
+        "",
+        "#\0",
+        "  exchange 1  2 1 3 ",
+        "number 12 line 1",
+        "sync",
+        "number 00 room 63",
+        "tone busy  44",
+        "timer T303 7",
+        "M 0 08fF05",
+        "sync",
+        "F",
+        "#",
+        "sync",
+        "sync",
+        " nail 0/1  1/17",
     ],
     &[
-        "exchange 1 1 0 1", "change", "F", "M  0 ", "change", "change", "sync", "seat 0/31 5", "free 0/31",
+        "exchange 1 1 0 1",
+        "change",
+        "F",
+        "M  0 ",
+        "change",
+        "change",
+        "sync",
+        "seat 0/31 5",
+        "free 0/31",
         "change",
     ],
     &["exchange 1 32 2 8", "sync", "", "# no event"],
@@ -48,7 +69,9 @@ impl Follower {
     }
 
     fn read(&mut self, alloc: Global, line: &str) -> Result<(), Fail> {
-        let read = self.heading.read_line(alloc, Limits::for_lines(), line.as_bytes());
+        let read = self
+            .heading
+            .read_line(alloc, Limits::for_lines(), line.as_bytes());
         match read.ok().ok_or("the line is read")? {
             Happening::Nothing => {}
             Happening::Event(event) => self.events.push(event)?,
@@ -79,9 +102,11 @@ fn trace_of(alloc: Global, lines: &[&str]) -> Result<Trace, Fail> {
         text.extend_from_slice(line.as_bytes())?;
         text.push(b'\n')?;
     }
-    Ok(read_trace(alloc, text.as_slice())
-        .ok()
-        .ok_or("it is a trace")?)
+    Ok(
+        read_trace(alloc, text.as_slice())
+            .ok()
+            .ok_or("it is a trace")?,
+    )
 }
 
 fn is_same(one: &Event, other: &Event) -> bool {

@@ -194,13 +194,17 @@ module _ (d : Draft) (told : List Said) (h : Holds d told) where
   module _ (n : Draft) (line : List ℕ) (said : Said) (meets : says trace_limits d.heading line ≡ Ok said) (heading : n.heading ≡ so_far (told ++ said ∷ [])) where
     holds_more : n.events.items ≡ step push d.events.items (event_said said) → n.ends.items ≡ ends_with d said → n.begun ≡ begun_with d said
         → n.changes.items ≡ step push d.changes.items (change_said (length d.events.items) said) → HoldsMore told line n
-    holds_more b c e g = (said, ap (λ s. says trace_limits s line) (sym h.heading) ∙ meets, record {
-      heading = heading;
-      events = b ∙ ap (λ (es : List Event). step push es (event_said said)) h.events ∙ sym (events_more told said);
-      ends = λ more. rw (b, c, e, append_assoc told (said ∷ []) more) (ends_more said more);
-      changes = g ∙ ap (λ (ns : List ℕ). step push ns (change_said (length d.events.items) said)) h.changes
-          ∙ ap (λ (es : List Event). step push (changes_in told) (change_said (length es) said)) h.events ∙ sym (changes_more told said);
-    })
+    holds_more b c e g = (
+      said,
+      ap (λ s. says trace_limits s line) (sym h.heading) ∙ meets,
+      record {
+        heading = heading;
+        events = b ∙ ap (λ (es : List Event). step push es (event_said said)) h.events ∙ sym (events_more told said);
+        ends = λ more. rw (b, c, e, append_assoc told (said ∷ []) more) (ends_more said more);
+        changes = g ∙ ap (λ (ns : List ℕ). step push ns (change_said (length d.events.items) said)) h.changes
+            ∙ ap (λ (es : List Event). step push (changes_in told) (change_said (length es) said)) h.events ∙ sym (changes_more told said);
+      },
+    )
 
   module _ (n : Draft) (line : List ℕ) where
     nothing_said : (said : Said) → says trace_limits d.heading line ≡ Ok said → n.heading ≡ so_far (told ++ said ∷ []) → happening.Nothing ≡ happening_of said

@@ -54,7 +54,12 @@ impl Model for Heading {
     ghost Value = { SoFar };
 
     ghost view = { λ h. record {
-        sizes = h.sizes; events = h.events; plan = h.plan; tones = h.tones; timers = h.timers; changes = h.changes
+      sizes = h.sizes;
+      events = h.events;
+      plan = h.plan;
+      tones = h.tones;
+      timers = h.timers;
+      changes = h.changes;
     } };
 }
 
@@ -278,7 +283,12 @@ impl Heading {
     /// - [`LineFault::Memory`] if an allocation fails.
     ///
     /// The heading is unchanged then.
-    pub fn read_line(&mut self, alloc: Global, limits: Limits, line: &[u8]) -> Result<Happening, LineFault>
+    pub fn read_line(
+        &mut self,
+        alloc: Global,
+        limits: Limits,
+        line: &[u8],
+    ) -> Result<Happening, LineFault>
         // The line says what it says behind the lines before it.
         ensures read { IfOk result (λ happening. IsLineRead limits self.old line.now happening self.new) }
         // A line that is refused fails a check, and the reason is its first.
