@@ -186,7 +186,7 @@ const BEFORE: [&str; 4] = [
     "timer T303 7",
 ];
 
-// Whether the heading is that of the lines of `BEFORE` and this many events.
+// Whether the heading has the content of the lines of `BEFORE` and this many events.
 fn is_still(heading: &Heading, count: u32) -> bool {
     heading.event_count() == count
         && heading.plan().look(b"12") == Found::Line(1)
