@@ -23,7 +23,7 @@ use Rattle.trace_text.specs.declared.said.Said.{Said}
 use Rattle.trace_text.specs.declared.said.Said.TheVariants as said
 use Rattle.trace_text.specs.TraceWords.{is_comment, words}
 use Rattle.trace_text.specs.TraceFields.{external_line, header, octets_written, room, slot, thirty}
-use Rattle.trace_text.specs.TraceLines.{SoFar, before_events, by_kind, frame, happens, joins, kind_of, message, nail, number, numbered, says, with_part, with_parts}
+use Rattle.trace_text.specs.TraceLines.{SoFar, before_events, by_kind, frame, happens, joins, kind_of, message, nail, number, numbered, says, trace_limits, with_part, with_parts}
 use Rattle.trace_text.proofs.TraceParts.{part_given, reads_by_kind, reads_sync, says_both}
 use Rattle.generated_trace.specs.Told.{input_of, said_by, slot_at, with_octets}
 use Rattle.generated_trace.proofs.Cutting.{IsWord, is_solid, spaced, words_before_space, words_of}
@@ -97,11 +97,11 @@ abbrev pub eight : Sizes
 eight = record { external = 8; bridges = 1; processors = 4 }
 
 spoken : (s : SoFar) (line : Line) (others : List (List ℕ)) (told : Said) → Fits line → s.sizes ≡ Some eight → words (line_text line) ≡ first_of line ∷ others
-    → by_kind s 8 (kind_of (first_of line)) others ≡ Ok told → joins s told ≡ Ok told → says s (line_text line) ≡ Ok told
+    → by_kind s 8 (kind_of (first_of line)) others ≡ Ok told → joins trace_limits s told ≡ Ok told → says trace_limits s (line_text line) ≡ Ok told
 spoken s line others told fits known cut kind joined =
-    says_both s (line_text line) told (reads_by_kind s eight (line_text line) (first_of line) others known (no_comment line) cut (line_prints line fits) ∙ kind) joined
+    says_both trace_limits s (line_text line) told (reads_by_kind s eight (line_text line) (first_of line) others known (no_comment line) cut (line_prints line fits) ∙ kind) joined
 
-event_joins : (s : SoFar) (e : Event) → s.events + 1 ≤ 65535 → joins s (said.Happens e) ≡ Ok (said.Happens e)
+event_joins : (s : SoFar) (e : Event) → s.events + 1 ≤ 65535 → joins trace_limits s (said.Happens e) ≡ Ok (said.Happens e)
 event_joins s e few = let room = lt-ltb s.events 65535 (omega arith) in rw room refl
 
 -- ---- nails
@@ -114,7 +114,7 @@ slots_apart : (one other place : ℕ) → one ≢ other → same_slot (slot_at o
 slots_apart one other place ne = rw (ne_eqb one other ne) refl
 
 nail_says : (s : SoFar) (one other place : ℕ) → FitsNail one other place → s.sizes ≡ Some eight → s.events + 1 ≤ 65535
-    → says s (line_text (Nail one other place)) ≡ Ok (said_by (Nail one other place))
+    → says trace_limits s (line_text (Nail one other place)) ≡ Ok (said_by (Nail one other place))
 nail_says s one other place fits known few =
     let least = fits.place_is.0 in
     let here = fits.place_is.1 in
@@ -135,7 +135,7 @@ empty_message_given : (external : ℕ) (word : List ℕ) (line : ℕ) → extern
 empty_message_given external word line a = rw a refl
 
 message_says : (s : SoFar) (line : ℕ) (octets : List ℕ) → FitsMessage line octets → s.sizes ≡ Some eight → s.events + 1 ≤ 65535
-    → says s (line_text (Message line octets)) ≡ Ok (said_by (Message line octets))
+    → says trace_limits s (line_text (Message line octets)) ≡ Ok (said_by (Message line octets))
 message_says s line [] fits known few =
     let word = digit_word line (omega (arith, fits.line_is)) in
     let none : others_of (Message line []) ≡ decimal line ∷ [] ∷ [] = ap (λ (digits : List ℕ). decimal line ∷ digits ∷ []) no_octets in
@@ -201,7 +201,7 @@ parts_are (one ∷ other ∷ []) fits = (part_is one fits.0, (part_is other fits
 parts_are (one ∷ other ∷ third ∷ parts) fits = absurd fits
 
 frame_says : (s : SoFar) (parts : List Part) → FitsParts parts → s.sizes ≡ Some eight → s.events + 1 ≤ 65535
-    → says s (line_text (Frame parts)) ≡ Ok (said_by (Frame parts))
+    → says trace_limits s (line_text (Frame parts)) ≡ Ok (said_by (Frame parts))
 frame_says s parts fits known few =
     spoken s (Frame parts) (map part_word parts) (said_by (Frame parts)) fits known (line_words (Frame parts) (parts_are parts fits))
     (ap happens (frame_given 8 (map part_word parts) (input_of parts) (parts_read parts fits)))
@@ -209,8 +209,8 @@ frame_says s parts fits known few =
 
 -- ---- ends of segments
 
-sync_says : (s : SoFar) → s.sizes ≡ Some eight → says s (line_text Sync) ≡ Ok (said_by Sync)
-sync_says s known = says_both s (codes "sync") said.Sync (reads_sync s eight (codes "sync") known refl) refl
+sync_says : (s : SoFar) → s.sizes ≡ Some eight → says trace_limits s (line_text Sync) ≡ Ok (said_by Sync)
+sync_says s known = says_both trace_limits s (codes "sync") said.Sync (reads_sync s eight (codes "sync") known refl) refl
 
 -- ---- any line behind the numbers
 
@@ -225,7 +225,7 @@ is_running (Frame parts) = true
 is_running Sync = true
 
 pub running_says : (s : SoFar) (line : Line) → Fits line → is_running line ≡ true → s.sizes ≡ Some eight → s.events + (if is_event line then 1 else 0) ≤ 65535
-    → says s (line_text line) ≡ Ok (said_by line)
+    → says trace_limits s (line_text line) ≡ Ok (said_by line)
 running_says s (Header external bridges processors) fits runs known few = absurd cc
 running_says s (ToLine number line) fits runs known few = absurd cc
 running_says s (ToRoom number room) fits runs known few = absurd cc
@@ -237,10 +237,10 @@ running_says s Sync fits runs known few = sync_says s known
 -- ---- the header and the numbers
 
 header_given : (s : SoFar) (line first : List ℕ) (others : List (List ℕ)) (sizes : Sizes) → s.sizes ≡ None → is_comment line ≡ false → words line ≡ first ∷ others → header (first ∷ others) ≡ Some sizes
-    → says s line ≡ Ok (said.Header sizes)
+    → says trace_limits s line ≡ Ok (said.Header sizes)
 header_given s line first others sizes none a b c = rw (a, b, none, b, c) refl
 
-pub header_says : (s : SoFar) → s.sizes ≡ None → says s (line_text (Header 8 1 4)) ≡ Ok (said_by (Header 8 1 4))
+pub header_says : (s : SoFar) → s.sizes ≡ None → says trace_limits s (line_text (Header 8 1 4)) ≡ Ok (said_by (Header 8 1 4))
 header_says s none =
     let external : 8 < 10 = omega arith in
     let bridges : 1 < 10 = omega arith in
@@ -249,7 +249,7 @@ header_says s none =
     (line_words (Header 8 1 4) (record { solid = refl; filled = refl }, (digit_word 8 external, (digit_word 1 bridges, (digit_word 4 processors, tt)))))
     (rw (decimal_digit 8, decimal_digit 1, decimal_digit 4) refl)
 
-number_joins : (s : SoFar) (n : Number) → is_number_taken s.plan n.digits ≡ false → nat_eq (length s.plan) 256 ≡ false → joins s (said.Numbered n) ≡ Ok (said.Numbered n)
+number_joins : (s : SoFar) (n : Number) → is_number_taken s.plan n.digits ≡ false → nat_eq (length s.plan) 256 ≡ false → joins trace_limits s (said.Numbered n) ≡ Ok (said.Numbered n)
 number_joins s n free few = rw (free, few) refl
 
 number_given : (s : SoFar) (reading : Result Number _) (n : Number) → s.events ≡ 0 → reading ≡ Ok n → before_events s (numbered reading) ≡ Ok (said.Numbered n)
@@ -271,14 +271,14 @@ pub record HasRoom (s : SoFar) (digits : List ℕ) : Type 0 where
   pub free : is_number_taken s.plan digits ≡ false
   pub few : nat_eq (length s.plan) 256 ≡ false
 
-pub to_line_says : (s : SoFar) (digits : List ℕ) (line : ℕ) → Fits (ToLine digits line) → HasRoom s digits → says s (line_text (ToLine digits line)) ≡ Ok (said_by (ToLine digits line))
+pub to_line_says : (s : SoFar) (digits : List ℕ) (line : ℕ) → Fits (ToLine digits line) → HasRoom s digits → says trace_limits s (line_text (ToLine digits line)) ≡ Ok (said_by (ToLine digits line))
 to_line_says s digits line fits has =
     spoken s (ToLine digits line) (others_of (ToLine digits line)) (said_by (ToLine digits line)) fits has.known
     (line_words (ToLine digits line) (number_word digits fits.0.each fits.0.some, (record { solid = refl; filled = refl }, (digit_word line (omega (arith, fits.1)), tt))))
     (number_given s _ (record { digits = digits; target = target.Line line }) has.early (to_line_given 8 digits (decimal line) line has.is (line_read line fits.1)))
     (number_joins s (record { digits = digits; target = target.Line line }) has.free has.few)
 
-pub to_room_says : (s : SoFar) (digits : List ℕ) → Fits (ToRoom digits 0) → HasRoom s digits → says s (line_text (ToRoom digits 0)) ≡ Ok (said_by (ToRoom digits 0))
+pub to_room_says : (s : SoFar) (digits : List ℕ) → Fits (ToRoom digits 0) → HasRoom s digits → says trace_limits s (line_text (ToRoom digits 0)) ≡ Ok (said_by (ToRoom digits 0))
 to_room_says s digits fits has =
     let none : 0 < 10 = omega arith in
     let first : room (decimal 0) ≡ Some 0 = rw (decimal_digit 0) refl in

@@ -21,7 +21,7 @@ use Rattle.traffic_gen.specs.declared.callee.Callee.TheVariants as callee
 use Rattle.traffic_gen.proofs.Counts.{events_are_few, traffic_length}
 use Rattle.traffic_gen.proofs.Fit.{lines_fit}
 use Rattle.trace_text.specs.declared.said.Said.{Said}
-use Rattle.trace_text.specs.TraceLines.{says}
+use Rattle.trace_text.specs.TraceLines.{says, trace_limits}
 use Rattle.trace_text.specs.TraceTimers.{timers_by}
 use Rattle.trace_text.specs.TraceGrammar.{EachSays, IsWhatLinesSay, IsTrace, event_said, events_in, numbers_in, plan_of, tones_in, tones_of, timers_in, timers_of, segment_ends, changes_after, changes_in, sizes_in, so_far}
 use Rattle.trace_text.proofs.TraceHolds.{sizes_first}
@@ -160,7 +160,7 @@ line_fits line within =
 
 -- a number behind the lines before it
 line_at : (count line : ℕ) → line < 8 → HasRoom (so_far (told_by count)) (two_and line)
-    → says (so_far (told_by count)) (line_text (ToLine (two_and line) line)) ≡ Ok (said_by (ToLine (two_and line) line))
+    → says trace_limits (so_far (told_by count)) (line_text (ToLine (two_and line) line)) ≡ Ok (said_by (ToLine (two_and line) line))
 line_at count line within has = to_line_says (so_far (told_by count)) (two_and line) line (line_fits line within) has
 
 room_fits : Fits (ToRoom (codes "30") 0)

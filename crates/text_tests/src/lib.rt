@@ -15,6 +15,8 @@ mod ends;
 #[cfg(test)]
 mod generated;
 #[cfg(test)]
+mod headings;
+#[cfg(test)]
 mod keeper;
 #[cfg(test)]
 mod refusals;

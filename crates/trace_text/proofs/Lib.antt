@@ -2,6 +2,7 @@ pub mod TraceCuts
 pub mod TraceOctets
 pub mod TraceParts
 pub mod TraceHolds
+pub mod HeadingLemmas
 pub mod TraceProgress
 pub mod TraceReadings
 pub mod TraceAnswers

@@ -32,7 +32,7 @@ use Rattle.number_plan.proofs.OrderFacts.{all_with}
 use Rattle.exchange_events.specs.declared.trace.Trace.{Trace}
 use Rattle.trace_text.specs.TraceFields.{slash, numeral_in, external_line, slot, room, octets_written, thirty, at_most, longest_message, exchange_sizes, header}
 use Rattle.trace_text.specs.TraceWords.{cut_at, numeral, lines, words, two, one_or_two, three, is_comment, is_blank, is_printable}
-use Rattle.trace_text.specs.TraceLines.{◌>>=◌, colon, with_part, with_parts, frame, message, nail, seat, free, target, number, numbered, tone, timer, toned, timed, happens, SoFar, before_events, by_kind, kind_of, by_words, by_place, reads, joins, says}
+use Rattle.trace_text.specs.TraceLines.{◌>>=◌, colon, with_part, with_parts, frame, message, nail, seat, free, target, number, numbered, tone, timer, toned, timed, happens, SoFar, before_events, by_kind, kind_of, by_words, by_place, reads, joins, says, trace_limits}
 use Rattle.trace_text.specs.TraceGrammar.{sizes_in, number_said, numbers_in, plan_of, event_said, events_in, changes_in, so_far, EachSays, IsTrace}
 use Rattle.exchange_events.specs.Sound.{Fits, is_reached, IsSound}
 use Rattle.trace_text.proofs.TraceOctets.{in_range, are_octets}
@@ -396,7 +396,7 @@ IsCounted s (Happens e) = s.events < 65535
 IsCounted s Change = s.changes < 65535
 IsCounted s other = Unit {0}
 
-joins_same : (s : SoFar) (said other : Said) → joins s said ≡ Ok other → (said ≡ other) × IsCounted s said
+joins_same : (s : SoFar) (said other : Said) → joins trace_limits s said ≡ Ok other → (said ≡ other) × IsCounted s said
 joins_same s (Happens e) other h =
     elim (true_or_false (nat_lt s.events 65535)) [
       | inl few ↦ let ok = rw few at h in (grind (arith, ok), ltb-true s.events 65535 few)
@@ -417,9 +417,9 @@ joins_same s (Numbered n) other h =
     ]
 joins_same s said other h = (grind (arith, h), tt)
 
-pub says_fine : (s : SoFar) (line : List ℕ) (said : Said) → says s line ≡ Ok said → IsFine s said × IsCounted s said
+pub says_fine : (s : SoFar) (line : List ℕ) (said : Said) → says trace_limits s line ≡ Ok said → IsFine s said × IsCounted s said
 says_fine s line said h =
-    let first = passed_first (reads s line) (joins s) said h in
+    let first = passed_first (reads s line) (joins trace_limits s) said h in
     let same = joins_same s first.0 said first.2 in
     (subst (λ v. IsFine s v) same.0 (reads_fine s line first.0 first.1), subst (λ v. IsCounted s v) same.0 same.1)
 

@@ -2,6 +2,7 @@
 use Rattle.std.proofs.Common.{◌≡◌, ℕ, true, false, List, ◌∷◌, get_or, set, Some, None, is_some, Ok, codes, refl}
 use Rattle.circuit_model.specs.FrameInput.{Input}
 use Rattle.std.specs.List.{list_all}
+use Rattle.trace_text.specs.declared.limits.Limits.{Limits}
 use Rattle.trace_text.specs.declared.said.Sizes.{Sizes}
 use Rattle.trace_text.specs.declared.said.Said.{Said}
 use Rattle.trace_text.specs.declared.said.Said.TheVariants.{Sync}
@@ -27,12 +28,12 @@ pub reads_sync : (s : SoFar) (sizes : Sizes) (line : List ℕ) → s.sizes ≡ S
 reads_sync s sizes line known is = rw (is, known) refl
 
 -- both steps of a line
-pub says_both : (s : SoFar) (line : List ℕ) (said : Said) → reads s line ≡ Ok said → joins s said ≡ Ok said → says s line ≡ Ok said
-says_both s line said a b = rw (a, b) refl
+pub says_both : (limits : Limits) (s : SoFar) (line : List ℕ) (said : Said) → reads s line ≡ Ok said → joins limits s said ≡ Ok said → says limits s line ≡ Ok said
+says_both limits s line said a b = rw (a, b) refl
 
-pub says_fault : (s : SoFar) (line : List ℕ) (e : LineFault) → Fails e (reads s line) → Fails e (says s line)
-says_fault s line Memory fails = tt
-says_fault s line (Refused why) fails = rw fails refl
+pub says_fault : (limits : Limits) (s : SoFar) (line : List ℕ) (e : LineFault) → Fails e (reads s line) → Fails e (says limits s line)
+says_fault limits s line Memory fails = tt
+says_fault limits s line (Refused why) fails = rw fails refl
 
-pub joins_fault : (s : SoFar) (line : List ℕ) (said : Said) (e : LineFault) → reads s line ≡ Ok said → Fails e (joins s said) → Fails e (says s line)
-joins_fault s line said e a fails = rw a fails
+pub joins_fault : (limits : Limits) (s : SoFar) (line : List ℕ) (said : Said) (e : LineFault) → reads s line ≡ Ok said → Fails e (joins limits s said) → Fails e (says limits s line)
+joins_fault limits s line said e a fails = rw a fails

@@ -1,5 +1,5 @@
 -- Reading line by line, up to the first line that fails.
-use Rattle.std.proofs.Common.{◌≡◌, ℕ, ◌+◌, ◌<◌, ◌≤◌, List, [], ◌∷◌, ◌++◌, length, Option, None, Result, Ok, Err, IfOk, IfErr, refl, sym, ap, ◌∙◌, subst, append_assoc, arith}
+use Rattle.std.proofs.Common.{◌≡◌, ℕ, ◌+◌, ◌<◌, ◌≤◌, List, [], ◌∷◌, ◌++◌, length, None, Result, Ok, Err, IfOk, IfErr, refl, sym, ap, ◌∙◌, subst, append_assoc, arith}
 use Rattle.std.proofs.lemmas.List.{append-nil, length_push, nil_from_length}
 use Rattle.trace_text.specs.declared.draft.Draft.{Draft}
 use Rattle.trace_text.specs.declared.fault.LineFault.{LineFault}
@@ -8,17 +8,13 @@ use Rattle.trace_text.specs.declared.fault.TraceFault.{TraceFault}
 use Rattle.trace_text.specs.declared.fault.TraceFault.TheVariants as trace_fault
 use Rattle.trace_text.specs.declared.fault.Reason.{Reason}
 use Rattle.trace_text.specs.declared.fault.Reason.TheVariants as reason
-use Rattle.tone_rules.specs.declared.tones.Tones.{Tones}
-use Rattle.trace_text.specs.declared.timing.GivenTimers.{GivenTimers}
-use Rattle.trace_text.specs.declared.said.Sizes.{Sizes}
-use Rattle.tone_rules.specs.declared.tones.Tones.{Tones}
 use Rattle.trace_text.specs.declared.said.Said.{Said}
-use Rattle.number_plan.specs.declared.plan.Number.{Number}
 use Rattle.exchange_events.specs.declared.trace.Trace.{Trace}
 use Rattle.trace_text.specs.TraceWords.{lines}
-use Rattle.trace_text.specs.TraceLines.{SoFar, says, Fails}
+use Rattle.trace_text.specs.TraceLines.{SoFar, says, trace_limits, Fails}
 use Rattle.trace_text.specs.TraceGrammar.{most_bytes, so_far, EachSays, IsWhatLinesSay, IsTrace, IsRefused, At_line, At_end}
-use Rattle.trace_text.specs.TraceDraft.{kept, FailsAtEnd, Holds, at_line, IsFault}
+use Rattle.trace_text.specs.TraceDraft.{FailsAtEnd, Holds, at_line, IsFault}
+use Rattle.trace_text.proofs.TraceHolds.{HoldsMore}
 
 -- the lines before the rest were read, each met its checks, and the draft holds what they said
 pub record Progress (bytes rest : List ℕ) (number : ℕ) (d : Draft) : Type 0 where
@@ -32,7 +28,7 @@ pub record Progress (bytes rest : List ℕ) (number : ℕ) (d : Draft) : Type 0 
 
 -- one more line meets its checks
 each_push : (before told : List Said) (front : List (List ℕ)) (line : List ℕ) (said : Said)
-    → EachSays before front told → says (so_far (before ++ told)) line ≡ Ok said → EachSays before (front ++ line ∷ []) (told ++ said ∷ [])
+    → EachSays before front told → says trace_limits (so_far (before ++ told)) line ≡ Ok said → EachSays before (front ++ line ∷ []) (told ++ said ∷ [])
 each_push before [] [] line said meets e = (rw (append-nil before) at e, tt)
 each_push before (other ∷ told) [] line said meets e = absurd meets
 each_push before [] (first ∷ front) line said meets e = absurd meets
@@ -42,35 +38,14 @@ each_push before (other ∷ told) (first ∷ front) line said meets e =
 pub begun : (bytes : List ℕ) (d : Draft) → Holds d [] → Progress bytes bytes 0 d
 begun bytes d held = record { front = []; told = []; parts = refl; meets = tt; held = held; place = refl; room = omega arith }
 
--- what the draft keeps is what the lines before said
-known_so_far : Option Sizes → ℕ → List Number → Tones → GivenTimers → ℕ → SoFar
-known_so_far sizes events plan tones timers changes = record { sizes = sizes; events = events; plan = plan; tones = tones; timers = timers; changes = changes }
-
-same_so_far : (s u : SoFar) → s.sizes ≡ u.sizes → s.events ≡ u.events → s.plan ≡ u.plan → s.tones ≡ u.tones → s.timers ≡ u.timers → s.changes ≡ u.changes → s ≡ u
-unfolding known_so_far
-same_so_far s u a b c t m g =
-    ap (λ x. known_so_far x s.events s.plan s.tones s.timers s.changes) a
-    ∙ ap (λ x. known_so_far u.sizes x s.plan s.tones s.timers s.changes) b
-    ∙ ap (λ x. known_so_far u.sizes u.events x s.tones s.timers s.changes) c
-    ∙ ap (λ (x : Tones). known_so_far u.sizes u.events u.plan x s.timers s.changes) t
-    ∙ ap (λ (x : GivenTimers). known_so_far u.sizes u.events u.plan u.tones x s.changes) m
-    ∙ ap (λ x. known_so_far u.sizes u.events u.plan u.tones u.timers x) g
-
-kept_so_far : (d : Draft) (told : List Said) → Holds d told → kept d ≡ so_far told
-kept_so_far d told held = same_so_far (kept d) (so_far told) held.sizes (ap length held.events) held.plan held.tones held.timers (ap length held.changes)
-
--- what a line says, by the draft, is what it says behind the lines before it
-says_held : (d : Draft) (told : List Said) (line : List ℕ) → Holds d told → says (kept d) line ≡ says (so_far told) line
-says_held d told line held = ap (λ s. says s line) (kept_so_far d told held)
-
 pub goes_on : (bytes rest line others : List ℕ) (number : ℕ) (d n : Draft) (p : Progress bytes rest number d)
     → lines rest ≡ line ∷ lines others → length others < length rest
-    → (said : Said) × (says (kept d) line ≡ Ok said) × Holds n (p.told ++ said ∷ []) → Progress bytes others (number + 1) n
+    → HoldsMore p.told line n → Progress bytes others (number + 1) n
 goes_on bytes rest line others number d n p cut shorter step = record {
   front = p.front ++ line ∷ [];
   told = p.told ++ step.0 ∷ [];
   parts = p.parts ∙ ap (λ (ls : List (List ℕ)). p.front ++ ls) cut ∙ sym (append_assoc p.front (line ∷ []) (lines others));
-  meets = each_push [] p.told p.front line step.0 p.meets (sym (says_held d p.told line p.held) ∙ step.1);
+  meets = each_push [] p.told p.front line step.0 p.meets step.1;
   held = step.2;
   place = let e = p.place in omega (arith, length_push p.front line, e);
   room = let r = p.room in omega (arith, r);
@@ -78,7 +53,7 @@ goes_on bytes rest line others number d n p cut shorter step = record {
 
 -- the next line is the first that fails
 pub fails_at : (bytes rest line others : List ℕ) (number : ℕ) (d : Draft) (why : Reason) → Progress bytes rest number d
-    → length bytes ≤ most_bytes → lines rest ≡ line ∷ lines others → says (kept d) line ≡ Err why → IsRefused bytes (number + 1) why
+    → length bytes ≤ most_bytes → lines rest ≡ line ∷ lines others → says trace_limits d.heading line ≡ Err why → IsRefused bytes (number + 1) why
 fails_at bytes rest line others number d why p few cut e =
     At_line few (record {
       before = p.front;
@@ -87,12 +62,12 @@ fails_at bytes rest line others number d why p few cut e =
       told = p.told;
       parts = p.parts ∙ ap (λ (ls : List (List ℕ)). p.front ++ ls) cut;
       meets = p.meets;
-      fails = sym (says_held d p.told line p.held) ∙ e;
+      fails = ap (λ s. says trace_limits s line) (sym p.held.heading) ∙ e;
       place = let e = p.place in omega (arith, e);
     })
 
 pub fault_at : (bytes rest line others : List ℕ) (number : ℕ) (d : Draft) (e : LineFault) (fault : TraceFault) → Progress bytes rest number d
-    → length bytes ≤ most_bytes → lines rest ≡ line ∷ lines others → Fails e (says (kept d) line) → fault ≡ at_line e (number + 1) → IsFault bytes fault
+    → length bytes ≤ most_bytes → lines rest ≡ line ∷ lines others → Fails e (says trace_limits d.heading line) → fault ≡ at_line e (number + 1) → IsFault bytes fault
 fault_at bytes rest line others number d Memory fault p few cut fails is = rw is tt
 fault_at bytes rest line others number d (Refused why) fault p few cut fails is = rw is (fails_at bytes rest line others number d why p few cut fails)
 
@@ -110,12 +85,12 @@ is_read bytes rest number d t p few empty told = record {
 }
 
 pub lacks_header : (bytes rest : List ℕ) (number last : ℕ) (why : Reason) (d : Draft) (p : Progress bytes rest number d)
-    → length bytes ≤ most_bytes → length rest ≡ 0 → d.sizes ≡ None → last ≡ number + 1 → why ≡ reason.Header → IsRefused bytes last why
+    → length bytes ≤ most_bytes → length rest ≡ 0 → d.heading.sizes ≡ None → last ≡ number + 1 → why ≡ reason.Header → IsRefused bytes last why
 lacks_header bytes rest number last why d p few empty none at named =
     At_end few (record {
       told = p.told;
       meets = subst (λ ls. EachSays [] ls p.told) (sym (whole bytes rest number d p empty)) p.meets;
-      none = sym p.held.sizes ∙ none;
+      none = ap (λ (s : SoFar). s.sizes) (sym p.held.heading) ∙ none;
       place = let e = p.place in omega (arith, e, ap length (whole bytes rest number d p empty));
       named = named;
     })
@@ -126,7 +101,7 @@ module _ (bytes rest : List ℕ) (number : ℕ) (d : Draft) (p : Progress bytes 
   ends_read (Ok t) made = is_read bytes rest number d t p few empty made
   ends_read (Err e) made = tt
 
-  pub ends_refused : (r : Result Trace TraceFault) → IfErr r (λ e. FailsAtEnd d.sizes number e) → IfErr r (λ e. IsFault bytes e)
+  pub ends_refused : (r : Result Trace TraceFault) → IfErr r (λ e. FailsAtEnd d.heading.sizes number e) → IfErr r (λ e. IsFault bytes e)
   ends_refused (Ok t) fails = tt
   ends_refused (Err trace_fault.Memory) fails = tt
   ends_refused (Err (trace_fault.Line last why)) fails = lacks_header bytes rest number last why d p few empty fails.0 fails.1 fails.2

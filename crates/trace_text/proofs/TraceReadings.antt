@@ -10,7 +10,7 @@ use Rattle.number_plan.specs.declared.plan.Number.{Number}
 use Rattle.exchange_events.specs.declared.trace.Event.{Event}
 use Rattle.exchange_events.specs.declared.trace.Trace.{Trace}
 use Rattle.trace_text.specs.TraceWords.{lines}
-use Rattle.trace_text.specs.TraceLines.{says}
+use Rattle.trace_text.specs.TraceLines.{says, trace_limits}
 use Rattle.tone_rules.specs.declared.tones.Tones.{Tones}
 use Rattle.call_timers.specs.declared.timers.Timers.{Timers}
 use Rattle.trace_text.specs.TraceTimers.{timers_by}
@@ -31,17 +31,17 @@ after_line (Ok said) others = others said
 after_line (Err why) others = Stops 0 why
 
 says_after : List Said → List ℕ → Result Said Reason
-says_after before line = says (so_far before) line
+says_after before line = says trace_limits (so_far before) line
 
 abbrev outcome : List Said → List (List ℕ) → Outcome
 outcome before [] = All_say []
 outcome before (line ∷ others) = after_line (says_after before line) (λ said. onto said (outcome (before ++ said ∷ []) others))
 
-is_said : (before : List Said) (line : List ℕ) (r : Result Said Reason) → says (so_far before) line ≡ r → says_after before line ≡ r
+is_said : (before : List Said) (line : List ℕ) (r : Result Said Reason) → says trace_limits (so_far before) line ≡ r → says_after before line ≡ r
 unfolding says_after
 is_said before line r e = e
 
-was_said : (before : List Said) (line : List ℕ) (r : Result Said Reason) → says_after before line ≡ r → says (so_far before) line ≡ r
+was_said : (before : List Said) (line : List ℕ) (r : Result Said Reason) → says_after before line ≡ r → says trace_limits (so_far before) line ≡ r
 unfolding says_after
 was_said before line r e = e
 
@@ -56,7 +56,7 @@ outcome_all before (line ∷ rows) (said ∷ told) meets =
 
 -- the first line that fails
 outcome_stops : (before : List Said) (rows : List (List ℕ)) (told : List Said) (line : List ℕ) (after : List (List ℕ)) (why : Reason)
-    → EachSays before rows told → says (so_far (before ++ told)) line ≡ Err why → outcome before (rows ++ line ∷ after) ≡ Stops (length rows) why
+    → EachSays before rows told → says trace_limits (so_far (before ++ told)) line ≡ Err why → outcome before (rows ++ line ∷ after) ≡ Stops (length rows) why
 unfolding onto
 outcome_stops before [] [] line after why meets e = rw (is_said before line (Err why) (rw (append-nil before) at e)) refl
 outcome_stops before [] (said ∷ told) line after why meets e = absurd meets
@@ -139,12 +139,12 @@ record Stopped (before : List Said) (rows : List (List ℕ)) : Type 0 where
   why : Reason
   parts : rows ≡ front ++ line ∷ after
   meets : EachSays before front told
-  fails : says (so_far (before ++ told)) line ≡ Err why
+  fails : says trace_limits (so_far (before ++ told)) line ≡ Err why
 
 abbrev Walked : List Said → List (List ℕ) → Type 0
 Walked before rows = ((told : List Said) × EachSays before rows told) ⊎ Stopped before rows
 
-further : (before : List Said) (line : List ℕ) (rows : List (List ℕ)) (said : Said) → says (so_far before) line ≡ Ok said → Walked (before ++ said ∷ []) rows → Walked before (line ∷ rows)
+further : (before : List Said) (line : List ℕ) (rows : List (List ℕ)) (said : Said) → says trace_limits (so_far before) line ≡ Ok said → Walked (before ++ said ∷ []) rows → Walked before (line ∷ rows)
 further before line rows said e (inl w) = inl (said ∷ w.0, (e, w.1))
 further before line rows said e (inr s) = inr (record {
   front = line ∷ s.front;
@@ -157,7 +157,7 @@ further before line rows said e (inr s) = inr (record {
   fails = rw (append_assoc before (said ∷ []) s.told) at s.fails;
 })
 
-one_more : (before : List Said) (line : List ℕ) (rows : List (List ℕ)) (r : Result Said Reason) → says (so_far before) line ≡ r → ((said : Said) → Walked (before ++ said ∷ []) rows) → Walked before (line ∷ rows)
+one_more : (before : List Said) (line : List ℕ) (rows : List (List ℕ)) (r : Result Said Reason) → says trace_limits (so_far before) line ≡ r → ((said : Said) → Walked (before ++ said ∷ []) rows) → Walked before (line ∷ rows)
 one_more before line rows (Ok said) e next = further before line rows said e (next said)
 one_more before line rows (Err why) e next = inr (record {
   front = [];
@@ -172,7 +172,7 @@ one_more before line rows (Err why) e next = inr (record {
 
 walk : (before : List Said) (rows : List (List ℕ)) → Walked before rows
 walk before [] = inl ([], tt)
-walk before (line ∷ rows) = one_more before line rows (says (so_far before) line) refl (λ said. walk (before ++ said ∷ []) rows)
+walk before (line ∷ rows) = one_more before line rows (says trace_limits (so_far before) line) refl (λ said. walk (before ++ said ∷ []) rows)
 
 abbrev Reading : List ℕ → Type 0
 Reading bytes = ((t : Trace) × IsTrace bytes t) ⊎ ((number : ℕ) × (why : Reason) × IsRefused bytes number why)

@@ -3,5 +3,6 @@ pub mod TraceFields
 pub mod TraceTimers
 pub mod TraceLines
 pub mod TraceGrammar
+pub mod TraceHeading
 pub mod TraceDraft
 pub mod TracePlain

@@ -16,7 +16,7 @@ use Rattle.trace_text.specs.declared.timing.GivenTimer.{GivenTimer}
 use Rattle.trace_text.specs.declared.timing.GivenTimers.{GivenTimers}
 use Rattle.trace_text.specs.TraceTimers.{no_timers, with_timer, timers_by}
 use Rattle.trace_text.specs.TraceWords.{lines}
-use Rattle.trace_text.specs.TraceLines.{SoFar, says, with_tone}
+use Rattle.trace_text.specs.TraceLines.{SoFar, says, trace_limits, with_tone}
 
 -- how many bytes a trace has at most
 abbrev pub most_bytes : ℕ
@@ -109,7 +109,7 @@ abbrev pub EachSays : List Said → List (List ℕ) → List Said → Type 0
 EachSays before [] [] = Unit {0}
 EachSays before [] (said ∷ told) = ⊥
 EachSays before (line ∷ others) [] = ⊥
-EachSays before (line ∷ others) (said ∷ told) = (says (so_far before) line ≡ Ok said) × EachSays (before ++ said ∷ []) others told
+EachSays before (line ∷ others) (said ∷ told) = (says trace_limits (so_far before) line ≡ Ok said) × EachSays (before ++ said ∷ []) others told
 
 -- the trace is what the lines say: the sizes of the header, the plan of the numbers, the tones, the timers, the events, the ends of the
 -- segments, and the changes of meters
@@ -137,7 +137,7 @@ pub record IsFirstFault (bytes : List ℕ) (number : ℕ) (why : Reason) : Type 
   pub told : List Said
   pub parts : lines bytes ≡ before ++ line ∷ after
   pub meets : EachSays [] before told
-  pub fails : says (so_far told) line ≡ Err why
+  pub fails : says trace_limits (so_far told) line ≡ Err why
   pub place : number ≡ length before + 1
 
 -- no line fails, and none is the header

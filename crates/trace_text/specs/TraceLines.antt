@@ -19,6 +19,7 @@ use Rattle.trace_text.specs.declared.fault.Reason.{Reason}
 use Rattle.trace_text.specs.declared.fault.Reason.TheVariants as reason
 use Rattle.trace_text.specs.declared.fault.LineFault.{LineFault}
 use Rattle.trace_text.specs.declared.fault.LineFault.TheVariants as fault
+use Rattle.trace_text.specs.declared.limits.Limits.{Limits}
 use Rattle.trace_text.specs.declared.said.Sizes.{Sizes}
 use Rattle.trace_text.specs.declared.said.Kind.{Kind}
 use Rattle.trace_text.specs.declared.said.Kind.TheVariants as kind
@@ -224,20 +225,28 @@ by_place so_far (Some sizes) line = after_header so_far sizes.external line
 abbrev pub reads : SoFar → List ℕ → Result Said Reason
 reads so_far line = if is_comment line || is_blank line then Ok said.Nothing else by_place so_far so_far.sizes line
 
--- the last checks of a line: no number equals, begins or continues an earlier one, and there are at most 256 numbers, 65,535 events and
--- 65,535 changes
-abbrev pub joins : SoFar → Said → Result Said Reason
-joins so_far (said.Numbered number) =
+-- the limits of a trace that is read as a whole
+abbrev pub trace_limits : Limits
+trace_limits = record { max_events = most_events; max_changes = most_changes }
+
+-- the limits of lines that are read as they come, which fewer than 2^32 lines never exceed
+abbrev pub line_limits : Limits
+line_limits = record { max_events = 4294967295; max_changes = 4294967295 }
+
+-- the last checks of a line: no number equals, begins or continues an earlier one, there are at most 256 numbers, and neither the events nor
+-- the changes exceed their limit
+abbrev pub joins : Limits → SoFar → Said → Result Said Reason
+joins limits so_far (said.Numbered number) =
     if is_number_taken so_far.plan number.digits then Err reason.Prefix
     else if length so_far.plan == 256 then Err reason.Limit
     else Ok (said.Numbered number)
-joins so_far (said.Happens event) = if nat_lt so_far.events most_events then Ok (said.Happens event) else Err reason.Limit
-joins so_far said.Change = if nat_lt so_far.changes most_changes then Ok said.Change else Err reason.Limit
-joins so_far other = Ok other
+joins limits so_far (said.Happens event) = if nat_lt so_far.events limits.max_events then Ok (said.Happens event) else Err reason.Limit
+joins limits so_far said.Change = if nat_lt so_far.changes limits.max_changes then Ok said.Change else Err reason.Limit
+joins limits so_far other = Ok other
 
 -- what a line says behind the lines so far
-abbrev pub says : SoFar → List ℕ → Result Said Reason
-says so_far line = reads so_far line >>= joins so_far
+abbrev pub says : Limits → SoFar → List ℕ → Result Said Reason
+says limits so_far line = reads so_far line >>= joins limits so_far
 
 -- a function answered what reading gives, unless memory ran out
 abbrev pub Fails : {T : Type 0} → LineFault → Result T Reason → Type 0

@@ -42,10 +42,12 @@ pub enum TraceFault {
     Line { number: u32, reason: Reason },
 }
 
-// Why a line could not be read.
-#[derive(Clone, Copy)]
+/// Why a line could not be read.
+#[derive(Clone, Copy, Debug, PartialEq, Eq)]
 pub enum LineFault {
+    /// An allocation failed.
     Memory,
+    /// The line is refused, for the first of its checks that fails.
     Refused(Reason),
 }
 

@@ -1,0 +1,302 @@
+//! What the lines of a trace said so far, and reading one more.
+ghost use Rattle.std.specs.Prelude.{◌≡◌};
+ghost use Rattle.trace_text.specs.TraceLines.{with_tone};
+
+use crate::cut::{first_word, is_text};
+use crate::fault::{LineFault, Reason};
+use crate::fields::header_of;
+use crate::limits::Limits;
+use crate::line::{
+    alone, frame_of, free_of, kind_of, message_of, nail_of, number_of, seat_of, timer_of, tone_of,
+};
+use crate::plain::{ends_word, plain_frame, plain_free, plain_message, plain_nail};
+use crate::said::{GivenTone, Kind, Said, Sizes};
+use crate::timing::GivenTimers;
+use call_timers::Timers;
+use circuit_model::Kind as Tone;
+use exchange_events::Event;
+use number_plan::Plan;
+use std::alloc::{AllocError, Global};
+use std::marker::Model;
+use tone_rules::Tones;
+
+/// What happens by a line.
+#[derive(Drop)]
+pub enum Happening {
+    /// Nothing: the line is blank, a comment, the header, a number, a tone or a timer.
+    Nothing,
+    /// An event.
+    Event(Event),
+    /// The segment ends.
+    SegmentEnd,
+    /// The segment ends, and the meters change.
+    Change,
+}
+
+/// The content of the lines of a trace so far that the next line depends on: the sizes of the header, the
+/// numbers, the tones, the timers, and how many events and changes of meters there were. Contracts see it
+/// as that record.
+///
+/// It does not store the events, so its size does not depend on how many lines it read.
+#[derive(Drop)]
+pub struct Heading {
+    sizes: Option<Sizes>,
+    plan: Plan,
+    tones: Tones,
+    timers: GivenTimers,
+    events: u32,
+    changes: u32,
+}
+
+impl Model for Heading {
+    ghost use Rattle.trace_text.specs.TraceLines.{SoFar};
+
+    ghost Value = { SoFar };
+
+    ghost view = { λ h. record {
+      sizes = h.sizes;
+      events = h.events;
+      plan = h.plan;
+      tones = h.tones;
+      timers = h.timers;
+      changes = h.changes;
+    } };
+}
+
+// Puts the octets of a tone under its kind.
+fn give(tones: &mut Tones, given: GivenTone)
+    ensures { tones.new ≡ with_tone tones.old given }
+{
+    match given.kind {
+        Tone::Ringback => tones.ringback = given.octets,
+        Tone::Busy => tones.busy = given.octets,
+    }
+}
+
+impl Heading {
+    ghost use Rattle.std.specs.Prelude.{◌≡◌, [], Ok, OnOk, OnErr, IfOk, IfErr, IfSome};
+    ghost use Rattle.trace_text.specs.TraceWords.{words};
+    ghost use Rattle.trace_text.specs.TraceTimers.{timers_by};
+    ghost use Rattle.trace_text.specs.TraceLines.{number, numbered, tone, toned, timer, timed, before_events, by_kind, reads, joins, says, Fails, Gives};
+    ghost use Rattle.trace_text.specs.TraceGrammar.{so_far};
+    ghost use Rattle.trace_text.specs.TraceHeading.{happening_of, with_said, Suits, IsLineRead};
+
+    /// The content of no lines.
+    pub fn new(alloc: Global) -> Heading
+        ensures { result ≡ so_far [] }
+    {
+        Heading {
+            sizes: None,
+            plan: Plan::new(alloc),
+            tones: Tones::none(alloc),
+            timers: GivenTimers::none(),
+            events: 0,
+            changes: 0,
+        }
+    }
+
+    /// The sizes of the header; `None` before the header.
+    pub fn sizes(&self) -> Option<Sizes>
+        ensures { result ≡ self.now.sizes }
+    {
+        self.sizes
+    }
+
+    /// The plan of the numbers so far.
+    pub fn plan(&self) -> &Plan
+        ensures { result.now ≡ self.now.plan }
+    {
+        &self.plan
+    }
+
+    /// The tones so far; one that no line gave has no octets.
+    pub fn tones(&self) -> &Tones
+        ensures { result.now ≡ self.now.tones }
+    {
+        &self.tones
+    }
+
+    /// The timers so far; one that no line gave has its usual value.
+    pub fn timers(&self) -> Timers
+        ensures { result ≡ timers_by self.now.timers }
+    {
+        self.timers.timers()
+    }
+
+    /// The number of events so far.
+    pub fn event_count(&self) -> u32
+        ensures { result ≡ self.now.events }
+    {
+        self.events
+    }
+
+    /// The plan, the tones and the timers.
+    pub fn into_parts(self) -> (Plan, Tones, Timers)
+        ensures { result ≡ (self.plan, self.tones, timers_by self.timers) }
+    {
+        let timers = self.timers.timers();
+        (self.plan, self.tones, timers)
+    }
+
+    // Takes in what a line said, where it passes the last checks.
+    fn take(&mut self, limits: Limits, said: Said) -> Result<Happening, LineFault>
+        requires { Suits self.old said }
+        ensures taken { OnOk result (self.new ≡ with_said self.old said) }
+        ensures happens { IfOk result (λ happening. happening ≡ happening_of said) }
+        ensures joins { OnOk result (joins limits self.old said ≡ Ok said) }
+        ensures refused { IfErr result (λ e. Fails e (joins limits self.old said)) }
+        ensures kept { OnErr result (self.new ≡ self.old) }
+    {
+        match said {
+            Said::Nothing => {}
+            Said::Header(sizes) => self.sizes = Some(sizes),
+            Said::Numbered(number) => self.plan.add(number.digits.as_slice(), number.target)?,
+            Said::Toned(given) => give(&mut self.tones, given),
+            Said::Timed(given) => self.timers.give(given),
+            Said::Happens(_) if self.events >= limits.max_events => {
+                return Err(LineFault::Refused(Reason::Limit));
+            }
+            Said::Happens(event) => {
+                self.events += 1;
+                return Ok(Happening::Event(event));
+            }
+            Said::Sync => return Ok(Happening::SegmentEnd),
+            Said::Change if self.changes >= limits.max_changes => {
+                return Err(LineFault::Refused(Reason::Limit));
+            }
+            Said::Change => {
+                self.changes += 1;
+                return Ok(Happening::Change);
+            }
+        }
+        Ok(Happening::Nothing)
+    }
+
+    // A number's line, whose further words are given.
+    fn number_line(&self, external: u8, line: &[u8]) -> Result<Said, Reason>
+        ensures reads { result ≡ before_events self.now (numbered (number external (words line.now))) }
+        ensures suits { IfOk result (λ said. Suits self.now said) }
+    {
+        if self.events > 0 {
+            return Err(Reason::Word);
+        }
+        Ok(Said::Numbered(number_of(external, line)?))
+    }
+
+    // A tone's line, whose further words are given.
+    fn tone_line(&self, alloc: Global, line: &[u8]) -> Result<Said, LineFault>
+        ensures reads { Gives result (before_events self.now (toned (tone self.now.tones (words line.now)))) }
+        ensures suits { IfOk result (λ said. Suits self.now said) }
+    {
+        if self.events > 0 {
+            return Err(LineFault::Refused(Reason::Word));
+        }
+        Ok(Said::Toned(tone_of(alloc, &self.tones, line)?))
+    }
+
+    // A timer's line, whose further words are given.
+    fn timer_line(&self, line: &[u8]) -> Result<Said, Reason>
+        ensures reads { result ≡ before_events self.now (timed (timer self.now.timers (words line.now))) }
+        ensures suits { IfOk result (λ said. Suits self.now said) }
+    {
+        if self.events > 0 {
+            return Err(Reason::Word);
+        }
+        Ok(Said::Timed(timer_of(&self.timers, line)?))
+    }
+
+    // A line of a kind, whose further words are given.
+    fn line_of_kind(
+        &self,
+        alloc: Global,
+        external: u8,
+        kind: Kind,
+        line: &[u8],
+    ) -> Result<Said, LineFault>
+        ensures reads { Gives result (by_kind self.now external kind (words line.now)) }
+        ensures suits { IfOk result (λ said. Suits self.now said) }
+    {
+        match kind {
+            Kind::Frame => Ok(Said::Happens(frame_of(alloc, external, line)?)),
+            Kind::Message => Ok(Said::Happens(message_of(alloc, external, line)?)),
+            Kind::Nail => Ok(Said::Happens(nail_of(external, line)?)),
+            Kind::Seat => Ok(Said::Happens(seat_of(external, line)?)),
+            Kind::Free => Ok(Said::Happens(free_of(external, line)?)),
+            Kind::Number => Ok(self.number_line(external, line)?),
+            Kind::Tone => Ok(self.tone_line(alloc, line)?),
+            Kind::Timer => Ok(self.timer_line(line)?),
+            Kind::Sync => Ok(alone(Said::Sync, line)?),
+            Kind::Change => Ok(alone(Said::Change, line)?),
+            Kind::Unknown => Err(LineFault::Refused(Reason::Word)),
+        }
+    }
+
+    // The event that a line gives, where it is written as most are.
+    fn plain_event(&self, alloc: Global, line: &[u8]) -> Result<Option<Event>, AllocError>
+        ensures { IfOk result (λ found. IfSome found (λ event. reads self.now line.now ≡ Ok (Said.Happens event))) }
+    {
+        let Some(sizes) = self.sizes else {
+            return Ok(None);
+        };
+        match line {
+            [b'F', rest @ ..] if ends_word(rest) => plain_frame(alloc, sizes.external, rest),
+            [b'M', ..] => Ok(plain_message(alloc, sizes.external, line)),
+            [b'n', ..] => Ok(plain_nail(sizes.external, line)),
+            [b'f', ..] => Ok(plain_free(sizes.external, line)),
+            _ => Ok(None),
+        }
+    }
+
+    // What a line says by its octets and words.
+    fn reads(&self, alloc: Global, line: &[u8]) -> Result<Said, LineFault>
+        ensures reads { Gives result (reads self.now line.now) }
+        ensures suits { IfOk result (λ said. Suits self.now said) }
+    {
+        if line.first() == Some(&b'#') {
+            return Ok(Said::Nothing);
+        }
+        // Most lines of a trace of messages are this one.
+        if self.sizes.is_some() && line == b"sync".as_slice() {
+            return Ok(Said::Sync);
+        }
+        if let Some(event) = self.plain_event(alloc, line)? {
+            return Ok(Said::Happens(event));
+        }
+        let Some((kind, rest)) = first_word(line) else {
+            return Ok(Said::Nothing);
+        };
+        let Some(sizes) = self.sizes else {
+            let sizes = header_of(line).ok_or(Reason::Header)?;
+            return Ok(Said::Header(sizes));
+        };
+        if !is_text(line) {
+            return Err(LineFault::Refused(Reason::Word));
+        }
+        self.line_of_kind(alloc, sizes.external, kind_of(kind), rest)
+    }
+
+    /// Reads one more line, within these limits, and returns what happens by it.
+    ///
+    /// # Errors
+    ///
+    /// - [`LineFault::Refused`] if the line fails a check, with the first one.
+    /// - [`LineFault::Memory`] if an allocation fails.
+    ///
+    /// The heading is unchanged then.
+    pub fn read_line(
+        &mut self,
+        alloc: Global,
+        limits: Limits,
+        line: &[u8],
+    ) -> Result<Happening, LineFault>
+        // The line says what it says behind the lines before it.
+        ensures read { IfOk result (λ happening. IsLineRead limits self.old line.now happening self.new) }
+        // A line that is refused fails a check, and the reason is its first.
+        ensures refused { IfErr result (λ e. Fails e (says limits self.old line.now)) }
+        // A line that isn't read changes nothing.
+        ensures kept { OnErr result (self.new ≡ self.old) }
+    {
+        let said = self.reads(alloc, line)?;
+        self.take(limits, said)
+    }
+}
