@@ -93,7 +93,7 @@ pub record IsShown (image : Control) (d : Dimensions) (w : World) : Type 0 where
   pub size : IsOfSize d image
   pub shows : Shows image w.holding.circuits w.ports w.holding.next
 
--- the tool of every frame is that of this one
+-- the tool of one frame serves for every frame
 pub frame_tool : (d : Dimensions) (input other : Input) (t : Tool) → IsToolFor d (Frame input) t → IsToolFor d (Frame other) t
 frame_tool d input other (tool.Image image) is = is
 frame_tool d input other tool.Nothing is = absurd is

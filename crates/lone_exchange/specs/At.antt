@@ -58,7 +58,7 @@ pub record IsAt {P E : Type 0} (carries : Carrying E) (frames : E → ℕ) (size
 abbrev pub size : ℕ → ℕ → ℕ → Dimensions
 size external bridges slots = record { external = external; bridges = bridges; slots = slots }
 
--- the map and the legs are those of an exchange of this size that has processed no event
+-- the map and the legs hold the first world of an exchange of this size
 abbrev pub HoldsNothing : ℕ → ℕ → ℕ → Connections → Legs → Type 0
 HoldsNothing external bridges slots map legs = let d = size external bridges slots in Holds d map legs (start d)
 

@@ -84,8 +84,10 @@ impl<P: PathMap, C: Carrier> LoneExchange<P, C> {
         requires fits { Fits self.old.control.map.external event.now }
         requires room { self.old.control.map.next < 4294967295 }
         ensures world { Passes C.carries C.next C.sizes plan.now tones.now timers.now event.now self.old self.new }
-        ensures reply { Replies C.carries C.next C.sizes plan.now tones.now timers.now event.now self.old result self.new }
-        ensures played { PlaysDue C.carries C.next C.sizes C.plays plan.now tones.now timers.now event.now self.old self.new }
+        ensures reply { Replies C.carries C.next C.sizes plan.now tones.now timers.now
+            event.now self.old result self.new }
+        ensures played { PlaysDue C.carries C.next C.sizes C.plays plan.now tones.now timers.now
+            event.now self.old self.new }
     {
         match event {
             Event::Frame(input) => self.carry(rt, plan, tones, timers, event, input),
@@ -111,8 +113,10 @@ impl<P: PathMap, C: Carrier> LoneExchange<P, C> {
         requires fits { Fits self.old.control.map.external event.now }
         requires room { self.old.control.map.next < 4294967295 }
         ensures world { Passes C.carries C.next C.sizes plan.now tones.now timers.now event.now self.old self.new }
-        ensures reply { Replies C.carries C.next C.sizes plan.now tones.now timers.now event.now self.old result self.new }
-        ensures played { PlaysDue C.carries C.next C.sizes C.plays plan.now tones.now timers.now event.now self.old self.new }
+        ensures reply { Replies C.carries C.next C.sizes plan.now tones.now timers.now
+            event.now self.old result self.new }
+        ensures played { PlaysDue C.carries C.next C.sizes C.plays plan.now tones.now timers.now
+            event.now self.old self.new }
     {
         let external = self.octets.len() as u8;
         self.desk.out.clear();
@@ -136,7 +140,8 @@ impl<P: PathMap, C: Carrier> LoneExchange<P, C> {
         requires fits { Fits self.old.control.map.external event.now }
         requires room { self.old.control.map.next < 4294967295 }
         ensures world { Passes C.carries C.next C.sizes plan.now tones.now timers.now event.now self.old self.new }
-        ensures reply { Replies C.carries C.next C.sizes plan.now tones.now timers.now event.now self.old result self.new }
+        ensures reply { Replies C.carries C.next C.sizes plan.now tones.now timers.now
+            event.now self.old result self.new }
     {
         let external = self.octets.len() as u8;
         self.desk.out.clear();
@@ -161,7 +166,8 @@ impl<P: PathMap, C: Carrier> LoneExchange<P, C> {
         number: u32,
         response: Response,
     ) -> Result<(), AllocError>
-        ensures line { (s : Setting) (w : World) (e : An_event) → HasReplied s w e response self.now → HasPlayed C.plays s w e self.now
+        ensures line { (s : Setting) (w : World) (e : An_event)
+            → HasReplied s w e response self.now → HasPlayed C.plays s w e self.now
             → OnOk result (Appends C.plays s w e number text.old.items text.new.items) }
         ensures kept { OnErr result (text.new.items ≡ text.old.items) }
     {

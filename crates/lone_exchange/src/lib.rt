@@ -11,9 +11,6 @@
 //!   report is unchanged (`kept`).
 //!
 //! For events that happen one after another from the first world on, the lines are the report of these events.
-//!
-//! It uses `circuit_model`, `control_memory`, `circuit_map`, `tone_rules`, `call_timers`, `number_plan`,
-//! `frame_engine`, `exchange_events`, `call_profile`, `leg_table`, `call_control`, `exchange_core` and `report_text`.
 #![tactic(auto)]
 
 mod exchange;

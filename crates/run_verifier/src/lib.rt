@@ -13,11 +13,8 @@
 //! - An event may come next exactly where it isn't done, and all that have to come before it are
 //!   ([`law_of_turns`]).
 //!
-//! The events are done again one by one, on one thread, by the core and the engine of three stages.
-//!
-//! It uses `circuit_model`, `control_memory`, `tone_rules`, `fabric_map`, `strict_map`, `frame_engine`,
-//! `exchange_events`, `call_profile`, `exchange_core`, `trace_text`, `report_text` and `report_reader`, and of
-//! `call_processor` what a worker's part of a segment is; no worker runs.
+//! A lone exchange (`lone_exchange`) over the engine of three stages processes the events again, one by one, on the
+//! thread of the caller.
 #![tactic(auto)]
 
 mod laws;
