@@ -1,6 +1,5 @@
 -- The world after an event, as an exchange that one caller drives is in it.
-use Rattle.std.proofs.Common.{◌≡◌, ℕ, ◌+◌, ◌≤◌, List, [], ◌∷◌, ◌++◌, length, take, drop, drop_of_length-le, append-nil, take_all, refl, sym, ap, ◌∙◌, subst, arith}
-use Rattle.std.specs.Prelude.{All}
+use Rattle.std.proofs.Common.{◌≡◌, ℕ, ◌+◌, List, [], ◌∷◌, ◌++◌, length, take, drop, drop_of_length-le, append-nil, take_all, sym, ap, ◌∙◌, subst, arith}
 use Rattle.std.proofs.lemmas.List.Elements.{All-nil, All-cons, All-append}
 use Rattle.circuit_model.specs.Dimensions.{Dimensions}
 use Rattle.circuit_model.specs.FrameInput.{Input}
@@ -22,7 +21,7 @@ use Rattle.call_profile.specs.Legs.{Legs}
 use Rattle.call_profile.specs.Step.{next}
 use Rattle.call_profile.specs.World.{World, pass, start}
 use Rattle.call_profile.proofs.HistoryLemmas.{made, made_pass}
-use Rattle.call_profile.proofs.QuietEventLemmas.{SameFrames, quiet, passed_same}
+use Rattle.call_profile.proofs.QuietEventLemmas.{quiet, passed_same}
 use Rattle.call_profile.proofs.RunLemmas.{world-snoc}
 use Rattle.call_profile.proofs.StandingLegLemmas.{run_stands}
 use Rattle.call_control.specs.AtWork.{IsAtWork}

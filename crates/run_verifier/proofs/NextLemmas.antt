@@ -1,5 +1,5 @@
 -- The next line of a report.
-use Rattle.std.proofs.Common.{◌≡◌, ℕ, ◌≤◌, List, [], ◌∷◌, ◌++◌, length, Some, None, sym, ap, subst, ◌∙◌}
+use Rattle.std.proofs.Common.{◌≡◌, ℕ, List, ◌++◌, Some, None, sym, ap, subst, ◌∙◌}
 use Rattle.std.proofs.lemmas.Option.{some_pair_parts}
 use Rattle.circuit_model.specs.Hears.{hears}
 use Rattle.exchange_events.specs.declared.trace.Event.{Event}

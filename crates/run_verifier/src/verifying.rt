@@ -105,8 +105,13 @@ fn on_map<P: PathMap + Drop, R: Threads + Sync>(
     requires paths { IsUnused (trace.now.external + trace.now.bridges) (P.width paths) (P.depth paths) (P.layout paths) }
     ensures right { IfOk result (λ verdict. IsRight (P.depth paths) trace.now report.now verdict) }
 {
-    let mut exchange: LoneExchange<P, Engine> =
-        LoneExchange::new(alloc, trace.external, trace.bridges, trace.timers, paths)?;
+    let mut exchange: LoneExchange<P, Engine> = LoneExchange::new(
+        alloc,
+        trace.external,
+        trace.bridges,
+        trace.timers,
+        paths,
+    )?;
     let mut line = Vec::new(alloc);
     verdict_on(rt, trace, &mut exchange, &mut line, report)
 }

@@ -1,4 +1,3 @@
-use Rattle.std.proofs.Common.{ap}
 use Rattle.report_text.specs.Report.{response_line}
 use Rattle.report_text.specs.RunReport.{event_line}
 use Rattle.tone_rules.specs.Tables.{table_of}
