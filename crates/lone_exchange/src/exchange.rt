@@ -39,7 +39,7 @@ pub struct LoneExchange<P: PathMap, C: Carrier> {
 }
 
 impl<P: PathMap + Drop, C: Carrier> LoneExchange<P, C> {
-    /// An exchange before its first event, for the given numbers of external and bridge lines, over a map without paths.
+    /// An exchange before its first event, with these numbers of external and bridge lines, over a map without paths.
     ///
     /// # Errors
     ///

@@ -1,5 +1,5 @@
 -- A trace that is done again, event by event, on one thread. Source: this exchange's own.
-use Rattle.std.specs.Prelude.{ℕ, List}
+use Rattle.std.specs.Prelude.{ℕ, ◌<◌, List, length}
 use Rattle.circuit_model.specs.Dimensions.{Dimensions}
 use Rattle.circuit_model.specs.Hears.{hears}
 use Rattle.tone_rules.specs.Tables.{table_of}
@@ -19,6 +19,10 @@ engine_sizes e = record { external = e.external; bridges = e.bridges; slots = e.
 -- the exchange has processed the events with these numbers, in this order and from the first world on
 abbrev pub HasDone : {P : Type 0} → ℕ → Trace → List ℕ → LoneExchange P Stages → Type 0
 HasDone slots trace order x = IsAt EngineCarries (λ (e : Stages). e.next) engine_sizes x (setting_of slots trace) (world_after slots trace order)
+
+-- it has processed some of the trace's events so, and not all
+abbrev pub HasDoneSome : {P : Type 0} → Trace → LoneExchange P Stages → Type 0
+HasDoneSome trace x = (slots : ℕ) × (order : List ℕ) × HasDone slots trace order x × (length order < length trace.events)
 
 -- the line of an event that happens behind these
 abbrev pub line_due : ℕ → Trace → List ℕ → ℕ → Event → List ℕ

@@ -1,10 +1,10 @@
 //! One event done again, and its line.
-ghost use Rattle.std.specs.Prelude.{◌≡◌, ◌<◌, ◌++◌, ◌∷◌, [], ℕ, List, length, OnOk};
+ghost use Rattle.std.specs.Prelude.{◌≡◌, ◌++◌, ◌∷◌, [], ℕ, List, OnOk};
 ghost use Rattle.exchange_events.specs.declared.trace.Event.{Event as An_event};
 ghost use Rattle.exchange_events.specs.Orders.{IsEvent};
 ghost use Rattle.exchange_events.specs.Sound.{IsSound};
 ghost use Rattle.exchange_core.specs.Working.{IsNumbered};
-ghost use Rattle.run_verifier.specs.Replaying.{HasDone, line_due};
+ghost use Rattle.run_verifier.specs.Replaying.{HasDone, HasDoneSome, line_due};
 
 use control_memory::PathMap;
 use exchange_events::Trace;
@@ -27,7 +27,7 @@ pub(crate) fn line_of<P: PathMap, R: Threads + Sync>(
 ) -> Result<(), AllocError>
     requires sound { IsSound trace.now }
     requires known { IsEvent trace.now event }
-    requires some { (slots : ℕ) × (order : List ℕ) × HasDone slots trace.now order exchange.old × (length order < length trace.now.events) }
+    requires some { HasDoneSome trace.now exchange.old }
     ensures done { (slots : ℕ) (order : List ℕ) → HasDone slots trace.now order exchange.old
         → HasDone slots trace.now (order ++ event ∷ []) exchange.new }
     ensures line { (slots : ℕ) (order : List ℕ) (e : An_event) → HasDone slots trace.now order exchange.old
