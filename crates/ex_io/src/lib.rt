@@ -1,16 +1,13 @@
-//! The two ends of the exchange: where its bytes come from, and where they go.
+//! The source and the sink of the exchange: where its bytes come from, and where they go.
 //!
-//! - [`Source`]'s `read` returns the next bytes (`next`), and none exactly at the end (`end`,
+//! - `read` of a [`Source`] returns the next bytes (`next`), and none if and only if it is at the end (`end`,
 //!   `no_more`).
-//! - [`Sink`]'s `write` appends a prefix of what it is given (`appended`), of one byte at least
-//!   (`some`).
-//! - Both count their faults: a call fails only where that count rose (`cause`), and then nothing
-//!   moved (`kept`); a call that succeeds leaves it as it was (`steady`).
+//! - `write` of a [`Sink`] appends a prefix of its bytes (`appended`), of one byte at least (`some`).
+//! - Both count their errors. A call fails only if that count rises (`cause`), and then nothing else changes (`kept`).
+//!   A call that succeeds leaves it unchanged (`steady`).
 //!
-//! [`MemSource`] and [`MemSink`] are ends in memory that fail at given calls;
-//! [`StdSource`] and [`StdSink`] are standard input and output, which tell no bytes.
-//!
-//! It uses the kit's `thiserror` alone.
+//! [`MemSource`] and [`MemSink`] are in memory and fail at given calls. [`StdSource`] and [`StdSink`] are standard
+//! input and output, of whose bytes no clause speaks.
 #![tactic(auto)]
 
 mod ends;

@@ -9,9 +9,8 @@ use Rattle.exchange_events.specs.declared.trace.Trace.{Trace}
 use Rattle.exchange_events.specs.Orders.{Worker, Processor, Frame_worker, IsEvent, Precedes, SameWorker, event_at, segment_of, worker_of}
 use Rattle.exchange_events.specs.Sound.{IsSound}
 use Rattle.exchange_events.proofs.EventNumbers.{event_there}
-use Rattle.exchange_core.specs.Working.{Working, order_of}
 use Rattle.report_reader.specs.Reading.{number_at}
-use Rattle.run_verifier.specs.Replaying.{line_due, with_event}
+use Rattle.run_verifier.specs.Replaying.{line_due}
 use Rattle.run_verifier.specs.Verdicts.{IsInvalidAt, IsValid, MayFollow}
 use Rattle.run_verifier.specs.Verifying.{GoesOn, IsStuck}
 use Rattle.run_verifier.proofs.EndLemmas.{HasRead, invalid_here, read_more, read_none, too_long, valid_here}
@@ -149,24 +148,23 @@ behind_line (a ∷ line) (b ∷ text) = elim (cases_eq b a) [
 
 -- ---- the next line
 
-module _ (x : Working) (text : List ℕ) (sound : IsSound x.trace) where
+module _ (slots : ℕ) (trace : Trace) (order text : List ℕ) (sound : IsSound trace) where
   record IsLine : Type 0 where
-    number : ℕ
     behind : List ℕ
-    goes : GoesOn x (with_event x number) text behind
+    goes : GoesOn slots trace order text behind
 
-  next : IsLine ⊎ IsStuck x text
+  next : IsLine ⊎ IsStuck slots trace order text
   next = read (number_at text) refl
     where
-      read : (o : Option (ℕ × List ℕ)) → number_at text ≡ o → IsLine ⊎ IsStuck x text
-      read None none = inr (no_number x text sound none)
-      read (Some (n, more)) is = elim (may_follow x.trace (order_of x.journal) n) [
-        | inr nor ↦ inr (no_turn x text sound n more is nor)
+      read : (o : Option (ℕ × List ℕ)) → number_at text ≡ o → IsLine ⊎ IsStuck slots trace order text
+      read None none = inr (no_number slots trace order text sound none)
+      read (Some (n, more)) is = elim (may_follow trace order n) [
+        | inr nor ↦ inr (no_turn slots trace order text sound n more is nor)
         | inl may ↦
-            let e = event_there x.trace n may.known in
-            elim (behind_line (line_due x n e.0) text) [
-              | inl there ↦ inl (record { number = n; behind = there.0; goes = record { number = n; event = e.0; may = may; numbered = e.1; done = refl; line = there.1 } })
-              | inr nor ↦ inr (no_line x text sound n e.0 more (line_due x n e.0) is e.1 refl (λ behind there. nor (behind, there)))
+            let e = event_there trace n may.known in
+            elim (behind_line (line_due slots trace order n e.0) text) [
+              | inl there ↦ inl (record { behind = there.0; goes = record { number = n; event = e.0; may = may; numbered = e.1; line = there.1 } })
+              | inr nor ↦ inr (no_line slots trace order text sound n e.0 more (line_due slots trace order n e.0) is e.1 refl (λ behind there. nor (behind, there)))
             ]
       ]
 
@@ -175,15 +173,13 @@ module _ (x : Working) (text : List ℕ) (sound : IsSound x.trace) where
 abbrev pub HasVerdict : ℕ → Trace → List ℕ → Type 0
 HasVerdict slots trace bytes = IsValid slots trace bytes ⊎ ((n : ℕ) × IsInvalidAt slots trace bytes n)
 
-judge : (bytes : List ℕ) (m : ℕ) (x : Working) (text : List ℕ) (k : ℕ) → IsSound x.trace → HasRead x bytes text k → k + m ≡ length x.trace.events → HasVerdict x.slots x.trace bytes
-judge bytes zero x [] k sound read all = inl (valid_here x bytes [] k sound read (omega (arith, all)) refl)
-judge bytes zero x (o ∷ text) k sound read all = inr (k + 1, too_long x bytes (o ∷ text) k sound read (omega (arith, all)) (λ e. cc))
-judge bytes (suc m) x text k sound read all = elim (next x text sound) [
-  | inl line ↦ judge bytes m (with_event x line.number) line.behind (k + 1) sound (read_more x (with_event x line.number) bytes text line.behind k read line.goes) (omega (arith, all))
-  | inr stuck ↦ inr (k + 1, invalid_here x bytes text k sound read (omega (arith, all)) stuck)
+judge : (slots : ℕ) (trace : Trace) (bytes : List ℕ) (m : ℕ) (order text : List ℕ) (k : ℕ) → IsSound trace → HasRead slots trace order bytes text k → k + m ≡ length trace.events → HasVerdict slots trace bytes
+judge slots trace bytes zero order [] k sound read all = inl (valid_here slots trace order bytes [] k sound read (omega (arith, all)) refl)
+judge slots trace bytes zero order (o ∷ text) k sound read all = inr (k + 1, too_long slots trace order bytes (o ∷ text) k sound read (omega (arith, all)) (λ e. cc))
+judge slots trace bytes (suc m) order text k sound read all = elim (next slots trace order text sound) [
+  | inl line ↦ judge slots trace bytes m (order ++ line.goes.number ∷ []) line.behind (k + 1) sound (read_more slots trace order bytes text line.behind k read line.goes) (omega (arith, all))
+  | inr stuck ↦ inr (k + 1, invalid_here slots trace order bytes text k sound read (omega (arith, all)) stuck)
 ]
 
 pub always_one : (slots : ℕ) (trace : Trace) (bytes : List ℕ) → IsSound trace → HasVerdict slots trace bytes
-always_one slots trace bytes sound =
-    let x : Working = record { trace = trace; slots = slots; bound = 0; journal = [] } in
-    judge bytes (length trace.events) x bytes 0 sound (read_none x bytes refl) (omega arith)
+always_one slots trace bytes sound = judge slots trace bytes (length trace.events) [] bytes 0 sound (read_none slots trace bytes) (omega arith)

@@ -5,7 +5,7 @@ use Rattle.std.specs.List.{list_any}
 use Rattle.std.proofs.lemmas.Bool.{cases_Bool, eqb-true}
 use Rattle.std.proofs.lemmas.Bool.Decides.{Decides-eqb}
 use Rattle.std.proofs.lemmas.Cmp.{nat_eq_equiv}
-use Rattle.std.proofs.lemmas.List.{append-nil, get_or_default, map-append, take_all}
+use Rattle.std.proofs.lemmas.List.{append-nil, get_or_default, take_all}
 use Rattle.std.proofs.lemmas.List.Elements.{All-cons, All-weaker, All-contains}
 use Rattle.std.proofs.lemmas.List.Kept.{AllPairs-cons}
 use Rattle.std.proofs.lemmas.Map.Made.{IsDistinct-from_AllPairs}
@@ -15,54 +15,53 @@ use Rattle.std.proofs.Math.Seq.{take-suc}
 use Rattle.circuit_model.specs.Hears.{hears}
 use Rattle.exchange_events.specs.declared.trace.Trace.{Trace}
 use Rattle.exchange_events.specs.Orders.{IsEvent, IsLawful, IsLawfulPrefix}
-use Rattle.exchange_events.specs.Sound.{IsSound}
+use Rattle.exchange_events.specs.Sound.{IsSound, setting_of}
 use Rattle.exchange_events.proofs.EventNumbers.{event_there}
-use Rattle.exchange_core.specs.Working.{Entry, Working, order_of, setting}
+use Rattle.frame_engine.specs.Carries.{Stages}
+use Rattle.lone_exchange.specs.declared.exchange.LoneExchange.{LoneExchange}
 use Rattle.tone_rules.specs.Tables.{table_of}
 use Rattle.call_profile.specs.Step.{events_of, world_after_all}
 use Rattle.call_profile.specs.World.{start}
 use Rattle.report_text.specs.RunReport.{event_line}
-use Rattle.run_verifier.specs.Replaying.{line_due, with_event}
+use Rattle.run_verifier.specs.Replaying.{line_due}
 use Rattle.run_verifier.specs.Verdicts.{IsGood, IsInvalidAt, IsValid, MayFollow, report_due}
-use Rattle.run_verifier.specs.declared.verdict.Verdict.{Verdict}
-use Rattle.run_verifier.specs.Verifying.{GoesOn, IsRight, IsStuck}
+use Rattle.run_verifier.specs.declared.turns.Turns.{Turns}
+use Rattle.run_verifier.specs.Verifying.{GoesOn, IsStuck, IsUnderway}
 use Rattle.run_verifier.proofs.OrderLemmas.{follows, goes_on, lawful_take, none_lawful}
 use Rattle.run_verifier.proofs.ReportLemmas.{line_last, same_front}
 use Rattle.run_verifier.proofs.VerdictLemmas.{few_good, fewer_good}
 
--- the core has done k events in the order that the bytes give, and their lines come before the rest
-pub record HasRead (x : Working) (bytes text : List ℕ) (k : ℕ) : Type 0 where
-  pub count : length (order_of x.journal) ≡ k
-  pub lawful : IsLawfulPrefix x.trace (order_of x.journal)
-  pub report : bytes ≡ report_due x.slots x.trace (order_of x.journal) ++ text
+-- k events happened in the order that the bytes give, and their lines come before the rest
+pub record HasRead (slots : ℕ) (trace : Trace) (order bytes text : List ℕ) (k : ℕ) : Type 0 where
+  pub count : length order ≡ k
+  pub lawful : IsLawfulPrefix trace order
+  pub report : bytes ≡ report_due slots trace order ++ text
 
-pub read_none : (x : Working) (bytes : List ℕ) → x.journal ≡ [] → HasRead x bytes bytes 0
-read_none x bytes none = record {
-  count = ap (λ (j : List Entry). length (order_of j)) none;
-  lawful = subst (λ (j : List Entry). IsLawfulPrefix x.trace (order_of j)) (sym none) (none_lawful x.trace);
-  report = ap (λ (j : List Entry). report_due x.slots x.trace (order_of j) ++ bytes) (sym none);
-}
+pub read_none : (slots : ℕ) (trace : Trace) (bytes : List ℕ) → HasRead slots trace [] bytes bytes 0
+read_none slots trace bytes = record { count = refl; lawful = none_lawful trace; report = refl }
 
-order_more : (x : Working) (n : ℕ) → order_of (with_event x n).journal ≡ order_of x.journal ++ n ∷ []
-order_more x n = map-append (λ (entry : Entry). entry.1) x.journal ((0, n) ∷ [])
-
-pub read_more : (x y : Working) (bytes text behind : List ℕ) (k : ℕ) → HasRead x bytes text k → GoesOn x y text behind → HasRead y bytes behind (k + 1)
-read_more x y bytes text behind k read goes =
-    let s = setting x in
-    let played = hears (table_of x.trace.tones) in
+pub read_more : (slots : ℕ) (trace : Trace) (order bytes text behind : List ℕ) (k : ℕ) → HasRead slots trace order bytes text k → (goes : GoesOn slots trace order text behind)
+    → HasRead slots trace (order ++ goes.number ∷ []) bytes behind (k + 1)
+read_more slots trace order bytes text behind k read goes =
+    let s = setting_of slots trace in
+    let played = hears (table_of trace.tones) in
     let n = goes.number in
-    let order = order_of x.journal in
-    let longer = order_more x n in
-    let line = line_last played s x.trace (start s.dimensions) order n goes.event read.lawful.known goes.numbered in
+    let line = line_last played s trace (start s.dimensions) order n goes.event read.lawful.known goes.numbered in
     let count = read.count in
     let long = length-append order (n ∷ []) in
-    subst (λ (z : Working). HasRead z bytes behind (k + 1)) (sym goes.done) (record {
-      count = ap length longer ∙ omega (arith, count, long);
-      lawful = subst (IsLawfulPrefix x.trace) (sym longer) (goes_on x.trace order n read.lawful goes.may);
-      report = read.report ∙ ap (λ (l : List ℕ). report_due x.slots x.trace order ++ l) goes.line
-          ∙ sym (append_assoc (report_due x.slots x.trace order) (line_due x n goes.event) behind)
-          ∙ ap (λ (l : List ℕ). l ++ behind) (sym line ∙ ap (report_due x.slots x.trace) (sym longer));
-    })
+    record {
+      count = omega (arith, count, long);
+      lawful = goes_on trace order n read.lawful goes.may;
+      report = read.report ∙ ap (λ (l : List ℕ). report_due slots trace order ++ l) goes.line
+          ∙ sym (append_assoc (report_due slots trace order) (line_due slots trace order n goes.event) behind)
+          ∙ ap (λ (l : List ℕ). l ++ behind) (sym line);
+    }
+
+-- so much of a report is read, and what is done again of its trace is underway there
+pub record IsReading {P : Type 0} (slots : ℕ) (trace : Trace) (bytes text : List ℕ) (k : ℕ) (turns : Turns) (exchange : LoneExchange P Stages) : Type 0 where
+  pub order : List ℕ
+  pub read : HasRead slots trace order bytes text k
+  pub underway : IsUnderway slots trace order turns exchange
 
 -- ---- whole orders
 
@@ -116,67 +115,61 @@ valid_good slots trace bytes k within valid =
     fewer_good slots trace bytes k (length valid.order) (omega (arith, within, long))
     (record { order = valid.order; lawful = valid.lawful.begun; count = refl; rest = []; begins = valid.text ∙ sym (append-nil (report_due slots trace valid.order)) })
 
-module _ (x : Working) (bytes text : List ℕ) (k : ℕ) (sound : IsSound x.trace) (read : HasRead x bytes text k) where
-  pub good : IsGood x.slots x.trace bytes k
-  good = record { order = order_of x.journal; lawful = read.lawful; count = read.count; rest = text; begins = read.report }
+module _ (slots : ℕ) (trace : Trace) (order bytes text : List ℕ) (k : ℕ) (sound : IsSound trace) (read : HasRead slots trace order bytes text k) where
+  pub good : IsGood slots trace bytes k
+  good = record { order = order; lawful = read.lawful; count = read.count; rest = text; begins = read.report }
 
   -- the next line is not good where the rest begins with no line that may come
-  not_good : IsStuck x text → IsGood x.slots x.trace bytes (k + 1) → ⊥
+  not_good : IsStuck slots trace order text → IsGood slots trace bytes (k + 1) → ⊥
   not_good stuck more =
-      let s = setting x in
-      let played = hears (table_of x.trace.tones) in
+      let s = setting_of slots trace in
+      let played = hears (table_of trace.tones) in
       let w = start s.dimensions in
-      let order = order_of x.journal in
       let long = more.count in
       let count = read.count in
       let init = take k more.order in
       let n = get_or more.order k 0 in
       let split : more.order ≡ init ++ n ∷ [] = sym (take_all (suc k) more.order (omega (arith, long))) ∙ take-suc more.order k 0 (omega (arith, long)) in
-      let lawful : IsLawfulPrefix x.trace (init ++ n ∷ []) = subst (IsLawfulPrefix x.trace) split more.lawful in
-      let may = follows x.trace init n lawful in
-      let begun = lawful_take x.trace more.order k more.lawful in
-      let e = event_there x.trace n may.known in
-      let line = line_last played s x.trace w init n e.0 begun.known e.1 in
-      let due = event_line played s (world_after_all s w (events_of x.trace.events init)) n e.0 in
-      let there : report_due x.slots x.trace order ++ text ≡ report_due x.slots x.trace init ++ (due ++ more.rest) =
-      sym read.report ∙ more.begins ∙ ap (λ (l : List ℕ). l ++ more.rest) (ap (report_due x.slots x.trace) split ∙ line) ∙ append_assoc (report_due x.slots x.trace init) due more.rest in
+      let lawful : IsLawfulPrefix trace (init ++ n ∷ []) = subst (IsLawfulPrefix trace) split more.lawful in
+      let may = follows trace init n lawful in
+      let begun = lawful_take trace more.order k more.lawful in
+      let e = event_there trace n may.known in
+      let line = line_last played s trace w init n e.0 begun.known e.1 in
+      let due = event_line played s (world_after_all s w (events_of trace.events init)) n e.0 in
+      let there : report_due slots trace order ++ text ≡ report_due slots trace init ++ (due ++ more.rest) =
+      sym read.report ∙ more.begins ∙ ap (λ (l : List ℕ). l ++ more.rest) (ap (report_due slots trace) split ∙ line) ∙ append_assoc (report_due slots trace init) due more.rest in
       let size : length init ≡ k = length-take-le k more.order (omega (arith, long)) in
-      let same = same_front played s x.trace sound w order init text (due ++ more.rest) read.lawful.known begun.known (count ∙ sym size) there in
-      stuck n e.0 more.rest (subst (λ (l : List ℕ). MayFollow x.trace l n) (sym same.0) may) e.1
-      (same.1 ∙ ap (λ (l : List ℕ). event_line played s (world_after_all s w (events_of x.trace.events l)) n e.0 ++ more.rest) (sym same.0))
+      let same = same_front played s trace sound w order init text (due ++ more.rest) read.lawful.known begun.known (count ∙ sym size) there in
+      stuck n e.0 more.rest (subst (λ (l : List ℕ). MayFollow trace l n) (sym same.0) may) e.1
+      (same.1 ∙ ap (λ (l : List ℕ). event_line played s (world_after_all s w (events_of trace.events l)) n e.0 ++ more.rest) (sym same.0))
 
-  pub invalid_here : k < length x.trace.events → IsStuck x text → IsInvalidAt x.slots x.trace bytes (k + 1)
+  pub invalid_here : k < length trace.events → IsStuck slots trace order text → IsInvalidAt slots trace bytes (k + 1)
   invalid_here within stuck = record {
     before = k;
     number = refl;
     good = good;
     first = not_good stuck;
-    other = λ valid. not_good stuck (valid_good x.slots x.trace bytes (k + 1) (omega (arith, within)) valid);
+    other = λ valid. not_good stuck (valid_good slots trace bytes (k + 1) (omega (arith, within)) valid);
   }
 
-  pub valid_here : k ≡ length x.trace.events → text ≡ [] → IsValid x.slots x.trace bytes
+  pub valid_here : k ≡ length trace.events → text ≡ [] → IsValid slots trace bytes
   valid_here all empty = record {
-    order = order_of x.journal;
-    lawful = whole_lawful x.trace (order_of x.journal) read.lawful (read.count ∙ all);
-    text = read.report ∙ ap (λ (l : List ℕ). report_due x.slots x.trace (order_of x.journal) ++ l) empty ∙ append-nil (report_due x.slots x.trace (order_of x.journal));
+    order = order;
+    lawful = whole_lawful trace order read.lawful (read.count ∙ all);
+    text = read.report ∙ ap (λ (l : List ℕ). report_due slots trace order ++ l) empty ∙ append-nil (report_due slots trace order);
   }
 
-  pub too_long : k ≡ length x.trace.events → (text ≡ [] → ⊥) → IsInvalidAt x.slots x.trace bytes (k + 1)
+  pub too_long : k ≡ length trace.events → (text ≡ [] → ⊥) → IsInvalidAt slots trace bytes (k + 1)
   too_long all some = record {
     before = k;
     number = refl;
     good = good;
-    first = λ more. let few = few_good x.slots x.trace bytes (k + 1) more in absurd (omega (arith, few, all));
+    first = λ more. let few = few_good slots trace bytes (k + 1) more in absurd (omega (arith, few, all));
     other = λ valid.
-        let long = whole_length x.trace valid.order valid.lawful in
-        let few = few_good x.slots x.trace bytes (length valid.order) (record { order = valid.order; lawful = valid.lawful.begun; count = refl; rest = []; begins = valid.text ∙ sym (append-nil (report_due x.slots x.trace valid.order)) }) in
-        let s = setting x in
-        let same = same_front (hears (table_of x.trace.tones)) s x.trace sound (start s.dimensions) (order_of x.journal) valid.order text [] read.lawful.known valid.lawful.begun.known
-        (read.count ∙ omega (arith, all, long, few)) (sym read.report ∙ valid.text ∙ sym (append-nil (report_due x.slots x.trace valid.order))) in
+        let long = whole_length trace valid.order valid.lawful in
+        let few = few_good slots trace bytes (length valid.order) (record { order = valid.order; lawful = valid.lawful.begun; count = refl; rest = []; begins = valid.text ∙ sym (append-nil (report_due slots trace valid.order)) }) in
+        let s = setting_of slots trace in
+        let same = same_front (hears (table_of trace.tones)) s trace sound (start s.dimensions) order valid.order text [] read.lawful.known valid.lawful.begun.known
+        (read.count ∙ omega (arith, all, long, few)) (sym read.report ∙ valid.text ∙ sym (append-nil (report_due slots trace valid.order))) in
         some same.1;
   }
-
--- a verdict is right of the trace and the slots, whichever way they are named
-pub carried : (x y : Working) (bytes : List ℕ) (verdict : Verdict) → x.trace ≡ y.trace → x.slots ≡ y.slots → IsRight x.slots x.trace bytes verdict → IsRight y.slots y.trace bytes verdict
-carried x y bytes verdict trace slots right =
-    subst (λ (t : Trace). IsRight y.slots t bytes verdict) trace (subst (λ (n : ℕ). IsRight n x.trace bytes verdict) slots right)

@@ -1,62 +1,46 @@
--- The line of an event that was done.
-use Rattle.std.proofs.Common.{◌≡◌, ℕ, List, [], ◌∷◌, ◌++◌, length, Result, Ok, Err, OnOk, refl, sym, ap, subst, ◌∙◌}
-use Rattle.std.proofs.lemmas.List.Elements.{All-nil, All-cons}
-use Rattle.circuit_model.specs.FrameInput.{Input}
-use Rattle.circuit_model.specs.Hears.{hears}
-use Rattle.exchange_events.specs.declared.reply.Reply.{Reply}
-use Rattle.exchange_events.specs.declared.trace.Event.{Event}
-use Rattle.exchange_events.specs.declared.trace.Event.TheVariants.{Frame}
-use Rattle.exchange_events.specs.Kept.{kept_of}
-use Rattle.call_profile.specs.Step.{reply}
-use Rattle.call_profile.specs.World.{pass}
-use Rattle.call_profile.proofs.QuietEventLemmas.{passed_same}
-use Rattle.call_processor.specs.Frames.{IsPlayed}
-use Rattle.call_processor.proofs.FrameLemmas.{still_ready}
-use Rattle.exchange_core.specs.declared.tool.Tool.{Tool}
-use Rattle.exchange_core.specs.Boards.{IsFrame}
-use Rattle.exchange_core.specs.Working.{Entry, IsNumbered, Working, setting, world_of}
+-- The exchange after an event more, and the line of that event.
+use Rattle.std.proofs.Common.{◌≡◌, ℕ, ◌<◌, List, [], ◌∷◌, ◌++◌, length, Result, Ok, Err, OnOk, sym, ap, subst, ◌∙◌, arith}
+use Rattle.circuit_model.specs.Dimensions.{Dimensions}
 use Rattle.frame_engine.specs.Carries.{EngineCarries, Stages}
-use Rattle.tone_rules.specs.Tables.{table_of}
-use Rattle.report_text.specs.Report.{lines_sent, octet_of, report_line}
-use Rattle.report_text.specs.RunReport.{sent_at}
-use Rattle.report_text.proofs.Rows.{sent_same}
-use Rattle.report_text.proofs.KeptLines.{same_line}
-use Rattle.run_verifier.specs.Replaying.{IsReadyAt, board_of, engine_sizes, line_due, with_event}
+use Rattle.exchange_events.specs.declared.trace.Event.{Event}
+use Rattle.exchange_events.specs.declared.trace.Trace.{Trace}
+use Rattle.exchange_events.specs.Sound.{Fits, IsSound, setting_of}
+use Rattle.exchange_events.proofs.EventNumbers.{of_event_at}
+use Rattle.call_profile.specs.Step.{events_of, next, world_after_all}
+use Rattle.call_profile.specs.World.{World, start}
+use Rattle.call_profile.proofs.RunLemmas.{events_of-snoc, few_events, world-snoc, world_next}
+use Rattle.exchange_core.specs.Working.{IsNumbered, world_after}
+use Rattle.lone_exchange.specs.declared.exchange.LoneExchange.{LoneExchange}
+use Rattle.lone_exchange.specs.At.{IsAt}
+use Rattle.run_verifier.specs.Replaying.{HasDone, engine_sizes}
 
-module _ (x : Working) (n : ℕ) (octets : List (List ℕ))
-    (played : (input : Input) → IsNumbered x.trace n (Frame input) → IsPlayed hears (table_of x.trace.tones) x.trace.external (world_of x) input octets) where
-  abbrev kept_rows : List (List ℕ)
-  kept_rows = lines_sent (octet_of octets) (length octets)
+module _ {P : Type 0} (slots : ℕ) (trace : Trace) (order : List ℕ) (x : LoneExchange P Stages) (done : HasDone slots trace order x) where
+  -- fewer frames have been than there are numbers of frames
+  pub frames_few : IsSound trace → length order < length trace.events → x.control.map.next < 4294967295
+  frames_few sound room =
+      let s = setting_of slots trace in
+      let grows = world_next s (start s.dimensions) (events_of trace.events order) in
+      let few = few_events trace.events order in
+      let same = done.work.holds.circuits.holds.next in
+      let most = sound.count in
+      omega (arith, grows, few, same, room, most)
 
-  abbrev sent : Event → List (List ℕ)
-  sent e = sent_at (hears (table_of x.trace.tones)) (setting x) (world_of x) e
+  -- an event of the trace fits the exchange
+  pub event_fits : (n : ℕ) (e : Event) → IsSound trace → IsNumbered trace n e → Fits x.control.map.external e
+  event_fits n e sound number =
+      subst (λ (d : Dimensions). Fits d.external e) (sym done.work.holds.sizes) (of_event_at (Fits trace.external) trace.events n e sound.events number)
 
-  -- a frame has the octets that are due
-  frame_rows : (input : Input) → IsNumbered x.trace n (Frame input)
-      → report_line kept_rows n (kept_of (reply (setting x) (world_of x) (Frame input))) ≡ report_line (sent (Frame input)) n (kept_of (reply (setting x) (world_of x) (Frame input)))
-  frame_rows input is =
-      let p = played input is in
-      let w = world_of x in
-      let tones = table_of x.trace.tones in
-      let same = passed_same (setting x) w input in
-      let octet = hears tones (pass w input).inputs (pass w input).held w.holding.next in
-      let lines : kept_rows ≡ lines_sent (octet_of octets) x.trace.external = ap (lines_sent (octet_of octets)) p.lines in
-      ap (λ (rows : List (List ℕ)). report_line rows n (kept_of (reply (setting x) w (Frame input))))
-      (lines
-      ∙ sent_same (octet_of octets) octet x.trace.external (λ line place below inside. p.played (record { line = line; place = place }) below inside)
-      ∙ (λ i. lines_sent (λ y. hears tones (sym same.inputs i) (sym same.held i) w.holding.next y) x.trace.external))
+world_longer : (slots : ℕ) (trace : Trace) (order : List ℕ) (n : ℕ) (e : Event) → IsNumbered trace n e
+    → world_after slots trace (order ++ n ∷ []) ≡ next (setting_of slots trace) (world_after slots trace order) e
+world_longer slots trace order n e number =
+    let s = setting_of slots trace in
+    ap (world_after_all s (start s.dimensions)) (events_of-snoc trace.events order n e number) ∙ world-snoc s (start s.dimensions) (events_of trace.events order) e
 
-  pub line_is : (e : Event) (r : Reply) → IsNumbered x.trace n e → r ≡ reply (setting x) (world_of x) e → report_line kept_rows n (kept_of r) ≡ line_due x n e
-  line_is e r number given = ap (λ (q : Reply). report_line kept_rows n (kept_of q)) given
-      ∙ same_line kept_rows n (setting x) (world_of x) sent (IsNumbered x.trace n) frame_rows e number
-
--- behind an event that is no frame the engine is as ready
-pub still_ready_at : (x y : Working) (n : ℕ) (engine : Stages) (tool : Tool) → y ≡ with_event x n → ((input : Input) → IsNumbered x.trace n (Frame input) → ⊥)
-    → IsReadyAt x engine tool → IsReadyAt y engine tool
-still_ready_at x y n engine tool is other ready =
-    subst (λ (z : Working). IsReadyAt z engine tool) (sym is)
-    (still_ready EngineCarries (λ (e : Stages). e.next) engine_sizes (board_of x) x.journal (with_event x n).journal engine tool ((0, n) ∷ [], refl)
-    (All-cons (λ (e : Entry). IsFrame x.trace e.1 → ⊥) (0, n) [] (λ frame. other frame.0 frame.1) (All-nil (λ (e : Entry). IsFrame x.trace e.1 → ⊥))) ready)
+pub done_after : {P : Type 0} (slots : ℕ) (trace : Trace) (order : List ℕ) (n : ℕ) (e : Event) (y : LoneExchange P Stages) → IsNumbered trace n e
+    → IsAt EngineCarries (λ (g : Stages). g.next) engine_sizes y (setting_of slots trace) (next (setting_of slots trace) (world_after slots trace order) e)
+    → HasDone slots trace (order ++ n ∷ []) y
+done_after slots trace order n e y number at =
+    subst (λ (w : World). IsAt EngineCarries (λ (g : Stages). g.next) engine_sizes y (setting_of slots trace) w) (sym (world_longer slots trace order n e number)) at
 
 -- what was appended to nothing, where memory lasts
 pub appended : {E : Type 0} (r : Result (Unit {0}) E) (after cleared line due : List ℕ) → cleared ≡ [] → line ≡ due → OnOk r (after ≡ cleared ++ line) → OnOk r (after ≡ due)

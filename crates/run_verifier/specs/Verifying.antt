@@ -1,45 +1,49 @@
 -- How a report is verified, line by line. Source: this exchange's own.
-use Rattle.std.specs.Prelude.{◌≡◌, ⊤, ℕ, ◌≤◌, ◌++◌, List, length, Result, Ok, Err}
+use Rattle.std.specs.Prelude.{◌≡◌, ⊤, ℕ, ◌<◌, ◌≤◌, ◌++◌, [], ◌∷◌, List, length, Result, Ok, Err}
 use Rattle.exchange_events.specs.declared.trace.Event.{Event}
 use Rattle.exchange_events.specs.declared.trace.Trace.{Trace}
-use Rattle.exchange_events.specs.Sound.{IsSound}
-use Rattle.exchange_core.specs.declared.tool.Tool.{Tool}
-use Rattle.exchange_core.specs.Working.{IsNumbered, Working, order_of}
+use Rattle.exchange_core.specs.Working.{IsNumbered}
 use Rattle.frame_engine.specs.Carries.{Stages}
+use Rattle.lone_exchange.specs.declared.exchange.LoneExchange.{LoneExchange}
 use Rattle.run_verifier.specs.declared.turns.Turns.{Turns}
 use Rattle.run_verifier.specs.declared.verdict.Verdict.{Verdict}
 use Rattle.run_verifier.specs.declared.verdict.Verdict.TheVariants.{Valid, Invalid}
 use Rattle.run_verifier.specs.declared.verdict.VerifyFault.{VerifyFault}
 use Rattle.run_verifier.specs.declared.verdict.VerifyFault.TheVariants.{Memory, Trace as Refused}
 use Rattle.trace_text.specs.TraceGrammar.{IsRefused, IsTrace}
-use Rattle.run_verifier.specs.Replaying.{IsReadyAt, line_due, with_event}
+use Rattle.run_verifier.specs.Replaying.{HasDone, line_due}
 use Rattle.run_verifier.specs.Turns.{AreTurns, IsLeft}
 use Rattle.run_verifier.specs.Verdicts.{IsInvalidAt, IsValid, MayFollow}
 
--- what is done again of a trace is underway: the engine, the control memory and the octets are ready for the next frame, and the turns are those
--- after what the core has done
-pub record IsUnderway (x : Working) (turns : Turns) (engine : Stages) (tool : Tool) (octets : List (List ℕ)) : Type 0 where
-  pub sound : IsSound x.trace
-  pub ready : IsReadyAt x engine tool
-  pub lines : length octets ≡ x.trace.external
-  pub within : turns.segment ≤ length x.trace.segments
-  pub done : AreTurns x.trace turns.segment turns.end turns.next (order_of x.journal)
-  pub left : IsLeft x.trace turns.segment turns.end turns.next
+-- what is done again of a trace is underway: the exchange has processed these events, and the turns are those after them
+pub record IsUnderway {P : Type 0} (slots : ℕ) (trace : Trace) (order : List ℕ) (turns : Turns) (exchange : LoneExchange P Stages) : Type 0 where
+  pub done : HasDone slots trace order exchange
+  pub within : turns.segment ≤ length trace.segments
+  pub passed : AreTurns trace turns.segment turns.end turns.next order
+  pub left : IsLeft trace turns.segment turns.end turns.next
 
--- the text begins with the line of an event that may come next, and the core did it; so much is behind the line
-pub record GoesOn (x y : Working) (text behind : List ℕ) : Type 0 where
+-- some of the events of the trace are done so, and not all
+abbrev pub IsBegun : {P : Type 0} → Trace → Turns → LoneExchange P Stages → Type 0
+IsBegun trace turns exchange =
+    (slots : ℕ) × (order : List ℕ) × IsUnderway slots trace order turns exchange × (length order < length trace.events)
+
+-- the text begins with the line of an event that may come next; so much is behind the line
+pub record GoesOn (slots : ℕ) (trace : Trace) (order text behind : List ℕ) : Type 0 where
   pub number : ℕ
   pub event : Event
-  pub may : MayFollow x.trace (order_of x.journal) number
-  pub numbered : IsNumbered x.trace number event
-  pub done : y ≡ with_event x number
-  pub line : text ≡ line_due x number event ++ behind
+  pub may : MayFollow trace order number
+  pub numbered : IsNumbered trace number event
+  pub line : text ≡ line_due slots trace order number event ++ behind
+
+-- it does, and what is done again is underway behind that event
+pub record HasGoneOn {P : Type 0} (slots : ℕ) (trace : Trace) (order text behind : List ℕ) (turns : Turns) (exchange : LoneExchange P Stages) : Type 0 where
+  pub goes : GoesOn slots trace order text behind
+  pub underway : IsUnderway slots trace (order ++ goes.number ∷ []) turns exchange
 
 -- the text begins with no such line
-abbrev pub IsStuck : Working → List ℕ → Type 0
-IsStuck x text =
-    (n : ℕ) (e : Event) (behind : List ℕ) → MayFollow x.trace (order_of x.journal) n → IsNumbered x.trace n e
-    → text ≡ line_due x n e ++ behind → ⊥
+abbrev pub IsStuck : ℕ → Trace → (order text : List ℕ) → Type 0
+IsStuck slots trace order text =
+    (n : ℕ) (e : Event) (behind : List ℕ) → MayFollow trace order n → IsNumbered trace n e → text ≡ line_due slots trace order n e ++ behind → ⊥
 
 -- the verdict is right
 abbrev pub IsRight : ℕ → Trace → List ℕ → Verdict → Type 0

@@ -1,23 +1,20 @@
-//! A report against its trace: whether it is the trace's report in some lawful order.
+//! Verifies a report against its trace: whether it is the report of the trace in some lawful order.
 //!
-//! What that means is in `specs/Verdicts.antt`. A report is valid where a lawful order of all events has
-//! this report; else one line is the first that isn't good, or that is lacking.
+//! `specs/Verdicts.antt` defines this. A report is valid if it is the report of all events in a lawful order. Otherwise
+//! exactly one of its lines is the first that is wrong or missing.
 //!
-//! - [`verify`] finds a report valid, or names its first bad line, exactly where it is so, and refuses the
-//!   trace's bytes exactly where they are none, unless memory runs out (`valid`, `invalid`, `refused`,
-//!   `finds_valid`, `finds_invalid`, `refuses_each`).
-//! - The numbers at the beginnings of its lines say in which order the events of a report happened:
-//!   two orders with one report are the same ([`law_of_orders`]).
-//! - One verdict is right, and no other ([`law_of_verdicts`]). The line that it names is at most one
-//!   behind as many as there are events ([`law_of_lines`]).
-//! - An event may come next exactly where it isn't done, and all that have to come before it are
+//! - [`verify`] finds a report valid, or returns its first wrong or missing line, if and only if it is so. It refuses
+//!   the bytes of the trace if and only if they are no trace. Otherwise an allocation fails (`valid`, `invalid`,
+//!   `refused`, `finds_valid`, `finds_invalid`, `refuses_each`).
+//! - The numbers at the start of its lines give the order in which the events of a report were processed: two orders
+//!   with one report are equal ([`law_of_orders`]).
+//! - Exactly one verdict is correct ([`law_of_verdicts`]). For a trace of n events it names line n + 1 at most
+//!   ([`law_of_lines`]).
+//! - An event can come next if and only if it has not been processed, and all events that must come before it have been
 //!   ([`law_of_turns`]).
 //!
-//! The events are done again one by one, on one thread, by the core and the engine of three stages.
-//!
-//! It uses `circuit_model`, `control_memory`, `tone_rules`, `fabric_map`, `strict_map`, `frame_engine`,
-//! `exchange_events`, `call_profile`, `exchange_core`, `trace_text`, `report_text` and `report_reader`, and of
-//! `call_processor` what a worker's part of a segment is; no worker runs.
+//! A lone exchange (`lone_exchange`) with the engine of three stages processes the events again, one by one, in the
+//! thread of the caller.
 #![tactic(auto)]
 
 mod laws;

@@ -1,23 +1,20 @@
 //! A report against the bytes of its trace.
-ghost use Rattle.std.specs.Prelude.{◌≡◌, ◌+◌, ◌≤◌, ◌⊎◌, [], ℕ, Ok, Err, IfOk, length};
+ghost use Rattle.std.specs.Prelude.{◌≡◌, ◌+◌, ◌⊎◌, ℕ, Ok, Err, IfOk};
 ghost use Rattle.exchange_events.specs.declared.trace.Trace.{Trace};
-ghost use Rattle.exchange_events.specs.Sound.{IsSound, setting_of};
+ghost use Rattle.exchange_events.specs.Sound.{IsSound};
 ghost use Rattle.trace_text.specs.declared.fault.Reason.{Reason};
 ghost use Rattle.trace_text.specs.TraceGrammar.{IsTrace, IsRefused};
-ghost use Rattle.call_processor.specs.Frames.{IsFrameTool};
 ghost use Rattle.exchange_core.specs.Beginnings.{IsUnused};
-ghost use Rattle.run_verifier.specs.Replaying.{IsReadyAt};
 ghost use Rattle.run_verifier.specs.Verdicts.{IsInvalidAt, IsValid};
 ghost use Rattle.run_verifier.specs.Verifying.{IsAnswer, IsRight};
 
 use crate::replaying::verdict_on;
 use crate::verdict::{Verdict, VerifyFault};
-use circuit_model::IDLE;
-use control_memory::{Image, PathMap};
-use exchange_core::{Core, Desk, Tool};
+use control_memory::PathMap;
 use exchange_events::Trace;
 use fabric_map::FabricMap;
-use frame_engine::{Carrier, Engine};
+use frame_engine::Engine;
+use lone_exchange::LoneExchange;
 use std::alloc::{AllocError, Global};
 use std::thread::Threads;
 use strict_map::{SLOTS as STRICT_SLOTS, StrictMap};
@@ -96,21 +93,6 @@ fn on_fabric<R: Threads + Sync>(
     }
 }
 
-// What a frame is done with: the engine, a control memory, and room for what each external line sends.
-#[derive(Drop)]
-struct FrameParts {
-    engine: Engine,
-    tool: Tool,
-    octets: Vec<[u8; 30]>,
-}
-
-// What the events of a trace are done again with.
-#[derive(Drop)]
-struct Parts<'t, P: PathMap> {
-    core: Core<'t, P>,
-    frames: FrameParts,
-}
-
 // The verdict on the report of a trace whose paths are laid in a map that has none yet.
 fn on_map<P: PathMap + Drop, R: Threads + Sync>(
     rt: &R,
@@ -123,74 +105,13 @@ fn on_map<P: PathMap + Drop, R: Threads + Sync>(
     requires paths { IsUnused (trace.now.external + trace.now.bridges) (P.width paths) (P.depth paths) (P.layout paths) }
     ensures right { IfOk result (λ verdict. IsRight (P.depth paths) trace.now report.now verdict) }
 {
-    let Parts { mut core, frames } = equipped(alloc, trace, paths)?;
-    let FrameParts {
-        mut engine,
-        tool,
-        mut octets,
-    } = frames;
-    let mut desk = Desk::new(tool);
+    let mut exchange: LoneExchange<P, Engine> = LoneExchange::new(
+        alloc,
+        trace.external,
+        trace.bridges,
+        trace.timers,
+        paths,
+    )?;
     let mut line = Vec::new(alloc);
-    verdict_on(
-        rt,
-        trace,
-        &mut core,
-        &mut engine,
-        &mut desk,
-        octets.as_mut_slice(),
-        &mut line,
-        report,
-    )
-}
-
-// What the events of a trace are done again with, before its first event. At each early return one value
-// is held at the most, since each that is dropped there is dear to prove.
-fn equipped<'t, P: PathMap + Drop>(
-    alloc: Global,
-    trace: &'t Trace,
-    paths: P,
-) -> Result<Parts<'t, P>, AllocError>
-    requires sound { IsSound trace.now }
-    requires paths { IsUnused (trace.now.external + trace.now.bridges) (P.width paths) (P.depth paths) (P.layout paths) }
-    ensures core { IfOk result (λ r. r.core ≡ record { trace = trace.now; slots = P.depth paths; bound = P.bound paths; journal = [] }) }
-    ensures ready { IfOk result (λ r. IsReadyAt r.core r.frames.engine r.frames.tool) }
-    ensures lines { IfOk result (λ r. length r.frames.octets.items ≡ trace.now.external) }
-{
-    let slots = paths.slots();
-    let core = Core::new(alloc, trace, paths)?;
-    let frames = frame_parts(alloc, trace, slots)?;
-    Ok(Parts { core, frames })
-}
-
-// What the first frame of a trace is done with.
-fn frame_parts(alloc: Global, trace: &Trace, slots: u8) -> Result<FrameParts, AllocError>
-    requires sound { IsSound trace.now }
-    requires slots { 1 ≤ slots × (slots ≤ 59) }
-    ensures ready { IfOk result (λ r. (bound : ℕ)
-        → IsReadyAt (record { trace = trace.now; slots = slots; bound = bound; journal = [] }) r.engine r.tool) }
-    ensures lines { IfOk result (λ r. length r.octets.items ≡ trace.now.external) }
-{
-    let (tool, octets) = rooms_of_frames(alloc, trace, slots)?;
-    let engine = Engine::new(alloc, trace.external, trace.bridges, slots)?;
-    Ok(FrameParts {
-        engine,
-        tool,
-        octets,
-    })
-}
-
-// The control memory of the first frame, and room for what each external line sends.
-fn rooms_of_frames(
-    alloc: Global,
-    trace: &Trace,
-    slots: u8,
-) -> Result<(Tool, Vec<[u8; 30]>), AllocError>
-    requires sound { IsSound trace.now }
-    requires slots { 1 ≤ slots × (slots ≤ 59) }
-    ensures tool { IfOk result (λ r. IsFrameTool (setting_of slots trace.now).dimensions r.0) }
-    ensures lines { IfOk result (λ r. length r.1.items ≡ trace.now.external) }
-{
-    let octets = vec![in alloc; [IDLE; 30]; usize::from(trace.external)]?;
-    let image = Image::new(alloc, trace.external, trace.bridges, slots)?;
-    Ok((Tool::Image(image), octets))
+    verdict_on(rt, trace, &mut exchange, &mut line, report)
 }

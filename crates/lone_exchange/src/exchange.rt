@@ -1,0 +1,182 @@
+//! One event at a time.
+ghost use Rattle.std.specs.Prelude.{◌≡◌, ◌+◌, ◌<◌, ◌≤◌, ◌++◌, ℕ, IfOk, OnOk, OnErr};
+ghost use Rattle.circuit_model.specs.FrameInput.{Input as An_input};
+ghost use Rattle.exchange_core.specs.Beginnings.{IsUnused};
+ghost use Rattle.exchange_events.specs.declared.trace.Event.{Event as An_event};
+ghost use Rattle.exchange_events.specs.declared.trace.Event.TheVariants.{Frame};
+ghost use Rattle.exchange_events.specs.Sizes.{Setting};
+ghost use Rattle.exchange_events.specs.Sound.{Fits};
+ghost use Rattle.call_profile.specs.World.{World};
+ghost use Rattle.lone_exchange.specs.At.{Appends, HasReplied, HasPlayed, IsSomewhere, Passes, PlaysDue, Replies, StartsAt};
+
+use crate::opening::{frame_parts, lines_of};
+use call_control::CallControl;
+use call_timers::Timers;
+use control_memory::PathMap;
+use exchange_core::{Desk, Tool, happen};
+use exchange_events::{Event, Input, Response};
+use frame_engine::Carrier;
+use number_plan::Plan;
+use report_text::append_line;
+use std::alloc::{AllocError, Global};
+use std::mem;
+use std::thread::Threads;
+use tone_rules::Tones;
+
+/// An exchange that one caller drives. The definition `IsAt` states which world of which setting it is in.
+///
+/// The caller may read the fields between two events. What it writes there ends the relation to a world.
+#[derive(Drop)]
+pub struct LoneExchange<P: PathMap, C: Carrier> {
+    /// The circuits with their paths and conference ports, and the legs of the calls.
+    pub control: CallControl<P>,
+    /// The engine, which carries the frames.
+    pub engine: C,
+    /// The control memory of the next frame, and what the last event sent and recorded.
+    pub desk: Desk,
+    /// The octets that each external line was sent in the last frame.
+    pub octets: Vec<[u8; 30]>,
+}
+
+impl<P: PathMap + Drop, C: Carrier> LoneExchange<P, C> {
+    /// An exchange before its first event, with these numbers of external and bridge lines, over a map without paths.
+    ///
+    /// # Errors
+    ///
+    /// [`AllocError`] if an allocation fails.
+    pub fn new(
+        alloc: Global,
+        external: u8,
+        bridges: u8,
+        timers: Timers,
+        paths: P,
+    ) -> Result<LoneExchange<P, C>, AllocError>
+        requires external { 1 ≤ external × (external ≤ 32) }
+        requires bridges { bridges ≤ 2 }
+        requires paths { IsUnused (external + bridges) (P.width paths) (P.depth paths) (P.layout paths) }
+        ensures start { IfOk result (StartsAt C.carries C.next C.sizes external bridges (P.depth paths)) }
+        ensures bound { IfOk result (λ x. x.control.map.bound ≡ P.bound paths) }
+    {
+        let slots = paths.slots();
+        let control = lines_of(alloc, external, bridges, timers, paths)?;
+        let (engine, tool, octets) = frame_parts(alloc, external, bridges, slots)?;
+        Ok(LoneExchange {
+            control,
+            engine,
+            desk: Desk::new(tool),
+            octets,
+        })
+    }
+}
+
+impl<P: PathMap, C: Carrier> LoneExchange<P, C> {
+    /// Processes one event, with the number plan, the tones and the timers of the setting. What the event sends and
+    /// records is then in the outbox of the desk, instead of its former content.
+    pub fn happen<R: Threads + Sync>(
+        &mut self,
+        rt: &R,
+        plan: &Plan,
+        tones: &Tones,
+        timers: &Timers,
+        event: &Event,
+    ) -> Response
+        requires at { IsSomewhere C.carries C.next C.sizes plan.now tones.now timers.now self.old }
+        requires fits { Fits self.old.control.map.external event.now }
+        requires room { self.old.control.map.next < 4294967295 }
+        ensures world { Passes C.carries C.next C.sizes plan.now tones.now timers.now event.now self.old self.new }
+        ensures reply { Replies C.carries C.next C.sizes plan.now tones.now timers.now
+            event.now self.old result self.new }
+        ensures played { PlaysDue C.carries C.next C.sizes C.plays plan.now tones.now timers.now
+            event.now self.old self.new }
+    {
+        match event {
+            Event::Frame(input) => self.carry(rt, plan, tones, timers, event, input),
+            Event::Nail(_, _) => self.command(plan, tones, timers, event),
+            Event::Seat(_, _) => self.command(plan, tones, timers, event),
+            Event::Free(_) => self.command(plan, tones, timers, event),
+            Event::Message(_, _) => self.command(plan, tones, timers, event),
+        }
+    }
+
+    // Processes a frame: its boundary, and its octets.
+    fn carry<R: Threads + Sync>(
+        &mut self,
+        rt: &R,
+        plan: &Plan,
+        tones: &Tones,
+        timers: &Timers,
+        event: &Event,
+        input: &Input,
+    ) -> Response
+        requires at { IsSomewhere C.carries C.next C.sizes plan.now tones.now timers.now self.old }
+        requires frame { event.now ≡ Frame input.now }
+        requires fits { Fits self.old.control.map.external event.now }
+        requires room { self.old.control.map.next < 4294967295 }
+        ensures world { Passes C.carries C.next C.sizes plan.now tones.now timers.now event.now self.old self.new }
+        ensures reply { Replies C.carries C.next C.sizes plan.now tones.now timers.now
+            event.now self.old result self.new }
+        ensures played { PlaysDue C.carries C.next C.sizes C.plays plan.now tones.now timers.now
+            event.now self.old self.new }
+    {
+        let external = self.octets.len() as u8;
+        self.desk.out.clear();
+        self.desk.ahead = None;
+        let control = &mut self.control;
+        let desk = &mut self.desk;
+        let response = happen(control, plan, tones, timers, external, event, desk);
+        let Tool::Image(image) = &mut self.desk.tool else {
+            unreachable!()
+        };
+        let octets = self.octets.as_mut_slice();
+        self.engine
+            .frame(rt, image, tones, input.as_slice(), octets);
+        response
+    }
+
+    // Processes an event that is not a frame, without the control memory.
+    fn command(&mut self, plan: &Plan, tones: &Tones, timers: &Timers, event: &Event) -> Response
+        requires at { IsSomewhere C.carries C.next C.sizes plan.now tones.now timers.now self.old }
+        requires other { (input : An_input) → event.now ≡ Frame input → ⊥ }
+        requires fits { Fits self.old.control.map.external event.now }
+        requires room { self.old.control.map.next < 4294967295 }
+        ensures world { Passes C.carries C.next C.sizes plan.now tones.now timers.now event.now self.old self.new }
+        ensures reply { Replies C.carries C.next C.sizes plan.now tones.now timers.now
+            event.now self.old result self.new }
+    {
+        let external = self.octets.len() as u8;
+        self.desk.out.clear();
+        self.desk.ahead = None;
+        let tool = mem::replace(&mut self.desk.tool, Tool::Nothing);
+        let control = &mut self.control;
+        let desk = &mut self.desk;
+        let response = happen(control, plan, tones, timers, external, event, desk);
+        self.desk.tool = tool;
+        response
+    }
+
+    /// Appends the line of the event that [`happen`](LoneExchange::happen) processed last, with this number and this
+    /// response, to a report.
+    ///
+    /// # Errors
+    ///
+    /// [`AllocError`] if the allocation fails. Then the report is unchanged.
+    pub fn append_line(
+        &self,
+        text: &mut Vec<u8>,
+        number: u32,
+        response: Response,
+    ) -> Result<(), AllocError>
+        ensures line { (s : Setting) (w : World) (e : An_event)
+            → HasReplied s w e response self.now → HasPlayed C.plays s w e self.now
+            → OnOk result (Appends C.plays s w e number text.old.items text.new.items) }
+        ensures kept { OnErr result (text.new.items ≡ text.old.items) }
+    {
+        append_line(
+            text,
+            number,
+            response,
+            &self.desk.out,
+            self.octets.as_slice(),
+        )
+    }
+}
