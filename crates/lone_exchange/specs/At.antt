@@ -1,4 +1,4 @@
--- An exchange that one caller drives, and the world that it is in. Source: this exchange's own.
+-- An exchange that one caller drives, and the world that it is in. Source: this project.
 use Rattle.std.specs.Prelude.{◌≡◌, ℕ, ◌≤◌, ◌++◌, List, [], length, All}
 use Rattle.circuit_model.specs.declared.circuit.Circuit.{Circuit}
 use Rattle.circuit_model.specs.Dimensions.{Dimensions}

@@ -167,7 +167,7 @@ fn a_heading_tells_what_a_trace_says(rt: HostRuntime) -> Result<(), Fail> {
     Ok(())
 }
 
-// Lines that are refused behind the lines of `BEFORE`, each for its reason.
+// Lines that are refused after the lines of `BEFORE`, each for its reason.
 const REFUSED: [(&str, Reason); 8] = [
     ("exchange 1 2 1 3", Reason::Word),
     ("number 121 line 0", Reason::Prefix),

@@ -1,5 +1,5 @@
 //! Worked traces of `examples/` whose events one caller processes, one after another, through a lone exchange. Each line
-//! is that of the report of the program.
+//! must be the line of the program's report.
 //!
 //! The verifier processes the events so, and compares line by line. No contract states that it ever finds a report valid,
 //! since every allocation may fail.
@@ -84,7 +84,7 @@ const WORKED: [(&str, &str); 3] = [
     (TONES, TONES_REPORT),
 ];
 
-/// Whether the lines of each trace are those of its report.
+/// Returns whether the lines of each trace are the lines of its report.
 pub fn lines_agree<R: Threads + Sync>(rt: &R, alloc: Global) -> bool {
     for (trace, report) in &WORKED {
         let found = verify(rt, alloc, trace.as_bytes(), report.as_bytes(), 30);
