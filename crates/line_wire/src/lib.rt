@@ -1,0 +1,16 @@
+//! A wire on which each line is answered before the next input is awaited.
+//!
+//! A [`Wire`] has both directions of a connection. A caller of `read` must show what the other side relies on
+//! (`settled`): whoever waits for more input has written what is due.
+//!
+//! [`StdWire`] is a wire over any source and sink, such as standard input and output. [`MemWire`] is a wire in memory
+//! for tests.
+#![tactic(auto)]
+
+mod memory;
+mod standard;
+mod wire;
+
+pub use memory::MemWire;
+pub use standard::StdWire;
+pub use wire::Wire;
