@@ -1,7 +1,7 @@
 //! A wire on which each line is answered before the next input is awaited.
 //!
 //! A [`Wire`] has both directions of a connection. A caller of `read` must show what the other side relies on
-//! (`settled`): whoever waits for more input has written what is due.
+//! (`settled`), so it has written everything that is due before it waits for more input.
 //!
 //! [`StdWire`] is a wire over any source and sink, such as standard input and output. [`MemWire`] is a wire in memory
 //! for tests.

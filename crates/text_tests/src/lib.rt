@@ -28,3 +28,5 @@ mod summaries;
 mod traces;
 #[cfg(test)]
 mod traffic;
+#[cfg(test)]
+mod wires;
