@@ -9,6 +9,8 @@
 
 mod memory;
 mod standard;
+#[cfg(test)]
+mod tests;
 mod wire;
 
 pub use memory::MemWire;

@@ -28,5 +28,3 @@ mod summaries;
 mod traces;
 #[cfg(test)]
 mod traffic;
-#[cfg(test)]
-mod wires;

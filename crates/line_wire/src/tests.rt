@@ -1,8 +1,10 @@
 // Wires that are read and written in turn.
 ghost use Rattle.std.specs.Prelude.{◌≤◌};
 
+use crate::memory::MemWire;
+use crate::standard::StdWire;
+use crate::wire::Wire;
 use ex_io::{MemSink, MemSource};
-use line_wire::{MemWire, StdWire, Wire};
 use std::alloc::{AllocError, Global};
 use std::test::Fail;
 
