@@ -1,4 +1,4 @@
-//! A wire on which each line is answered before the next input is awaited.
+//! Both directions of a connection, as one wire: its reader has written what is due before it waits for input.
 //!
 //! A [`Wire`] has both directions of a connection. A caller of `read` must show what the other side relies on
 //! (`settled`), so it has written everything that is due before it waits for more input.
