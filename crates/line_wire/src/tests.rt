@@ -1,0 +1,102 @@
+// Wires that are read and written in turn.
+ghost use Rattle.std.specs.Prelude.{◌≤◌};
+
+use crate::memory::MemWire;
+use crate::standard::StdWire;
+use crate::wire::Wire;
+use ex_io::{MemSink, MemSource};
+use std::alloc::{AllocError, Global};
+use std::test::Fail;
+
+const TEXT: &[u8] = b"one\ntwo\n\nfour";
+
+// Returns whether a wire that gives at most `piece` octets in a read has its own input as its output, if all octets of
+// a read are written before the next read, and whether each note is the number of octets written by then.
+fn echoes(alloc: Global, piece: usize) -> Result<bool, AllocError>
+    requires { 1 ≤ piece }
+{
+    let sink = MemSink::new(alloc, 64, 64, Vec::new(alloc))?;
+    let mut wire = MemWire::new(alloc, TEXT, piece, Vec::new(alloc), sink, 16)?;
+    let mut notes = Vec::new(alloc);
+    for _ in 0..16 {
+        notes.push(wire.bytes().len())?;
+        let mut buf = [0u8; 32];
+        let Ok(count) = wire.read(&mut buf) else {
+            return Ok(false);
+        };
+        if wire.write(&buf[..count]) != Ok(count) {
+            return Ok(false);
+        }
+    }
+    Ok(wire.bytes() == TEXT && wire.notes() == notes.as_slice())
+}
+
+#[test]
+fn a_wire_records_the_octets_written_before_each_read(rt: HostRuntime) -> Result<(), Fail> {
+    let alloc = rt.alloc();
+    assert!(rt; echoes(alloc, 1)?);
+    assert!(rt; echoes(alloc, 2)?);
+    assert!(rt; echoes(alloc, 7)?);
+    assert!(rt; echoes(alloc, 32)?);
+    Ok(())
+}
+
+// Returns whether a wire of pieces of 5 octets, whose reads and writes with these numbers fail, is read with these
+// results, and whether all octets of each read are written by the second attempt.
+fn recovers(
+    alloc: Global,
+    reads: &[u32],
+    writes: &[u32],
+    answers: &[Option<usize>],
+    notes: &[usize],
+) -> Result<bool, AllocError> {
+    let sink = MemSink::new(alloc, 64, 64, writes.to_vec(alloc)?)?;
+    let mut wire = MemWire::new(alloc, TEXT, 5, reads.to_vec(alloc)?, sink, notes.len())?;
+    for answer in answers {
+        let mut buf = [0u8; 32];
+        let count = wire.read(&mut buf);
+        if count.ok() != *answer {
+            return Ok(false);
+        }
+        if let Ok(count) = count {
+            if wire.write(&buf[..count]).is_err() && wire.write(&buf[..count]).is_err() {
+                return Ok(false);
+            }
+        }
+    }
+    Ok(wire.bytes() == TEXT && wire.notes() == notes)
+}
+
+#[test]
+fn a_wire_fails_at_the_given_calls(rt: HostRuntime) -> Result<(), Fail> {
+    let alloc = rt.alloc();
+    let answers = [Some(5), Some(5), Some(3), Some(0)];
+    assert!(rt; recovers(alloc, &[], &[], &answers, &[0, 5, 10, 13])?);
+    assert!(rt; recovers(alloc, &[], &[1, 3, 5], &answers, &[0, 5, 10])?);
+    assert!(rt; !recovers(alloc, &[], &[1, 2], &answers, &[0, 5, 10, 13])?);
+    let answers = [None, Some(5), Some(5), None, Some(3), None, Some(0)];
+    assert!(rt;
+        recovers(
+            alloc,
+            &[1, 4, 6],
+            &[2],
+            &answers,
+            &[0, 0, 5, 10, 10, 13, 13]
+        )?
+    );
+    Ok(())
+}
+
+#[test]
+fn a_wire_over_a_source_and_a_sink_passes_octets_on(rt: HostRuntime) -> Result<(), Fail> {
+    let alloc = rt.alloc();
+    let source = MemSource::new(TEXT.to_vec(alloc)?, 32, Vec::new(alloc));
+    let sink = MemSink::new(alloc, 64, 64, Vec::new(alloc))?;
+    let mut wire = StdWire::new(source, sink);
+    let mut buf = [0u8; 32];
+    assert!(rt; wire.read(&mut buf) == Ok(13));
+    assert!(rt; wire.write(&buf[..13]) == Ok(13));
+    assert!(rt; wire.sink.bytes() == TEXT);
+    assert!(rt; wire.read(&mut buf) == Ok(0));
+    Ok(())
+}
