@@ -1,0 +1,132 @@
+//! The reading of octets as a frame.
+
+ghost use Rattle.std.specs.Prelude.{◌≡◌, IfSome};
+ghost use Rattle.link_frames.specs.Reading as spec;
+
+use crate::codes::{DISC, DM, FRMR, REJ, RNR, RR, SABME, TEI, UA, UI, XID};
+use crate::frame::{Control, Frame, Sender, Supervisory};
+use crate::information::Information;
+
+// N201: the maximum number of octets of an information field (Q.921, 5.9.3).
+const LONGEST_INFORMATION: usize = 260;
+
+/// Reads the frame that the octets from this sender are. `None` if they are discarded (Q.921, 2.9): fewer than three
+/// octets, another SAPI or TEI, or a wrong EA bit.
+pub fn read(sender: Sender, octets: &[u8]) -> Option<Frame<'_>>
+    ensures computed { result ≡ spec.reading sender octets.now }
+    ensures numbered { IfSome result (λ f. spec.IsNumbered f.control) }
+{
+    match octets {
+        [address, TEI, control, rest @ ..] => {
+            let command = command_of(sender, *address)?;
+            Some(Frame {
+                command,
+                control: control_of(command, *control, rest),
+            })
+        }
+        _ => None,
+    }
+}
+
+// Returns whether the sender of this address octet sends a command.
+fn command_of(sender: Sender, address: u8) -> Option<bool>
+    ensures { result ≡ spec.command_of sender address }
+{
+    if address == sender.address(true) {
+        Some(true)
+    } else if address == sender.address(false) {
+        Some(false)
+    } else {
+        None
+    }
+}
+
+// Reads the control field. The last two bits of its first octet give the format.
+fn control_of(command: bool, first: u8, rest: &[u8]) -> Control<'_>
+    ensures computed { result ≡ spec.control_of command first rest.now }
+    ensures numbered { spec.IsNumbered result }
+{
+    if first % 2 == 0 {
+        numbered_information(command, first, rest)
+    } else if first % 4 == 1 {
+        supervisory(first, rest)
+    } else {
+        unnumbered(command, first, rest)
+    }
+}
+
+fn numbered_information(command: bool, first: u8, rest: &[u8]) -> Control<'_>
+    ensures computed { result ≡ spec.numbered_information command first rest.now }
+    ensures numbered { spec.IsNumbered result }
+{
+    match rest {
+        [last, information @ ..] if command && information.len() <= LONGEST_INFORMATION =>
+            Control::Information {
+                poll: *last % 2 == 1,
+                send: first / 2,
+                receive: *last / 2,
+                information: Information::of(information),
+            },
+        _ => Control::Invalid,
+    }
+}
+
+fn supervisory(first: u8, rest: &[u8]) -> Control<'_>
+    ensures computed { result ≡ spec.supervisory first rest.now }
+    ensures numbered { spec.IsNumbered result }
+{
+    match rest {
+        [last] => match kind_of(first) {
+            Some(kind) => Control::Supervisory {
+                kind,
+                poll_final: *last % 2 == 1,
+                receive: *last / 2,
+            },
+            None => Control::Invalid,
+        },
+        _ => Control::Invalid,
+    }
+}
+
+// Returns the S frame with this control octet. The four bits before its code are 0.
+fn kind_of(first: u8) -> Option<Supervisory>
+    ensures { result ≡ spec.kind_of first }
+{
+    match first {
+        RR => Some(Supervisory::Rr),
+        RNR => Some(Supervisory::Rnr),
+        REJ => Some(Supervisory::Rej),
+        _ => None,
+    }
+}
+
+fn unnumbered(command: bool, first: u8, rest: &[u8]) -> Control<'_>
+    ensures computed { result ≡ spec.any_unnumbered command first rest.now }
+    ensures numbered { spec.IsNumbered result }
+{
+    let code = first / 32 * 32 + first % 16;
+    if code == UI {
+        Control::Ui
+    } else if code == XID {
+        Control::Xid
+    } else if code == FRMR && !command {
+        Control::Frmr
+    } else if rest.is_empty() {
+        without_information(command, code, first / 16 % 2 == 1)
+    } else {
+        Control::Invalid
+    }
+}
+
+fn without_information(command: bool, code: u8, poll_final: bool) -> Control<'static>
+    ensures computed { result ≡ spec.unnumbered command code poll_final }
+    ensures numbered { spec.IsNumbered result }
+{
+    match (command, code) {
+        (true, SABME) => Control::Sabme(poll_final),
+        (true, DISC) => Control::Disc(poll_final),
+        (false, UA) => Control::Ua(poll_final),
+        (false, DM) => Control::Dm(poll_final),
+        _ => Control::Invalid,
+    }
+}

@@ -1,0 +1,5 @@
+pub mod Links
+pub mod Sending
+pub mod Establishment
+pub mod Receiving
+pub mod Timing

@@ -1,0 +1,61 @@
+//! The frames that a step sends.
+ghost use Rattle.std.specs.Prelude.{◌≡◌, ◌+◌, ◌≤◌, ◌<◌, [], ◌∷◌, ◌++◌, length};
+ghost use Rattle.link_frames.specs.declared.frame.Sender.TheVariants.{Network};
+ghost use Rattle.link_frames.specs.Writing.{IsWritable, information_in, encoding};
+
+use arrayvec::ArrayVec;
+use link_frames::{Frame, FrameOctets, Sender, write};
+use std::marker::Model;
+
+/// The maximum number of frames in an outbox. Source: this project.
+pub const MOST_FRAMES: usize = 80;
+
+/// The octets of the frames that were sent, in order. Contracts see their list.
+#[derive(Drop)]
+pub struct Outbox {
+    frames: ArrayVec<FrameOctets, MOST_FRAMES>,
+}
+
+impl Model for Outbox {
+    ghost use Rattle.std.specs.Prelude.{List, ℕ};
+
+    ghost Value = { List (List ℕ) };
+
+    ghost view = { λ o. o.frames.items };
+}
+
+impl Outbox {
+    /// Returns an empty outbox.
+    pub fn new() -> Outbox
+        ensures { result ≡ [] }
+    {
+        Outbox {
+            frames: ArrayVec::new(),
+        }
+    }
+
+    /// Makes the outbox empty.
+    pub fn clear(&mut self)
+        ensures { self.new ≡ [] }
+    {
+        self.frames.clear();
+    }
+
+    /// Appends the octets of a frame of this exchange.
+    pub fn send(&mut self, frame: &Frame)
+        requires room { length self.old < 80 }
+        requires writable { IsWritable frame.now.command frame.now.control }
+        requires short { length (information_in frame.now.control) ≤ 112 }
+        ensures sent { self.new ≡ self.old ++ encoding Network frame.now ∷ [] }
+        ensures one { length self.new ≡ length self.old + 1 }
+    {
+        self.frames.push(write(Sender::Network, frame));
+    }
+
+    /// Returns the frames in the order in which they are sent.
+    pub fn as_slice(&self) -> &[FrameOctets]
+        ensures { result.now ≡ self.now }
+    {
+        self.frames.as_slice()
+    }
+}
