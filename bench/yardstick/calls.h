@@ -32,7 +32,7 @@ static Leg *leg(Slot x) { return &legs[x.line][x.place]; }
 // One more than the timer of a state, 0 where it has none.
 static const uint8_t timer_in[RELEASE_REQUEST + 1] = {
     [OVERLAP_SENDING] = T302 + 1, [PRESENT] = T303 + 1, [INCOMING_PROCEEDING] = T310 + 1,
-    [DISCONNECT_INDICATION] = T305 + 1, [RELEASE_REQUEST] = T308 + 1,
+    [RECEIVED] = T301 + 1, [DISCONNECT_INDICATION] = T305 + 1, [RELEASE_REQUEST] = T308 + 1,
 };
 
 // No leg at this place of any line is due before this frame.
@@ -244,11 +244,16 @@ static Cause find_caller(unsigned line, Channel channel, Route *r) {
 static Cause find_called(Route *r) {
     if (r->to->found == MORE) return 0;
     if (r->to->found == TO_ROOM) return has_port() ? 0 : CONGESTION;
-    uint32_t idle = ALL_SLOTS & ~taken[r->to->target];
-    if (r->to->target == r->caller.line) idle &= ~(1u << r->caller.place);
-    if (!idle) return NO_CHANNEL;
-    r->called = (Slot){ r->to->target, __builtin_ctz(idle) };
-    return 0;
+    for (const uint8_t *next = listed[r->to->target];; next++) {
+        unsigned line = *next & ~LAST_LINE;
+        uint32_t idle = ALL_SLOTS & ~taken[line];
+        if (line == r->caller.line) idle &= ~(1u << r->caller.place);
+        if (idle) {
+            r->called = (Slot){ line, __builtin_ctz(idle) };
+            return 0;
+        }
+        if (*next & LAST_LINE) return NO_CHANNEL;
+    }
 }
 
 static Cause find_route(unsigned line, const Element said[SAID], int complete, Route *r) {
@@ -349,7 +354,7 @@ static void take_digits(Slot x, const Message *m) {
     if (!fault) fault = find_called(&r);
     if (fault) clear_leg(x, fault);
     else if (r.to->found == TO_ROOM) call_room(leg(x)->reference, &r, 0);
-    else if (r.to->found == TO_LINE) call_line(leg(x)->reference, &r, said, 0);
+    else if (r.to->found == TO_LINES) call_line(leg(x)->reference, &r, said, 0);
     else wait(x);
 }
 

@@ -22,10 +22,18 @@ static void ask_for_release(Slot x) {
     keep(x, from);
 }
 
-static void clear_caller(Leg l) {
+static void clear_caller(Leg l, uint8_t cause) {
     if (l.peer != LEG) return;
     put(" send");
-    clear_leg(l.other, NO_USER_RESPONDING);
+    clear_leg(l.other, cause);
+}
+
+// The called user doesn't answer: the record and the caller get this cause.
+static void clear_both(Slot x, uint8_t cause) {
+    Leg l = *leg(x);
+    end_call(x, cause);
+    clear_leg(x, TIMER_EXPIRY);
+    clear_caller(l, cause);
 }
 
 static void run_out(Slot x) {
@@ -38,16 +46,13 @@ static void run_out(Slot x) {
     switch (l.state) {
     case OVERLAP_SENDING: clear_leg(x, INVALID_NUMBER); break;
     case DISCONNECT_INDICATION: ask_for_release(x); break;
-    case INCOMING_PROCEEDING:
-        end_call(x, NO_USER_RESPONDING);
-        clear_leg(x, TIMER_EXPIRY);
-        clear_caller(l);
-        break;
+    case INCOMING_PROCEEDING: clear_both(x, NO_USER_RESPONDING); break;
+    case RECEIVED: clear_both(x, NO_ANSWER); break;
     default:
         if (l.resent) {
             end_call(x, NO_USER_RESPONDING);
             give_up(x);
-            clear_caller(l);
+            clear_caller(l, NO_USER_RESPONDING);
         } else {
             send_again(x);
         }

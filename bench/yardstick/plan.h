@@ -2,12 +2,16 @@
 
 enum { MOST_NUMBERS = 256, MOST_DIGITS = 20 };
 
-typedef enum { NO_NUMBER, MORE, TO_LINE, TO_ROOM } Found;
+typedef enum { NO_NUMBER, MORE, TO_LINES, TO_ROOM } Found;
 
 typedef struct {
     uint16_t next[10]; // 0 where there is no branch: none leads to the root
-    uint8_t found, target;
+    uint8_t found, target; // a room, or which list of lines
 } Node;
+
+// The list of lines of each number, in order; its last line is marked.
+enum { LAST_LINE = 0x80 };
+static uint8_t listed[MOST_NUMBERS][EXTERNAL];
 
 static Node nodes[(MOST_NUMBERS + 1) * MOST_DIGITS + 1]; // the root is an inner node once there is a number
 static unsigned node_count = 1, number_count;

@@ -10,15 +10,15 @@ typedef struct {
     size_t first;
 } Event;
 
-enum { MOST_WORDS = EXTERNAL + 2 }; // one more than a frame's line can have, so that too many are seen
+enum { MOST_WORDS = EXTERNAL + 4 }; // one more than a number's line can have, so that too many are seen
 typedef struct { const uint8_t *at, *end; } Word;
 
 typedef enum { RINGBACK, BUSY } ToneKind;
 typedef struct { uint8_t octets[TONE]; unsigned length; } Tone; // no octets: it isn't given
 
 // How many frames a leg may wait in a state; a timer that isn't given has the usual value.
-enum { T302, T303, T305, T308, T310, TIMERS };
-static uint32_t timers[TIMERS] = { 120000, 32000, 240000, 32000, 80000 };
+enum { T301, T302, T303, T305, T308, T310, TIMERS };
+static uint32_t timers[TIMERS] = { 1440000, 120000, 32000, 240000, 32000, 80000 };
 
 static Tone tones[2];
 static Event events[MOST_EVENTS];
@@ -176,16 +176,33 @@ static void read_frame(Word *words, size_t count) {
     append_frame(new, given);
 }
 
+// The lines of a number, each once.
+static void read_list(const Word *words, size_t count, uint8_t *list) {
+    Lines given = 0;
+    for (size_t i = 0; i < count; i++) {
+        unsigned line = line_of(words[i]);
+        if (given >> line & 1) refuse("slot");
+        given |= (Lines)1 << line;
+        list[i] = line | (i + 1 == count ? LAST_LINE : 0);
+    }
+}
+
 static void read_number(Word *words, size_t count) {
-    if (event_count || count != 4) refuse("word");
+    if (event_count || count < 4 || (count > 4 && !is(words[2], "lines"))) refuse("word");
     size_t length = words[1].end - words[1].at;
     if (length > MOST_DIGITS) refuse("number");
     for (const uint8_t *d = words[1].at; d < words[1].end; d++)
         if (*d < '0' || *d > '9') refuse("number");
-    int line = is(words[2], "line");
-    if (!line && !is(words[2], "room")) refuse("word");
-    unsigned target = line ? line_of(words[3]) : room_of(words[3]);
-    add_number(words[1].at, length, line ? TO_LINE : TO_ROOM, target);
+    if (is(words[2], "room")) {
+        add_number(words[1].at, length, TO_ROOM, room_of(words[3]));
+    } else if (is(words[2], "line") || is(words[2], "lines")) {
+        uint8_t list[EXTERNAL];
+        read_list(words + 3, count - 3, list);
+        add_number(words[1].at, length, TO_LINES, number_count);
+        memcpy(listed[number_count - 1], list, count - 3);
+    } else {
+        refuse("word");
+    }
 }
 
 static void read_tone(Word *words, size_t count) {
@@ -200,8 +217,8 @@ static void read_tone(Word *words, size_t count) {
 static void read_timer(Word *words, size_t count) {
     static int given[TIMERS];
     if (event_count || count != 3) refuse("word");
-    int timer = is(words[1], "T302") ? T302 : is(words[1], "T303") ? T303 : is(words[1], "T305") ? T305
-        : is(words[1], "T308") ? T308 : is(words[1], "T310") ? T310 : TIMERS;
+    int timer = is(words[1], "T301") ? T301 : is(words[1], "T302") ? T302 : is(words[1], "T303") ? T303
+        : is(words[1], "T305") ? T305 : is(words[1], "T308") ? T308 : is(words[1], "T310") ? T310 : TIMERS;
     if (timer == TIMERS || given[timer]) refuse("word");
     given[timer] = 1;
     int frames = number(&words[2], 0);

@@ -7,13 +7,12 @@ use Rattle.circuit_model.specs.Extent.{IsExternal}
 use Rattle.call_states.specs.declared.leg.Held.{Held}
 use Rattle.tone_rules.specs.declared.tones.Tones.{Tones}
 use Rattle.circuit_map.specs.Connections.{Connections}
-use Rattle.q931_codec.specs.Causes.{no_user_responding}
 use Rattle.exchange_events.specs.declared.record.CallRecord.{CallRecord}
 use Rattle.exchange_events.specs.declared.signal.Signal.{Signal}
 use Rattle.exchange_events.specs.Sizes.{Setting, Dimensions}
 use Rattle.call_profile.specs.CallRecords.{records}
 use Rattle.call_profile.specs.EndedCalls.{expired_records}
-use Rattle.call_profile.specs.Expiring.{due_of, slot_looked_at, expire_slot, outcome_on_line, outcome_of_lines}
+use Rattle.call_profile.specs.Expiring.{cause_at, due_of, slot_looked_at, expire_slot, outcome_on_line, outcome_of_lines}
 use Rattle.call_profile.specs.LegStanding.{LegsStand}
 use Rattle.call_profile.specs.Legs.{Legs, leg_at}
 use Rattle.call_profile.specs.Operations.{making_after_all}
@@ -44,7 +43,7 @@ line_done s frame w line map legs sends moved before told kept small first makes
     let a = outcome_of_lines s frame w line in
     let x : Slot = slot_looked_at frame line in
     let still = lines_kept s frame w kept line (omega (arith, small)) in
-    let is : told ≡ a.recorded ++ records a.making.world (making_after_all s.dimensions a.making (expire_slot s frame a.making.world.legs x)).world no_user_responding =
+    let is : told ≡ a.recorded ++ records a.making.world (making_after_all s.dimensions a.making (expire_slot s frame a.making.world.legs x)).world (cause_at s frame a.making.world.legs x) =
     more ∙ ap (λ list. list ++ expired_records s frame a.making.world x) first
     ∙ ap (λ list. a.recorded ++ list) (sym (slot_told s frame a.making x still (place_within s.dimensions.external frame line small))) in
     let one : line + 1 ≡ suc line = omega arith in

@@ -9,14 +9,14 @@ use Rattle.q931_codec.specs.Causes.{no_channel_available, switching_equipment_co
 use Rattle.q931_codec.specs.Contents.{channel_in, complete_in}
 use Rattle.number_plan.specs.declared.plan.Number.{Number}
 use Rattle.number_plan.specs.declared.target.Found.{Found}
-use Rattle.number_plan.specs.declared.target.Found.TheVariants.{Line, Room, More, Nothing}
+use Rattle.number_plan.specs.declared.target.Found.TheVariants.{Line, Lines, Room, More, Nothing}
 use Rattle.number_plan.specs.declared.target.Target.TheVariants as target
 use Rattle.number_plan.specs.Plan.{found_for, all_targets}
 use Rattle.number_plan.proofs.Meanings.{found_passes}
 use Rattle.call_control.specs.declared.setup_checks.CalledSide.{CalledSide}
 use Rattle.call_control.specs.declared.setup_checks.CalledSide.TheVariants as side
 use Rattle.call_control.specs.Choices.{IsReached, at_slot, called_side, dialled_checks}
-use Rattle.call_profile.specs.IdleSlots.{lowest_idle_beside}
+use Rattle.call_profile.specs.IdleSlots.{lowest_idle_beside, hunted}
 use Rattle.exchange_events.specs.Sizes.{Setting, Dimensions}
 use Rattle.call_profile.specs.Setup.{Check, first_cause, called_checks, target_of, caller_slot, is_taken, is_unknown, element_checks, number_checks, slot_checks, refusal}
 use Rattle.exchange_events.specs.Sound.{is_reached}
@@ -66,12 +66,14 @@ room_passes false room called e = refl
 
 pub side_refused : (d : Dimensions) (w : World) (x : Slot) (t : Found) (cause : ℕ) → is_unknown t ≡ false → called_side d w x t ≡ Err cause → first_cause (called_checks d w (Some x) t) ≡ Some cause
 side_refused d w x (Line line) cause known e = line_refused (lowest_idle_beside w x line) cause e
+side_refused d w x (Lines lines) cause known e = line_refused (hunted w x lines) cause e
 side_refused d w x (Room room) cause known e = room_refused (is_full d w) room cause e
 side_refused d w x More cause known e = absurd cc
 side_refused d w x Nothing cause known e = absurd cc
 
 pub side_passes : (d : Dimensions) (w : World) (x : Slot) (t : Found) (called : CalledSide) → called_side d w x t ≡ Ok called → first_cause (called_checks d w (Some x) t) ≡ None
 side_passes d w x (Line line) called e = line_passes (lowest_idle_beside w x line) called e
+side_passes d w x (Lines lines) called e = line_passes (hunted w x lines) called e
 side_passes d w x (Room room) called e = room_passes (is_full d w) room called e
 side_passes d w x More called e = refl
 side_passes d w x Nothing called e = absurd cc
@@ -79,6 +81,7 @@ side_passes d w x Nothing called e = absurd cc
 -- where the checks of the number pass, the plan knows it
 pub is_known : (t : Found) (complete : Bool) → first_cause (number_checks t complete) ≡ None → is_unknown t ≡ false
 is_known (Line line) complete e = refl
+is_known (Lines lines) complete e = refl
 is_known (Room room) complete e = refl
 is_known More complete e = refl
 is_known Nothing complete e = absurd cc
@@ -116,6 +119,7 @@ slot_causes d w line channel target x taken is = rw (taken, is) refl
 
 pub reaches : (external : ℕ) (plan : List Number) (digits : List ℕ) (t : Found) → IsTrue (all_targets (is_reached external) plan) → found_for plan digits ≡ t → IsReached external t
 reaches external plan digits (Line line) planned is = let passes = found_passes (is_reached external) plan digits (target.Line line) planned is in grind (arith, nat_tests, passes)
+reaches external plan digits (Lines lines) planned is = found_passes (is_reached external) plan digits (target.Lines lines) planned is
 reaches external plan digits (Room room) planned is = tt
 reaches external plan digits More planned is = tt
 reaches external plan digits Nothing planned is = tt

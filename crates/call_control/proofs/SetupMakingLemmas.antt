@@ -6,7 +6,7 @@ use Rattle.circuit_model.specs.Extent.{IsExternal}
 use Rattle.circuit_map.specs.Connections.{Connections}
 use Rattle.number_plan.specs.declared.plan.Number.{Number}
 use Rattle.number_plan.specs.declared.target.Found.{Found}
-use Rattle.number_plan.specs.declared.target.Found.TheVariants.{Line, Room, More, Nothing}
+use Rattle.number_plan.specs.declared.target.Found.TheVariants.{Line, Lines, Room, More, Nothing}
 use Rattle.number_plan.specs.Plan.{all_targets, found_for}
 use Rattle.q931_codec.specs.Causes.{switching_equipment_congestion}
 use Rattle.call_states.specs.declared.pending.Pending.{Pending}
@@ -15,8 +15,8 @@ use Rattle.call_control.specs.declared.setup_checks.CalledSide.TheVariants as si
 use Rattle.call_control.specs.Choices.{IsReached, accept_side, at_slot, called_side}
 use Rattle.call_profile.proofs.AcceptedSetupLemmas.{accepts_line}
 use Rattle.call_profile.proofs.SetupLemmas.{called_is}
-use Rattle.call_profile.specs.IdleSlots.{lowest_idle_beside}
-use Rattle.call_profile.specs.Setup.{accept, call_line}
+use Rattle.call_profile.specs.IdleSlots.{lowest_idle_beside, hunted}
+use Rattle.call_profile.specs.Setup.{accept, call, call_line}
 use Rattle.call_control.proofs.RefusalCauseLemmas.{reaches}
 use Rattle.exchange_events.specs.declared.signal.Signal.{Signal}
 use Rattle.call_profile.specs.Legs.{Legs, new_reference}
@@ -78,12 +78,20 @@ module _ (w : World) (first : Bool) (own : ℕ) (asked : Pending) (x : Slot) whe
       subst (λ (c : CalledSide). accept first w own asked x (Line line) ≡ accept_side first w own asked x c) same
       (accepts_line w first own asked x line y chosen ∙ ap (λ n. call_line first own asked x y (new_reference w.legs n)) (sym on))
 
+  hunted_side : (lines : List ℕ) (o : Option Slot) (called : CalledSide) → hunted w x lines ≡ o → at_slot o ≡ Ok called → accept first w own asked x (Lines lines) ≡ accept_side first w own asked x called
+  hunted_side lines None called chosen e = absurd cc
+  hunted_side lines (Some y) called chosen e =
+      let f : at_slot (Some y) ≡ Ok called = e in
+      let same : side.Line y ≡ called = cc in
+      subst (λ (c : CalledSide). accept first w own asked x (Lines lines) ≡ accept_side first w own asked x c) same (ap (λ o. call first w own asked x (Lines lines) o) chosen)
+
   room_side : (full : Bool) (room : ℕ) (called : CalledSide) → (if full then Err switching_equipment_congestion else Ok (side.Room room)) ≡ Ok called → side.Room room ≡ called
   room_side true room called e = absurd cc
   room_side false room called e = let f : Ok (side.Room room) ≡ Ok called = e in cc
 
   pub side_accepts : (d : Dimensions) (t : Found) (called : CalledSide) → called_side d w x t ≡ Ok called → accept first w own asked x t ≡ accept_side first w own asked x called
   side_accepts d (Line line) called e = line_side line (lowest_idle_beside w x line) called refl e
+  side_accepts d (Lines lines) called e = hunted_side lines (hunted w x lines) called refl e
   side_accepts d (Room room) called e = ap (accept_side first w own asked x) (room_side (is_full d w) room called e)
   side_accepts d More called e = let f : Ok side.More ≡ Ok called = e in let same : side.More ≡ called = cc in ap (accept_side first w own asked x) same
   side_accepts d Nothing called e = absurd cc
@@ -99,6 +107,7 @@ room_is false r room e = let f : Ok (side.Room r) ≡ Ok (side.Room room) = e in
 
 pub leads_to_room : (d : Dimensions) (w : World) (x : Slot) (t : Found) (room : ℕ) → called_side d w x t ≡ Ok (side.Room room) → t ≡ Room room
 leads_to_room d w x (Line line) room e = absurd (slot_no_room (lowest_idle_beside w x line) room e)
+leads_to_room d w x (Lines lines) room e = absurd (slot_no_room (hunted w x lines) room e)
 leads_to_room d w x (Room r) room e = ap (λ n. Room n) (room_is (is_full d w) r room e)
 leads_to_room d w x More room e = absurd cc
 leads_to_room d w x Nothing room e = absurd cc

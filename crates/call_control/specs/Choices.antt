@@ -1,10 +1,11 @@
 -- The choice of slots for a new call, and the operations that follow. Source: this project.
-use Rattle.std.specs.Prelude.{◌≡◌, ℕ, ◌<◌, ◌&&◌, not, Bool, List, ◌∷◌, ◌++◌, Option, Some, None, Result, Ok, Err, if◌then◌else◌}
+use Rattle.std.specs.Prelude.{◌≡◌, ℕ, ◌<◌, ◌&&◌, not, Bool, true, List, ◌∷◌, ◌++◌, Option, Some, None, Result, Ok, Err, if◌then◌else◌}
+use Rattle.std.specs.List.{list_all}
 use Rattle.circuit_model.specs.declared.channel.Slot.{Slot}
 use Rattle.circuit_model.specs.Circuits.{same_slot}
 use Rattle.circuit_model.specs.Extent.{IsExternal}
 use Rattle.number_plan.specs.declared.target.Found.{Found}
-use Rattle.number_plan.specs.declared.target.Found.TheVariants.{Line, Room, More, Nothing}
+use Rattle.number_plan.specs.declared.target.Found.TheVariants.{Line, Lines, Room, More, Nothing}
 use Rattle.q931_codec.specs.declared.message.Message.{Message}
 use Rattle.q931_codec.specs.Contents.{complete_in}
 use Rattle.q931_codec.specs.Causes.{invalid_number_format, no_channel_available, switching_equipment_congestion, unallocated_number}
@@ -15,18 +16,20 @@ use Rattle.exchange_events.specs.declared.signal.Signal.{Signal}
 use Rattle.circuit_map.specs.Connections.{Connections}
 use Rattle.call_control.specs.declared.setup_checks.CalledSide.{CalledSide}
 use Rattle.call_control.specs.declared.setup_checks.CalledSide.TheVariants as side
-use Rattle.call_profile.specs.IdleSlots.{idle, lowest_idle_beside}
+use Rattle.call_profile.specs.IdleSlots.{idle, lowest_idle_beside, hunted}
 use Rattle.call_profile.specs.Legs.{Legs, new_reference}
 use Rattle.call_profile.specs.Operations.{Operation}
 use Rattle.exchange_events.specs.Sizes.{Dimensions}
+use Rattle.exchange_events.specs.Sound.{line_exists}
 use Rattle.call_profile.specs.Setup.{Check, await_digits, call_line, call_proceeding, call_room, number_checks, called_checks}
 use Rattle.call_profile.specs.Permitted.{CanSeat}
 use Rattle.call_control.specs.Standing.{Holds}
 use Rattle.call_profile.specs.World.{World, is_full}
 
--- a called line is one of n
+-- each called line is one of n
 abbrev pub IsReached : ℕ → Found → Type 0
 IsReached external (Line line) = line < external
+IsReached external (Lines lines) = list_all (line_exists external) lines ≡ true
 IsReached external (Room room) = Unit {0}
 IsReached external More = Unit {0}
 IsReached external Nothing = Unit {0}
@@ -43,6 +46,7 @@ at_slot None = Err no_channel_available
 -- the called side for a caller at a slot, by the target of its number, or the cause if there is none
 abbrev pub called_side : Dimensions → World → Slot → Found → Result CalledSide ℕ
 called_side d w x (Line line) = at_slot (lowest_idle_beside w x line)
+called_side d w x (Lines lines) = at_slot (hunted w x lines)
 called_side d w x (Room room) = if is_full d w then Err switching_equipment_congestion else Ok (side.Room room)
 called_side d w x More = Ok side.More
 called_side d w x Nothing = Err unallocated_number

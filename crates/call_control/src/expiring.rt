@@ -10,7 +10,7 @@ ghost use Rattle.exchange_events.specs.Sizes.{Setting, Dimensions};
 ghost use Rattle.q931_codec.specs.Causes.{no_user_responding};
 ghost use Rattle.call_profile.specs.Acts.{message_to, peer_of};
 ghost use Rattle.call_profile.specs.EndedCalls.{record_ended, record_of_expiry, expired_records};
-ghost use Rattle.call_profile.specs.Expiring.{timed_state, send_again, give_up, ask_for_release, setup_over, proceeding_over, on_expiry, outcome_of_lines};
+ghost use Rattle.call_profile.specs.Expiring.{timed_state, send_again, give_up, ask_for_release, setup_over, clear_both, on_expiry, outcome_of_lines};
 ghost use Rattle.call_profile.specs.KeptMessages.{awaiting_answer};
 ghost use Rattle.call_profile.specs.Legs.{kept_at};
 ghost use Rattle.call_profile.specs.Peers.{IsThere, PeerIsThere};
@@ -27,7 +27,9 @@ use call_timers::{Expiry, Timers, due};
 use circuit_model::{PLACES, Slot};
 use control_memory::PathMap;
 use exchange_events::{Outbox, Signal};
-use q931_codec::causes::{INVALID_NUMBER_FORMAT, NO_USER_RESPONDING, RECOVERY_ON_TIMER_EXPIRY};
+use q931_codec::causes::{
+    INVALID_NUMBER_FORMAT, NO_ANSWER_FROM_USER, NO_USER_RESPONDING, RECOVERY_ON_TIMER_EXPIRY,
+};
 use q931_codec::{MessageKind, Outgoing};
 use tone_rules::Tones;
 
@@ -113,7 +115,8 @@ impl<P: PathMap> CallControl<P> {
             Expiry::Digits => self.clear_leg(out, tones, held, INVALID_NUMBER_FORMAT),
             Expiry::SetupAgain | Expiry::ReleaseAgain => self.send_again(out, held),
             Expiry::SetupOver => self.setup_over(out, tones, held, peer),
-            Expiry::Proceeding => self.proceeding_over(out, tones, held, peer),
+            Expiry::Proceeding => self.clear_both(out, tones, held, peer, NO_USER_RESPONDING),
+            Expiry::Alerting => self.clear_both(out, tones, held, peer, NO_ANSWER_FROM_USER),
             Expiry::Disconnect => self.ask_for_release(out, held),
             Expiry::ReleaseOver => self.remove_leg(held),
         }
@@ -162,23 +165,31 @@ impl<P: PathMap> CallControl<P> {
         record_also(&mut out.records, call);
     }
 
-    // The called user was neither alerted nor answered: clears both legs.
-    fn proceeding_over(&mut self, out: &mut Outbox, tones: &Tones, held: Held, peer: Option<Held>)
+    // Clears both legs of a call whose called user neither alerts nor answers, and the caller with this cause.
+    fn clear_both(
+        &mut self,
+        out: &mut Outbox,
+        tones: &Tones,
+        held: Held,
+        peer: Option<Held>,
+        cause: u8,
+    )
         requires there { IsThere self.old.map.external held }
         requires count { length self.old.legs.held ≡ 30 * self.old.map.external }
         requires peer { peer ≡ peer_of self.old.legs held.leg.peer }
         requires peer_there { PeerIsThere self.old.map.external held peer }
+        requires cause { cause < 128 }
         requires room { (length out.old.sends + 1 < most_sends) × (length out.old.records < most_records) }
-        ensures makes { Performs (proceeding_over tones.now self.old.legs held) self.old.map self.old.legs out.old self.new.map self.new.legs out.new }
+        ensures makes { Performs (clear_both tones.now self.old.legs held cause) self.old.map self.old.legs out.old self.new.map self.new.legs out.new }
         ensures records { (d : Dimensions) (w : World) → Holds d self.old.map self.old.legs w
-            → out.new.records ≡ out.old.records ++ cons_option (record_ended w held no_user_responding) [] }
+            → out.new.records ≡ out.old.records ++ cons_option (record_ended w held cause) [] }
         ensures few { (length out.new.sends ≤ length out.old.sends + 2) × (length out.new.records ≤ length out.old.records + 1) }
         ensures moved { out.new.moved ≡ out.old.moved }
         ensures sizes { SameSizes self.old.map self.new.map }
     {
-        let call = self.record_ended(held, peer, NO_USER_RESPONDING);
+        let call = self.record_ended(held, peer, cause);
         self.clear_leg(out, tones, held, RECOVERY_ON_TIMER_EXPIRY);
-        self.clear_peer(out, tones, peer, NO_USER_RESPONDING);
+        self.clear_peer(out, tones, peer, cause);
         record_also(&mut out.records, call);
     }
 

@@ -76,8 +76,9 @@ pub(crate) fn read_received<'a>(plan: &Plan, received: &Received<'a>) -> Option<
 {
     let octets = received.octets;
     if let Some(known) = received.ahead {
+        let ahead = known.number;
         let message = message_of(known, octets);
-        let number = number_of(plan, &message, known.number);
+        let number = number_of(plan, &message, ahead);
         return Some(Incoming { message, number });
     }
     let Ok(message) = read(octets) else {

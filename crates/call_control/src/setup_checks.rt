@@ -1,11 +1,13 @@
 //! The checks of a SETUP: its elements, the slots of its call, and the cause of a refusal.
-ghost use Rattle.std.specs.Prelude.{◌≡◌, ◌<◌, false, Some, None, Ok, is_some, IfSome, IfOk, IfErr, OnOk};
+ghost use Rattle.std.specs.Prelude.{◌≡◌, ◌<◌, true, false, Some, None, Ok, is_some, IfSome, IfOk, IfErr, OnOk};
 ghost use Rattle.call_profile.specs.Setup.{digits_in, lacks_number, slot_of, slot_asked, element_checks, number_checks, first_cause, caller_slot, is_taken, is_unknown, slot_checks, refusal, target_of};
 ghost use Rattle.q931_codec.specs.Contents.{called_received, channel_in, complete_in};
 ghost use Rattle.circuit_model.specs.Extent.{IsExternal};
-ghost use Rattle.call_control.specs.Choices.{IsReached, IsWithin, called_side, idle_beside};
-ghost use Rattle.call_profile.specs.IdleSlots.{lowest_idle, lowest_idle_beside};
+ghost use Rattle.call_control.specs.Choices.{IsReached, IsWithin, at_slot, called_side, idle_beside};
+ghost use Rattle.call_profile.specs.IdleSlots.{lowest_idle, lowest_idle_beside, hunted};
 ghost use Rattle.exchange_events.specs.Sizes.{Setting, Dimensions};
+ghost use Rattle.exchange_events.specs.Sound.{line_exists};
+ghost use Rattle.std.specs.List.{list_all};
 ghost use Rattle.call_control.specs.Standing.{Holds};
 ghost use Rattle.call_profile.specs.World.{World};
 
@@ -67,6 +69,21 @@ impl<P: PathMap> CallControl<P> {
             let slot = Slot { line, place };
             if self.idle_beside(beside, slot) {
                 return Some(slot);
+            }
+        }
+        None
+    }
+
+    // Returns the lowest idle slot, other than this slot, of the first of these lines that has one.
+    fn hunted(&self, beside: Slot, lines: &[u8]) -> Option<Slot>
+        requires lines { list_all (line_exists self.now.map.external) lines.now ≡ true }
+        ensures slot { (d : Dimensions) (w : World) → Holds d self.now.map self.now.legs w → result ≡ hunted w beside lines.now }
+        ensures external { IfSome result (IsExternal self.now.map.external) }
+    {
+        for line in lines {
+            let slot = self.lowest_idle_beside(beside, *line);
+            if slot.is_some() {
+                return slot;
             }
         }
         None
@@ -144,20 +161,18 @@ impl<P: PathMap> CallControl<P> {
         }
     }
 
-    /// Returns the called side for a caller at a slot, by the target of its number. Returns a cause if the called line
-    /// has no other idle slot, or if no conference port is free.
+    /// Returns the called side for a caller at a slot, by the target of its number. Returns a cause if no called line has
+    /// another idle slot, or if no conference port is free.
     pub(crate) fn called_side(&self, caller: Slot, target: Found) -> Result<CalledSide, u8>
         requires reached { IsReached self.now.map.external target }
         ensures side { (d : Dimensions) (w : World) → Holds d self.now.map self.now.legs w → result ≡ called_side d w caller target }
         ensures within { IfOk result (IsWithin self.now.map.external) }
     {
-        match target {
-            Found::Line(line) => match self.lowest_idle_beside(caller, line) {
-                Some(slot) => Ok(CalledSide::Line(slot)),
-                None => Err(NO_CHANNEL_AVAILABLE),
-            },
+        match &target {
+            Found::Line(line) => at_slot(self.lowest_idle_beside(caller, *line)),
+            Found::Lines(lines) => at_slot(self.hunted(caller, lines.as_slice())),
             Found::Room(_) if self.map.is_full() => Err(SWITCHING_EQUIPMENT_CONGESTION),
-            Found::Room(room) => Ok(CalledSide::Room(room)),
+            Found::Room(room) => Ok(CalledSide::Room(*room)),
             Found::More => Ok(CalledSide::More),
             Found::Nothing => Err(UNALLOCATED_NUMBER),
         }
@@ -191,6 +206,16 @@ impl<P: PathMap> CallControl<P> {
             return Err(cause);
         }
         self.slots_for(line, message.channel(), number.target)
+    }
+}
+
+// Returns the called side at the slot that was found, or the cause if there is none.
+fn at_slot(slot: Option<Slot>) -> Result<CalledSide, u8>
+    ensures { result ≡ at_slot slot }
+{
+    match slot {
+        Some(slot) => Ok(CalledSide::Line(slot)),
+        None => Err(NO_CHANNEL_AVAILABLE),
     }
 }
 
@@ -256,6 +281,6 @@ pub(crate) fn number_cause(target: Found, message: &Message) -> Option<u8>
     match target {
         Found::Nothing => Some(UNALLOCATED_NUMBER),
         Found::More if message.sending_complete() => Some(INVALID_NUMBER_FORMAT),
-        Found::More | Found::Line(_) | Found::Room(_) => None,
+        Found::More | Found::Line(_) | Found::Lines(_) | Found::Room(_) => None,
     }
 }

@@ -1,6 +1,7 @@
 -- Which slot a call gets whose number is dialled on, and for lack of what it is refused.
 use Rattle.std.proofs.Common.{◌≡◌, ℕ, Bool, true, false, ◌&&◌, inl, inr, List, [], ◌∷◌, Option, Some, None, refl, sym, ◌∙◌, ap, subst, arith}
-use Rattle.std.specs.Prelude.{find, is_none, not}
+use Rattle.std.specs.Prelude.{All, find, is_none, not}
+use Rattle.std.proofs.lemmas.List.Elements.{All-nil, All-cons, All-weaker}
 use Rattle.circuit_model.specs.declared.channel.Slot.{Slot}
 use Rattle.circuit_model.specs.Circuits.{is_idle, same_slot}
 use Rattle.circuit_model.proofs.Slots.{true_or_false, same_slot-true}
@@ -8,14 +9,16 @@ use Rattle.q931_codec.specs.Causes.{invalid_number_format, unallocated_number, n
 use Rattle.q931_codec.specs.Contents.{complete_in, dialled_digits}
 use Rattle.q931_codec.specs.declared.message.Message.{Message}
 use Rattle.number_plan.specs.declared.target.Found.{Found}
-use Rattle.number_plan.specs.declared.target.Found.TheVariants.{Line, Room, More, Nothing}
+use Rattle.number_plan.specs.declared.target.Found.TheVariants.{Line, Lines, Room, More, Nothing}
 use Rattle.call_states.specs.declared.leg.Leg.{Leg}
 use Rattle.exchange_events.specs.Sizes.{Setting, Dimensions}
 use Rattle.call_profile.specs.Digits.{adds_wrongly, called_with, digits_refusal, WantsSlot, WantsPort}
-use Rattle.call_profile.specs.IdleSlots.{idle, lowest_idle, lowest_idle_beside}
+use Rattle.call_profile.specs.IdleSlots.{idle, lowest_idle, lowest_idle_beside, hunted}
+use Rattle.call_profile.specs.Hunting.{lines_of, IsFull}
 use Rattle.call_profile.specs.Legs.{leg_at, slots_of}
 use Rattle.call_profile.specs.Setup.{Check, first_cause, is_unknown, is_incomplete, is_line_full, is_room_full, target_dialled}
 use Rattle.call_profile.specs.World.{World, is_full}
+use Rattle.call_profile.proofs.HuntingLemmas.{all_full}
 
 and_false : (b : Bool) → (b && false) ≡ false
 and_false true = refl
@@ -82,14 +85,16 @@ none_of : (o : Option Slot) → is_none o ≡ true → o ≡ None
 none_of None e = refl
 none_of (Some y) e = absurd cc
 
-full_line : (w : World) (x : Slot) (t : Found) → is_line_full w (Some x) t ≡ true → (line : ℕ) × (t ≡ Line line) × (lowest_idle_beside w x line ≡ None)
-full_line w x (Line line) e = (line, refl, none_of (lowest_idle_beside w x line) e)
+full_line : (w : World) (x : Slot) (t : Found) → is_line_full w (Some x) t ≡ true → (lines : List ℕ) × (lines_of t ≡ Some lines) × All (IsFull w x) lines
+full_line w x (Line line) e = (line ∷ [], refl, All-cons (IsFull w x) line [] (none_of (lowest_idle_beside w x line) e) (All-nil (IsFull w x)))
+full_line w x (Lines lines) e = (lines, refl, all_full w x lines (none_of (hunted w x lines) e))
 full_line w x (Room room) e = absurd cc
 full_line w x More e = absurd cc
 full_line w x Nothing e = absurd cc
 
 full_room : (d : Dimensions) (w : World) (t : Found) → is_room_full d w t ≡ true → (room : ℕ) × (t ≡ Room room) × (is_full d w ≡ true)
 full_room d w (Line line) e = absurd cc
+full_room d w (Lines lines) e = absurd cc
 full_room d w (Room room) e = (room, refl, e)
 full_room d w More e = absurd cc
 full_room d w Nothing e = absurd cc
@@ -108,7 +113,9 @@ module _ (s : Setting) (w : World) (x : Slot) (called : List ℕ) (m : Message) 
   room_is_full is = sixth (adds_wrongly called m) (is_none (dialled_digits dialled)) (is_unknown target) (is_incomplete target && complete_in m.elements) (is_line_full w (Some x) target) (is_room_full s.dimensions w target) is
 
   pub wants_slot : (leg : Leg) → leg_at w.legs x ≡ Some leg → digits_refusal s w x called m ≡ Some no_channel_available → WantsSlot s w dialled
-  wants_slot leg at is = let full = full_line w x target (line_is_full is) in (full.0, full.1, sym (same_choice w x leg at full.0) ∙ full.2)
+  wants_slot leg at is =
+      let full = full_line w x target (line_is_full is) in
+      (full.0, full.1, All-weaker (IsFull w x) (λ line. lowest_idle w line ≡ None) (λ line none. sym (same_choice w x leg at line) ∙ none) full.0 full.2)
 
   pub wants_port : digits_refusal s w x called m ≡ Some switching_equipment_congestion → WantsPort s w dialled
   wants_port is = full_room s.dimensions w target (room_is_full is)

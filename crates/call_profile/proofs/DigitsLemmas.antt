@@ -32,7 +32,7 @@ use Rattle.call_profile.proofs.BesideLemmas.{Beside, SameReferences, each_stands
 use Rattle.call_profile.proofs.ClearingLemmas.{Kept}
 use Rattle.call_profile.proofs.HearingLemmas.{IsStrange, clear_keeps}
 use Rattle.call_profile.proofs.OneLegClearedLemmas.{disconnected_stands}
-use Rattle.call_profile.proofs.SetupLemmas.{CanReach, accepted_kept, all_from, all_pass, reached}
+use Rattle.call_profile.proofs.SetupLemmas.{CanReach, accepted_kept, all_from, all_pass, all_reached, reached}
 use Rattle.call_profile.proofs.ToneLemmas.{cleared_is_idle, sounding_keeps, sounding_valid, sounds}
 use Rattle.call_profile.proofs.WaitingLegLemmas.{each_waits, waiting_may}
 
@@ -130,6 +130,7 @@ module _ (s : Setting) (w : World) (x : Slot) (p : Pending) (m : Message) (plann
   pub digits_reach : CanReach s w (target_dialled s.plan (called_with p.called m))
   digits_reach = record {
     line = λ l is. reached s (called_with p.called m) l planned is;
+    lines = λ ls are. all_reached s (called_with p.called m) ls planned are;
     room = λ room is. sym (ap (is_room_full s.dimensions w) is) ∙ (all_from 5 (digits_checks s w x p.called m) passed).0;
   }
 

@@ -45,8 +45,9 @@ module _ (s : Setting) (w : World) (h : Held) (m : Message) (planned : IsPlanned
       → records w (making_after_all s.dimensions (making_at w) (dial_on s w h (asked_with (number s w h m planned stands within at is).number m) o)).world 0 ≡ []
   dialling_ends (Some cause) refused = clearing_ends cause
   dialling_ends None passes =
+      let reach = digits_reach s w h.slot (number s w h m planned stands within at is).number m planned passes in
       accepted_ends s w false h.leg.reference (asked_with (number s w h m planned stands within at is).number m) h.slot stands.legs.count within silent (target_dialled s.plan (called_with called m))
-      (digits_reach s w h.slot (number s w h m planned stands within at is).number m planned passes).line
+      (reach.line, reach.lines)
 
   pub digits_end_none : records w (making_after_all s.dimensions (making_at w) (on_digits s w h m)).world 0 ≡ []
   digits_end_none =

@@ -4,7 +4,7 @@ use Rattle.std.specs.Prelude.{option_map, option_and_then, ◌&&◌}
 use Rattle.std.specs.List.{cons_option}
 use Rattle.circuit_model.specs.declared.channel.Slot.{Slot}
 use Rattle.circuit_model.specs.Extent.{IsExternal}
-use Rattle.q931_codec.specs.Causes.{invalid_number_format, no_user_responding, recovery_on_timer_expiry}
+use Rattle.q931_codec.specs.Causes.{invalid_number_format, no_answer_from_user, no_user_responding, recovery_on_timer_expiry}
 use Rattle.call_timers.specs.declared.expiry.Expiry.{Expiry}
 use Rattle.call_timers.specs.declared.expiry.Expiry.TheVariants as expiry
 use Rattle.call_states.specs.Acts.{is_among}
@@ -19,12 +19,12 @@ use Rattle.exchange_events.specs.Sizes.{Setting, Dimensions}
 use Rattle.call_profile.specs.Acts.{in_disconnect_indication, in_release_request, peer_of, with_peer, clear_with, remove_leg}
 use Rattle.call_profile.specs.CallRecords.{before_clearing, is_calling, records}
 use Rattle.call_profile.specs.EndedCalls.{caller_in, record_calling, record_ended, record_of_expiry, expired_records}
-use Rattle.call_profile.specs.Expiring.{timed_state, send_again, give_up, ask_for_release, clear_peer, on_expiry, due_of, if_due, expire_leg, expire_slot}
+use Rattle.call_profile.specs.Expiring.{timed_state, send_again, give_up, ask_for_release, clear_peer, clear_both, on_expiry, cause_of_expiry, cause_if_due, cause_at, due_of, if_due, expire_leg, expire_slot}
 use Rattle.call_profile.specs.LegStanding.{AreOneCall}
 use Rattle.call_profile.specs.Legs.{leg_at, kept_at, with_entry, resent_from}
 use Rattle.call_profile.specs.Operations.{Operation, Making, begun, making_after_all}
 use Rattle.call_profile.specs.World.{World}
-use Rattle.call_profile.proofs.AnsweringLemmas.{caller_of}
+use Rattle.call_profile.proofs.AnsweringLemmas.{ringing, caller_of}
 use Rattle.call_profile.proofs.BesideLemmas.{look, entry_here, entry_else, same_or_apart}
 use Rattle.call_profile.proofs.ClearingLemmas.{Kept, held_there}
 use Rattle.call_profile.proofs.ExpiryStateLemmas.{due_state}
@@ -47,12 +47,12 @@ module _ (d : Dimensions) (tones : Tones) (m : Making) (x : Slot) (leg : Leg) (k
   abbrev w : World
   w = m.world
 
-  abbrev Told : List Operation → List CallRecord → Type 0
-  Told os told = records w (making_after_all d m os).world no_user_responding ≡ told
+  abbrev Told : ℕ → List Operation → List CallRecord → Type 0
+  Told cause os told = records w (making_after_all d m os).world cause ≡ told
 
   -- one entry is another, and calls if it called
-  quiet : (v : World) (o : Option Leg) → v.legs.held ≡ (with_entry w.legs x o).held → (is_calling (Some leg) ≡ true → is_calling o ≡ true) → records w v no_user_responding ≡ []
-  quiet v o legs goes = no_record_where_calling d.external w v no_user_responding kept.1.count (λ z in_z. elim (same_or_apart z x) [
+  quiet : (cause : ℕ) (v : World) (o : Option Leg) → v.legs.held ≡ (with_entry w.legs x o).held → (is_calling (Some leg) ≡ true → is_calling o ≡ true) → records w v cause ≡ []
+  quiet cause v o legs goes = no_record_where_calling d.external w v cause kept.1.count (λ z in_z. elim (same_or_apart z x) [
     | inl same ↦ subst (GoesOn w.legs v.legs) (sym same) (λ calls.
         ap (λ os. is_calling (look x os)) legs ∙ ap is_calling (entry_here d.external w.legs x o kept.1.count within) ∙ goes (sym (ap is_calling at) ∙ calls))
     | inr apart ↦ same_goes_on w.legs v.legs z (ap (look z) legs ∙ entry_else d.external w.legs x z o within in_z apart)
@@ -61,33 +61,34 @@ module _ (d : Dimensions) (tones : Tones) (m : Making) (x : Slot) (leg : Leg) (k
   never : (o : Option Leg) → is_among before_clearing leg.state ≡ false → is_calling (Some leg) ≡ true → is_calling o ≡ true
   never o not_up calls = let none = no_caller leg not_up in let wrong : false ≡ true = sym none ∙ calls in cc
 
-  again_told : (o : Option (List ℕ)) → Told (send_again h o) []
+  again_told : (o : Option (List ℕ)) → Told no_user_responding (send_again h o) []
   again_told None = no_records w no_user_responding
-  again_told (Some octets) = quiet (making_after_all d m (send_again h (Some octets))).world (Some (resent_from w.holding.next leg)) refl (λ calls. calls)
+  again_told (Some octets) = quiet no_user_responding (making_after_all d m (send_again h (Some octets))).world (Some (resent_from w.holding.next leg)) refl (λ calls. calls)
 
-  over_told : Told (give_up h ++ clear_peer tones w.legs h) (cons_option (record_ended w h no_user_responding) [])
+  over_told : Told no_user_responding (give_up h ++ clear_peer tones w.legs h no_user_responding) (cons_option (record_ended w h no_user_responding) [])
   over_told = clearing_records d tones w x leg None no_user_responding kept.1 within at (inl refl) (making_after_all d m (give_up h)) refl
 
   -- the caller of a called leg is the one whose call is recorded
-  ended_by : (side : Side) (o : Option Held) (k : Held) → side ≡ Called → o ≡ Some k → option_and_then (record_calling w no_user_responding) (caller_in side h o) ≡ record_calling w no_user_responding k
-  ended_by side o k is_called is = rw (is_called, is) refl
+  ended_by : (cause : ℕ) (side : Side) (o : Option Held) (k : Held) → side ≡ Called → o ≡ Some k → option_and_then (record_calling w cause) (caller_in side h o) ≡ record_calling w cause k
+  ended_by cause side o k is_called is = rw (is_called, is) refl
 
-  module _ (state : leg.state ≡ timed_state expiry.Proceeding) where
+  -- both legs are cleared, whose called user proceeds or is alerted
+  module _ (cause : ℕ) (rings : is_among ringing leg.state ≡ true) where
     abbrev caller_there : Type 0
     caller_there = (y : Slot) × (leg.peer ≡ peer.Leg y) × IsExternal d.external y × ((other : Leg) × (leg_at w.legs y ≡ Some other) × AreOneCall y other x leg)
 
     has_caller : caller_there
-    has_caller = caller_of d.external tones w x leg (rw state refl) leg.peer (kept.1.each x leg within at).peer
+    has_caller = caller_of d.external tones w x leg rings leg.peer (kept.1.each x leg within at).peer
 
-    proceeding_by : (c : caller_there) → Told (clear_with tones recovery_on_timer_expiry h ++ clear_peer tones w.legs h) (cons_option (record_ended w h no_user_responding) [])
-    proceeding_by c =
+    both_by : (c : caller_there) → Told cause (clear_both tones w.legs h cause) (cons_option (record_ended w h cause) [])
+    both_by c =
         let y = c.0 in
         let other = c.3.0 in
         let at_y = c.3.1 in
         let call = c.3.2 in
         let k : Held = record { slot = y; leg = other } in
         let one : Leg = begun w (in_disconnect_indication recovery_on_timer_expiry leg) in
-        let two : Leg = begun w (in_disconnect_indication no_user_responding other) in
+        let two : Leg = begun w (in_disconnect_indication cause other) in
         let is_peer : peer_of w.legs leg.peer ≡ Some k = ap (peer_of w.legs) c.1 ∙ held_there w.legs y other at_y in
         let apart : y ≡ x → ⊥ = λ same.
         let e : Some leg ≡ Some other = sym at ∙ ap (leg_at w.legs) (sym same) ∙ at_y in
@@ -95,30 +96,31 @@ module _ (d : Dimensions) (tones : Tones) (m : Making) (x : Slot) (leg : Leg) (k
         let sides : leg.side ≡ other.side = ap (λ (l : Leg). l.side) legs_same in
         let wrong = sym call.is_called ∙ sides ∙ call.calls in
         cc in
-        let v : World = (making_after_all d m (clear_with tones recovery_on_timer_expiry h ++ clear_with tones no_user_responding k)).world in
+        let v : World = (making_after_all d m (clear_with tones recovery_on_timer_expiry h ++ clear_with tones cause k)).world in
         let over : is_calling (leg_at v.legs y) ≡ false =
-        ap is_calling (both_second d.external w.legs x y (Some one) (Some two) kept.1.count within c.2 apart) ∙ disconnected_silent w.holding.next no_user_responding other in
-        let recorded : records w v no_user_responding ≡ cons_option (record_calling w no_user_responding k) [] = one_record d.external w v no_user_responding y other kept.1.count c.2 at_y over (λ z in_z not_y. elim (same_or_apart z x) [
+        ap is_calling (both_second d.external w.legs x y (Some one) (Some two) kept.1.count within c.2 apart) ∙ disconnected_silent w.holding.next cause other in
+        let recorded : records w v cause ≡ cons_option (record_calling w cause k) [] = one_record d.external w v cause y other kept.1.count c.2 at_y over (λ z in_z not_y. elim (same_or_apart z x) [
           | inl same ↦ subst (GoesOn w.legs v.legs) (sym same) (called_silent w.legs v.legs x leg at call.is_called)
           | inr not_x ↦ same_goes_on w.legs v.legs z (both_else d.external w.legs x y (Some one) (Some two) kept.1.count within c.2 apart z in_z not_x not_y)
         ]) in
-        ap (λ o. records w (making_after_all d m (clear_with tones recovery_on_timer_expiry h ++ with_peer o (clear_with tones no_user_responding))).world no_user_responding) is_peer
+        ap (λ o. records w (making_after_all d m (clear_with tones recovery_on_timer_expiry h ++ with_peer o (clear_with tones cause))).world cause) is_peer
         ∙ recorded
-        ∙ ap (λ o. cons_option o []) (sym (ended_by leg.side (peer_of w.legs leg.peer) k call.is_called is_peer))
+        ∙ ap (λ o. cons_option o []) (sym (ended_by cause leg.side (peer_of w.legs leg.peer) k call.is_called is_peer))
 
-    proceeding_told : Told (clear_with tones recovery_on_timer_expiry h ++ clear_peer tones w.legs h) (cons_option (record_ended w h no_user_responding) [])
-    proceeding_told = proceeding_by has_caller
+    both_told : Told cause (clear_both tones w.legs h cause) (cons_option (record_ended w h cause) [])
+    both_told = both_by has_caller
 
-  pub expiry_told : (e : Expiry) → leg.state ≡ timed_state e → Told (on_expiry tones w.legs h e) (cons_option (record_of_expiry w h e) [])
+  pub expiry_told : (e : Expiry) → leg.state ≡ timed_state e → Told (cause_of_expiry e) (on_expiry tones w.legs h e) (cons_option (record_of_expiry w h e) [])
   expiry_told expiry.Digits state =
-      quiet (making_after_all d m (clear_with tones invalid_number_format h)).world (Some (begun w (in_disconnect_indication invalid_number_format leg))) refl
+      quiet no_user_responding (making_after_all d m (clear_with tones invalid_number_format h)).world (Some (begun w (in_disconnect_indication invalid_number_format leg))) refl
       (never (Some (begun w (in_disconnect_indication invalid_number_format leg))) (rw state refl))
   expiry_told expiry.SetupAgain state = again_told (kept_at w.legs x)
   expiry_told expiry.SetupOver state = over_told
-  expiry_told expiry.Proceeding state = proceeding_told state
-  expiry_told expiry.Disconnect state = quiet (making_after_all d m (ask_for_release h)).world (Some (begun w (in_release_request leg))) refl (never (Some (begun w (in_release_request leg))) (rw state refl))
+  expiry_told expiry.Proceeding state = both_told no_user_responding (rw state refl)
+  expiry_told expiry.Alerting state = both_told no_answer_from_user (rw state refl)
+  expiry_told expiry.Disconnect state = quiet no_user_responding (making_after_all d m (ask_for_release h)).world (Some (begun w (in_release_request leg))) refl (never (Some (begun w (in_release_request leg))) (rw state refl))
   expiry_told expiry.ReleaseAgain state = again_told (kept_at w.legs x)
-  expiry_told expiry.ReleaseOver state = quiet (making_after_all d m (remove_leg h)).world None refl (never None (rw state refl))
+  expiry_told expiry.ReleaseOver state = quiet no_user_responding (making_after_all d m (remove_leg h)).world None refl (never None (rw state refl))
 
 -- ---- a slot, in a frame
 
@@ -127,16 +129,17 @@ module _ (s : Setting) (frame : ℕ) (m : Making) (x : Slot) (kept : Kept s.dime
   done os = (making_after_all s.dimensions m os).world
 
   told_due : (leg : Leg) (o : Option Expiry) → leg_at m.world.legs x ≡ Some leg → due_of s.timers frame leg ≡ o
-      → records m.world (done (if_due s.tones m.world.legs (record { slot = x; leg = leg }) o)) no_user_responding
+      → records m.world (done (if_due s.tones m.world.legs (record { slot = x; leg = leg }) o)) (cause_if_due o)
       ≡ cons_option (option_and_then (record_of_expiry m.world (record { slot = x; leg = leg })) o) []
   told_due leg None at is = no_records m.world no_user_responding
   told_due leg (Some e) at is = expiry_told s.dimensions s.tones m x leg kept within at e (due_state leg.state leg.resent leg.since frame s.timers e is)
 
   told_held : (o : Option Leg) → leg_at m.world.legs x ≡ o
-      → records m.world (done (expire_leg s frame m.world.legs (option_map (λ (leg : Leg). let held : Held = record { slot = x; leg = leg } in held) o))) no_user_responding
+      → records m.world (done (expire_leg s frame m.world.legs (option_map (λ (leg : Leg). let held : Held = record { slot = x; leg = leg } in held) o)))
+      (cause_if_due (option_and_then (λ (k : Held). due_of s.timers frame k.leg) (option_map (λ (leg : Leg). let held : Held = record { slot = x; leg = leg } in held) o)))
       ≡ cons_option (option_and_then (λ (k : Held). option_and_then (record_of_expiry m.world k) (due_of s.timers frame k.leg)) (option_map (λ (leg : Leg). let held : Held = record { slot = x; leg = leg } in held) o)) []
   told_held None at = no_records m.world no_user_responding
   told_held (Some leg) at = told_due leg (due_of s.timers frame leg) at refl
 
-  pub slot_told : records m.world (done (expire_slot s frame m.world.legs x)) no_user_responding ≡ expired_records s frame m.world x
+  pub slot_told : records m.world (done (expire_slot s frame m.world.legs x)) (cause_at s frame m.world.legs x) ≡ expired_records s frame m.world x
   slot_told = told_held (leg_at m.world.legs x) refl

@@ -1,11 +1,11 @@
 -- Whatever expires, each operation that is done for it is permitted, and the legs stay consistent.
-use Rattle.std.proofs.Common.{◌≡◌, ℕ, zero, suc, ◌<◌, ◌≤◌, true, inl, List, [], ◌∷◌, ◌++◌, Option, Some, None, refl, sym, ◌∙◌, subst, arith}
-use Rattle.std.proofs.lemmas.Grind.{common_steps}
+use Rattle.std.proofs.Common.{◌≡◌, ◌≢◌, ℕ, zero, suc, ◌<◌, ◌≤◌, true, inl, List, [], ◌∷◌, ◌++◌, Option, Some, None, refl, sym, ◌∙◌, subst, arith}
 use Rattle.std.specs.Prelude.{option_map}
 use Rattle.circuit_model.specs.declared.channel.Slot.{Slot}
 use Rattle.circuit_model.specs.Extent.{IsExternal}
 use Rattle.q931_codec.specs.declared.kind.MessageKind.TheVariants as kind
-use Rattle.q931_codec.specs.Causes.{invalid_number_format, no_user_responding, recovery_on_timer_expiry}
+use Rattle.q931_codec.specs.CallStates.{active}
+use Rattle.q931_codec.specs.Causes.{invalid_number_format, no_answer_from_user, no_user_responding, recovery_on_timer_expiry}
 use Rattle.q931_codec.specs.Outgoing.{IsWritable}
 use Rattle.call_timers.specs.declared.expiry.Expiry.{Expiry}
 use Rattle.call_timers.specs.declared.expiry.Expiry.TheVariants as expiry
@@ -20,7 +20,7 @@ use Rattle.number_plan.specs.declared.plan.Number.{Number}
 use Rattle.tone_rules.specs.declared.tones.Tones.{Tones}
 use Rattle.exchange_events.specs.Sizes.{Setting, Dimensions}
 use Rattle.call_profile.specs.Acts.{in_release_request, peer_of, with_peer, clear_with, remove_leg}
-use Rattle.call_profile.specs.Expiring.{timed_state, release_for, release_complete_for, send_again, give_up, ask_for_release, clear_peer, on_expiry, due_of, if_due, expire_leg, expire_slot, slot_looked_at, outcome_on_line, outcome_of_lines}
+use Rattle.call_profile.specs.Expiring.{timed_state, release_for, release_complete_for, send_again, give_up, ask_for_release, clear_peer, clear_both, on_expiry, due_of, if_due, expire_leg, expire_slot, slot_looked_at, outcome_on_line, outcome_of_lines}
 use Rattle.call_profile.specs.KeptMessages.{IsAwaited}
 use Rattle.call_profile.specs.LegStanding.{LegStands, HasPeer, alone}
 use Rattle.call_profile.specs.Legs.{Legs, leg_at, kept_at}
@@ -67,15 +67,15 @@ module _ (d : Dimensions) (tones : Tones) (m : Making) (x : Slot) (leg : Leg) (k
     again_may None is = tt
     again_may (Some octets) is = ((within, at, is), tt)
 
-    over_may : May (give_up h ++ clear_peer tones w.legs h)
+    over_may : May (give_up h ++ clear_peer tones w.legs h no_user_responding)
     over_may =
         let sends : IsWritable (release_complete_for leg recovery_on_timer_expiry) = short_writable _ leg.reference kind.ReleaseComplete (Some recovery_on_timer_expiry) None None None there.told.reference tt (omega arith) tt tt in
         (within, (within, ((within.0, sends), peer_permitted d tones plan (making_after_all d m (give_up h)) h no_user_responding (peer_of w.legs leg.peer) peer_too (omega arith))))
 
-    proceeding_may : May (clear_with tones recovery_on_timer_expiry h ++ clear_peer tones w.legs h)
-    proceeding_may =
-        permitted_both d tones plan m (clear_with tones recovery_on_timer_expiry h) (clear_peer tones w.legs h) (clear_permitted d tones plan m recovery_on_timer_expiry h there (omega arith))
-        (peer_permitted d tones plan (making_after_all d m (clear_with tones recovery_on_timer_expiry h)) h no_user_responding (peer_of w.legs leg.peer) peer_too (omega arith))
+    both_may : (cause : ℕ) → cause < 128 → May (clear_both tones w.legs h cause)
+    both_may cause small =
+        permitted_both d tones plan m (clear_with tones recovery_on_timer_expiry h) (clear_peer tones w.legs h cause) (clear_permitted d tones plan m recovery_on_timer_expiry h there (omega arith))
+        (peer_permitted d tones plan (making_after_all d m (clear_with tones recovery_on_timer_expiry h)) h cause (peer_of w.legs leg.peer) peer_too small)
 
     asked_may : May (ask_for_release h)
     asked_may =
@@ -93,7 +93,8 @@ module _ (d : Dimensions) (tones : Tones) (m : Making) (x : Slot) (leg : Leg) (k
     expiry_may expiry.Digits = clear_permitted d tones plan m invalid_number_format h there (omega arith)
     expiry_may expiry.SetupAgain = again_may (kept_at w.legs x) refl
     expiry_may expiry.SetupOver = over_may
-    expiry_may expiry.Proceeding = proceeding_may
+    expiry_may expiry.Proceeding = both_may no_user_responding (omega arith)
+    expiry_may expiry.Alerting = both_may no_answer_from_user (omega arith)
     expiry_may expiry.Disconnect = asked_may
     expiry_may expiry.ReleaseAgain = again_may (kept_at w.legs x) refl
     expiry_may expiry.ReleaseOver = (within, (within, tt))
@@ -116,7 +117,7 @@ module _ (d : Dimensions) (tones : Tones) (m : Making) (x : Slot) (leg : Leg) (k
   again_fine None = kept
   again_fine (Some octets) = (kept.0, waits_anew d.external tones w (making_after_all d m (send_again h (Some octets))).world x leg w.holding.next kept.1 within at refl refl)
 
-  over_fine : Fine (give_up h ++ clear_peer tones w.legs h)
+  over_fine : Fine (give_up h ++ clear_peer tones w.legs h no_user_responding)
   over_fine = clearing_kept d tones w x leg None no_user_responding (omega arith) kept.0 kept.1 within at (inl refl) (making_after_all d m (give_up h)) refl refl
 
   released_fine : leg.peer ≡ peer.Alone → Fine (remove_leg h)
@@ -126,24 +127,25 @@ module _ (d : Dimensions) (tones : Tones) (m : Making) (x : Slot) (leg : Leg) (k
   asked_fine state is = (kept.0, release_asked d.external tones w (making_after_all d m (ask_for_release h)).world x leg w.holding.next kept.1 within at state is refl refl)
 
   -- both legs are disconnected, where the call has two
-  proceeding_by : leg.state ≡ timed_state expiry.Proceeding → (p : Peer) → leg.peer ≡ p → HasPeer d.external w.legs x leg p
-      → Fine (clear_with tones recovery_on_timer_expiry h ++ with_peer (peer_of w.legs p) (clear_with tones no_user_responding))
-  proceeding_by state peer.Alone is has = cleared_kept d tones w h recovery_on_timer_expiry (omega arith) kept.0 kept.1 within at is
-  proceeding_by state (peer.Leg y) is has =
+  both_by : (cause : ℕ) → cause < 128 → leg.state ≢ active → (p : Peer) → leg.peer ≡ p → HasPeer d.external w.legs x leg p
+      → Fine (clear_with tones recovery_on_timer_expiry h ++ with_peer (peer_of w.legs p) (clear_with tones cause))
+  both_by cause small quiet peer.Alone is has = cleared_kept d tones w h recovery_on_timer_expiry (omega arith) kept.0 kept.1 within at is
+  both_by cause small quiet (peer.Leg y) is has =
       let other = has.1.0 in
       let peers = peers_of d.external w x y leg other within has.0 at has.1.1 has.1.2 in
-      let v : World = (making_after_all d m (clear_with tones recovery_on_timer_expiry h ++ clear_with tones no_user_responding (record { slot = y; leg = other }))).world in
+      let v : World = (making_after_all d m (clear_with tones recovery_on_timer_expiry h ++ clear_with tones cause (record { slot = y; leg = other }))).world in
       rw (held_there w.legs y other has.1.1) (
-        both_valid d.external tones d.bridges w v x y leg other recovery_on_timer_expiry no_user_responding (omega arith) (omega arith) kept.0 kept.1 peers,
-        both_disconnected d.external tones d.bridges w v x y leg other recovery_on_timer_expiry no_user_responding (omega arith) (omega arith) kept.0 kept.1 peers refl refl,
+        both_valid d.external tones d.bridges w v x y leg other recovery_on_timer_expiry cause (omega arith) small kept.0 kept.1 peers,
+        both_disconnected d.external tones d.bridges w v x y leg other recovery_on_timer_expiry cause (omega arith) small kept.0 kept.1 peers refl refl,
       )
-  proceeding_by state (peer.Room room) is has = let talks = has.1 in absurd (grind (arith, common_steps, state, talks))
+  both_by cause small quiet (peer.Room room) is has = absurd (quiet has.1)
 
   pub expiry_fine : (e : Expiry) → leg.state ≡ timed_state e → Fine (on_expiry tones w.legs h e)
   expiry_fine expiry.Digits state = digits_fine (nobody (rw state refl))
   expiry_fine expiry.SetupAgain state = again_fine (kept_at w.legs x)
   expiry_fine expiry.SetupOver state = over_fine
-  expiry_fine expiry.Proceeding state = proceeding_by state leg.peer refl stands.peer
+  expiry_fine expiry.Proceeding state = both_by no_user_responding (omega arith) (λ up. let wrong = sym state ∙ up in absurd cc) leg.peer refl stands.peer
+  expiry_fine expiry.Alerting state = both_by no_answer_from_user (omega arith) (λ up. let wrong = sym state ∙ up in absurd cc) leg.peer refl stands.peer
   expiry_fine expiry.Disconnect state = asked_fine state (nobody (rw state refl))
   expiry_fine expiry.ReleaseAgain state = again_fine (kept_at w.legs x)
   expiry_fine expiry.ReleaseOver state = released_fine (nobody (rw state refl))

@@ -7,7 +7,7 @@ use Rattle.circuit_model.specs.declared.channel.Slot.{Slot}
 use Rattle.circuit_model.specs.Extent.{IsExternal}
 use Rattle.circuit_model.specs.FrameInput.{Input}
 use Rattle.circuit_model.proofs.Slots.{true_or_false}
-use Rattle.q931_codec.specs.Causes.{invalid_number_format, no_user_responding, recovery_on_timer_expiry}
+use Rattle.q931_codec.specs.Causes.{invalid_number_format, no_answer_from_user, no_user_responding, recovery_on_timer_expiry}
 use Rattle.call_timers.specs.Expiries.{expiry_in, frames_to, if_run_out, due}
 use Rattle.call_timers.specs.declared.expiry.Expiry.{Expiry}
 use Rattle.call_timers.specs.declared.expiry.Expiry.TheVariants as expiry
@@ -22,7 +22,7 @@ use Rattle.call_states.specs.declared.leg.Side.TheVariants.{Caller, Called}
 use Rattle.tone_rules.specs.declared.tones.Tones.{Tones}
 use Rattle.exchange_events.specs.Sizes.{Setting, Dimensions}
 use Rattle.call_profile.specs.Acts.{peer_of, with_peer, clear_with}
-use Rattle.call_profile.specs.Expiring.{timed_state, send_again, clear_peer, on_expiry, due_of, expire_slot, slot_looked_at, outcome_of_lines}
+use Rattle.call_profile.specs.Expiring.{timed_state, send_again, clear_peer, clear_both, on_expiry, due_of, expire_slot, slot_looked_at, outcome_of_lines}
 use Rattle.call_profile.specs.ExpiryBounds.{RunsOut, EitherRunsOut, NoneElseChanges, UntimedStay, without_timers}
 use Rattle.call_profile.specs.Legs.{Legs, resent_from, leg_at, kept_at}
 use Rattle.call_profile.specs.LegStanding.{CallsStand, HasPeer, IsInCall, are_matched}
@@ -85,9 +85,13 @@ module _ (d : Dimensions) (z : Slot) (in_z : IsExternal d.external z) where
     cleared : (cause : ℕ) (k : Held) → Apart k.slot → SparesAll (clear_with tones cause k)
     cleared cause k away = (tt, (away, (tt, (tt, tt))))
 
-    peer_cleared : (o : Option Held) → IfSome o (λ k. Apart k.slot) → SparesAll (with_peer o (clear_with tones no_user_responding))
-    peer_cleared None away = tt
-    peer_cleared (Some k) away = cleared no_user_responding k away
+    peer_cleared : (cause : ℕ) (o : Option Held) → IfSome o (λ k. Apart k.slot) → SparesAll (with_peer o (clear_with tones cause))
+    peer_cleared cause None away = tt
+    peer_cleared cause (Some k) away = cleared cause k away
+
+    both_cleared : (cause : ℕ) → IfSome (peer_of legs h.leg.peer) (λ k. Apart k.slot) → SparesAll (clear_both tones legs h cause)
+    both_cleared cause away =
+        both_spare (clear_with tones recovery_on_timer_expiry h) (clear_peer tones legs h cause) (cleared recovery_on_timer_expiry h apart) (peer_cleared cause (peer_of legs h.leg.peer) away)
 
     again : (o : Option (List ℕ)) → SparesAll (send_again h o)
     again None = tt
@@ -96,8 +100,9 @@ module _ (d : Dimensions) (z : Slot) (in_z : IsExternal d.external z) where
     expiry_spares : (e : Expiry) → IfSome (peer_of legs h.leg.peer) (λ k. Apart k.slot) → SparesAll (on_expiry tones legs h e)
     expiry_spares expiry.Digits away = cleared invalid_number_format h apart
     expiry_spares expiry.SetupAgain away = again (kept_at legs h.slot)
-    expiry_spares expiry.SetupOver away = (tt, (apart, (tt, peer_cleared (peer_of legs h.leg.peer) away)))
-    expiry_spares expiry.Proceeding away = both_spare (clear_with tones recovery_on_timer_expiry h) (clear_peer tones legs h) (cleared recovery_on_timer_expiry h apart) (peer_cleared (peer_of legs h.leg.peer) away)
+    expiry_spares expiry.SetupOver away = (tt, (apart, (tt, peer_cleared no_user_responding (peer_of legs h.leg.peer) away)))
+    expiry_spares expiry.Proceeding away = both_cleared no_user_responding away
+    expiry_spares expiry.Alerting away = both_cleared no_answer_from_user away
     expiry_spares expiry.Disconnect away = (apart, tt)
     expiry_spares expiry.ReleaseAgain away = again (kept_at legs h.slot)
     expiry_spares expiry.ReleaseOver away = (tt, (apart, tt))
@@ -202,6 +207,7 @@ timed_apart expiry.Digits is = cc
 timed_apart expiry.SetupAgain is = cc
 timed_apart expiry.SetupOver is = cc
 timed_apart expiry.Proceeding is = cc
+timed_apart expiry.Alerting is = cc
 timed_apart expiry.Disconnect is = cc
 timed_apart expiry.ReleaseAgain is = cc
 timed_apart expiry.ReleaseOver is = cc

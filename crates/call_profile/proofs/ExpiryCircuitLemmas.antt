@@ -17,8 +17,8 @@ use Rattle.circuit_model.proofs.Slots.{true_or_false, same_slot-refl, same_slot-
 use Rattle.circuit_model.proofs.Validity.{heard_by-listener}
 use Rattle.control_memory.specs.Layout.{Layout}
 use Rattle.control_memory.specs.Shown.{partner, without_both}
-use Rattle.q931_codec.specs.CallStates.{active, call_present, incoming_call_proceeding}
-use Rattle.q931_codec.specs.Causes.{invalid_number_format, no_user_responding, recovery_on_timer_expiry}
+use Rattle.q931_codec.specs.CallStates.{active}
+use Rattle.q931_codec.specs.Causes.{invalid_number_format, no_answer_from_user, no_user_responding, recovery_on_timer_expiry}
 use Rattle.call_timers.specs.declared.expiry.Expiry.{Expiry}
 use Rattle.call_timers.specs.declared.expiry.Expiry.TheVariants as expiry
 use Rattle.call_states.specs.Acts.{is_among}
@@ -31,7 +31,7 @@ use Rattle.call_states.specs.declared.leg.Side.TheVariants.{Caller, Called}
 use Rattle.tone_rules.specs.declared.tones.Tones.{Tones}
 use Rattle.exchange_events.specs.Sizes.{Setting, Dimensions}
 use Rattle.call_profile.specs.Acts.{peer_of, with_peer, clear_with}
-use Rattle.call_profile.specs.Expiring.{timed_state, send_again, clear_peer, on_expiry, expire_slot, slot_looked_at, outcome_of_lines}
+use Rattle.call_profile.specs.Expiring.{timed_state, send_again, clear_peer, clear_both, on_expiry, expire_slot, slot_looked_at, outcome_of_lines}
 use Rattle.call_profile.specs.ExpiryBounds.{is_conversation, ConversationsStay, LayoutStays, PortsStay}
 use Rattle.call_profile.specs.IsMade.{IsMade}
 use Rattle.call_profile.specs.Legs.{Legs, leg_at, kept_at}
@@ -39,6 +39,7 @@ use Rattle.call_profile.specs.LegStanding.{CallsStand, HasPeer, IsInCall, MayHea
 use Rattle.call_profile.specs.Operations as op
 use Rattle.call_profile.specs.Operations.{Operation, Making, making_after, making_after_all}
 use Rattle.call_profile.specs.World.{World, pass}
+use Rattle.call_profile.proofs.AnsweringLemmas.{ringing}
 use Rattle.call_profile.proofs.ClearingLemmas.{Kept, held_there}
 use Rattle.call_profile.proofs.CommandLemmas.{pass_kept}
 use Rattle.call_profile.proofs.ExpiringLemmas.{at_slot, each_line, place_within, slot_fine, slot_may}
@@ -73,33 +74,37 @@ module _ (Free : Slot → Type 0) where
     cleared : (cause : ℕ) (k : Held) → Free k.slot → ClearsAll (clear_with tones cause k)
     cleared cause k at = (at, (tt, (tt, (tt, tt))))
 
-    peer_cleared : (o : Option Held) → IfSome o (λ k. Free k.slot) → ClearsAll (with_peer o (clear_with tones no_user_responding))
-    peer_cleared None at = tt
-    peer_cleared (Some k) at = cleared no_user_responding k at
+    peer_cleared : (cause : ℕ) (o : Option Held) → IfSome o (λ k. Free k.slot) → ClearsAll (with_peer o (clear_with tones cause))
+    peer_cleared cause None at = tt
+    peer_cleared cause (Some k) at = cleared cause k at
+
+    both_cleared : (cause : ℕ) → IfSome (peer_of legs h.leg.peer) (λ k. Free k.slot) → ClearsAll (clear_both tones legs h cause)
+    both_cleared cause other =
+        both_clear (clear_with tones recovery_on_timer_expiry h) (clear_peer tones legs h cause) (cleared recovery_on_timer_expiry h free) (peer_cleared cause (peer_of legs h.leg.peer) other)
 
     again : (o : Option (List ℕ)) → ClearsAll (send_again h o)
     again None = tt
     again (Some octets) = (tt, tt)
 
-    expiry_clears : (e : Expiry) → (is_among (call_present ∷ incoming_call_proceeding ∷ []) (timed_state e) ≡ true → IfSome (peer_of legs h.leg.peer) (λ k. Free k.slot)) → ClearsAll (on_expiry tones legs h e)
+    expiry_clears : (e : Expiry) → (is_among ringing (timed_state e) ≡ true → IfSome (peer_of legs h.leg.peer) (λ k. Free k.slot)) → ClearsAll (on_expiry tones legs h e)
     expiry_clears expiry.Digits other = cleared invalid_number_format h free
     expiry_clears expiry.SetupAgain other = again (kept_at legs h.slot)
-    expiry_clears expiry.SetupOver other = (free, (tt, (tt, peer_cleared (peer_of legs h.leg.peer) (other refl))))
-    expiry_clears expiry.Proceeding other =
-        both_clear (clear_with tones recovery_on_timer_expiry h) (clear_peer tones legs h) (cleared recovery_on_timer_expiry h free) (peer_cleared (peer_of legs h.leg.peer) (other refl))
+    expiry_clears expiry.SetupOver other = (free, (tt, (tt, peer_cleared no_user_responding (peer_of legs h.leg.peer) (other refl))))
+    expiry_clears expiry.Proceeding other = both_cleared no_user_responding (other refl)
+    expiry_clears expiry.Alerting other = both_cleared no_answer_from_user (other refl)
     expiry_clears expiry.Disconnect other = (tt, tt)
     expiry_clears expiry.ReleaseAgain other = again (kept_at legs h.slot)
     expiry_clears expiry.ReleaseOver other = (free, (tt, tt))
 
 -- ---- neither leg of a call whose timer runs out talks
 
-never_caller : (s t : ℕ) → is_among (call_present ∷ incoming_call_proceeding ∷ []) s ≡ true → IsTrue (are_matched s t) → ⊥
+never_caller : (s t : ℕ) → is_among ringing s ≡ true → IsTrue (are_matched s t) → ⊥
 never_caller s t among matched = grind (arith, common_steps, among, matched)
 
-never_active : (s t : ℕ) → is_among (call_present ∷ incoming_call_proceeding ∷ []) s ≡ true → t ≡ active → IsTrue (are_matched t s) → ⊥
+never_active : (s t : ℕ) → is_among ringing s ≡ true → t ≡ active → IsTrue (are_matched t s) → ⊥
 never_active s t among is matched = grind (arith, common_steps, among, is, matched)
 
-not_answered : (side : Side) (x y : Slot) (leg other : Leg) → is_among (call_present ∷ incoming_call_proceeding ∷ []) leg.state ≡ true → other.state ≡ active → IsInCall side x leg y other → ⊥
+not_answered : (side : Side) (x y : Slot) (leg other : Leg) → is_among ringing leg.state ≡ true → other.state ≡ active → IsInCall side x leg y other → ⊥
 not_answered Caller x y leg other among is call = never_caller leg.state other.state among call.matched
 not_answered Called x y leg other among is call = never_active leg.state other.state among is call.matched
 
@@ -108,6 +113,7 @@ timed_quiet expiry.Digits is = cc
 timed_quiet expiry.SetupAgain is = cc
 timed_quiet expiry.SetupOver is = cc
 timed_quiet expiry.Proceeding is = cc
+timed_quiet expiry.Alerting is = cc
 timed_quiet expiry.Disconnect is = cc
 timed_quiet expiry.ReleaseAgain is = cc
 timed_quiet expiry.ReleaseOver is = cc
@@ -115,7 +121,7 @@ timed_quiet expiry.ReleaseOver is = cc
 -- what is free wherever the leg doesn't talk is all that an expiry clears
 module _ (s : Setting) (frame : ℕ) (m : Making) (kept : Kept s.dimensions s.tones m.world) (x : Slot) (in_x : IsExternal s.dimensions.external x) (Free : Slot → Type 0)
     (free : (y : Slot) (leg : Leg) → IsExternal s.dimensions.external y → leg_at m.world.legs y ≡ Some leg → leg.state ≢ active → Free y) where
-  peer_free : (leg : Leg) (p : Peer) → is_among (call_present ∷ incoming_call_proceeding ∷ []) leg.state ≡ true → HasPeer s.dimensions.external m.world.legs x leg p → IfSome (peer_of m.world.legs p) (λ k. Free k.slot)
+  peer_free : (leg : Leg) (p : Peer) → is_among ringing leg.state ≡ true → HasPeer s.dimensions.external m.world.legs x leg p → IfSome (peer_of m.world.legs p) (λ k. Free k.slot)
   peer_free leg peer.Alone among has = tt
   peer_free leg (peer.Leg y) among has =
       subst (λ (o : Option Held). IfSome o (λ k. Free k.slot)) (sym (held_there m.world.legs y has.1.0 has.1.1)) (free y has.1.0 has.0 has.1.1 (λ up. not_answered leg.side x y leg has.1.0 among up has.1.2))
@@ -125,7 +131,7 @@ module _ (s : Setting) (frame : ℕ) (m : Making) (kept : Kept s.dimensions s.to
   slot_clears = at_slot s frame m.world.legs x (ClearsAll Free) tt (λ leg e at due.
       let state = due_state leg.state leg.resent leg.since frame s.timers e due in
       expiry_clears Free s.tones m.world.legs (record { slot = x; leg = leg }) (free x leg in_x at (λ up. timed_quiet e (sym state ∙ up))) e
-      (λ among. peer_free leg leg.peer (subst (λ n. is_among (call_present ∷ incoming_call_proceeding ∷ []) n ≡ true) (sym state) among) (kept.1.each x leg in_x at).peer))
+      (λ among. peer_free leg leg.peer (subst (λ n. is_among ringing n ≡ true) (sym state) among) (kept.1.each x leg in_x at).peer))
 
 -- ---- what a slot hears whose leg doesn't talk
 

@@ -1,7 +1,7 @@
 -- A frame's turn sends at most two messages for each line, and records at most one call.
 use Rattle.std.proofs.Common.{◌≡◌, ℕ, zero, suc, ◌+◌, ◌*◌, ◌≤◌, List, [], ◌∷◌, ◌++◌, length, Option, Some, None, sym, subst, arith, length-append}
 use Rattle.std.specs.List.{cons_option}
-use Rattle.q931_codec.specs.Causes.{no_user_responding}
+use Rattle.q931_codec.specs.Causes.{no_answer_from_user, no_user_responding}
 use Rattle.q931_codec.specs.Outgoing.{encoding}
 use Rattle.call_timers.specs.declared.expiry.Expiry.{Expiry}
 use Rattle.call_timers.specs.declared.expiry.Expiry.TheVariants as expiry
@@ -12,7 +12,7 @@ use Rattle.exchange_events.specs.declared.signal.Signal.{Signal}
 use Rattle.exchange_events.specs.Sizes.{Setting, Dimensions}
 use Rattle.call_profile.specs.Acts.{peer_of, with_peer, clear_with}
 use Rattle.call_profile.specs.CallRecords.{records}
-use Rattle.call_profile.specs.Expiring.{send_again, on_expiry, due_of, if_due, expire_leg, expire_slot, slot_looked_at, outcome_of_lines}
+use Rattle.call_profile.specs.Expiring.{send_again, on_expiry, cause_at, due_of, if_due, expire_leg, expire_slot, slot_looked_at, outcome_of_lines}
 use Rattle.call_profile.specs.Legs.{Legs, held_at, kept_at}
 use Rattle.call_profile.specs.Operations as op
 use Rattle.call_profile.specs.Operations.{Operation, Making, making_after, making_after_all}
@@ -84,6 +84,7 @@ expiry_sends tones legs h expiry.Digits = omega arith
 expiry_sends tones legs h expiry.SetupAgain = again_sends h (kept_at legs h.slot)
 expiry_sends tones legs h expiry.SetupOver = let peer = peer_sends tones no_user_responding (peer_of legs h.leg.peer) in omega (arith, peer)
 expiry_sends tones legs h expiry.Proceeding = let peer = peer_sends tones no_user_responding (peer_of legs h.leg.peer) in omega (arith, peer)
+expiry_sends tones legs h expiry.Alerting = let peer = peer_sends tones no_answer_from_user (peer_of legs h.leg.peer) in omega (arith, peer)
 expiry_sends tones legs h expiry.Disconnect = omega arith
 expiry_sends tones legs h expiry.ReleaseAgain = again_sends h (kept_at legs h.slot)
 expiry_sends tones legs h expiry.ReleaseOver = omega arith
@@ -119,5 +120,5 @@ lines_record s frame w kept (suc line) few =
     let so_far = lines_record s frame w kept line (omega (arith, few)) in
     let told = slot_told s frame a.making x (lines_kept s frame w kept line (omega (arith, few))) (place_within s.dimensions.external frame line (omega (arith, few))) in
     let one = subst (λ (list : List CallRecord). length list ≤ 1) (sym told) (option_few _) in
-    let both = length-append a.recorded (records a.making.world (making_after_all s.dimensions a.making (expire_slot s frame a.making.world.legs x)).world no_user_responding) in
+    let both = length-append a.recorded (records a.making.world (making_after_all s.dimensions a.making (expire_slot s frame a.making.world.legs x)).world (cause_at s frame a.making.world.legs x)) in
     subst (λ (b : MessageOutcome). length b.recorded ≤ suc line) (sym (lines_more s frame w line)) (omega (arith, so_far, one, both))

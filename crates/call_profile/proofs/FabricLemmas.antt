@@ -6,7 +6,7 @@ use Rattle.circuit_model.specs.FrameInput.{Input}
 use Rattle.circuit_model.specs.Holding.{Connect, Seat as Take_seat, Clear as Clear_slot}
 use Rattle.circuit_model.specs.Ports.{port_of, ports_with}
 use Rattle.control_memory.specs.Layout.{Layout}
-use Rattle.q931_codec.specs.Causes.{no_user_responding, temporary_failure}
+use Rattle.q931_codec.specs.Causes.{temporary_failure}
 use Rattle.call_states.specs.Acts.{act_on}
 use Rattle.clearing_rules.specs.declared.scope.Restart.{Restart}
 use Rattle.clearing_rules.specs.Restarting.{acknowledgement}
@@ -19,7 +19,7 @@ use Rattle.call_profile.specs.ActCourse.{course_of}
 use Rattle.call_profile.specs.Answered.{with_layout}
 use Rattle.call_profile.specs.CallRecords.{records, records_by}
 use Rattle.call_profile.specs.Calls.{Request, For_leg, New_call, On_no_call, Restarts, Unanswered, request_of, answer_back, outcome_for, outcome_of_octets}
-use Rattle.call_profile.specs.Expiring.{expire_slot, slot_looked_at, outcome_on_line, outcome_of_lines, outcome_of_frame}
+use Rattle.call_profile.specs.Expiring.{cause_at, expire_slot, slot_looked_at, outcome_on_line, outcome_of_lines, outcome_of_frame}
 use Rattle.call_profile.specs.Fabrics.{with_slots, without_paths, without_moves, replies_of_run, world_of_run}
 use Rattle.call_profile.specs.IdleSlots.{idle, is_nailed}
 use Rattle.call_profile.specs.Legs.{Legs}
@@ -167,8 +167,10 @@ module _ (s : Setting) (slots : ℕ) where
     line_alike : (frame line : ℕ) (a b : MessageOutcome) → DoneAlike a b → DoneAlike (outcome_on_line t frame line a) (outcome_on_line s frame line b)
     line_alike frame line a b alike =
         let x = slot_looked_at frame line in
-        then_alike no_user_responding a b (expire_slot s frame a.making.world.legs x) (expire_slot s frame b.making.world.legs x)
-        (ap (λ (legs : Legs). expire_slot s frame legs x) (same_legs a.making b.making alike.making)) alike
+        let legs = same_legs a.making b.making alike.making in
+        subst (λ (cause : ℕ). DoneAlike (outcome_on_line t frame line a) (outcome_then s.dimensions cause b (expire_slot s frame b.making.world.legs x))) (ap (λ (held : Legs). cause_at s frame held x) legs)
+        (then_alike (cause_at s frame a.making.world.legs x) a b (expire_slot s frame a.making.world.legs x) (expire_slot s frame b.making.world.legs x)
+        (ap (λ (held : Legs). expire_slot s frame held x) legs) alike)
 
     lines_alike : (frame lines : ℕ) → DoneAlike (outcome_of_lines t frame other lines) (outcome_of_lines s frame w lines)
     lines_alike frame zero = alike_at _ _ _ _ (lines_none t frame other) (lines_none s frame w) (record { making = begun_alike; recorded = refl })

@@ -1,18 +1,18 @@
 -- A frame has a record for each call that ends in it, and no other, and they come by line.
 use Rattle.std.proofs.Common.{◌≡◌, ℕ, zero, suc, ◌*◌, ◌<◌, ◌≤◌, true, false, ◌⊎◌, inl, inr, List, [], ◌∷◌, ◌++◌, length, Option, Some, None, refl, sym, ◌∙◌, ap, subst, arith, append-nil, length-set}
-use Rattle.std.specs.Prelude.{All, Contains, is_some, option_map, option_and_then, ◌==◌}
+use Rattle.std.specs.Prelude.{All, Contains, IsTrue, is_some, option_map, option_and_then, ◌==◌}
 use Rattle.std.specs.List.{cons_option}
 use Rattle.std.proofs.lemmas.Grind.{common_steps}
 use Rattle.std.proofs.lemmas.List.Elements.{All-nil, All-cons, All-append, All-weaker}
 use Rattle.circuit_model.specs.declared.channel.Slot.{Slot}
 use Rattle.circuit_model.specs.FrameInput.{Input}
 use Rattle.circuit_model.specs.Extent.{IsExternal}
-use Rattle.circuit_model.proofs.Age.{none_in_nil}
+use Rattle.circuit_model.proofs.Age.{cons_cases, none_in_nil}
 use Rattle.circuit_model.proofs.Slots.{true_or_false}
 use Rattle.control_memory.specs.Layout.{number_of}
 use Rattle.number_plan.specs.declared.plan.Number.{Number}
 use Rattle.q931_codec.specs.CallStates.{active}
-use Rattle.q931_codec.specs.Causes.{invalid_number_format, no_user_responding, recovery_on_timer_expiry}
+use Rattle.q931_codec.specs.Causes.{invalid_number_format, no_answer_from_user, no_user_responding, recovery_on_timer_expiry}
 use Rattle.call_timers.specs.declared.expiry.Expiry.{Expiry}
 use Rattle.call_timers.specs.declared.expiry.Expiry.TheVariants as expiry
 use Rattle.call_states.specs.Acts.{is_among}
@@ -30,10 +30,10 @@ use Rattle.exchange_events.specs.Sizes.{Setting, Dimensions}
 use Rattle.call_profile.specs.Acts.{in_disconnect_indication, in_release_request, peer_of, with_peer, clear_with}
 use Rattle.call_profile.specs.CallRecords.{before_clearing, is_calling, party_of, record_of, records}
 use Rattle.call_profile.specs.EndedCalls.{caller_in, record_calling, record_of_expiry}
-use Rattle.call_profile.specs.Expiring.{timed_state, send_again, clear_peer, on_expiry, due_of, expire_slot, slot_looked_at, outcome_on_line, outcome_of_lines, outcome_of_frame}
+use Rattle.call_profile.specs.Expiring.{timed_state, send_again, clear_peer, clear_both, on_expiry, cause_of_expiry, cause_if_due, cause_at, due_of, expire_slot, slot_looked_at, outcome_on_line, outcome_of_lines, outcome_of_frame}
 use Rattle.call_profile.specs.ExpiryBounds.{RunsOut, EitherRunsOut, without_timers}
-use Rattle.call_profile.specs.ExpiryRecords.{IsFrameRecord, IsInFrame, IsLineBefore, ComeByLine}
-use Rattle.call_profile.specs.LegStanding.{CallsStand, HasPeer, IsInCall}
+use Rattle.call_profile.specs.ExpiryRecords.{cause_of_silence, IsFrameRecord, IsInFrame, IsLineBefore, ComeByLine}
+use Rattle.call_profile.specs.LegStanding.{CallsStand, HasPeer, IsInCall, are_matched}
 use Rattle.call_profile.specs.Legs.{Legs, leg_at, held_at, kept_at, with_entry, resent_from}
 use Rattle.call_profile.specs.Operations as op
 use Rattle.call_profile.specs.Operations.{Operation, Making, begun, making_after, making_after_all}
@@ -50,7 +50,7 @@ use Rattle.call_profile.proofs.ExpirySinceLemmas.{next_by}
 use Rattle.call_profile.proofs.ExpiryStateLemmas.{due_state}
 use Rattle.call_profile.proofs.Permitted.{IsPermitted, ArePermitted}
 use Rattle.call_profile.proofs.RecordedCallLemmas.{calling_record, record_cause}
-use Rattle.call_profile.proofs.RecordedMessageLemmas.{AreOfEnded, of_records, both_of_ended}
+use Rattle.call_profile.proofs.RecordedMessageLemmas.{AreEndedBy, AreOfEnded, of_records, both_of_ended}
 use Rattle.call_profile.proofs.RecordOrderLemmas.{calling_is, pairs_snoc, record_parties}
 
 -- ---- a slot's leg calls no more, or is as it was
@@ -119,9 +119,12 @@ module _ (d : Dimensions) (tones : Tones) (plan : List Number) (before : Legs) (
   cleared_hush : (cause : ℕ) (k : Held) → HushesAll (clear_with tones cause k)
   cleared_hush cause k = (tt, (no_caller (in_disconnect_indication cause k.leg) refl, (tt, (tt, tt))))
 
-  peer_hush : (o : Option Held) → HushesAll (with_peer o (clear_with tones no_user_responding))
-  peer_hush None = tt
-  peer_hush (Some k) = cleared_hush no_user_responding k
+  peer_hush : (cause : ℕ) (o : Option Held) → HushesAll (with_peer o (clear_with tones cause))
+  peer_hush cause None = tt
+  peer_hush cause (Some k) = cleared_hush cause k
+
+  legs_hush : (cause : ℕ) (legs : Legs) (h : Held) → HushesAll (clear_both tones legs h cause)
+  legs_hush cause legs h = both_hush (clear_with tones recovery_on_timer_expiry h) (clear_peer tones legs h cause) (cleared_hush recovery_on_timer_expiry h) (peer_hush cause (peer_of legs h.leg.peer))
 
   again_hush : (h : Held) (o : Option (List ℕ)) → is_calling (Some h.leg) ≡ false → HushesAll (send_again h o)
   again_hush h None silent = tt
@@ -132,6 +135,7 @@ module _ (d : Dimensions) (tones : Tones) (plan : List Number) (before : Legs) (
   timed_silent expiry.SetupAgain = refl
   timed_silent expiry.SetupOver = refl
   timed_silent expiry.Proceeding = refl
+  timed_silent expiry.Alerting = refl
   timed_silent expiry.Disconnect = refl
   timed_silent expiry.ReleaseAgain = refl
   timed_silent expiry.ReleaseOver = refl
@@ -139,8 +143,9 @@ module _ (d : Dimensions) (tones : Tones) (plan : List Number) (before : Legs) (
   expiry_hush : (legs : Legs) (h : Held) (e : Expiry) → is_calling (Some h.leg) ≡ false → HushesAll (on_expiry tones legs h e)
   expiry_hush legs h expiry.Digits silent = cleared_hush invalid_number_format h
   expiry_hush legs h expiry.SetupAgain silent = again_hush h (kept_at legs h.slot) silent
-  expiry_hush legs h expiry.SetupOver silent = (tt, (tt, (tt, peer_hush (peer_of legs h.leg.peer))))
-  expiry_hush legs h expiry.Proceeding silent = both_hush (clear_with tones recovery_on_timer_expiry h) (clear_peer tones legs h) (cleared_hush recovery_on_timer_expiry h) (peer_hush (peer_of legs h.leg.peer))
+  expiry_hush legs h expiry.SetupOver silent = (tt, (tt, (tt, peer_hush no_user_responding (peer_of legs h.leg.peer))))
+  expiry_hush legs h expiry.Proceeding silent = legs_hush no_user_responding legs h
+  expiry_hush legs h expiry.Alerting silent = legs_hush no_answer_from_user legs h
   expiry_hush legs h expiry.Disconnect silent = (no_caller (in_release_request h.leg) refl, tt)
   expiry_hush legs h expiry.ReleaseAgain silent = again_hush h (kept_at legs h.slot) silent
   expiry_hush legs h expiry.ReleaseOver silent = (tt, (tt, tt))
@@ -156,44 +161,69 @@ due_silent s frame leg o is e found =
     each expiry.SetupAgain = refl
     each expiry.SetupOver = refl
     each expiry.Proceeding = refl
+    each expiry.Alerting = refl
     each expiry.Disconnect = refl
     each expiry.ReleaseAgain = refl
     each expiry.ReleaseOver = refl
 
 -- ---- the record of a line
 
-module _ (external : ℕ) (tones : Tones) (u : World) (x : Slot) (leg : Leg) (c : CallRecord) where
+-- a caller in call delivered has a called user who is alerted, and one in outgoing call proceeding has not
+silence : (e : Expiry) (caller : Leg) → IsTrue (are_matched caller.state (timed_state e)) → cause_of_expiry e ≡ cause_of_silence caller
+silence expiry.Digits caller matched = absurd (grind (arith, common_steps, matched))
+silence expiry.SetupAgain caller matched = grind (arith, common_steps, matched)
+silence expiry.SetupOver caller matched = grind (arith, common_steps, matched)
+silence expiry.Proceeding caller matched = grind (arith, common_steps, matched)
+silence expiry.Alerting caller matched = grind (arith, common_steps, matched)
+silence expiry.Disconnect caller matched = absurd (grind (arith, common_steps, matched))
+silence expiry.ReleaseAgain caller matched = absurd (grind (arith, common_steps, matched))
+silence expiry.ReleaseOver caller matched = absurd (grind (arith, common_steps, matched))
+
+-- a record is of a call to the slot that is looked at, with the cause that the caller's state gives
+record IsToldOf (u : World) (x : Slot) (cause : ℕ) (c : CallRecord) : Type 0 where
+  called : c.called ≡ party.Line x
+  caller : (y : Slot) × (other : Leg) × (leg_at u.legs y ≡ Some other) × (c.caller ≡ y) × (cause ≡ cause_of_silence other)
+
+module _ (external : ℕ) (tones : Tones) (u : World) (x : Slot) (leg : Leg) (c : CallRecord) (f : Expiry) (state : leg.state ≡ timed_state f) where
   abbrev held : Held
   held = record { slot = x; leg = leg }
 
-  of_called : (p : Peer) → leg.peer ≡ p → HasPeer external u.legs x leg p → leg.side ≡ Called → option_and_then (record_calling u no_user_responding) (peer_of u.legs p) ≡ Some c → c.called ≡ party.Line x
+  abbrev cause : ℕ
+  cause = cause_of_expiry f
+
+  of_called : (p : Peer) → leg.peer ≡ p → HasPeer external u.legs x leg p → leg.side ≡ Called → option_and_then (record_calling u cause) (peer_of u.legs p) ≡ Some c → IsToldOf u x cause c
   of_called peer.Alone is has side e = absurd (cc e)
   of_called (peer.Leg y) is has side e =
       let other = has.1.0 in
       let caller : Held = record { slot = y; leg = other } in
-      let record_is = calling_is u no_user_responding caller c (rw (held_there u.legs y other has.1.1) at e) in
-      let who = record_parties u no_user_responding caller c record_is in
+      let record_is = calling_is u cause caller c (rw (held_there u.legs y other has.1.1) at e) in
+      let who = record_parties u cause caller c record_is in
       let call : IsInCall Called x leg y other = subst (λ (s : Side). IsInCall s x leg y other) side has.1.2 in
       let both : Some (party.Line x) ≡ Some c.called = sym (ap party_of call.there) ∙ who.1 in
-      cc
+      record {
+        called = cc;
+        caller = (y, other, has.1.1, who.0, silence f other (subst (λ (n : ℕ). IsTrue (are_matched other.state n)) state call.matched));
+      }
   of_called (peer.Room room) is has side e = absurd (cc e)
 
-  of_caller : is_calling (Some leg) ≡ false → record_calling u no_user_responding held ≡ Some c → c.called ≡ party.Line x
+  of_caller : is_calling (Some leg) ≡ false → record_calling u cause held ≡ Some c → IsToldOf u x cause c
   of_caller silent e = let wrong : None ≡ Some c = rw silent at e in absurd cc
 
   of_side : (side : Side) → leg.side ≡ side → is_calling (Some leg) ≡ false → HasPeer external u.legs x leg leg.peer
-      → option_and_then (record_calling u no_user_responding) (caller_in side held (peer_of u.legs leg.peer)) ≡ Some c → c.called ≡ party.Line x
+      → option_and_then (record_calling u cause) (caller_in side held (peer_of u.legs leg.peer)) ≡ Some c → IsToldOf u x cause c
   of_side Caller is silent has e = of_caller silent e
   of_side Called is silent has e = of_called leg.peer refl has is e
 
-  of_expiry : (e : Expiry) → is_calling (Some leg) ≡ false → HasPeer external u.legs x leg leg.peer → record_of_expiry u held e ≡ Some c → c.called ≡ party.Line x
-  of_expiry expiry.Digits silent has is = absurd (cc is)
-  of_expiry expiry.SetupAgain silent has is = absurd (cc is)
-  of_expiry expiry.SetupOver silent has is = of_side leg.side refl silent has is
-  of_expiry expiry.Proceeding silent has is = of_side leg.side refl silent has is
-  of_expiry expiry.Disconnect silent has is = absurd (cc is)
-  of_expiry expiry.ReleaseAgain silent has is = absurd (cc is)
-  of_expiry expiry.ReleaseOver silent has is = absurd (cc is)
+of_expiry : (external : ℕ) (tones : Tones) (u : World) (x : Slot) (leg : Leg) (c : CallRecord) (e : Expiry) → leg.state ≡ timed_state e → is_calling (Some leg) ≡ false → HasPeer external u.legs x leg leg.peer
+    → record_of_expiry u (record { slot = x; leg = leg }) e ≡ Some c → IsToldOf u x (cause_of_expiry e) c
+of_expiry external tones u x leg c expiry.Digits state silent has is = absurd (cc is)
+of_expiry external tones u x leg c expiry.SetupAgain state silent has is = absurd (cc is)
+of_expiry external tones u x leg c expiry.SetupOver state silent has is = of_side external tones u x leg c expiry.SetupOver state leg.side refl silent has is
+of_expiry external tones u x leg c expiry.Proceeding state silent has is = of_side external tones u x leg c expiry.Proceeding state leg.side refl silent has is
+of_expiry external tones u x leg c expiry.Alerting state silent has is = of_side external tones u x leg c expiry.Alerting state leg.side refl silent has is
+of_expiry external tones u x leg c expiry.Disconnect state silent has is = absurd (cc is)
+of_expiry external tones u x leg c expiry.ReleaseAgain state silent has is = absurd (cc is)
+of_expiry external tones u x leg c expiry.ReleaseOver state silent has is = absurd (cc is)
 
 -- what is recorded at a slot that is looked at
 abbrev one_at : Setting → ℕ → World → Slot → Option CallRecord
@@ -201,18 +231,26 @@ one_at s frame u x = option_and_then (λ h. option_and_then (record_of_expiry u 
 
 module _ (s : Setting) (frame : ℕ) (u : World) (kept : Kept s.dimensions s.tones u) (x : Slot) (in_x : IsExternal s.dimensions.external x) (c : CallRecord) where
   of_due : (leg : Leg) (o : Option Expiry) → leg_at u.legs x ≡ Some leg → due_of s.timers frame leg ≡ o
-      → option_and_then (record_of_expiry u (record { slot = x; leg = leg })) o ≡ Some c → c.called ≡ party.Line x
+      → option_and_then (record_of_expiry u (record { slot = x; leg = leg })) o ≡ Some c → IsToldOf u x (cause_if_due o) c
   of_due leg None at is e = absurd (cc e)
   of_due leg (Some f) at is e =
-      of_expiry s.dimensions.external s.tones u x leg c f (due_silent s frame leg (Some f) is f refl) (kept.1.each x leg in_x at).peer e
+      of_expiry s.dimensions.external s.tones u x leg c f (due_state leg.state leg.resent leg.since frame s.timers f is) (due_silent s frame leg (Some f) is f refl) (kept.1.each x leg in_x at).peer e
 
   of_leg : (o : Option Leg) → leg_at u.legs x ≡ o
-      → option_and_then (λ (h : Held). option_and_then (record_of_expiry u h) (due_of s.timers frame h.leg)) (option_map (λ (leg : Leg). let h : Held = record { slot = x; leg = leg } in h) o) ≡ Some c → c.called ≡ party.Line x
+      → option_and_then (λ (h : Held). option_and_then (record_of_expiry u h) (due_of s.timers frame h.leg)) (option_map (λ (leg : Leg). let h : Held = record { slot = x; leg = leg } in h) o) ≡ Some c
+      → IsToldOf u x (cause_if_due (option_and_then (λ (h : Held). due_of s.timers frame h.leg) (option_map (λ (leg : Leg). let h : Held = record { slot = x; leg = leg } in h) o))) c
   of_leg None at e = absurd (cc e)
   of_leg (Some leg) at e = of_due leg (due_of s.timers frame leg) at refl e
 
-  called_here : one_at s frame u x ≡ Some c → c.called ≡ party.Line x
-  called_here e = of_leg (leg_at u.legs x) refl e
+  told_of : one_at s frame u x ≡ Some c → IsToldOf u x (cause_at s frame u.legs x) c
+  told_of e = of_leg (leg_at u.legs x) refl e
+
+only_one : (o : Option CallRecord) (c : CallRecord) → Contains (cons_option o []) c → o ≡ Some c
+only_one None c inside = absurd (none_in_nil c inside)
+only_one (Some d) c inside = elim (cons_cases d [] c inside) [
+  | inl same ↦ ap (λ (k : CallRecord). Some k) same
+  | inr later ↦ absurd (none_in_nil c later)
+]
 
 -- ---- the order
 
@@ -272,6 +310,10 @@ early_same u w cause h e next =
 no_timer_but : (state : ℕ) → is_among without_timers state ≡ false → (state == active) ≡ false
 no_timer_but state e = grind (arith, common_steps, e)
 
+-- the cause with which the call of a caller's leg is recorded
+abbrev silence_of : Held → ℕ
+silence_of h = cause_of_silence h.leg
+
 -- ---- line by line
 
 module _ (s : Setting) (frame : ℕ) (w : World) (kept : Kept s.dimensions s.tones w) (later : frame < w.holding.next)
@@ -282,7 +324,7 @@ module _ (s : Setting) (frame : ℕ) (w : World) (kept : Kept s.dimensions s.ton
   -- the world once the lines below n were looked at, and what was recorded
   record So_far (n : ℕ) (a : MessageOutcome) : Type 0 where
     legs : (x : Slot) (leg : Leg) → IsExternal external x → leg_at a.making.world.legs x ≡ Some leg → is_calling (Some leg) ≡ true → leg_at w.legs x ≡ Some leg
-    recorded : AreOfEnded external w a.making.world no_user_responding a.recorded
+    recorded : AreEndedBy external w a.making.world silence_of a.recorded
     order : ComeBelow n a.recorded
 
   first : So_far 0 (outcome_of_lines s frame w 0)
@@ -356,19 +398,47 @@ module _ (s : Setting) (frame : ℕ) (w : World) (kept : Kept s.dimensions s.ton
         stays among (inl same) = let wrong : false ≡ true = sym ended.stops ∙ ap is_calling (sym now ∙ same ∙ at_first) ∙ ended.calls in cc
         stays among (inr out) = untimed h.slot h.leg ended.within at_first among out
 
-    same_record : (h : Held) → HasEnded external u v h → record_of u no_user_responding h ≡ record_of w no_user_responding h
-    same_record h ended = early_same u w no_user_responding h (not_active h ended) (next_by s frame w kept h.slot ended.within n fewer)
+    same_record : (h : Held) → HasEnded external u v h → record_of u (silence_of h) h ≡ record_of w (silence_of h) h
+    same_record h ended = early_same u w (silence_of h) h (not_active h ended) (next_by s frame w kept h.slot ended.within n fewer)
 
-    told_here : records u v no_user_responding ≡ cons_option (one_at s frame u x) []
+    abbrev cause_here : ℕ
+    cause_here = cause_at s frame u.legs x
+
+    told_here : records u v cause_here ≡ cons_option (one_at s frame u x) []
     told_here = slot_told s frame a.making x now_kept in_x
+
+    ended_here : AreOfEnded external u v cause_here (records u v cause_here)
+    ended_here = of_records external u v cause_here now_kept.1.count
+
+    -- the caller's state gives the cause with which its call is recorded
+    cause_is : (h : Held) → HasEnded external u v h → cause_here ≡ silence_of h
+    cause_is h ended =
+        let found = calling_record external u cause_here h (now_kept.1.each h.slot h.leg ended.within ended.at).peer ended.calls in
+        let c = found.0 in
+        let inside = subst (λ (told : List CallRecord). Contains told c) told_here (ended_here.recorded h c ended found.1) in
+        let told = told_of s frame u now_kept x in_x c (only_one (one_at s frame u x) c inside) in
+        let caller = told.caller in
+        let other : Leg = caller.1 in
+        let who = record_parties u cause_here h c found.1 in
+        let slots : caller.0 ≡ h.slot = sym caller.3 ∙ who.0 in
+        let both : Some other ≡ Some h.leg = sym caller.2 ∙ ap (leg_at u.legs) slots ∙ ended.at in
+        let same : other ≡ h.leg = cc in
+        caller.4 ∙ ap cause_of_silence same
+
+    ended_silent : AreEndedBy external u v silence_of (records u v cause_here)
+    ended_silent = record {
+      ends = λ c inside.
+          let e = ended_here.ends c inside in
+          (e.0, e.1, subst (λ (cause : ℕ). record_of u cause e.0 ≡ Some c) (cause_is e.0 e.1) e.2);
+      recorded = λ h c ended e. ended_here.recorded h c ended (subst (λ (cause : ℕ). record_of u cause h ≡ Some c) (sym (cause_is h ended)) e);
+    }
 
     step : So_far (suc n) (outcome_on_line s frame n a)
     step = record {
       legs = λ z leg in_z at calls. so_far.legs z leg in_z (calls_still z leg in_z at calls) calls;
-      recorded = both_of_ended external w u v no_user_responding so_far.legs same_record silent a.recorded (records u v no_user_responding) so_far.recorded
-          (of_records external u v no_user_responding now_kept.1.count);
+      recorded = both_of_ended external w u v silence_of so_far.legs same_record silent a.recorded (records u v cause_here) so_far.recorded ended_silent;
       order = subst (λ (told : List CallRecord). ComeBelow (suc n) (a.recorded ++ told)) (sym told_here)
-          (then_below n a.recorded so_far.order x refl (one_at s frame u x) (λ c e. called_here s frame u now_kept x in_x c e));
+          (then_below n a.recorded so_far.order x refl (one_at s frame u x) (λ c e. (told_of s frame u now_kept x in_x c e).called));
     }
 
   all_so_far : (n : ℕ) → n ≤ external → So_far n (outcome_of_lines s frame w n)
@@ -395,7 +465,7 @@ module _ (s : Setting) (w : World) (input : Input) (stands : CallsStand s w) whe
   calls_untimed leg (Some e) is calls = let wrong : false ≡ true = sym (due_silent s w.holding.next leg (Some e) is e refl) ∙ calls in absurd cc
 
   -- the timer that ran out is the one of the called leg
-  module _ (h : Held) (c : CallRecord) (ended : HasEnded s.dimensions.external w afterwards h) (is : record_of passed no_user_responding h ≡ Some c) where
+  module _ (h : Held) (c : CallRecord) (ended : HasEnded s.dimensions.external w afterwards h) (is : record_of passed (silence_of h) h ≡ Some c) where
     abbrev Due : Type 0
     Due = (y : Slot) × (leg : Leg) × (c.called ≡ party.Line y) × RunsOut s.timers w.holding.next w.legs y leg
 
@@ -409,7 +479,7 @@ module _ (s : Setting) (w : World) (input : Input) (stands : CallsStand s w) whe
               let some = own.due in
               absurd (let wrong : false ≡ true = sym (ap is_some none) ∙ some in cc)
           | inr other ↦
-              let who = record_parties passed no_user_responding h c is in
+              let who = record_parties passed (silence_of h) h c is in
               let names : Some (party.Line other.0) ≡ Some c.called = sym (ap party_of (sym (ap (λ (l : Leg). l.peer) same) ∙ other.2)) ∙ who.1 in
               let called : c.called ≡ party.Line other.0 = cc in
               (other.0, other.1, called, other.3)
@@ -422,7 +492,9 @@ module _ (s : Setting) (w : World) (input : Input) (stands : CallsStand s w) whe
     ]
 
     is_frame_record : IsFrameRecord s w input h c
-    is_frame_record = record { ended = ended; is = is; cause = record_cause passed no_user_responding h c is; due = due }
+    is_frame_record =
+        let cause = record_cause passed (silence_of h) h c is in
+        record { ended = ended; is = subst (λ (n : ℕ). record_of passed n h ≡ Some c) (sym cause) is; cause = cause; due = due }
 
   pub frame_record_is : (c : CallRecord) → Contains (outcome_of_frame s w input).recorded c → (h : Held) × IsFrameRecord s w input h c
   frame_record_is c inside =
@@ -432,7 +504,7 @@ module _ (s : Setting) (w : World) (input : Input) (stands : CallsStand s w) whe
 
   pub frame_ended_is_recorded : (h : Held) → HasEnded s.dimensions.external w afterwards h → IsInFrame s w input h
   frame_ended_is_recorded h ended =
-      let found = calling_record s.dimensions.external passed no_user_responding h (stands.legs.each h.slot h.leg ended.within ended.at).peer ended.calls in
+      let found = calling_record s.dimensions.external passed (silence_of h) h (stands.legs.each h.slot h.leg ended.within ended.at).peer ended.calls in
       let over : HasEnded s.dimensions.external passed afterwards h = record { within = ended.within; at = ended.at; calls = ended.calls; stops = ended.stops } in
       (found.0, is_frame_record h found.0 ended found.1, whole.recorded.recorded h found.0 over found.1)
 

@@ -32,6 +32,7 @@ pub mod VacantSlotLemmas
 pub mod CommandLemmas
 pub mod NewCallLemmas
 pub mod SetupLemmas
+pub mod HuntingLemmas
 pub mod AcceptedSetupLemmas
 pub mod OctetLemmas
 pub mod EntryLemmas

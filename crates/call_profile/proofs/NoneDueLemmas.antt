@@ -4,7 +4,6 @@ use Rattle.std.specs.Prelude.{IfSome, option_map}
 use Rattle.circuit_model.specs.declared.channel.Slot.{Slot}
 use Rattle.call_states.specs.declared.leg.Held.{Held}
 use Rattle.call_states.specs.declared.leg.Leg.{Leg}
-use Rattle.q931_codec.specs.Causes.{no_user_responding}
 use Rattle.exchange_events.specs.Sizes.{Setting}
 use Rattle.call_profile.specs.Expiring.{due_of, expire_leg, slot_looked_at, outcome_on_line, outcome_of_lines}
 use Rattle.call_profile.specs.Legs.{Legs, leg_at}
@@ -23,10 +22,10 @@ leg_not_due : (s : Setting) (frame : ℕ) (legs : Legs) (x : Slot) (o : Option L
 leg_not_due s frame legs x None quiet = refl
 leg_not_due s frame legs x (Some leg) quiet = rw quiet refl
 
-nothing_done : (s : Setting) (w : World) (os : List Operation) → os ≡ [] → outcome_then s.dimensions no_user_responding (untouched w) os ≡ untouched w
-nothing_done s w os none =
-    ap (outcome_then s.dimensions no_user_responding (untouched w)) none
-    ∙ (λ i. record { making = making_at w; recorded = no_records w no_user_responding i })
+nothing_done : (s : Setting) (w : World) (cause : ℕ) (os : List Operation) → os ≡ [] → outcome_then s.dimensions cause (untouched w) os ≡ untouched w
+nothing_done s w cause os none =
+    ap (outcome_then s.dimensions cause (untouched w)) none
+    ∙ (λ i. record { making = making_at w; recorded = no_records w cause i })
 
 pub none_due : (s : Setting) (frame : ℕ) (w : World) → ((line : ℕ) → IfSome (leg_at w.legs (slot_looked_at frame line)) (λ leg. due_of s.timers frame leg ≡ None))
     → (lines : ℕ) → outcome_of_lines s frame w lines ≡ untouched w
@@ -34,4 +33,4 @@ none_due s frame w quiet zero = lines_none s frame w
 none_due s frame w quiet (suc line) =
     lines_more s frame w line
     ∙ ap (outcome_on_line s frame line) (none_due s frame w quiet line)
-    ∙ nothing_done s w _ (leg_not_due s frame w.legs (slot_looked_at frame line) (leg_at w.legs (slot_looked_at frame line)) (quiet line))
+    ∙ nothing_done s w _ _ (leg_not_due s frame w.legs (slot_looked_at frame line) (leg_at w.legs (slot_looked_at frame line)) (quiet line))

@@ -43,6 +43,7 @@ module _ (s : Setting) (w : World) (h : Held) (m : Message) (planned : IsPlanned
         small = (stands.legs.each h.slot h.leg within at).reference.1;
         fits = fits;
         line = reach.line;
+        lines = reach.lines;
         room = λ room leads. record {
           within = within;
           idle = deaf_is_idle w.holding.circuits h.slot (stands.circuits.standing h.slot) waits.silent;

@@ -1,6 +1,7 @@
 -- What a SETUP does is permitted.
 use Rattle.std.proofs.Common.{◌≡◌, ℕ, ◌<◌, ◌≤◌, ◌^◌, ◌||◌, inl, inr, Bool, true, false, List, [], length, Option, Some, None, refl, sym, ap, subst, arith}
 use Rattle.std.specs.Prelude.{nat_lt, nat_le, is_none, unwrap_or, option_map}
+use Rattle.std.specs.List.{list_all}
 use Rattle.std.proofs.lemmas.Grind.{common_steps}
 use Rattle.std.proofs.lemmas.Bool.Decides.{nat_tests}
 use Rattle.circuit_model.specs.declared.channel.Slot.{Slot}
@@ -23,7 +24,7 @@ use Rattle.q931_codec.specs.CallStates.{overlap_sending, outgoing_call_proceedin
 use Rattle.call_states.specs.declared.leg.Peer.{Peer}
 use Rattle.call_states.specs.declared.leg.Peer.TheVariants as peer
 use Rattle.number_plan.specs.declared.target.Found.{Found}
-use Rattle.number_plan.specs.declared.target.Found.TheVariants.{Line, Room, More, Nothing}
+use Rattle.number_plan.specs.declared.target.Found.TheVariants.{Line, Lines, Room, More, Nothing}
 use Rattle.call_profile.specs.LegStanding.{CallsStand}
 use Rattle.call_profile.specs.Legs.{leg_named, new_reference}
 use Rattle.call_profile.specs.Operations.{making_at}
@@ -32,12 +33,12 @@ use Rattle.call_profile.proofs.Permitted.{ArePermitted}
 use Rattle.exchange_events.specs.Sizes.{Setting}
 use Rattle.call_profile.specs.Acts.{message_to}
 use Rattle.call_profile.specs.Setup.{bearer_asked, checks, refusal, call_asked, setup, accept, accept_at, call, call_line, call_room, await_digits, caller_leg, digits_in, with_channel, setup_acknowledge, call_proceeding, offer, caller_slot, called_slot, target_of, is_unreadable, course_of_setup}
-use Rattle.exchange_events.specs.Sound.{IsPlanned}
+use Rattle.exchange_events.specs.Sound.{IsPlanned, line_exists}
 use Rattle.call_profile.specs.Waiting.{IsWaiting}
 use Rattle.call_profile.specs.World.{World}
 use Rattle.call_profile.proofs.AcceptedSetupLemmas.{can_seat, refusal_small, can_still}
 use Rattle.call_profile.proofs.PermittedActLemmas.{message_writable}
-use Rattle.call_profile.proofs.SetupLemmas.{all_pass, all_from, caller_is, offered, reached}
+use Rattle.call_profile.proofs.SetupLemmas.{all_pass, all_from, all_reached, caller_is, offered, offered_by_hunting, reached}
 
 -- ---- what is passed on is not too long
 
@@ -113,6 +114,7 @@ pub record CanAccept (s : Setting) (w : World) (own : ℕ) (asked : Pending) (x 
   pub small : own < 2 ^ 15
   pub fits : FitsElements asked
   pub line : (line : ℕ) → t ≡ Line line → line < s.dimensions.external
+  pub lines : (lines : List ℕ) → t ≡ Lines lines → list_all (line_exists s.dimensions.external) lines ≡ true
   pub room : (room : ℕ) → t ≡ Room room → CanSeat s.dimensions w x
   pub more : t ≡ More → IsWaiting s.plan (waiting_leg own) asked
 
@@ -158,6 +160,10 @@ module _ (s : Setting) (w : World) (first : Bool) (own : ℕ) (asked : Pending) 
       let may = offered s w x l y (can.line l refl) chosen in
       line_permitted s w first own asked x y (new_reference w.legs l) can.within can.small can.fits may.in_y may.small.1
   call_permitted (Line l) None chosen can = tt
+  call_permitted (Lines ls) (Some y) chosen can =
+      let may = offered_by_hunting s w x ls y (can.lines ls refl) chosen in
+      line_permitted s w first own asked x y (new_reference w.legs y.line) can.within can.small can.fits may.in_y may.small.1
+  call_permitted (Lines ls) None chosen can = tt
   call_permitted (Room room) o chosen can = room_permitted s w first own asked x room can.within can.small (can.room room refl)
   call_permitted More o chosen can = waiting_permitted s w first own asked x can.within can.small (can.more refl)
   call_permitted Nothing o chosen can = tt
@@ -189,6 +195,7 @@ module _ (s : Setting) (w : World) (line : ℕ) (m : Message) (planned : IsPlann
         small = own.1;
         fits = asked_fits m (all_pass (checks s w line m) accepted).1.0;
         line = λ l is. reached s (called_in m.elements) l planned is;
+        lines = λ ls are. all_reached s (called_in m.elements) ls planned are;
         room = λ room is. can_seat s w line m x room stands in_x accepted at is;
         more = waits accepted;
       } in

@@ -8,7 +8,7 @@ use Rattle.q931_codec.specs.declared.kind.MessageKind.TheVariants as kind
 use Rattle.q931_codec.specs.declared.message.Message.{Message}
 use Rattle.q931_codec.specs.Outgoing.{OutgoingMessage, encoding}
 use Rattle.q931_codec.specs.Contents.{channel_in}
-use Rattle.q931_codec.specs.Causes.{invalid_number_format, no_user_responding, recovery_on_timer_expiry, temporary_failure}
+use Rattle.q931_codec.specs.Causes.{invalid_number_format, no_answer_from_user, no_user_responding, recovery_on_timer_expiry, temporary_failure}
 use Rattle.q931_codec.specs.Reading.{reading}
 use Rattle.q931_codec.proofs.EncodingFacts.{encoding_read}
 use Rattle.q931_codec.proofs.Messages.{message_read}
@@ -23,13 +23,13 @@ use Rattle.clearing_rules.specs.declared.scope.Restart.{Restart}
 use Rattle.clearing_rules.specs.Restarting.{is_restarted, global_call_reference}
 use Rattle.clearing_rules.specs.UnknownReference.{answer_to_type, answer_without_call}
 use Rattle.number_plan.specs.declared.target.Found.{Found}
-use Rattle.number_plan.specs.declared.target.Found.TheVariants.{Line, Room, More, Nothing}
+use Rattle.number_plan.specs.declared.target.Found.TheVariants.{Line, Lines, Room, More, Nothing}
 use Rattle.tone_rules.specs.declared.tones.Tones.{Tones}
 use Rattle.exchange_events.specs.Sizes.{Setting}
 use Rattle.call_profile.specs.ActCourse.{course_of}
 use Rattle.call_profile.specs.Acts.{in_state, in_disconnect_indication, tone_of, message_to, disconnect, with_progress, peer_of, with_peer, clear_with, on_alerting, on_connect, remove_leg}
 use Rattle.call_profile.specs.Calls.{answer_back}
-use Rattle.call_profile.specs.Expiring.{send_again, clear_peer, on_expiry}
+use Rattle.call_profile.specs.Expiring.{send_again, clear_peer, clear_both, on_expiry}
 use Rattle.call_profile.specs.KeptMessages.{IsKept}
 use Rattle.call_profile.specs.LegStanding.{CallsStand}
 use Rattle.call_profile.specs.Legs.{Legs, leg_at, held_at, kept_at, pending_at}
@@ -69,6 +69,9 @@ call_tells : (first : Bool) (w : World) (own : ℕ) (asked : Pending) (x : Slot)
 call_tells true w own asked x (Line l) (Some y) = refl
 call_tells false w own asked x (Line l) (Some y) = refl
 call_tells first w own asked x (Line l) None = refl
+call_tells true w own asked x (Lines ls) (Some y) = refl
+call_tells false w own asked x (Lines ls) (Some y) = refl
+call_tells first w own asked x (Lines ls) None = refl
 call_tells true w own asked x (Room room) o = refl
 call_tells false w own asked x (Room room) o = refl
 call_tells true w own asked x More o = refl
@@ -176,19 +179,24 @@ module _ (s : Setting) (w : World) (h : Held) (stands : CallsStand s w) (in_x : 
   again_tells None keeps = refl
   again_tells (Some octets) keeps = rw (kept_quiet h octets (kept_there s.dimensions.external w.holding.next w.legs h.slot h.leg octets stands.waits in_x at keeps)) refl
 
-  peer_of_tells : TellsOfTones (clear_peer s.tones w.legs h)
-  peer_of_tells = peer_tells s.tones no_user_responding (peer_of w.legs h.leg.peer)
+  peer_of_tells : (cause : ℕ) → TellsOfTones (clear_peer s.tones w.legs h cause)
+  peer_of_tells cause = peer_tells s.tones cause (peer_of w.legs h.leg.peer)
 
   -- two legs are cleared, one after the other
   both_tell : (tone : Option Kind) (m : OutgoingMessage) (ps : List Operation) → TellsOfTones ps → TellsOfTones (Sound h.slot tone ∷ Send h.slot.line (with_progress tone m) ∷ ps)
   both_tell None m ps tells = tells
   both_tell (Some kind) m ps tells = ap (λ (lines : List ℕ). h.slot.line ∷ lines) tells
 
+  legs_tell : (cause : ℕ) → TellsOfTones (clear_both s.tones w.legs h cause)
+  legs_tell cause =
+      both_tell (tone_of s.tones (in_disconnect_indication recovery_on_timer_expiry h.leg)) (disconnect h.leg recovery_on_timer_expiry) (clear_peer s.tones w.legs h cause) (peer_of_tells cause)
+
   pub expiry_tells : (e : Expiry) → TellsOfTones (on_expiry s.tones w.legs h e)
   expiry_tells expiry.Digits = cleared_tells s.tones invalid_number_format h
   expiry_tells expiry.SetupAgain = again_tells (kept_at w.legs h.slot) refl
-  expiry_tells expiry.SetupOver = peer_of_tells
-  expiry_tells expiry.Proceeding = both_tell (tone_of s.tones (in_disconnect_indication recovery_on_timer_expiry h.leg)) (disconnect h.leg recovery_on_timer_expiry) (clear_peer s.tones w.legs h) peer_of_tells
+  expiry_tells expiry.SetupOver = peer_of_tells no_user_responding
+  expiry_tells expiry.Proceeding = legs_tell no_user_responding
+  expiry_tells expiry.Alerting = legs_tell no_answer_from_user
   expiry_tells expiry.Disconnect = refl
   expiry_tells expiry.ReleaseAgain = again_tells (kept_at w.legs h.slot) refl
   expiry_tells expiry.ReleaseOver = refl

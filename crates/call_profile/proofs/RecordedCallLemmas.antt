@@ -60,9 +60,12 @@ is_given f first (suc count) n c low high e = elim (same_or_not first n) [
 
 -- ---- the record of a slot
 
--- a call ended, and this is its record with a cause
+-- a call ended, and this is its record with the cause that its caller's leg gives, or with one cause
+abbrev pub EndsBy : ℕ → World → World → (Held → ℕ) → CallRecord → Type 0
+EndsBy external before afterwards cause c = (h : Held) × HasEnded external before afterwards h × (record_of before (cause h) h ≡ Some c)
+
 abbrev pub EndsWith : ℕ → World → World → ℕ → CallRecord → Type 0
-EndsWith external before afterwards cause c = (h : Held) × HasEnded external before afterwards h × (record_of before cause h ≡ Some c)
+EndsWith external before afterwards cause c = EndsBy external before afterwards (λ h. cause) c
 
 by_leg : (external : ℕ) (u v : World) (cause : ℕ) (x : Slot) (c : CallRecord) (o : Option Leg) → IsExternal external x → leg_at u.legs x ≡ o → is_calling o ≡ true → is_calling (leg_at v.legs x) ≡ false
     → option_and_then (record_of u cause) (option_map (λ (leg : Leg). let h : Held = record { slot = x; leg = leg } in h) o) ≡ Some c → EndsWith external u v cause c

@@ -31,7 +31,7 @@ use Rattle.call_profile.proofs.ClearingLemmas.{Kept}
 use Rattle.call_profile.proofs.NamedLegLemmas.{received_stands}
 use Rattle.call_profile.proofs.NoCallEndedLemmas.{answer_ends_none}
 use Rattle.call_profile.proofs.RecordOfActLemmas.{leg_ends, leg_records, records_of_act, told_cause, disconnected_silent}
-use Rattle.call_profile.proofs.RecordedCallLemmas.{EndsWith, record_ends, end_recorded, calling_record, record_same, record_cause}
+use Rattle.call_profile.proofs.RecordedCallLemmas.{EndsBy, record_ends, end_recorded, calling_record, record_same, record_cause}
 use Rattle.call_profile.proofs.RefusalLemmas.{no_records}
 use Rattle.call_profile.proofs.RestartedLegLemmas.{IsRestartedAt, peer_after, slot_done}
 use Rattle.call_profile.proofs.RestartedLineLemmas.{AreRestartedBelow, named_or_not, step_below, start_below}
@@ -40,10 +40,15 @@ use Rattle.call_profile.proofs.RestartedSlotLemmas.{below_none, below_more}
 
 -- ---- records of the calls that ended
 
--- the record of each call that ended between two worlds is there, with one cause, and no other
-pub record AreOfEnded (external : ℕ) (before afterwards : World) (cause : ℕ) (told : List CallRecord) : Type 0 where
-  pub ends : (c : CallRecord) → Contains told c → EndsWith external before afterwards cause c
-  pub recorded : (h : Held) (c : CallRecord) → HasEnded external before afterwards h → record_of before cause h ≡ Some c → Contains told c
+-- the record of each call that ended between two worlds is there, with the cause that its caller's leg gives, and no
+-- other
+pub record AreEndedBy (external : ℕ) (before afterwards : World) (cause : Held → ℕ) (told : List CallRecord) : Type 0 where
+  pub ends : (c : CallRecord) → Contains told c → EndsBy external before afterwards cause c
+  pub recorded : (h : Held) (c : CallRecord) → HasEnded external before afterwards h → record_of before (cause h) h ≡ Some c → Contains told c
+
+-- with one cause for all
+abbrev pub AreOfEnded : ℕ → World → World → ℕ → List CallRecord → Type 0
+AreOfEnded external before afterwards cause told = AreEndedBy external before afterwards (λ h. cause) told
 
 pub of_records : (external : ℕ) (u v : World) (cause : ℕ) → length u.legs.held ≡ 30 * external → AreOfEnded external u v cause (records u v cause)
 of_records external u v cause size = record { ends = record_ends external u v cause size; recorded = end_recorded external u v cause size }
@@ -102,15 +107,15 @@ module _ (external : ℕ) (r : Restart) (line : ℕ) (u v : World) (x : Slot) (d
 
 -- ---- one slot after another
 
-module _ (external : ℕ) (w u v : World) (cause : ℕ)
+module _ (external : ℕ) (w u v : World) (cause : Held → ℕ)
     (called_before : (x : Slot) (leg : Leg) → IsExternal external x → leg_at u.legs x ≡ Some leg → is_calling (Some leg) ≡ true → leg_at w.legs x ≡ Some leg)
-    (same_record : (h : Held) → HasEnded external u v h → record_of u cause h ≡ record_of w cause h)
+    (same_record : (h : Held) → HasEnded external u v h → record_of u (cause h) h ≡ record_of w (cause h) h)
     (silent : (z : Slot) → IsExternal external z → is_calling (leg_at u.legs z) ≡ false → is_calling (leg_at v.legs z) ≡ false)
-    (before later : List CallRecord) (old : AreOfEnded external w u cause before) (new : AreOfEnded external u v cause later) where
-  old_ends : (c : CallRecord) → EndsWith external w u cause c → EndsWith external w v cause c
+    (before later : List CallRecord) (old : AreEndedBy external w u cause before) (new : AreEndedBy external u v cause later) where
+  old_ends : (c : CallRecord) → EndsBy external w u cause c → EndsBy external w v cause c
   old_ends c e = (e.0, record { within = e.1.within; at = e.1.at; calls = e.1.calls; stops = silent e.0.slot e.1.within e.1.stops }, e.2)
 
-  new_ends : (c : CallRecord) → EndsWith external u v cause c → EndsWith external w v cause c
+  new_ends : (c : CallRecord) → EndsBy external u v cause c → EndsBy external w v cause c
   new_ends c e =
       let h = e.0 in (
         h,
@@ -118,7 +123,7 @@ module _ (external : ℕ) (w u v : World) (cause : ℕ)
         sym (same_record h e.1) ∙ e.2,
       )
 
-  recorded_by : (h : Held) (c : CallRecord) → HasEnded external w v h → record_of w cause h ≡ Some c → (o : Option Leg) → leg_at u.legs h.slot ≡ o → is_calling o ≡ true → Contains (before ++ later) c
+  recorded_by : (h : Held) (c : CallRecord) → HasEnded external w v h → record_of w (cause h) h ≡ Some c → (o : Option Leg) → leg_at u.legs h.slot ≡ o → is_calling o ≡ true → Contains (before ++ later) c
   recorded_by h c ended e None at calls = absurd cc
   recorded_by h c ended e (Some k) at calls =
       let both : Some k ≡ Some h.leg = sym (called_before h.slot k ended.within at calls) ∙ ended.at in
@@ -127,7 +132,7 @@ module _ (external : ℕ) (w u v : World) (cause : ℕ)
       let over : HasEnded external u v h = record { within = ended.within; at = here; calls = ended.calls; stops = ended.stops } in
       Contains-append_right before later c (new.recorded h c over (same_record h over ∙ e))
 
-  pub both_of_ended : AreOfEnded external w v cause (before ++ later)
+  pub both_of_ended : AreEndedBy external w v cause (before ++ later)
   both_of_ended = record {
     ends = λ c inside. elim (Contains-append_cases before later c inside) [
       | inl one ↦ old_ends c (old.ends c one)
@@ -179,7 +184,7 @@ module _ (s : Setting) (r : Restart) (line : ℕ) (w : World) (below : line < s.
           let now = calls_on_here x leg in_x at calls in
           let before = so_far.calls x leg in_x now.0 calls in
           (before.0, now.1 ∙ before.1);
-      recorded = both_of_ended external w u v temporary_failure (λ x leg in_x at calls. (so_far.calls x leg in_x at calls).0)
+      recorded = both_of_ended external w u v (λ h. temporary_failure) (λ x leg in_x at calls. (so_far.calls x leg in_x at calls).0)
           (λ h e. record_same u w temporary_failure h so_far.legs.next (so_far.calls h.slot h.leg e.within e.at e.calls).1) silent a.recorded (records u v temporary_failure)
           so_far.recorded (of_records external u v temporary_failure so_far.legs.kept.1.count);
     }

@@ -14,9 +14,9 @@ use Rattle.circuit_model.proofs.Validity.{valid-frame}
 use Rattle.control_memory.specs.Layout.{number_of}
 use Rattle.number_plan.specs.declared.plan.Number.{Number}
 use Rattle.number_plan.specs.declared.target.Found.{Found}
-use Rattle.number_plan.specs.declared.target.Found.TheVariants.{Line, Room, More, Nothing}
+use Rattle.number_plan.specs.declared.target.Found.TheVariants.{Line, Lines, Room, More, Nothing}
 use Rattle.q931_codec.specs.CallStates.{overlap_sending, active, disconnect_indication, release_request}
-use Rattle.q931_codec.specs.Causes.{invalid_number_format, no_user_responding, recovery_on_timer_expiry, temporary_failure}
+use Rattle.q931_codec.specs.Causes.{invalid_number_format, no_answer_from_user, no_user_responding, recovery_on_timer_expiry, temporary_failure}
 use Rattle.q931_codec.specs.Contents.{call_state_in, channel_in}
 use Rattle.q931_codec.specs.Outgoing.{OutgoingMessage, encoding}
 use Rattle.q931_codec.specs.declared.message.Message.{Message as Q931}
@@ -39,7 +39,7 @@ use Rattle.exchange_events.specs.Sound.{Fits, IsPlanned}
 use Rattle.call_profile.specs.Acts.{in_disconnect_indication, in_release_request, peer_of, with_peer, clear_with, remove_leg}
 use Rattle.call_profile.specs.Calls.{Request, For_leg, New_call, On_no_call, Restarts, Unanswered, request_of, answer_back, outcome_for}
 use Rattle.call_profile.specs.Digits.{asked_with, digits_refusal, dial_on, with_pending, on_digits}
-use Rattle.call_profile.specs.Expiring.{timed_state, release_for, send_again, give_up, ask_for_release, clear_peer, on_expiry, expire_slot, slot_looked_at}
+use Rattle.call_profile.specs.Expiring.{timed_state, release_for, send_again, give_up, ask_for_release, clear_peer, clear_both, on_expiry, expire_slot, slot_looked_at}
 use Rattle.call_profile.specs.IdleSlots.{idle, is_nailed}
 use Rattle.call_profile.specs.LegStanding.{CallsStand, MayHear}
 use Rattle.call_profile.specs.Legs.{leg_at, pending_at, kept_at}
@@ -87,6 +87,8 @@ module _ (s : Setting) (w : World) (before : Sounding s.dimensions s.tones w) wh
   call_quiet : (first : Bool) (own : ℕ) (p : Pending) (x : Slot) (t : Found) (o : Option Slot) → May (call first w own p x t o) → Quiet (call first w own p x t o)
   call_quiet first own p x (Line line) (Some y) may = (tt, (tt, ((λ is. absurd cc), tt)))
   call_quiet first own p x (Line line) None may = tt
+  call_quiet first own p x (Lines lines) (Some y) may = (tt, (tt, ((λ is. absurd cc), tt)))
+  call_quiet first own p x (Lines lines) None may = tt
   call_quiet first own p x (Room room) o may =
       let caller = begun w (caller_leg active own (peer.Room room)) in
       (tt, (subst IsElsewhere (sym (entry_here s.dimensions.external w.legs x (Some caller) before.held may.0.0)) (λ is. absurd cc), (tt, (tt, tt))))
@@ -199,17 +201,21 @@ module _ (s : Setting) (frame : ℕ) (m : Making) (x : Slot) (kept : Kept s.dime
       hears = heard_before s.tones m.world.holding.circuits x leg (heard_by m.world.holding.circuits x) refl is (kept.1.each x leg within at).hears;
     }
 
-    then_cleared : (o : Option Leg) (os : List Operation) → (making_after_all d m os).world.legs.held ≡ slice_set m.world.legs.held (number_of x) o → Sounds os
-        → Sounding d s.tones (making_after_all d (making_after_all d m os) (clear_peer s.tones m.world.legs h)).world
-    then_cleared o os entry so_far = then_peer d s.tones s.plan m.world h kept.1 within at o no_user_responding (omega arith) (making_after_all d m os) entry so_far
+    then_cleared : (cause : ℕ) → cause < 128 → (o : Option Leg) (os : List Operation) → (making_after_all d m os).world.legs.held ≡ slice_set m.world.legs.held (number_of x) o → Sounds os
+        → Sounding d s.tones (making_after_all d (making_after_all d m os) (clear_peer s.tones m.world.legs h cause)).world
+    then_cleared cause small o os entry so_far = then_peer d s.tones s.plan m.world h kept.1 within at o cause small (making_after_all d m os) entry so_far
+
+    both_cleared : (cause : ℕ) → cause < 128 → (n : ℕ) → leg.state ≡ n → n ≢ release_request → Sounds (clear_both s.tones m.world.legs h cause)
+    both_cleared cause small n state apart =
+        then_cleared cause small (Some (begun m.world (in_disconnect_indication recovery_on_timer_expiry leg))) (clear_with s.tones recovery_on_timer_expiry h) refl
+        (cleared_sounds d s.tones s.plan m before h recovery_on_timer_expiry (is_there d.external s.tones m.world h kept.1 within at) (omega arith) (quiet_in n state apart))
 
     expired : (e : Expiry) → leg.state ≡ timed_state e → ArePermitted d s.tones s.plan m (on_expiry s.tones m.world.legs h e) → Sounds (on_expiry s.tones m.world.legs h e)
     expired expiry.Digits state may = by (clear_with s.tones invalid_number_format h) may (clear_quiet d s.tones s.plan m before h invalid_number_format within (quiet_in _ state (λ e. absurd cc)))
     expired expiry.SetupAgain state may = again_sounds (kept_at m.world.legs x) may
-    expired expiry.SetupOver state may = then_cleared None (give_up h) refl (removed_sounds d s.tones s.plan m before h within)
-    expired expiry.Proceeding state may =
-        then_cleared (Some (begun m.world (in_disconnect_indication recovery_on_timer_expiry leg))) (clear_with s.tones recovery_on_timer_expiry h) refl
-        (cleared_sounds d s.tones s.plan m before h recovery_on_timer_expiry (is_there d.external s.tones m.world h kept.1 within at) (omega arith) (quiet_in _ state (λ e. absurd cc)))
+    expired expiry.SetupOver state may = then_cleared no_user_responding (omega arith) None (give_up h) refl (removed_sounds d s.tones s.plan m before h within)
+    expired expiry.Proceeding state may = both_cleared no_user_responding (omega arith) _ state (λ e. absurd cc)
+    expired expiry.Alerting state may = both_cleared no_answer_from_user (omega arith) _ state (λ e. absurd cc)
     expired expiry.Disconnect state may = by (ask_for_release h) may ((λ is. asked_release state), tt)
     expired expiry.ReleaseAgain state may = again_sounds (kept_at m.world.legs x) may
     expired expiry.ReleaseOver state may = removed_sounds d s.tones s.plan m before h within

@@ -1,7 +1,7 @@
 -- Whatever a SETUP is answered, the legs are consistent afterwards.
 use Rattle.std.proofs.Common.{◌≡◌, ℕ, zero, suc, drop, ◌-◌, ◌^◌, ◌<◌, ◌≤◌, ◌⊎◌, inl, inr, Bool, true, false, ◌&&◌, ◌==◌, List, [], ◌∷◌, Option, Some, None, refl, sym, ◌∙◌, ap, subst, arith}
 use Rattle.std.specs.Prelude.{Result, Ok, Err, is_none, not, option_map, option_and_then}
-use Rattle.std.specs.List.{AllByRecursion}
+use Rattle.std.specs.List.{AllByRecursion, list_all}
 use Rattle.std.specs.Option.{option_or}
 use Rattle.std.proofs.lemmas.Bool.Decides.{nat_tests}
 use Rattle.circuit_model.specs.declared.channel.Slot.{Slot}
@@ -15,15 +15,15 @@ use Rattle.q931_codec.specs.declared.message.Discard.{Discard}
 use Rattle.q931_codec.specs.declared.message.Message.{Message}
 use Rattle.q931_codec.specs.Contents.{channel_in, called_in}
 use Rattle.number_plan.specs.declared.target.Found.{Found}
-use Rattle.number_plan.specs.declared.target.Found.TheVariants.{Line, Room, More, Nothing}
+use Rattle.number_plan.specs.declared.target.Found.TheVariants.{Line, Lines, Room, More, Nothing}
 use Rattle.number_plan.specs.declared.target.Target.TheVariants as target
 use Rattle.number_plan.proofs.Meanings.{found_passes}
 use Rattle.call_states.specs.declared.leg.Held.{Held}
 use Rattle.clearing_rules.specs.declared.scope.Restart.{Restart}
 use Rattle.call_profile.specs.Calls.{New_call, On_no_call, on_global_reference, is_setup, making_by, request_read, with_leg_named, request_without_leg as unnamed}
-use Rattle.call_profile.specs.IdleSlots.{idle, lowest_idle, lowest_idle_beside}
+use Rattle.call_profile.specs.IdleSlots.{idle, lowest_idle, lowest_idle_beside, hunted}
 use Rattle.call_profile.specs.LegStanding.{LegsStand}
-use Rattle.exchange_events.specs.Sound.{IsPlanned, is_reached}
+use Rattle.exchange_events.specs.Sound.{IsPlanned, is_reached, line_exists}
 use Rattle.call_profile.specs.Legs.{Legs, leg_named, new_reference}
 use Rattle.call_profile.specs.Operations.{making_at, making_after_all}
 use Rattle.exchange_events.specs.Sizes.{Setting}
@@ -115,6 +115,26 @@ called_is w x line y e =
     let both = both_true (idle w y) (not (same_slot x y)) is.0 in
     (both.0, not_same x y both.1, is.1)
 
+-- ---- line hunting
+
+-- the slot that is found is the lowest idle slot of its line
+pub hunted_on : (w : World) (x : Slot) (lines : List ℕ) (y : Slot) → hunted w x lines ≡ Some y → lowest_idle_beside w x y.line ≡ Some y
+hunted_on w x [] y e = absurd cc
+hunted_on w x (line ∷ lines) y e = elim (either_of (lowest_idle_beside w x line) (hunted w x lines) y e) [
+  | inl here ↦ subst (λ n. lowest_idle_beside w x n ≡ Some y) (sym (called_is w x line y here).2.0) here
+  | inr later ↦ hunted_on w x lines y later
+]
+
+-- its line passes a test that each line of the list passes
+pub hunted_passes : (test : ℕ → Bool) (w : World) (x : Slot) (lines : List ℕ) (y : Slot) → list_all test lines ≡ true → hunted w x lines ≡ Some y → test y.line ≡ true
+hunted_passes test w x [] y all e = absurd cc
+hunted_passes test w x (line ∷ lines) y all e =
+    let both = both_true (test line) (list_all test lines) all in
+    elim (either_of (lowest_idle_beside w x line) (hunted w x lines) y e) [
+      | inl here ↦ subst (λ n. test n ≡ true) (sym (called_is w x line y here).2.0) both.0
+      | inr later ↦ hunted_passes test w x lines y both.1 later
+    ]
+
 -- ---- the new reference
 
 none_of : (o : Option Held) → is_none o ≡ true → o ≡ None
@@ -133,6 +153,15 @@ offered s w x line y below e =
       free = subst (λ n. leg_named w.legs n true (new_reference w.legs line) ≡ None) (sym is.2.0) (none_of (leg_named w.legs line true (new_reference w.legs line)) unused.0);
     }
 
+pub offered_by_hunting : (s : Setting) (w : World) (x : Slot) (lines : List ℕ) (y : Slot) → list_all (line_exists s.dimensions.external) lines ≡ true → hunted w x lines ≡ Some y
+    → MayOffer s.dimensions w x y (new_reference w.legs y.line)
+offered_by_hunting s w x lines y exist e =
+    let passes = hunted_passes (line_exists s.dimensions.external) w x lines y exist e in
+    offered s w x y.line y (grind (arith, nat_tests, passes)) (hunted_on w x lines y e)
+
+pub all_reached : (s : Setting) (called : List ℕ) (lines : List ℕ) → IsPlanned s → target_dialled s.plan called ≡ Lines lines → list_all (line_exists s.dimensions.external) lines ≡ true
+all_reached s called lines planned is = found_passes (is_reached s.dimensions.external) s.plan _ (target.Lines lines) planned is
+
 pub reached : (s : Setting) (called : List ℕ) (line : ℕ) → IsPlanned s → target_dialled s.plan called ≡ Line line → line < s.dimensions.external
 reached s called line planned is =
     let passes = found_passes (is_reached s.dimensions.external) s.plan _ (target.Line line) planned is in
@@ -140,15 +169,18 @@ reached s called line planned is =
 
 -- ---- what is done, by a SETUP or for more digits
 
--- a line that the number leads to is one of the exchange's, and a room that it leads to has a free port
+-- each line that the number leads to is one of the exchange's, and a room that it leads to has a free port
 pub record CanReach (s : Setting) (w : World) (t : Found) : Type 0 where
   pub line : (line : ℕ) → t ≡ Line line → line < s.dimensions.external
+  pub lines : (lines : List ℕ) → t ≡ Lines lines → list_all (line_exists s.dimensions.external) lines ≡ true
   pub room : (room : ℕ) → t ≡ Room room → is_full s.dimensions w ≡ false
 
 module _ (s : Setting) (w : World) (first : Bool) (own : ℕ) (asked : Pending) (x : Slot) (may : MayCall s.dimensions s.tones w own x) where
   call_kept : (t : Found) (called : Option Slot) → called_slot w x t ≡ called → CanReach s w t → Kept s.dimensions s.tones (making_after_all s.dimensions (making_at w) (call first w own asked x t called)).world
   call_kept (Line line) (Some y) chosen can = line_call_kept s.dimensions s.tones w first own asked x y (new_reference w.legs line) may (offered s w x line y (can.line line refl) chosen)
   call_kept (Line line) None chosen can = (may.valid, may.stand)
+  call_kept (Lines lines) (Some y) chosen can = line_call_kept s.dimensions s.tones w first own asked x y (new_reference w.legs y.line) may (offered_by_hunting s w x lines y (can.lines lines refl) chosen)
+  call_kept (Lines lines) None chosen can = (may.valid, may.stand)
   call_kept (Room room) called chosen can = room_call_kept s.dimensions s.tones w first own x room may (can.room room refl)
   call_kept More called chosen can = waiting_kept s.dimensions s.tones w own asked x may first
   call_kept Nothing called chosen can = (may.valid, may.stand)
@@ -175,6 +207,7 @@ module _ (s : Setting) (w : World) (line : ℕ) (m : Message) (new : IsNew s w l
       let passed = all_pass (checks s w line m) accepted in
       let can : CanReach s w (target_of s m) = record {
         line = λ l is_line. reached s (called_in m.elements) l new.planned is_line;
+        lines = λ ls are_lines. all_reached s (called_in m.elements) ls new.planned are_lines;
         room = λ room is_room. sym (ap (is_room_full s.dimensions w) is_room) ∙ (all_from 11 (checks s w line m) passed).0;
       } in
       accepted_kept s w true m.reference (call_asked m) x may (target_of s m) can

@@ -1,5 +1,6 @@
 -- Accepting a call ends none, and neither does a SETUP.
-use Rattle.std.proofs.Common.{◌≡◌, ℕ, ◌*◌, ◌<◌, Bool, true, false, [], length, Option, Some, None, refl, sym, ◌∙◌, ap, subst}
+use Rattle.std.proofs.Common.{◌≡◌, ℕ, ◌*◌, ◌<◌, Bool, true, false, List, [], length, Option, Some, None, refl, sym, ◌∙◌, ap, subst}
+use Rattle.std.specs.List.{list_all}
 use Rattle.circuit_model.specs.declared.channel.Slot.{Slot}
 use Rattle.circuit_model.specs.Extent.{IsExternal}
 use Rattle.q931_codec.specs.declared.message.Message.{Message}
@@ -7,7 +8,7 @@ use Rattle.q931_codec.specs.Contents.{called_in, channel_in}
 use Rattle.q931_codec.specs.CallStates.{overlap_sending, outgoing_call_proceeding, active}
 use Rattle.call_states.specs.declared.leg.Peer.TheVariants as peer
 use Rattle.number_plan.specs.declared.target.Found.{Found}
-use Rattle.number_plan.specs.declared.target.Found.TheVariants.{Line, Room, More, Nothing}
+use Rattle.number_plan.specs.declared.target.Found.TheVariants.{Line, Lines, Room, More, Nothing}
 use Rattle.call_profile.specs.CallRecords.{records, is_calling}
 use Rattle.call_profile.specs.Calls.{making_by}
 use Rattle.call_profile.specs.LegStanding.{CallsStand}
@@ -17,13 +18,13 @@ use Rattle.exchange_events.specs.Sizes.{Setting}
 use Rattle.call_states.specs.declared.leg.Leg.{Leg}
 use Rattle.call_states.specs.declared.pending.Pending.{Pending}
 use Rattle.call_profile.specs.Setup.{caller_leg, called_leg, caller_slot, called_slot, target_of, call_asked, call_line, call_room, await_digits, call, accept, accept_at, setup, refusal, course_of_setup}
-use Rattle.exchange_events.specs.Sound.{IsPlanned}
+use Rattle.exchange_events.specs.Sound.{IsPlanned, line_exists}
 use Rattle.call_profile.specs.World.{World}
 use Rattle.call_profile.proofs.BesideLemmas.{entry_else}
 use Rattle.call_profile.proofs.EndedCallLemmas.{no_record_where_kept}
 use Rattle.call_profile.proofs.NewCallLemmas.{empty_slot}
 use Rattle.call_profile.proofs.RefusalLemmas.{no_records}
-use Rattle.call_profile.proofs.SetupLemmas.{caller_is, offered, reached}
+use Rattle.call_profile.proofs.SetupLemmas.{all_reached, caller_is, offered, offered_by_hunting, reached}
 use Rattle.call_profile.proofs.LegTableLemmas.{both_else}
 
 -- a slot whose leg is in no call is not the slot of a caller's leg that calls
@@ -58,18 +59,25 @@ module _ (s : Setting) (w : World) (first : Bool) (own : ℕ) (asked : Pending) 
   waiting_ends true = wait_ends
   waiting_ends false = wait_ends
 
-  call_ends : (t : Found) (o : Option Slot) → called_slot w x t ≡ o → ((line : ℕ) → t ≡ Line line → line < s.dimensions.external)
-      → records w (making_after_all s.dimensions (making_at w) (call first w own asked x t o)).world 0 ≡ []
-  call_ends (Line l) (Some y) chosen line =
-      let may = offered s w x l y (line l refl) chosen in
-      line_ends y (new_reference w.legs l) may.in_y may.apart (ap is_calling (empty_slot w y may.idle_y))
-  call_ends (Line l) None chosen line = no_records w 0
-  call_ends (Room room) o chosen line = room_ends room
-  call_ends More o chosen line = waiting_ends first
-  call_ends Nothing o chosen line = no_records w 0
+  abbrev Exist : Found → Type 0
+  Exist t = ((line : ℕ) → t ≡ Line line → line < s.dimensions.external) × ((lines : List ℕ) → t ≡ Lines lines → list_all (line_exists s.dimensions.external) lines ≡ true)
 
-  pub accepted_ends : (t : Found) → ((line : ℕ) → t ≡ Line line → line < s.dimensions.external) → records w (making_after_all s.dimensions (making_at w) (accept first w own asked x t)).world 0 ≡ []
-  accepted_ends t line = call_ends t (called_slot w x t) refl line
+  call_ends : (t : Found) (o : Option Slot) → called_slot w x t ≡ o → Exist t
+      → records w (making_after_all s.dimensions (making_at w) (call first w own asked x t o)).world 0 ≡ []
+  call_ends (Line l) (Some y) chosen exist =
+      let may = offered s w x l y (exist.0 l refl) chosen in
+      line_ends y (new_reference w.legs l) may.in_y may.apart (ap is_calling (empty_slot w y may.idle_y))
+  call_ends (Line l) None chosen exist = no_records w 0
+  call_ends (Lines ls) (Some y) chosen exist =
+      let may = offered_by_hunting s w x ls y (exist.1 ls refl) chosen in
+      line_ends y (new_reference w.legs y.line) may.in_y may.apart (ap is_calling (empty_slot w y may.idle_y))
+  call_ends (Lines ls) None chosen exist = no_records w 0
+  call_ends (Room room) o chosen exist = room_ends room
+  call_ends More o chosen exist = waiting_ends first
+  call_ends Nothing o chosen exist = no_records w 0
+
+  pub accepted_ends : (t : Found) → Exist t → records w (making_after_all s.dimensions (making_at w) (accept first w own asked x t)).world 0 ≡ []
+  accepted_ends t exist = call_ends t (called_slot w x t) refl exist
 
 -- ---- a SETUP
 
@@ -79,7 +87,7 @@ module _ (s : Setting) (w : World) (line : ℕ) (m : Message) (planned : IsPlann
   accept_ends (Some x) at =
       let on = caller_is w line (channel_in m.elements) x at in
       accepted_ends s w true m.reference (call_asked m) x stands.legs.count (subst (λ n. n < s.dimensions.external) (sym on.1.0) below, on.1.1) (ap is_calling (empty_slot w x on.0)) (target_of s m)
-      (λ l is. reached s (called_in m.elements) l planned is)
+      ((λ l is. reached s (called_in m.elements) l planned is), (λ ls are. all_reached s (called_in m.elements) ls planned are))
 
   setup_by : (o : Option ℕ) → records w (making_after_all s.dimensions (making_at w) (setup s w line m o)).world 0 ≡ []
   setup_by (Some cause) = no_records w 0

@@ -1,15 +1,16 @@
 -- Further digits in overlap sending: the digits so far, the checks in their order, and the operations. Source: ITU-T
 -- Q.931 (05/98), 5.1.3; the order of the checks is this project's profile.
-use Rattle.std.specs.Prelude.{◌≡◌, ℕ, ◌||◌, Bool, true, false, List, [], ◌∷◌, ◌++◌, length, drop, nat_lt, is_none, Option, Some, None}
+use Rattle.std.specs.Prelude.{◌≡◌, ℕ, ◌||◌, Bool, true, false, List, [], ◌∷◌, ◌++◌, length, drop, nat_lt, is_none, All, Option, Some, None}
 use Rattle.circuit_model.specs.declared.channel.Slot.{Slot}
 use Rattle.q931_codec.specs.declared.message.Message.{Message}
 use Rattle.q931_codec.specs.Causes.{invalid_number_format}
 use Rattle.q931_codec.specs.Contents.{called_received, complete_in, dialled_digits}
-use Rattle.number_plan.specs.declared.target.Found.TheVariants.{Line, Room}
+use Rattle.number_plan.specs.declared.target.Found.TheVariants.{Room}
 use Rattle.call_states.specs.declared.leg.Held.{Held}
 use Rattle.call_states.specs.declared.pending.Pending.{Pending}
 use Rattle.exchange_events.specs.Sizes.{Setting}
 use Rattle.call_profile.specs.Acts.{clear_with}
+use Rattle.call_profile.specs.Hunting.{lines_of}
 use Rattle.call_profile.specs.IdleSlots.{lowest_idle}
 use Rattle.call_profile.specs.Legs.{pending_at}
 use Rattle.call_profile.specs.Operations.{Operation}
@@ -68,9 +69,9 @@ on_digits s w h m = with_pending s w h m (pending_at w.legs h.slot)
 
 -- ---- calls that cannot continue
 
--- the number is a line's, and it has no idle slot; or a room's, and every port is taken
+-- the number is routed to lines, and none of them has an idle slot; or to a room, and every port is taken
 abbrev pub WantsSlot : Setting → World → List ℕ → Type 0
-WantsSlot s w dialled = (line : ℕ) × (target_dialled s.plan dialled ≡ Line line) × (lowest_idle w line ≡ None)
+WantsSlot s w dialled = (lines : List ℕ) × (lines_of (target_dialled s.plan dialled) ≡ Some lines) × All (λ line. lowest_idle w line ≡ None) lines
 
 abbrev pub WantsPort : Setting → World → List ℕ → Type 0
 WantsPort s w dialled = (room : ℕ) × (target_dialled s.plan dialled ≡ Room room) × (is_full s.dimensions w ≡ true)

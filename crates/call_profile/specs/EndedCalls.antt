@@ -3,7 +3,7 @@
 use Rattle.std.specs.Prelude.{ℕ, List, [], Option, Some, None, option_and_then, if◌then◌else◌}
 use Rattle.std.specs.List.{cons_option}
 use Rattle.circuit_model.specs.declared.channel.Slot.{Slot}
-use Rattle.q931_codec.specs.Causes.{no_user_responding, temporary_failure}
+use Rattle.q931_codec.specs.Causes.{no_answer_from_user, no_user_responding, temporary_failure}
 use Rattle.call_timers.specs.declared.expiry.Expiry.{Expiry}
 use Rattle.call_timers.specs.declared.expiry.Expiry.TheVariants as expiry
 use Rattle.call_states.specs.Acts.{cause_of_act}
@@ -46,6 +46,7 @@ slot_records r w x = if is_restarted r x.place then cons_option (option_and_then
 abbrev pub record_of_expiry : World → Held → Expiry → Option CallRecord
 record_of_expiry w h expiry.SetupOver = record_ended w h no_user_responding
 record_of_expiry w h expiry.Proceeding = record_ended w h no_user_responding
+record_of_expiry w h expiry.Alerting = record_ended w h no_answer_from_user
 record_of_expiry w h _ = None
 
 -- the records of the calls that expiries at a slot end in a frame

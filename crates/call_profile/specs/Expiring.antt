@@ -1,12 +1,12 @@
 -- The operations of a timer's expiry, and the turn of a frame: ITU-T Q.931 (05/98), 9.1, table 9-1, with 5.1.3 (T302),
--- 5.2.5.4 (T303, T310) and 5.3 (T305, T308). The frame in which a leg is examined, and the clearing of the rest of its
+-- 5.2.5.4 (T301, T303, T310) and 5.3 (T305, T308). The frame in which a leg is examined, and the clearing of the rest of its
 -- call, are this project's profile.
-use Rattle.std.specs.Prelude.{ℕ, zero, suc, ◌%◌, List, [], ◌∷◌, ◌++◌, Option, Some, None}
+use Rattle.std.specs.Prelude.{ℕ, zero, suc, ◌%◌, List, [], ◌∷◌, ◌++◌, Option, Some, None, option_and_then, option_map, unwrap_or}
 use Rattle.circuit_model.specs.declared.channel.Slot.{Slot}
 use Rattle.circuit_model.specs.FrameInput.{Input}
 use Rattle.q931_codec.specs.declared.kind.MessageKind.TheVariants as kind
-use Rattle.q931_codec.specs.CallStates.{overlap_sending, call_present, incoming_call_proceeding, disconnect_indication, release_request}
-use Rattle.q931_codec.specs.Causes.{invalid_number_format, no_user_responding, recovery_on_timer_expiry}
+use Rattle.q931_codec.specs.CallStates.{overlap_sending, call_present, call_received, incoming_call_proceeding, disconnect_indication, release_request}
+use Rattle.q931_codec.specs.Causes.{invalid_number_format, no_answer_from_user, no_user_responding, recovery_on_timer_expiry}
 use Rattle.q931_codec.specs.Outgoing.{OutgoingMessage}
 use Rattle.call_timers.specs.Expiries.{due}
 use Rattle.call_timers.specs.declared.expiry.Expiry.{Expiry}
@@ -44,23 +44,24 @@ give_up h = Clear h.slot ∷ Remove h.slot ∷ send_to h (release_complete_for h
 abbrev pub ask_for_release : Held → List Operation
 ask_for_release h = Expect h.slot (in_release_request h.leg) (release_for h.leg h.leg.cause) ∷ []
 
--- the caller is cleared, because the called user does not respond
-abbrev pub clear_peer : Tones → Legs → Held → List Operation
-clear_peer tones legs h = with_peer (peer_of legs h.leg.peer) (clear_with tones no_user_responding)
+-- the caller is cleared, because the called user does not respond or does not answer
+abbrev pub clear_peer : Tones → Legs → Held → ℕ → List Operation
+clear_peer tones legs h cause = with_peer (peer_of legs h.leg.peer) (clear_with tones cause)
 
 -- the called user did not answer the SETUP, which was sent twice
 abbrev pub setup_over : Tones → Legs → Held → List Operation
-setup_over tones legs h = give_up h ++ clear_peer tones legs h
+setup_over tones legs h = give_up h ++ clear_peer tones legs h no_user_responding
 
--- the called user neither alerts nor answers, so both legs are cleared
-abbrev pub proceeding_over : Tones → Legs → Held → List Operation
-proceeding_over tones legs h = clear_with tones recovery_on_timer_expiry h ++ clear_peer tones legs h
+-- both legs are cleared, and the caller with this cause
+abbrev pub clear_both : Tones → Legs → Held → ℕ → List Operation
+clear_both tones legs h cause = clear_with tones recovery_on_timer_expiry h ++ clear_peer tones legs h cause
 
 abbrev pub on_expiry : Tones → Legs → Held → Expiry → List Operation
 on_expiry tones legs h expiry.Digits = clear_with tones invalid_number_format h
 on_expiry tones legs h expiry.SetupAgain = send_again h (kept_at legs h.slot)
 on_expiry tones legs h expiry.SetupOver = setup_over tones legs h
-on_expiry tones legs h expiry.Proceeding = proceeding_over tones legs h
+on_expiry tones legs h expiry.Proceeding = clear_both tones legs h no_user_responding
+on_expiry tones legs h expiry.Alerting = clear_both tones legs h no_answer_from_user
 on_expiry tones legs h expiry.Disconnect = ask_for_release h
 on_expiry tones legs h expiry.ReleaseAgain = send_again h (kept_at legs h.slot)
 on_expiry tones legs h expiry.ReleaseOver = remove_leg h
@@ -71,9 +72,15 @@ timed_state expiry.Digits = overlap_sending
 timed_state expiry.SetupAgain = call_present
 timed_state expiry.SetupOver = call_present
 timed_state expiry.Proceeding = incoming_call_proceeding
+timed_state expiry.Alerting = call_received
 timed_state expiry.Disconnect = disconnect_indication
 timed_state expiry.ReleaseAgain = release_request
 timed_state expiry.ReleaseOver = release_request
+
+-- the cause of the record of the call that an expiry ends: the user was alerted, or did not respond
+abbrev pub cause_of_expiry : Expiry → ℕ
+cause_of_expiry expiry.Alerting = no_answer_from_user
+cause_of_expiry _ = no_user_responding
 
 -- ---- a leg, in a frame
 
@@ -91,6 +98,13 @@ expire_leg s frame legs (Some h) = if_due s.tones legs h (due_of s.timers frame 
 abbrev pub expire_slot : Setting → ℕ → Legs → Slot → List Operation
 expire_slot s frame legs x = expire_leg s frame legs (held_at legs x)
 
+-- the cause of the records of an expiry, if one is due; otherwise nothing is recorded, and any cause would do
+abbrev pub cause_if_due : Option Expiry → ℕ
+cause_if_due e = unwrap_or (option_map cause_of_expiry e) no_user_responding
+
+abbrev pub cause_at : Setting → ℕ → Legs → Slot → ℕ
+cause_at s frame legs x = cause_if_due (option_and_then (λ h. due_of s.timers frame h.leg) (held_at legs x))
+
 -- ---- a frame's turn
 
 -- each frame examines the legs of one place, so each leg is examined in every 30th frame
@@ -98,7 +112,10 @@ abbrev pub slot_looked_at : ℕ → ℕ → Slot
 slot_looked_at frame line = record { line = line; place = frame % 30 }
 
 abbrev pub outcome_on_line : Setting → ℕ → ℕ → MessageOutcome → MessageOutcome
-outcome_on_line s frame line a = outcome_then s.dimensions no_user_responding a (expire_slot s frame a.making.world.legs (slot_looked_at frame line))
+outcome_on_line s frame line a =
+    let legs = a.making.world.legs in
+    let x = slot_looked_at frame line in
+    outcome_then s.dimensions (cause_at s frame legs x) a (expire_slot s frame legs x)
 
 -- the first n lines, lowest first, each in the exchange state after those before it
 unfoldable pub outcome_of_lines : Setting → ℕ → World → ℕ → MessageOutcome

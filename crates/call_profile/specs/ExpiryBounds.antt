@@ -5,7 +5,7 @@ use Rattle.circuit_model.specs.declared.channel.Slot.{Slot}
 use Rattle.circuit_model.specs.Extent.{IsExternal}
 use Rattle.circuit_model.specs.declared.circuit.Circuit.{Circuit}
 use Rattle.circuit_model.specs.declared.circuit.Circuit.TheVariants.{Pair, Member, Tone}
-use Rattle.q931_codec.specs.CallStates.{call_delivered, call_received, active}
+use Rattle.q931_codec.specs.CallStates.{active}
 use Rattle.call_timers.specs.declared.timers.Timers.{Timers}
 use Rattle.call_states.specs.Acts.{is_among}
 use Rattle.call_states.specs.declared.leg.Leg.{Leg}
@@ -46,11 +46,11 @@ NoneElseChanges s w input =
     → let after = (outcome_of_frame s w input).making.world.legs in
     (leg_at after x ≡ leg_at w.legs x) ⊎ EitherRunsOut s.timers w.holding.next w.legs x
 
--- the states in which neither a leg nor the other leg of its call has a timer
+-- the state in which neither a leg nor the other leg of its call has a timer
 abbrev pub without_timers : List ℕ
-without_timers = call_delivered ∷ call_received ∷ active ∷ []
+without_timers = active ∷ []
 
--- a leg in one of these states is unchanged
+-- a leg in this state is unchanged
 abbrev pub UntimedStay : Setting → World → Input → Type 0
 UntimedStay s w input =
     (x : Slot) (leg : Leg) → IsExternal s.dimensions.external x → leg_at w.legs x ≡ Some leg → is_among without_timers leg.state ≡ true

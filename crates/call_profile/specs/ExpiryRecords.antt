@@ -1,8 +1,9 @@
 -- The records of a frame, in which calls end because a timer expires. Source: this project.
-use Rattle.std.specs.Prelude.{◌≡◌, ◌<◌, List, AllPairs, Contains, Some}
+use Rattle.std.specs.Prelude.{◌≡◌, ◌<◌, ◌==◌, ℕ, if◌then◌else◌, List, AllPairs, Contains, Some}
 use Rattle.circuit_model.specs.declared.channel.Slot.{Slot}
 use Rattle.circuit_model.specs.FrameInput.{Input}
-use Rattle.q931_codec.specs.Causes.{no_user_responding}
+use Rattle.q931_codec.specs.CallStates.{call_delivered}
+use Rattle.q931_codec.specs.Causes.{no_answer_from_user, no_user_responding}
 use Rattle.call_states.specs.declared.leg.Held.{Held}
 use Rattle.call_states.specs.declared.leg.Leg.{Leg}
 use Rattle.exchange_events.specs.declared.record.CallRecord.{CallRecord}
@@ -14,11 +15,16 @@ use Rattle.call_profile.specs.ExpiryBounds.{RunsOut}
 use Rattle.call_profile.specs.Recorded.{HasEnded}
 use Rattle.call_profile.specs.World.{World, pass}
 
+-- the cause of the record, by the state of the caller's leg: no answer from user in call delivered, in which the called
+-- user is alerted, and otherwise no user responding
+abbrev pub cause_of_silence : Leg → ℕ
+cause_of_silence leg = if leg.state == call_delivered then no_answer_from_user else no_user_responding
+
 -- the call of a caller's leg ended in the frame, in which the timer of its called leg expired, and this is its record
 pub record IsFrameRecord (s : Setting) (w : World) (input : Input) (h : Held) (told : CallRecord) : Type 0 where
   pub ended : HasEnded s.dimensions.external w (outcome_of_frame s w input).making.world h
-  pub is : record_of (pass w input) no_user_responding h ≡ Some told
-  pub cause : told.cause ≡ no_user_responding
+  pub is : record_of (pass w input) told.cause h ≡ Some told
+  pub cause : told.cause ≡ cause_of_silence h.leg
   pub due : (y : Slot) × (leg : Leg) × (told.called ≡ party.Line y) × RunsOut s.timers w.holding.next w.legs y leg
 
 -- the record of the caller's leg is among the frame's records

@@ -1,5 +1,6 @@
 -- The idle slots of an exchange state. Source: this project.
-use Rattle.std.specs.Prelude.{ℕ, ◌&&◌, not, Bool, is_none, Option, find}
+use Rattle.std.specs.Prelude.{ℕ, ◌&&◌, not, Bool, is_none, List, [], ◌∷◌, Option, None, find}
+use Rattle.std.specs.Option.{option_or}
 use Rattle.circuit_model.specs.declared.channel.Slot.{Slot}
 use Rattle.circuit_model.specs.Circuits.{is_idle, same_slot}
 use Rattle.call_profile.specs.Legs.{leg_at, slots_of}
@@ -19,3 +20,8 @@ lowest_idle w line = find (idle w) (slots_of line)
 
 abbrev pub lowest_idle_beside : World → Slot → ℕ → Option Slot
 lowest_idle_beside w x line = find (λ y. idle w y && not (same_slot x y)) (slots_of line)
+
+-- line hunting: the lowest idle slot, other than a given slot, of the first of these lines that has one
+abbrev pub hunted : World → Slot → List ℕ → Option Slot
+hunted w x [] = None
+hunted w x (line ∷ lines) = option_or (lowest_idle_beside w x line) (hunted w x lines)

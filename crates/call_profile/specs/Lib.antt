@@ -1,6 +1,7 @@
 pub mod Legs
 pub mod World
 pub mod IdleSlots
+pub mod Hunting
 pub mod Operations
 pub mod Permitted
 pub mod Course

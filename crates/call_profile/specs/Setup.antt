@@ -21,11 +21,11 @@ use Rattle.call_states.specs.declared.leg.Side.TheVariants.{Caller, Called}
 use Rattle.call_states.specs.declared.pending.Pending.{Pending}
 use Rattle.number_plan.specs.declared.plan.Number.{Number}
 use Rattle.number_plan.specs.declared.target.Found.{Found}
-use Rattle.number_plan.specs.declared.target.Found.TheVariants.{Line, Room, More, Nothing}
+use Rattle.number_plan.specs.declared.target.Found.TheVariants.{Line, Lines, Room, More, Nothing}
 use Rattle.number_plan.specs.Plan.{found_for}
 use Rattle.call_profile.specs.Acts.{message_to}
 use Rattle.call_profile.specs.Course.{Course, only}
-use Rattle.call_profile.specs.IdleSlots.{idle, lowest_idle, lowest_idle_beside}
+use Rattle.call_profile.specs.IdleSlots.{idle, lowest_idle, lowest_idle_beside, hunted}
 use Rattle.call_profile.specs.Legs.{new_reference}
 use Rattle.call_profile.specs.Operations.{Operation, Seat, Put, Wait, Expect, Send}
 use Rattle.exchange_events.specs.Sizes.{Setting, Dimensions}
@@ -79,9 +79,11 @@ if_idle w x = if idle w x then Some x else None
 abbrev pub caller_slot : World → ℕ → Option ChannelIdentification → Option Slot
 caller_slot w line channel = option_or (option_and_then (if_idle w) (slot_asked line channel)) (lowest_idle w line)
 
--- the called slot is the called line's lowest idle slot other than the caller's
+-- the called slot is the lowest idle slot, other than the caller's, of the called line, or of the first called line
+-- that has one
 abbrev pub called_slot : World → Slot → Found → Option Slot
 called_slot w caller (Line line) = lowest_idle_beside w caller line
+called_slot w caller (Lines lines) = hunted w caller lines
 called_slot w caller _ = None
 
 -- ---- the checks: whether each fails, and the cause with which the SETUP is then refused
@@ -137,9 +139,10 @@ abbrev pub is_taken : World → ℕ → Option ChannelIdentification → Bool
 is_taken w line (Some (Exclusive channel)) = is_none (option_and_then (if_idle w) (slot_of line channel))
 is_taken w line _ = false
 
--- the called line has no idle slot other than the caller's
+-- the called line, or each of the called lines, has no idle slot other than the caller's
 abbrev pub is_line_full : World → Option Slot → Found → Bool
 is_line_full w caller (Line line) = is_none (option_and_then (λ x. lowest_idle_beside w x line) caller)
+is_line_full w caller (Lines lines) = is_none (option_and_then (λ x. hunted w x lines) caller)
 is_line_full w caller _ = false
 
 -- the number is a room's, and every port is taken
@@ -241,6 +244,7 @@ await_digits first own asked x =
 
 abbrev pub call : Bool → World → ℕ → Pending → Slot → Found → Option Slot → List Operation
 call first w own asked x (Line line) (Some y) = call_line first own asked x y (new_reference w.legs line)
+call first w own asked x (Lines lines) (Some y) = call_line first own asked x y (new_reference w.legs y.line)
 call first w own asked x (Room room) called = call_room first own x room
 call first w own asked x More called = await_digits first own asked x
 call first w own asked x _ _ = []

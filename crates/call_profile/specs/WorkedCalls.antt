@@ -224,6 +224,17 @@ line_full =
 abbrev pub line_full_answered : List Reply
 line_full_answered = replicate 15 (Granted 0 0) ++ sends_reply (to 0 (0x08 ∷ 0x02 ∷ 0x80 ∷ 0x01 ∷ 0x5A ∷ 0x08 ∷ 0x02 ∷ 0x82 ∷ 0xA2 ∷ []) ∷ []) ∷ []
 
+-- the two lines again, where the number is routed to line 1, and to line 0 if line 1 is full
+abbrev pub hunting_lines : Setting
+hunting_lines = record two_lines { plan = record { digits = 0x31 ∷ 0x30 ∷ 0x31 ∷ []; target = target.Lines (1 ∷ 0 ∷ []) } ∷ [] }
+
+-- the caller is offered to its own line, on the channel after its own
+abbrev pub line_hunted_answered : List Reply
+line_hunted_answered =
+    replicate 15 (Granted 0 0)
+    ++ sends_reply (to 0 (0x08 ∷ 0x02 ∷ 0x80 ∷ 0x01 ∷ 0x02 ∷ 0x18 ∷ 0x03 ∷ 0xA9 ∷ 0x83 ∷ 0x81 ∷ []) ∷ to 0 (0x08 ∷ 0x02 ∷ 0x00 ∷ 0x01 ∷ 0x05 ∷ 0xA1 ∷ 0x04 ∷ 0x03 ∷ 0x80 ∷ 0x90 ∷ 0xA3 ∷ 0x18 ∷ 0x03 ∷ 0xA9 ∷ 0x83 ∷ 0x82 ∷ 0x70 ∷ 0x04 ∷ 0x80 ∷ 0x31 ∷ 0x30 ∷ 0x31 ∷ []) ∷ [])
+    ∷ []
+
 -- line 1 restarts its interface while line 0's user calls it: the caller is cleared with cause 41; and a line without
 -- legs restarts one channel
 abbrev pub restart_of_called : List Event

@@ -18,7 +18,7 @@ use Rattle.call_profile.specs.World.{World, start}
 abbrev pub hasty_lines : Setting
 hasty_lines = record two_lines {
   plan = record { digits = 0x31 ∷ 0x30 ∷ 0x31 ∷ []; target = target.Line 1 } ∷ record { digits = 0x31 ∷ 0x30 ∷ 0x32 ∷ []; target = target.Line 0 } ∷ [];
-  timers = record { t302 = 1; t303 = 1; t305 = 1; t308 = 1; t310 = 1 };
+  timers = record { t301 = 1; t302 = 1; t303 = 1; t305 = 1; t308 = 1; t310 = 1 };
 }
 
 -- the exchange state after these events, at the boundary of frame n, whatever frames were before it
@@ -96,6 +96,29 @@ unanswered_on called caller = record { caller = at caller 1; called = party.Line
 -- both calls are cleared in one frame, first the call to line 0, and each is recorded
 abbrev pub both_over : Reply
 both_over = Frame_reply 30 (cleared_from 0 1 ++ cleared_from 1 0) (unanswered_on 0 1 ∷ unanswered_on 1 0 ∷ [])
+
+-- ---- T301
+
+-- the called user is alerted, and never answers
+abbrev pub alerting : Event
+alerting = Message 1 (0x08 ∷ 0x02 ∷ 0x80 ∷ 0x01 ∷ 0x01 ∷ [])
+
+abbrev pub alerted : List Event
+alerted = offered ++ alerting ∷ []
+
+-- the call was never answered, and the user was alerted
+abbrev pub not_answered : ℕ → CallRecord
+not_answered n = record { caller = at 0 0; called = party.Line (at 1 0); answered = false; from = n; to = n; cause = 19 }
+
+abbrev pub alerting_over : Reply
+alerting_over = ended_in 30 (to 1 (0x08 ∷ 0x02 ∷ 0x00 ∷ 0x01 ∷ 0x45 ∷ 0x08 ∷ 0x02 ∷ 0x82 ∷ 0xE6 ∷ []) ∷ to 0 (0x08 ∷ 0x02 ∷ 0x80 ∷ 0x01 ∷ 0x45 ∷ 0x08 ∷ 0x02 ∷ 0x82 ∷ 0x93 ∷ []) ∷ []) (not_answered 31)
+
+-- in the frame in which the timer expires, the called user alerts once more, or answers
+abbrev pub alerted_again : World
+alerted_again = next hasty_lines (world_in 30 alerted) alerting
+
+abbrev pub answered_in_time : World
+answered_in_time = next hasty_lines (world_in 30 alerted) (Message 1 (0x08 ∷ 0x02 ∷ 0x80 ∷ 0x01 ∷ 0x07 ∷ []))
 
 -- ---- T302
 

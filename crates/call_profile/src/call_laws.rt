@@ -1,5 +1,5 @@
 //! Theorems on calls, and worked calls.
-ghost use Rattle.std.specs.Prelude.{◌≡◌, ◌≢◌, [], ℕ, List, All, None, Some, is_some};
+ghost use Rattle.std.specs.Prelude.{◌≡◌, ◌≢◌, ◌↔◌, [], ◌∷◌, ℕ, Bool, List, All, None, Some, is_some};
 ghost use Rattle.circuit_model.specs.declared.channel.Slot.{Slot};
 ghost use Rattle.q931_codec.specs.Outgoing.{encoding};
 ghost use Rattle.q931_codec.specs.Causes.{no_channel_available, switching_equipment_congestion};
@@ -7,7 +7,12 @@ ghost use Rattle.call_states.specs.Acts.{act_on};
 ghost use Rattle.call_states.specs.declared.act.Act.TheVariants as act;
 ghost use Rattle.call_states.specs.declared.leg.Leg.{Leg};
 ghost use Rattle.call_profile.specs.Digits.{called_with, digits_refusal, WantsSlot, WantsPort};
-ghost use Rattle.call_profile.specs.IdleSlots.{lowest_idle, lowest_idle_beside};
+ghost use Rattle.call_profile.specs.IdleSlots.{lowest_idle, lowest_idle_beside, hunted};
+ghost use Rattle.call_profile.specs.Hunting.{IsFull, IsFirstIdle, IsIdleOnOne};
+ghost use Rattle.call_profile.specs.Setup.{accept, called_checks};
+ghost use Rattle.number_plan.specs.declared.target.Found.TheVariants as found;
+ghost use Rattle.call_states.specs.declared.pending.Pending.{Pending};
+ghost use Rattle.exchange_events.specs.Sizes.{Dimensions};
 ghost use Rattle.call_profile.specs.Legs.{leg_at};
 ghost use Rattle.control_memory.specs.Layout.{Layout};
 ghost use Rattle.call_profile.specs.Answered.{IsAnswered, GetsBothPaths, with_layout};
@@ -30,7 +35,7 @@ ghost use Rattle.call_profile.specs.ReleaseTones.{release_with, EachReleaseSound
 ghost use Rattle.call_profile.specs.Step.{reply, next, world_after_all};
 ghost use Rattle.call_profile.specs.Waiting.{EachWaits, NoneElsePends};
 ghost use Rattle.call_profile.specs.World.{World, start};
-ghost use Rattle.call_profile.specs.WorkedCalls.{two_lines, one_line, answers, whole_call, whole_call_answered, refused_or_moved, refused_or_moved_answered, clear_collision, clear_collision_answered, without_call, without_call_answered, own_line, restart_of_called, restart_of_called_answered, restart_of_both, restart_of_both_answered, restart_of_one, restart_of_one_answered, lenient_reading, lenient_reading_answered, call_to_room, call_to_room_answered, no_port_answered, unexpected, unexpected_answered, line_full, line_full_answered, sounding_lines, circuits_after, rings, rings_answered, ringing_tone, found_busy, found_busy_answered, busy_tone, found_gone, found_gone_answered, found_there, conversation};
+ghost use Rattle.call_profile.specs.WorkedCalls.{two_lines, one_line, answers, whole_call, whole_call_answered, refused_or_moved, refused_or_moved_answered, clear_collision, clear_collision_answered, without_call, without_call_answered, own_line, restart_of_called, restart_of_called_answered, restart_of_both, restart_of_both_answered, restart_of_one, restart_of_one_answered, lenient_reading, lenient_reading_answered, call_to_room, call_to_room_answered, no_port_answered, unexpected, unexpected_answered, line_full, line_full_answered, hunting_lines, line_hunted_answered, sounding_lines, circuits_after, rings, rings_answered, ringing_tone, found_busy, found_busy_answered, busy_tone, found_gone, found_gone_answered, found_there, conversation};
 
 /// The definitions of the operations for messages, evaluated on small exchanges.
 pub fn worked_calls()
@@ -46,6 +51,7 @@ pub fn worked_calls()
     ensures restart_both { answers own_line restart_of_both ≡ restart_of_both_answered }
     ensures restart_one { answers own_line restart_of_one ≡ restart_of_one_answered }
     ensures full { answers two_lines line_full ≡ line_full_answered }
+    ensures hunt { answers hunting_lines line_full ≡ line_hunted_answered }
     ensures ringback { answers sounding_lines rings ≡ rings_answered }
     ensures rings { circuits_after sounding_lines rings ≡ ringing_tone }
     ensures busy { answers sounding_lines found_busy ≡ found_busy_answered }
@@ -121,6 +127,20 @@ pub fn law_of_legs()
     ensures told_apart { (leg : Leg) (cause : ℕ) → encoding (release_with leg None) ≢ encoding (release_with leg (Some cause)) }
 {}
 
+/// A number that is routed to a list of lines gets the lowest idle slot of the first line that has one, other than the
+/// caller's (`first`). It gets none if and only if each line is full (`none`). The caller's line is tried like any
+/// other line. The slot is idle, is not the caller's, and is on a line of the list (`idle`). A list of one line passes
+/// the checks of that line and gives its operations (`checks`, `one`).
+pub fn law_of_hunting()
+    ensures first { (w : World) (x : Slot) (lines : List ℕ) (y : Slot) → (hunted w x lines ≡ Some y) ↔ IsFirstIdle w x lines y }
+    ensures none { (w : World) (x : Slot) (lines : List ℕ) → (hunted w x lines ≡ None) ↔ All (IsFull w x) lines }
+    ensures idle { (w : World) (x : Slot) (lines : List ℕ) (y : Slot) → hunted w x lines ≡ Some y → IsIdleOnOne w x lines y }
+    ensures checks { (d : Dimensions) (w : World) (x : Slot) (line : ℕ)
+        → called_checks d w (Some x) (found.Lines (line ∷ [])) ≡ called_checks d w (Some x) (found.Line line) }
+    ensures one { (first : Bool) (w : World) (own : ℕ) (asked : Pending) (x : Slot) (line : ℕ)
+        → accept first w own asked x (found.Lines (line ∷ [])) ≡ accept first w own asked x (found.Line line) }
+{}
+
 /// A call with further digits gets the called line's lowest idle slot, as for a SETUP, since a slot with a leg is not
 /// idle. It is refused with cause 34 only if there is no such slot, and with cause 42 only if there is no free port.
 /// Further digits end no call, so that nothing is recorded.
@@ -137,8 +157,8 @@ pub fn law_of_digits()
 /// The turn of a frame sends at most two messages for each external line, and records at most one call for each. The
 /// limit of 64 messages a step is therefore enough for 32 lines. A frame event changes or removes a leg only if the
 /// timer of that leg, or of its peer, expires in the frame. The wait of a changed leg restarts in the frame after. The
-/// legs of a call whose called user is alerted or has answered are unchanged, and so is each connection, each
-/// membership, each path and each port.
+/// legs of a call whose called user has answered are unchanged, and so is each connection, each membership, each path
+/// and each port.
 pub fn law_of_expiries()
     ensures sends { (s : Setting) (w : World) (input : Input) → SendsFew s w input }
     ensures records { (s : Setting) (w : World) (input : Input) → CallsStand s w → RecordsFew s w input }

@@ -11,6 +11,7 @@
 //! - The turn of a frame, in which timers expire (`Expiring`), sends at most two messages and records at most one call
 //!   for each external line. It changes only legs of calls with an expired timer, and no connection
 //!   ([`law_of_expiries`]).
+//! - A number of several lines gets the lowest idle slot of the first line that has one ([`law_of_hunting`]).
 //! - Further digits are refused with cause 34 only if no slot is free, and with cause 42 only if no port is free. They
 //!   end no call, so nothing is recorded ([`law_of_digits`]).
 //! - The layout of the paths and the number of internal slots decide only how many paths move
@@ -32,8 +33,8 @@ mod records;
 mod worked;
 
 pub use call_laws::{
-    law_of_answered_calls, law_of_digits, law_of_expiries, law_of_legs, law_of_paths,
-    law_of_refused_calls, worked_calls,
+    law_of_answered_calls, law_of_digits, law_of_expiries, law_of_hunting, law_of_legs,
+    law_of_paths, law_of_refused_calls, worked_calls,
 };
 pub use command_laws::{law_of_granted_nails, law_of_refusals};
 pub use laws::{later_frames_change_nothing, law_of_fabrics, worlds_are_made};

@@ -4,7 +4,7 @@ ghost use Rattle.call_profile.specs.WorkedCalls.{two_lines, one_line, own_line, 
 ghost use Rattle.call_profile.specs.WorkedMessages.{refused_by_element, refused_by_element_answered, unreadable_cause, unreadable_cause_answered, null_status_received, null_status_answered, release_collision, release_collision_answered, reference_given_again, reference_given_again_answered, compatibility, compatibility_answered};
 ghost use Rattle.call_profile.specs.WorkedDigits.{begun_later, ended_later, ended_later_answered, faulty_digits, faulty_digits_answered, in_other_states, in_other_states_answered, in_three_messages, in_three_messages_answered, line_full_later, line_full_later_answered, longest_numbers, longest_numbers_answered, no_port_later_answered, own_line_later, own_line_later_answered, passed_on_later, passed_on_later_answered, room_later, room_later_answered, two_digits, wrong_digit, wrong_digit_answered};
 ghost use Rattle.call_profile.specs.Legs.{no_legs};
-ghost use Rattle.call_profile.specs.WorkedExpiries.{turn_of, after_turn, world_in, in_frame, nothing_in, offered, setup_again, setup_over, proceeds, proceeding_over, both_proceed, both_over, begun_on_both, digits_over, first_turn, second_turn, third_turn, released};
+ghost use Rattle.call_profile.specs.WorkedExpiries.{turn_of, after_turn, world_in, in_frame, nothing_in, offered, setup_again, setup_over, proceeds, proceeding_over, both_proceed, both_over, alerted, alerting_over, alerted_again, answered_in_time, begun_on_both, digits_over, first_turn, second_turn, third_turn, released};
 ghost use Rattle.call_profile.specs.WorkedOverlap.{dialled_in_part, dialled_in_part_answered, pending_after, first_digit, refused_at_once, refused_at_once_answered, no_numbers, dials_nothing, dials_nothing_answered, given_up, given_up_answered};
 
 /// The definitions of the operations for messages, evaluated on more messages.
@@ -52,6 +52,9 @@ pub fn worked_expiries()
     ensures setup_over { turn_of (in_frame 60 (after_turn (world_in 30 offered))) ≡ setup_over }
     ensures proceeding { turn_of (world_in 30 proceeds) ≡ proceeding_over }
     ensures two_records { turn_of (world_in 30 both_proceed) ≡ both_over }
+    ensures alerting { turn_of (world_in 30 alerted) ≡ alerting_over }
+    ensures alerted_again { turn_of alerted_again ≡ alerting_over }
+    ensures answered { turn_of answered_in_time ≡ nothing_in 30 }
     ensures digits { turn_of (world_in 30 begun_on_both) ≡ digits_over }
     ensures release { turn_of (in_frame 60 first_turn) ≡ released 60 }
     ensures release_again { turn_of (in_frame 90 second_turn) ≡ released 90 }

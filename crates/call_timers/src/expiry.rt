@@ -5,7 +5,8 @@ ghost use Rattle.call_timers.specs.Expiries.{due, expiry_in, frames_to};
 
 use crate::timers::Timers;
 use q931_codec::states::{
-    CALL_PRESENT, DISCONNECT_INDICATION, INCOMING_CALL_PROCEEDING, OVERLAP_SENDING, RELEASE_REQUEST,
+    CALL_PRESENT, CALL_RECEIVED, DISCONNECT_INDICATION, INCOMING_CALL_PROCEEDING, OVERLAP_SENDING,
+    RELEASE_REQUEST,
 };
 
 /// The act of a timer's expiry (Q.931, 9.1, table 9-1).
@@ -19,6 +20,8 @@ pub enum Expiry {
     SetupOver,
     /// T310 in incoming call proceeding: the called user neither alerts nor answers.
     Proceeding,
+    /// T301 in call received: the called user is alerted and does not answer.
+    Alerting,
     /// T305 in disconnect indication: the user is asked to release the call.
     Disconnect,
     /// T308 in release request, for the first time: the RELEASE is retransmitted.
@@ -65,6 +68,7 @@ fn expiry_in(state: u8, resent: bool) -> Option<Expiry>
         (CALL_PRESENT, false) => Some(Expiry::SetupAgain),
         (CALL_PRESENT, true) => Some(Expiry::SetupOver),
         (INCOMING_CALL_PROCEEDING, _) => Some(Expiry::Proceeding),
+        (CALL_RECEIVED, _) => Some(Expiry::Alerting),
         (DISCONNECT_INDICATION, _) => Some(Expiry::Disconnect),
         (RELEASE_REQUEST, false) => Some(Expiry::ReleaseAgain),
         (RELEASE_REQUEST, true) => Some(Expiry::ReleaseOver),
@@ -80,6 +84,7 @@ fn frames_to(timers: &Timers, expiry: Expiry) -> u32
         Expiry::Digits => timers.t302,
         Expiry::SetupAgain | Expiry::SetupOver => timers.t303,
         Expiry::Proceeding => timers.t310,
+        Expiry::Alerting => timers.t301,
         Expiry::Disconnect => timers.t305,
         Expiry::ReleaseAgain | Expiry::ReleaseOver => timers.t308,
     }

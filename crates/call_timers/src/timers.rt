@@ -7,6 +7,8 @@ ghost use Rattle.call_timers.specs.Expiries.{usual};
 /// microseconds.
 #[derive(Clone, Copy, Debug, PartialEq, Eq)]
 pub struct Timers {
+    /// T301: the time for an alerted called user to answer.
+    pub t301: u32,
     /// T302: the time for the next digits of a number.
     pub t302: u32,
     /// T303: the time for a called user's first reply to a SETUP.
@@ -20,11 +22,12 @@ pub struct Timers {
 }
 
 impl Timers {
-    /// Returns the usual timers: 15 seconds, 4, 30, 4 and 10, which are values of table 9-1, in frames.
+    /// Returns the usual timers: 180 seconds, 15, 4, 30, 4 and 10, which are values of table 9-1, in frames.
     pub fn usual() -> Timers
         ensures { result ≡ usual }
     {
         Timers {
+            t301: 1_440_000,
             t302: 120_000,
             t303: 32_000,
             t305: 240_000,

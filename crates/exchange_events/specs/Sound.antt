@@ -1,6 +1,6 @@
 -- The conditions that every trace meets. Source: this project.
 use Rattle.std.specs.Prelude.{◌≡◌, ◌≢◌, ℕ, ◌<◌, ◌≤◌, nat_lt, Bool, true, IsTrue, ◌==◌, List, [], ◌∷◌, length, All, AllPairs}
-use Rattle.std.specs.List.{list_any}
+use Rattle.std.specs.List.{list_all, list_any}
 use Rattle.circuit_model.specs.declared.channel.Slot.{Slot}
 use Rattle.circuit_model.specs.Extent.{IsExternal}
 use Rattle.number_plan.specs.declared.target.Target.{Target}
@@ -26,10 +26,15 @@ Fits external (Free x) = IsExternal external x
 Fits external (Message line octets) = (line < external) × All (λ octet. octet < 256) octets
 Fits external (Frame input) = length input ≡ external
 
--- a number's line is one of n
+-- a line is one of n external lines
+abbrev pub line_exists : ℕ → ℕ → Bool
+line_exists external line = nat_lt line external
+
+-- the lines of a number's target are among n
 abbrev pub is_reached : ℕ → Target → Bool
 is_reached external (target.Line line) = nat_lt line external
 is_reached external (target.Room room) = true
+is_reached external (target.Lines lines) = list_all (line_exists external) lines
 
 -- the numbers of a plan are routed to lines that exist
 abbrev pub IsPlanned : Setting → Type 0

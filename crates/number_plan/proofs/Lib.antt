@@ -3,3 +3,4 @@ pub mod OrderFacts
 pub mod Looks
 pub mod Searches
 pub mod Meanings
+pub mod Padding

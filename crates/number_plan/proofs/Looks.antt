@@ -96,12 +96,14 @@ found_at_place xs d i p =
 abbrev pub is_known : Found → Bool
 is_known (answer.Line line) = true
 is_known (answer.Room room) = true
+is_known (answer.Lines lines) = true
 is_known answer.More = true
 is_known answer.Nothing = false
 
 known_step : (b c : Bool) (t : Target) (r : Bool) (f : Found) → r ≡ is_known f → ((b || c) || r) ≡ is_known (cond b (found_at t) (cond c answer.More f))
 known_step true c (target.Line l) r f e = refl
 known_step true c (target.Room q) r f e = refl
+known_step true c (target.Lines ls) r f e = refl
 known_step false true t r f e = refl
 known_step false false t r f e = e
 
@@ -112,6 +114,7 @@ taken_known (n ∷ ns) d = known_step (begins n.digits d) (begins d n.digits) n.
 outcome_known : (b : Bool) (t : Target) → is_known (cond b (found_at t) answer.More) ≡ true
 outcome_known true (target.Line l) = refl
 outcome_known true (target.Room q) = refl
+outcome_known true (target.Lines ls) = refl
 outcome_known false t = refl
 
 pub taken_beside : (xs : List Number) (d : List ℕ) (i : ℕ) → in_order xs ≡ true → IsBesideAt xs d i → is_number_taken xs d ≡ true

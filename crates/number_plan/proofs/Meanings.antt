@@ -17,6 +17,7 @@ use Rattle.number_plan.proofs.Side.{begins_begins, begins_one}
 abbrev pub IsFound : List Number → List ℕ → Found → Type 0
 IsFound plan d (answer.Line l) = LeadsTo plan d (target.Line l)
 IsFound plan d (answer.Room r) = LeadsTo plan d (target.Room r)
+IsFound plan d (answer.Lines ls) = LeadsTo plan d (target.Lines ls)
 IsFound plan d answer.More = IsUnfinishedNumber plan d
 IsFound plan d answer.Nothing = is_number_taken plan d ≡ false
 
@@ -30,10 +31,12 @@ more_on n ns d l = record { place = suc l.place; number = l.number; is_held = l.
 at_target : (n : Number) (ns : List Number) (d : List ℕ) → begins n.digits d ≡ true → (t : Target) → n.target ≡ t → IsFound (n ∷ ns) d (found_at t)
 at_target n ns d b (target.Line l) is = record { place = zero; number = n; is_held = refl; is_begun = b; target_is = is }
 at_target n ns d b (target.Room r) is = record { place = zero; number = n; is_held = refl; is_begun = b; target_is = is }
+at_target n ns d b (target.Lines ls) is = record { place = zero; number = n; is_held = refl; is_begun = b; target_is = is }
 
 later_found : (n : Number) (ns : List Number) (d : List ℕ) → begins n.digits d ≡ false → begins d n.digits ≡ false → (f : Found) → IsFound ns d f → IsFound (n ∷ ns) d f
 later_found n ns d p q (answer.Line l) is = leads_on n ns d (target.Line l) is
 later_found n ns d p q (answer.Room r) is = leads_on n ns d (target.Room r) is
+later_found n ns d p q (answer.Lines ls) is = leads_on n ns d (target.Lines ls) is
 later_found n ns d p q answer.More is = more_on n ns d is
 later_found n ns d p q answer.Nothing is = rw (p, q) is
 
@@ -79,18 +82,27 @@ more_taken plan d p = any_at (λ n. begins n.digits d || begins d n.digits) plan
 exact : (plan : List Number) (d : List ℕ) → AreApart plan → (f g : Found) → IsFound plan d f → IsFound plan d g → f ≡ g
 exact plan d apart (answer.Line l) (answer.Line m) p q = ap found_at (one_target plan d (target.Line l) (target.Line m) apart p q)
 exact plan d apart (answer.Line l) (answer.Room r) p q = ap found_at (one_target plan d (target.Line l) (target.Room r) apart p q)
+exact plan d apart (answer.Line l) (answer.Lines ls) p q = ap found_at (one_target plan d (target.Line l) (target.Lines ls) apart p q)
 exact plan d apart (answer.Line l) answer.More p q = absurd (not_both plan d (target.Line l) apart p q)
 exact plan d apart (answer.Line l) answer.Nothing p q = absurd (both_ways (is_number_taken plan d) q (lead_taken plan d (target.Line l) p))
 exact plan d apart (answer.Room r) (answer.Line l) p q = ap found_at (one_target plan d (target.Room r) (target.Line l) apart p q)
 exact plan d apart (answer.Room r) (answer.Room s) p q = ap found_at (one_target plan d (target.Room r) (target.Room s) apart p q)
+exact plan d apart (answer.Room r) (answer.Lines ls) p q = ap found_at (one_target plan d (target.Room r) (target.Lines ls) apart p q)
 exact plan d apart (answer.Room r) answer.More p q = absurd (not_both plan d (target.Room r) apart p q)
 exact plan d apart (answer.Room r) answer.Nothing p q = absurd (both_ways (is_number_taken plan d) q (lead_taken plan d (target.Room r) p))
+exact plan d apart (answer.Lines ls) (answer.Line l) p q = ap found_at (one_target plan d (target.Lines ls) (target.Line l) apart p q)
+exact plan d apart (answer.Lines ls) (answer.Room r) p q = ap found_at (one_target plan d (target.Lines ls) (target.Room r) apart p q)
+exact plan d apart (answer.Lines ls) (answer.Lines ms) p q = ap found_at (one_target plan d (target.Lines ls) (target.Lines ms) apart p q)
+exact plan d apart (answer.Lines ls) answer.More p q = absurd (not_both plan d (target.Lines ls) apart p q)
+exact plan d apart (answer.Lines ls) answer.Nothing p q = absurd (both_ways (is_number_taken plan d) q (lead_taken plan d (target.Lines ls) p))
 exact plan d apart answer.More (answer.Line l) p q = absurd (not_both plan d (target.Line l) apart q p)
 exact plan d apart answer.More (answer.Room r) p q = absurd (not_both plan d (target.Room r) apart q p)
+exact plan d apart answer.More (answer.Lines ls) p q = absurd (not_both plan d (target.Lines ls) apart q p)
 exact plan d apart answer.More answer.More p q = refl
 exact plan d apart answer.More answer.Nothing p q = absurd (both_ways (is_number_taken plan d) q (more_taken plan d p))
 exact plan d apart answer.Nothing (answer.Line l) p q = absurd (both_ways (is_number_taken plan d) p (lead_taken plan d (target.Line l) q))
 exact plan d apart answer.Nothing (answer.Room r) p q = absurd (both_ways (is_number_taken plan d) p (lead_taken plan d (target.Room r) q))
+exact plan d apart answer.Nothing (answer.Lines ls) p q = absurd (both_ways (is_number_taken plan d) p (lead_taken plan d (target.Lines ls) q))
 exact plan d apart answer.Nothing answer.More p q = absurd (both_ways (is_number_taken plan d) p (more_taken plan d q))
 exact plan d apart answer.Nothing answer.Nothing p q = refl
 
@@ -103,6 +115,7 @@ means plan d r f e apart = (λ is. subst (IsFound plan d) (sym e ∙ is) (is_fou
 at_lead : (plan : List Number) (d : List ℕ) (t : Target) → found_for plan d ≡ found_at t → LeadsTo plan d t
 at_lead plan d (target.Line l) is = subst (IsFound plan d) is (is_found plan d)
 at_lead plan d (target.Room r) is = subst (IsFound plan d) is (is_found plan d)
+at_lead plan d (target.Lines ls) is = subst (IsFound plan d) is (is_found plan d)
 
 pub found_passes : (test : Target → Bool) (plan : List Number) (d : List ℕ) (t : Target) → list_all (λ m. test m.target) plan ≡ true → found_for plan d ≡ found_at t → test t ≡ true
 found_passes test plan d t all is =
@@ -112,6 +125,7 @@ found_passes test plan d t all is =
 pub answer_passes : (test : Target → Bool) (plan : List Number) (d : List ℕ) (found : Found) → list_all (λ m. test m.target) plan ≡ true → found_for plan d ≡ found → PassesTest test found
 answer_passes test plan d (answer.Line line) all is = found_passes test plan d (target.Line line) all is
 answer_passes test plan d (answer.Room room) all is = found_passes test plan d (target.Room room) all is
+answer_passes test plan d (answer.Lines lines) all is = found_passes test plan d (target.Lines lines) all is
 answer_passes test plan d answer.More all is = tt
 answer_passes test plan d answer.Nothing all is = tt
 

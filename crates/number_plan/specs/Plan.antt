@@ -55,9 +55,14 @@ is_number_taken plan digits = list_any (λ n. begins n.digits digits || begins d
 
 -- ---- the target of digits
 
+-- the list has this line
+abbrev pub is_listed : ℕ → List ℕ → Bool
+is_listed line lines = list_any (λ other. other == line) lines
+
 abbrev pub found_at : Target → Found
 found_at (target.Line line) = answer.Line line
 found_at (target.Room room) = answer.Room room
+found_at (target.Lines lines) = answer.Lines lines
 
 -- the target of the number that begins the digits, More if a number begins with them, and otherwise Nothing
 abbrev pub found_for : List Number → List ℕ → Found
@@ -88,10 +93,11 @@ IsUnknown plan digits = is_number_taken plan digits ≡ false
 abbrev pub all_targets : (Target → Bool) → List Number → Bool
 all_targets test plan = list_all (λ n. test n.target) plan
 
--- the target of the digits passes this test, if it is a line or a room
+-- the target of the digits passes this test, if they have one
 abbrev pub PassesTest : (Target → Bool) → Found → Type 0
 PassesTest test (answer.Line line) = test (target.Line line) ≡ true
 PassesTest test (answer.Room room) = test (target.Room room) ≡ true
+PassesTest test (answer.Lines lines) = test (target.Lines lines) ≡ true
 PassesTest test answer.More = Unit {0}
 PassesTest test answer.Nothing = Unit {0}
 

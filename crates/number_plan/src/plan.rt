@@ -63,7 +63,7 @@ impl Model for Plan {
 }
 
 impl Plan {
-    ghost use Rattle.std.specs.Prelude.{◌≡◌, ◌↔◌, ◌<◌, ◌≤◌, ℕ, [], true, false, IsTrue, length, OnOk, OnErr, IfOk, IfErr, IsErrOf};
+    ghost use Rattle.std.specs.Prelude.{◌≡◌, ◌↔◌, ◌<◌, ◌≤◌, ℕ, List, [], true, false, IsTrue, length, OnOk, OnErr, IfOk, IfErr, IsErrOf};
     ghost use Rattle.number_plan.specs.Plan.{side_by_side, in_order, with_number, found_for, is_number_taken, is_number, AreApart, LeadsTo, IsUnfinishedNumber, IsUnknown};
     ghost use Rattle.number_plan.specs.Search.{IsBesideAt, IsPlaceFor};
 
@@ -108,6 +108,7 @@ impl Plan {
         ensures found { result ≡ found_for self.now digits.now }
         ensures line { (l : ℕ) → (result ≡ Found.Line l) ↔ LeadsTo self.now digits.now (Target.Line l) }
         ensures room { (r : ℕ) → (result ≡ Found.Room r) ↔ LeadsTo self.now digits.now (Target.Room r) }
+        ensures lines { (ls : List ℕ) → (result ≡ Found.Lines ls) ↔ LeadsTo self.now digits.now (Target.Lines ls) }
         ensures more { (result ≡ Found.More) ↔ IsUnfinishedNumber self.now digits.now }
         ensures nothing { (result ≡ Found.Nothing) ↔ IsUnknown self.now digits.now }
         ensures apart { AreApart self.now }

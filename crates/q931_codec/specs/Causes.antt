@@ -13,6 +13,9 @@ user_busy = 17
 abbrev pub no_user_responding : ℕ
 no_user_responding = 18
 
+abbrev pub no_answer_from_user : ℕ
+no_answer_from_user = 19
+
 abbrev pub invalid_number_format : ℕ
 invalid_number_format = 28
 

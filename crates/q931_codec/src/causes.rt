@@ -12,6 +12,9 @@ pub const USER_BUSY: u8 = 17;
 /// No user responding.
 pub const NO_USER_RESPONDING: u8 = 18;
 
+/// No answer from user (user alerted).
+pub const NO_ANSWER_FROM_USER: u8 = 19;
+
 /// Invalid number format (address incomplete).
 pub const INVALID_NUMBER_FORMAT: u8 = 28;
 

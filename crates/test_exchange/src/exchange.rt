@@ -314,7 +314,7 @@ impl PlainExchange {
 
     // Returns the circuit at a slot. A circuit between two slots has both directions, so each of its slots receives
     // something.
-    fn circuit_of(&self, x: Slot) -> Option<Circuit> {
+    pub(crate) fn circuit_of(&self, x: Slot) -> Option<Circuit> {
         find_heard(self.circuits.circuits(), x)
     }
 

@@ -32,7 +32,7 @@ mod writing;
 
 pub use exchange::{PlainExchange, PlainTones};
 pub use legs::{Leg, Peer, Side, State};
-pub use numbers::{Number, Target};
+pub use numbers::{Hunted, Number, Target, hunted};
 pub use paths::Chains;
 pub use report::{PlainEvent, PlainRun, append_octets};
 pub use sent::{CallRecord, Course, Party, Sent, Signal};

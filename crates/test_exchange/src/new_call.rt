@@ -6,7 +6,7 @@ use crate::channels::place_of_channel;
 use crate::elements::Received;
 use crate::exchange::PlainExchange;
 use crate::legs::{Leg, Peer, Side, State, new_reference};
-use crate::numbers::{Found, Target, are_digits, look};
+use crate::numbers::{Found, Hunted, Target, are_digits, look};
 use crate::passed::Passed;
 use crate::sent::{Course, Sent};
 use crate::setup::{Channel, Refusal, read_setup};
@@ -119,6 +119,11 @@ impl PlainExchange {
                 let called = self.called_slot(line, caller.at)?;
                 self.offer(alloc, caller, passed, called, channel, sent)?;
             }
+            Target::Lines(lines) => {
+                let (called, course) = self.hunt(&lines, caller.at)?;
+                self.offer(alloc, caller, passed, called, channel, sent)?;
+                sent.course = course;
+            }
             Target::Room(_) if self.ports.is_full() => {
                 return Err(Halt::Refused(Refusal::NoPort));
             }
@@ -159,6 +164,24 @@ impl PlainExchange {
     {
         self.lowest_idle(line, Some(caller))
             .ok_or(Refusal::CalledLineFull)
+    }
+
+    // Returns the lowest idle slot, other than the caller's, of the first line that has one, and whether it is a line
+    // after a full one.
+    fn hunt(&self, lines: &Hunted, caller: Slot) -> Result<(Slot, Course), Refusal>
+        ensures { IfOk result (λ found. found.0.place < 30) }
+    {
+        let mut course = Course::Offered;
+        for entry in lines {
+            let Some(line) = *entry else {
+                break;
+            };
+            if let Some(x) = self.lowest_idle(line, Some(caller)) {
+                return Ok((x, course));
+            }
+            course = Course::OfferedBehindFull;
+        }
+        Err(Refusal::AllLinesFull)
     }
 
     // The caller is sent its channel, and is to send the rest of the number.

@@ -7,6 +7,20 @@ pub enum Target {
     Line(u8),
     /// To this conference room.
     Room(u8),
+    /// To the first of these lines that has an idle channel.
+    Lines(Hunted),
+}
+
+/// The lines that a hunt tries, in this order, up to the first empty entry.
+pub type Hunted = [Option<u8>; 32];
+
+/// Returns the row of these lines.
+pub fn hunted(lines: &[u8]) -> Hunted {
+    let mut row = [None; 32];
+    for (entry, line) in row.iter_mut().zip(lines) {
+        *entry = Some(*line);
+    }
+    row
 }
 
 /// A number of the plan.

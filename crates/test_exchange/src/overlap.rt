@@ -74,7 +74,7 @@ impl PlainExchange {
             Some(target) => {
                 self.lead(alloc, leg, &passed, target, None, sent)?;
                 sent.course = match target {
-                    Target::Line(_) => Course::DialledLine,
+                    Target::Line(_) | Target::Lines(_) => Course::DialledLine,
                     Target::Room(_) => Course::DialledRoom,
                 };
             }

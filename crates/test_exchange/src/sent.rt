@@ -37,6 +37,8 @@ pub enum Course {
     Refused(Refusal),
     /// It requested a call to a line, which is offered to the called user.
     Offered,
+    /// It requested a call to a list of lines, of which the first is full: the call is offered to a later one.
+    OfferedBehindFull,
     /// It requested a call to a room, which is connected.
     Seated,
 }

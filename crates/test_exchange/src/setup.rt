@@ -31,6 +31,8 @@ pub enum Refusal {
     LineFull,
     /// The called line has no idle slot other than the caller's.
     CalledLineFull,
+    /// No line of the called list has an idle slot other than the caller's.
+    AllLinesFull,
     /// No conference port is free.
     NoPort,
 }
@@ -45,7 +47,7 @@ impl Refusal {
             Refusal::NoNumber | Refusal::NoDigits | Refusal::UnfinishedNumber => 28,
             Refusal::UnknownNumber => 1,
             Refusal::ChannelTaken => 44,
-            Refusal::LineFull | Refusal::CalledLineFull => 34,
+            Refusal::LineFull | Refusal::CalledLineFull | Refusal::AllLinesFull => 34,
             Refusal::NoPort => 42,
         }
     }

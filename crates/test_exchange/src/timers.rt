@@ -3,9 +3,11 @@
 use crate::exchange::PlainExchange;
 use crate::legs::{Leg, State, leg_at};
 use crate::sent::Sent;
-use crate::types::{INVALID_NUMBER, NO_USER_RESPONDING, RELEASE, RELEASE_COMPLETE, TIMER_EXPIRY};
+use crate::types::{
+    INVALID_NUMBER, NO_ANSWER, NO_USER_RESPONDING, RELEASE, RELEASE_COMPLETE, TIMER_EXPIRY,
+};
 use crate::writing::{add_cause, bare_message};
-use circuit_model::{PLACES, Slot};
+use circuit_model::{Circuit, Kind, PLACES, Slot};
 use std::alloc::{AllocError, Global};
 
 // Frames in a second.
@@ -14,6 +16,8 @@ const SECOND: u32 = 8000;
 /// The number of frames that a leg may wait, by the timers of ITU-T Q.931 (05/98), 9.1.
 #[derive(Clone, Copy)]
 pub struct PlainTimers {
+    /// For the answer of an alerted user.
+    pub t301: u32,
     /// For more digits.
     pub t302: u32,
     /// For any reply to a SETUP.
@@ -30,6 +34,7 @@ impl PlainTimers {
     /// Returns the timers of a trace that gives none.
     pub fn usual() -> PlainTimers {
         PlainTimers {
+            t301: 180 * SECOND,
             t302: 15 * SECOND,
             t303: 4 * SECOND,
             t305: 30 * SECOND,
@@ -50,6 +55,8 @@ pub enum Expiry {
     SetupOver,
     /// The called user, who has been silent since its CALL PROCEEDING, is cleared.
     Proceeding,
+    /// The called user, who is alerted and has not answered, is cleared.
+    Alerting,
     /// RELEASE follows DISCONNECT.
     Disconnect,
     /// RELEASE is retransmitted.
@@ -67,6 +74,8 @@ pub struct Expired {
     pub at: Slot,
     /// The action.
     pub expiry: Expiry,
+    /// Whether the caller is sent ringing tone until then.
+    pub rings: bool,
 }
 
 /// A message to the user at a slot that may be retransmitted.
@@ -83,10 +92,11 @@ fn limit(leg: Leg, timers: PlainTimers) -> Option<(u32, Expiry)> {
         State::Present if leg.resent => Some((timers.t303, Expiry::SetupOver)),
         State::Present => Some((timers.t303, Expiry::SetupAgain)),
         State::Incoming => Some((timers.t310, Expiry::Proceeding)),
+        State::Alerted => Some((timers.t301, Expiry::Alerting)),
         State::Disconnected => Some((timers.t305, Expiry::Disconnect)),
         State::Releasing if leg.resent => Some((timers.t308, Expiry::ReleaseOver)),
         State::Releasing => Some((timers.t308, Expiry::ReleaseAgain)),
-        State::CallProceeding | State::Delivered | State::Alerted | State::Active => None,
+        State::CallProceeding | State::Delivered | State::Active => None,
     }
 }
 
@@ -116,10 +126,35 @@ impl PlainExchange {
         let Some((leg, expiry)) = self.due(at, frame) else {
             return Ok(());
         };
-        self.expired.push(Expired { frame, at, expiry })?;
+        let rings = self.rings(leg);
+        self.expired.push(Expired {
+            frame,
+            at,
+            expiry,
+            rings,
+        })?;
         let calls = self.calls(alloc)?;
         self.run_out(alloc, leg, expiry, sent)?;
-        self.tell_ended(calls.as_slice(), NO_USER_RESPONDING, sent)
+        let cause = if expiry == Expiry::Alerting {
+            NO_ANSWER
+        } else {
+            NO_USER_RESPONDING
+        };
+        self.tell_ended(calls.as_slice(), cause, sent)
+    }
+
+    // Whether the other leg of a leg's call is sent ringing tone.
+    fn rings(&self, leg: Leg) -> bool {
+        let heard = self
+            .peer_of(leg)
+            .and_then(|caller| self.circuit_of(caller.at));
+        matches!(
+            heard,
+            Some(Circuit::Tone {
+                kind: Kind::Ringback,
+                ..
+            })
+        )
     }
 
     // Returns the leg at a slot, if its timer has expired.
@@ -153,6 +188,10 @@ impl PlainExchange {
             Expiry::Proceeding => {
                 self.clear_leg(alloc, leg, TIMER_EXPIRY, sent)?;
                 self.clear_peer(alloc, leg, NO_USER_RESPONDING, sent)
+            }
+            Expiry::Alerting => {
+                self.clear_leg(alloc, leg, TIMER_EXPIRY, sent)?;
+                self.clear_peer(alloc, leg, NO_ANSWER, sent)
             }
             Expiry::Disconnect => {
                 self.set_state(leg, State::Releasing);

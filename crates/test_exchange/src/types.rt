@@ -87,8 +87,10 @@ pub const SENDING_COMPLETE: u8 = 0xA1;
 pub const NORMAL_CLEARING: u8 = 16;
 /// Cause: user busy.
 pub const USER_BUSY: u8 = 17;
-/// Cause: invalid number format, also for an incomplete number.
+/// Cause: no user responding.
 pub const NO_USER_RESPONDING: u8 = 18;
+/// Cause: no answer from user, who is alerted.
+pub const NO_ANSWER: u8 = 19;
 /// Cause: invalid number format, which is an incomplete number too.
 pub const INVALID_NUMBER: u8 = 28;
 /// Cause: response to STATUS ENQUIRY.

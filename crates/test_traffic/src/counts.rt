@@ -7,11 +7,11 @@ use test_exchange::{Act, Course, Refusal};
 #[derive(Clone, Copy)]
 pub struct Counts {
     // In the order of `COURSES`.
-    counts: [u32; 38],
+    counts: [u32; 40],
 }
 
 // Each course.
-const COURSES: [Course; 38] = [
+const COURSES: [Course; 40] = [
     Course::Discarded,
     Course::Unanswered,
     Course::NoLeg,
@@ -22,6 +22,7 @@ const COURSES: [Course; 38] = [
     Course::DialledLine,
     Course::DialledRoom,
     Course::Offered,
+    Course::OfferedBehindFull,
     Course::Seated,
     Course::For(Act::Nothing),
     Course::For(Act::Unexpected),
@@ -43,6 +44,7 @@ const COURSES: [Course; 38] = [
     Course::Refused(Refusal::ChannelTaken),
     Course::Refused(Refusal::LineFull),
     Course::Refused(Refusal::CalledLineFull),
+    Course::Refused(Refusal::AllLinesFull),
     Course::Refused(Refusal::NoPort),
     Course::GivenUp(Refusal::NoNumber),
     Course::GivenUp(Refusal::NoDigits),
@@ -55,7 +57,7 @@ const COURSES: [Course; 38] = [
 impl Counts {
     /// Nothing has come.
     pub fn new() -> Counts {
-        Counts { counts: [0; 38] }
+        Counts { counts: [0; 40] }
     }
 
     /// Counts one message.
@@ -107,6 +109,7 @@ fn words_for(course: Course) -> &'static str {
         Course::DialledLine => "offered once dialled",
         Course::DialledRoom => "seated once dialled",
         Course::Offered => "offered",
+        Course::OfferedBehindFull => "offered behind a full line",
         Course::Seated => "seated",
         Course::For(act) => name_of(act),
         Course::Refused(refusal) => words_of(refusal),
@@ -142,6 +145,7 @@ fn words_of(refusal: Refusal) -> &'static str {
         Refusal::ChannelTaken => "channel taken",
         Refusal::LineFull => "line full",
         Refusal::CalledLineFull => "called line full",
+        Refusal::AllLinesFull => "all lines of a list full",
         Refusal::NoPort => "no port",
     }
 }
@@ -154,6 +158,7 @@ fn words_of_clearing(refusal: Refusal) -> &'static str {
         Refusal::UnknownNumber => "cleared for an unknown number",
         Refusal::UnfinishedNumber => "cleared for an unfinished number",
         Refusal::CalledLineFull => "cleared for a full line",
+        Refusal::AllLinesFull => "cleared for full lines",
         Refusal::NoPort => "cleared for want of a port",
         _ => "cleared",
     }

@@ -4,21 +4,24 @@ use std::fmt;
 use test_exchange::{Expired, Expiry};
 
 /// How often something was done for a leg that had waited too long: each expiry, at another place than the
-/// first, and in a frame behind another one.
+/// first, in a frame behind another one, and at an alerted user whose caller was sent ringing tone or nothing.
 #[derive(Clone, Copy)]
 pub struct Expiries {
     // In the order of `EACH`.
-    counts: [u32; 7],
+    counts: [u32; 8],
     beyond: u32,
     beside: u32,
+    ringing: u32,
+    silent: u32,
 }
 
 // Each expiry.
-const EACH: [Expiry; 7] = [
+const EACH: [Expiry; 8] = [
     Expiry::Digits,
     Expiry::SetupAgain,
     Expiry::SetupOver,
     Expiry::Proceeding,
+    Expiry::Alerting,
     Expiry::Disconnect,
     Expiry::ReleaseAgain,
     Expiry::ReleaseOver,
@@ -28,9 +31,11 @@ impl Expiries {
     /// Nothing has come.
     pub fn new() -> Expiries {
         Expiries {
-            counts: [0; 7],
+            counts: [0; 8],
             beyond: 0,
             beside: 0,
+            ringing: 0,
+            silent: 0,
         }
     }
 
@@ -40,6 +45,9 @@ impl Expiries {
         let mut before = None;
         for one in expired {
             expiries.note(one.expiry);
+            if one.expiry == Expiry::Alerting {
+                expiries.note_alerted(one.rings);
+            }
             if one.at.place > 0 {
                 expiries.beyond = expiries.beyond.saturating_add(1);
             }
@@ -59,6 +67,15 @@ impl Expiries {
         }
     }
 
+    fn note_alerted(&mut self, rings: bool) {
+        let count = if rings {
+            &mut self.ringing
+        } else {
+            &mut self.silent
+        };
+        *count = count.saturating_add(1);
+    }
+
     /// Adds what was counted elsewhere.
     pub fn add(&mut self, other: &Expiries) {
         for (count, more) in self.counts.iter_mut().zip(other.counts.iter()) {
@@ -66,11 +83,14 @@ impl Expiries {
         }
         self.beyond = self.beyond.saturating_add(other.beyond);
         self.beside = self.beside.saturating_add(other.beside);
+        self.ringing = self.ringing.saturating_add(other.ringing);
+        self.silent = self.silent.saturating_add(other.silent);
     }
 
     /// Whether all that is counted has come.
     pub fn is_whole(&self) -> bool {
-        self.counts.iter().all(|count| *count > 0) && self.beyond > 0 && self.beside > 0
+        let others = [self.beyond, self.beside, self.ringing, self.silent];
+        self.counts.iter().all(|count| *count > 0) && others.iter().all(|count| *count > 0)
     }
 }
 
@@ -80,10 +100,20 @@ impl fmt::Display for Expiries {
             let words = words_for(*expiry);
             write!(f, "{count} {words}, ")?;
         }
-        let Expiries { beyond, beside, .. } = *self;
+        let Expiries {
+            beyond,
+            beside,
+            ringing,
+            silent,
+            ..
+        } = *self;
         write!(
             f,
-            "{beyond} at another place than the first, {beside} behind one of a lower line"
+            "{beyond} at another place than the first, {beside} behind one of a lower line, "
+        )?;
+        write!(
+            f,
+            "{ringing} no answer under ringing tone, {silent} without a tone"
         )
     }
 }
@@ -94,6 +124,7 @@ fn words_for(expiry: Expiry) -> &'static str {
         Expiry::SetupAgain => "times SETUP again",
         Expiry::SetupOver => "times no answer to it",
         Expiry::Proceeding => "times nothing behind CALL PROCEEDING",
+        Expiry::Alerting => "times no answer behind ALERTING",
         Expiry::Disconnect => "times no answer to DISCONNECT",
         Expiry::ReleaseAgain => "times RELEASE again",
         Expiry::ReleaseOver => "times no answer to it",

@@ -10,7 +10,7 @@ use crate::users::draw_message;
 use circuit_model::Slot;
 use std::alloc::{AllocError, Global};
 use test_exchange::{
-    Chains, Number, PlainEvent, PlainExchange, PlainRun, PlainTimers, PlainTones, Target,
+    Chains, Hunted, Number, PlainEvent, PlainExchange, PlainRun, PlainTimers, PlainTones, Target,
     append_octets,
 };
 
@@ -38,10 +38,14 @@ const REARRANGED_SLOTS: u8 = 30;
 
 const STRICT_SLOTS: u8 = 59;
 
-// The numbers of a plan: one for each line, two rooms, and a longer one.
-fn draw_numbers(alloc: Global, external: u8) -> Result<Vec<Number>, AllocError> {
+// The numbers of a plan: one for each line, two for lists of lines, two rooms, and a longer one.
+fn draw_numbers(alloc: Global, external: u8, hunts: &[Hunted]) -> Result<Vec<Number>, AllocError> {
     let mut numbers = Vec::new(alloc);
     add_lines(alloc, &mut numbers, external)?;
+    for (number, lines) in hunts.iter().enumerate() {
+        let digits = format!(in alloc; "4{number}")?;
+        add_number(&mut numbers, digits.into_bytes(), Target::Lines(*lines))?;
+    }
     for room in 0..2 {
         let digits = format!(in alloc; "3{room}")?;
         add_number(&mut numbers, digits.into_bytes(), Target::Room(room))?;
@@ -57,6 +61,28 @@ fn add_lines(alloc: Global, numbers: &mut Vec<Number>, external: u8) -> Result<(
         add_number(numbers, digits.into_bytes(), Target::Line(line))?;
     }
     Ok(())
+}
+
+// Two lists of lines.
+fn draw_hunts(alloc: Global, random: &mut Random, external: u8) -> Result<Vec<Hunted>, AllocError> {
+    let mut hunts = Vec::new(alloc);
+    for _ in 0..2 {
+        hunts.push(draw_hunt(random, external))?;
+    }
+    Ok(hunts)
+}
+
+// A list of 1 to n lines, each once: up from one of them, and from the first again behind the last.
+fn draw_hunt(random: &mut Random, external: u8) -> Hunted {
+    let lines = external.max(1);
+    let drawn = random.below(lines);
+    let first = random.pick(&[0, 0, drawn]);
+    let last = random.below(lines);
+    let mut row: Hunted = [None; 32];
+    for (entry, behind) in row.iter_mut().zip(0..=last) {
+        *entry = Some(((u16::from(first) + u16::from(behind)) % u16::from(lines)) as u8);
+    }
+    row
 }
 
 fn add_number(
@@ -77,9 +103,21 @@ fn append_numbers(text: &mut String, numbers: &[Number]) -> Result<(), AllocErro
         match number.target {
             Target::Line(line) => write!(text, " line {line}\n")?,
             Target::Room(room) => write!(text, " room {room}\n")?,
+            Target::Lines(lines) => append_lines(text, &lines)?,
         }
     }
     Ok(())
+}
+
+// Adds the lines of a list.
+fn append_lines(text: &mut String, lines: &Hunted) -> Result<(), AllocError> {
+    text.push_str(" lines")?;
+    for entry in lines {
+        if let Some(line) = entry {
+            write!(text, " {line}")?;
+        }
+    }
+    text.push_str("\n")
 }
 
 /// How many octets a tone has at most.
@@ -129,6 +167,7 @@ fn draw_timers(random: &mut Random) -> PlainTimers {
         return usual;
     }
     PlainTimers {
+        t301: draw_timer(random, usual.t301),
         t302: draw_timer(random, usual.t302),
         t303: draw_timer(random, usual.t303),
         t305: draw_timer(random, usual.t305),
@@ -141,6 +180,7 @@ fn draw_timers(random: &mut Random) -> PlainTimers {
 fn append_timers(text: &mut String, timers: &PlainTimers) -> Result<(), AllocError> {
     let usual = PlainTimers::usual();
     for (name, frames, usual) in [
+        ("T301", timers.t301, usual.t301),
         ("T302", timers.t302, usual.t302),
         ("T303", timers.t303, usual.t303),
         ("T305", timers.t305, usual.t305),
@@ -174,6 +214,7 @@ pub fn draw_pace(random: &mut Random) -> u8
 pub struct Setting {
     external: u8,
     bridges: u8,
+    hunts: Vec<Hunted>,
     numbers: Vec<Number>,
     tones: PlainTones,
     timers: PlainTimers,
@@ -194,10 +235,13 @@ impl Setting {
 
     // For n external lines.
     fn draw_for(alloc: Global, random: &mut Random, external: u8) -> Result<Setting, AllocError> {
+        let hunts = draw_hunts(alloc, random, external)?;
+        let numbers = draw_numbers(alloc, external, hunts.as_slice())?;
         Ok(Setting {
             external,
             bridges: random.below(3),
-            numbers: draw_numbers(alloc, external)?,
+            hunts,
+            numbers,
             tones: PlainTones {
                 ringback: draw_tone(alloc, random)?,
                 busy: draw_tone(alloc, random)?,
@@ -239,7 +283,7 @@ impl Setting {
         } else {
             REARRANGED_SLOTS
         };
-        let numbers = draw_numbers(alloc, self.external)?;
+        let numbers = draw_numbers(alloc, self.external, self.hunts.as_slice())?;
         let tones = PlainTones {
             ringback: Vec::from_slice(alloc, self.tones.ringback.as_slice())?,
             busy: Vec::from_slice(alloc, self.tones.busy.as_slice())?,

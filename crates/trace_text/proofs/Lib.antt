@@ -1,3 +1,4 @@
+pub mod LineLemmas
 pub mod TraceCuts
 pub mod TraceOctets
 pub mod TraceParts

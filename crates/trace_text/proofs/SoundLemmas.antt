@@ -1,10 +1,10 @@
 -- The events of a trace fit an exchange of its size.
-use Rattle.std.proofs.Common.{◌≡◌, ◌≢◌, ℕ, ◌+◌, ◌<◌, ◌≤◌, Bool, true, false, nat_lt, nat_le, nat_eq, List, [], ◌∷◌, ◌++◌, length, Option, Some, None, option_and_then, ok_or, Result, Ok, Err, All, replicate, slice_set, refl, arith, sym, ◌∙◌, inl, inr, is_some, slice_index_or, if◌then◌else◌, ◌&&◌, ◌||◌, codes, length-append, ap, subst}
+use Rattle.std.proofs.Common.{◌≡◌, ◌≢◌, ℕ, ◌+◌, ◌<◌, ◌≤◌, Bool, true, false, nat_lt, nat_le, nat_eq, List, [], ◌∷◌, ◌++◌, length, Option, Some, None, option_and_then, ok_or, Result, Ok, Err, All, replicate, slice_set, refl, arith, ◌==◌, sym, ◌∙◌, inl, inr, is_some, slice_index_or, if◌then◌else◌, ◌&&◌, ◌||◌, codes, length-append, ap, subst}
 use Rattle.std.specs.Prelude.{IfSome}
 use Rattle.std.specs.List.{list_all}
 use Rattle.std.specs.Str.{bytes_eq}
 use Rattle.std.proofs.lemmas.Grind.{common_steps}
-use Rattle.std.proofs.lemmas.Bool.{ltb-true, lt-ltb}
+use Rattle.std.proofs.lemmas.Bool.{and_parts, ltb-true, lt-ltb}
 use Rattle.std.proofs.lemmas.List.{append_assoc, append-nil, length-set, length-replicate}
 use Rattle.std.proofs.lemmas.List.Elements.{All-nil, All-push}
 use Rattle.circuit_model.specs.declared.channel.Slot.{Slot}
@@ -27,14 +27,14 @@ use Rattle.exchange_events.specs.declared.trace.Event.TheVariants.{Nail, Seat, F
 use Rattle.number_plan.specs.declared.plan.Number.{Number}
 use Rattle.number_plan.specs.declared.target.Target.{Target}
 use Rattle.number_plan.specs.declared.target.Target.TheVariants as goal
-use Rattle.number_plan.specs.Plan.{is_number, is_number_taken, all_targets, with_number}
+use Rattle.number_plan.specs.Plan.{is_listed, is_number, is_number_taken, all_targets, with_number}
 use Rattle.number_plan.proofs.OrderFacts.{all_with}
 use Rattle.exchange_events.specs.declared.trace.Trace.{Trace}
 use Rattle.trace_text.specs.TraceFields.{slash, numeral_in, external_line, slot, room, octets_written, thirty, at_most, longest_message, exchange_sizes, header}
-use Rattle.trace_text.specs.TraceWords.{cut_at, numeral, lines, words, two, one_or_two, three, is_comment, is_blank, is_printable}
-use Rattle.trace_text.specs.TraceLines.{◌>>=◌, colon, with_part, with_parts, frame, message, nail, seat, free, target, number, numbered, tone, timer, toned, timed, happens, SoFar, before_events, by_kind, kind_of, by_words, by_place, reads, joins, says, trace_limits}
+use Rattle.trace_text.specs.TraceWords.{cut_at, numeral, lines, words, two, one_or_two, digits_and_target, is_comment, is_blank, is_printable}
+use Rattle.trace_text.specs.TraceLines.{◌>>=◌, colon, with_part, with_parts, with_line, with_lines, frame, message, nail, seat, free, target, number, numbered, tone, timer, toned, timed, happens, SoFar, before_events, by_kind, kind_of, by_words, by_place, reads, joins, says, trace_limits}
 use Rattle.trace_text.specs.TraceGrammar.{sizes_in, number_said, numbers_in, plan_of, event_said, events_in, changes_in, so_far, EachSays, IsTrace}
-use Rattle.exchange_events.specs.Sound.{Fits, is_reached, IsSound}
+use Rattle.exchange_events.specs.Sound.{Fits, line_exists, is_reached, IsSound}
 use Rattle.trace_text.proofs.TraceOctets.{in_range, are_octets}
 use Rattle.trace_text.proofs.TraceHolds.{change_said, changes_more, events_more, plan_more, push, sizes_first, step}
 use Rattle.trace_text.proofs.SegmentLemmas.{segments_sound, changes_sound}
@@ -241,13 +241,50 @@ line_reached external word t h =
     let is : goal.Line found.0 ≡ t = grind (arith, found.2) in
     rw (← is) (lt-ltb found.0 external inside)
 
-pub target_reached : (external : ℕ) (name word : List ℕ) (t : Target) → target external name word ≡ Ok t → is_reached external t ≡ true
-target_reached external name word t h =
+abbrev lines_target : List ℕ → Result Target Reason
+lines_target lines = Ok (goal.Lines lines)
+
+abbrev with_found : List ℕ → ℕ → Result (List ℕ) Reason
+with_found lines line = if is_listed line lines || (length lines == 32) then Err reason.Slot else Ok (lines ++ line ∷ [])
+
+all_then : (test : ℕ → Bool) (lines : List ℕ) (line : ℕ) → list_all test lines ≡ true → test line ≡ true → list_all test (lines ++ line ∷ []) ≡ true
+all_then test [] line all one = rw one refl
+all_then test (l ∷ ls) line all one = let both = and_parts (test l) (list_all test ls) all in rw (both.0, all_then test ls line both.1 one) refl
+
+line_exists_too : (external : ℕ) (lines more : List ℕ) (word : List ℕ) → list_all (line_exists external) lines ≡ true → with_line external lines word ≡ Ok more → list_all (line_exists external) more ≡ true
+line_exists_too external lines more word all h =
+    let found = passed_first (ok_or (external_line external word) reason.Slot) (with_found lines) more h in
+    let inside = line_inside external word found.0 (was_found (external_line external word) reason.Slot found.0 found.1) in
+    elim (true_or_false (is_listed found.0 lines || (length lines == 32))) [
+      | inl listed ↦ let failed = rw listed at found.2 in absurd (grind (arith, failed))
+      | inr not_listed ↦
+          let ok = rw not_listed at found.2 in
+          let is : lines ++ found.0 ∷ [] ≡ more = grind (arith, ok) in
+          rw (← is) (all_then (line_exists external) lines found.0 all (lt-ltb found.0 external inside))
+    ]
+
+lines_exist : (external : ℕ) (lines all : List ℕ) (words : List (List ℕ)) → list_all (line_exists external) lines ≡ true → with_lines external lines words ≡ Ok all → list_all (line_exists external) all ≡ true
+lines_exist external lines all [] exist h = let is : lines ≡ all = grind (arith, h) in rw (← is) exist
+lines_exist external lines all (word ∷ words) exist h =
+    let first = passed_first (with_line external lines word) (λ more. with_lines external more words) all h in
+    lines_exist external first.0 all words (line_exists_too external lines first.0 word exist first.1) first.2
+
+lines_reached : (external : ℕ) (words : List (List ℕ)) (t : Target) → (with_lines external [] words >>= lines_target) ≡ Ok t → is_reached external t ≡ true
+lines_reached external words t h =
+    let found = passed_first (with_lines external [] words) lines_target t h in
+    let is : goal.Lines found.0 ≡ t = grind (arith, found.2) in
+    rw (← is) (lines_exist external [] found.0 words refl found.1)
+
+pub target_reached : (external : ℕ) (name word : List ℕ) (others : List (List ℕ)) (t : Target) → target external name word others ≡ Ok t → is_reached external t ≡ true
+target_reached external name word others t h =
     elim (true_or_false (bytes_eq name (codes "line"))) [
       | inl to_line ↦ line_reached external word t (rw to_line at h)
       | inr no_line ↦ elim (true_or_false (bytes_eq name (codes "room"))) [
         | inl to_room ↦ room_reached external word t (rw (no_line, to_room) at h)
-        | inr no_room ↦ let failed = rw (no_line, no_room) at h in absurd (grind (arith, failed))
+        | inr no_room ↦ elim (true_or_false (bytes_eq name (codes "lines"))) [
+          | inl to_lines ↦ lines_reached external (word ∷ others) t (rw (no_line, no_room, to_lines) at h)
+          | inr no_lines ↦ let failed = rw (no_line, no_room, no_lines) at h in absurd (grind (arith, failed))
+        ]
       ]
     ]
 
@@ -255,19 +292,19 @@ target_reached external name word t h =
 abbrev number_to : List ℕ → Target → Result Number Reason
 number_to digits stands = Ok (record { digits = digits; target = stands })
 
-abbrev number_digits : ℕ → List ℕ × List ℕ × List ℕ → List ℕ → Result Number Reason
-number_digits external parts digits = target external parts.1 parts.2 >>= number_to digits
+abbrev number_digits : ℕ → List ℕ × List ℕ × List ℕ × List (List ℕ) → List ℕ → Result Number Reason
+number_digits external parts digits = target external parts.1 parts.2 parts.3 >>= number_to digits
 
-abbrev number_words : ℕ → List ℕ × List ℕ × List ℕ → Result Number Reason
+abbrev number_words : ℕ → List ℕ × List ℕ × List ℕ × List (List ℕ) → Result Number Reason
 number_words external parts = (if is_number parts.0 then Ok parts.0 else Err reason.Number) >>= number_digits external parts
 
 pub number_reached : (external : ℕ) (words : List (List ℕ)) (n : Number) → number external words ≡ Ok n → is_reached external n.target ≡ true
 number_reached external words n h =
-    let parts = passed_first (ok_or (three words) reason.Word) (number_words external) n h in
+    let parts = passed_first (ok_or (digits_and_target words) reason.Word) (number_words external) n h in
     let digits = passed_first (if is_number parts.0.0 then Ok parts.0.0 else Err reason.Number) (number_digits external parts.0) n parts.2 in
-    let stands = passed_first (target external parts.0.1 parts.0.2) (number_to digits.0) n digits.2 in
+    let stands = passed_first (target external parts.0.1 parts.0.2 parts.0.3) (number_to digits.0) n digits.2 in
     let is : record { digits = digits.0; target = stands.0 } ≡ n = grind (arith, stands.2) in
-    rw (← is) (target_reached external parts.0.1 parts.0.2 stands.0 stands.1)
+    rw (← is) (target_reached external parts.0.1 parts.0.2 parts.0.3 stands.0 stands.1)
 
 -- the sizes of an exchange
 pub record AreSizes (sizes : Sizes) : Type 0 where
@@ -383,7 +420,7 @@ place_fine s (Some sizes) line said is h =
       | inr not_printable ↦ let failed = rw not_printable at h in absurd (grind (arith, failed))
     ]
 
-reads_fine : (s : SoFar) (line : List ℕ) (said : Said) → reads s line ≡ Ok said → IsFine s said
+pub reads_fine : (s : SoFar) (line : List ℕ) (said : Said) → reads s line ≡ Ok said → IsFine s said
 reads_fine s line said h =
     elim (true_or_false (is_comment line || is_blank line)) [
       | inl passed_over ↦ nothing_fine s said (rw passed_over at h)

@@ -1,5 +1,5 @@
 -- What a line of a trace says, or the first of its checks that fails. Source: this exchange's own.
-use Rattle.std.specs.Prelude.{◌≡◌, ℕ, nat_lt, ◌==◌, ◌||◌, List, [], ◌∷◌, length, codes, replicate, slice_index_or, slice_set, Option, Some, None, is_some, ok_or, option_and_then, Result, Ok, Err, if◌then◌else◌}
+use Rattle.std.specs.Prelude.{◌≡◌, ℕ, nat_lt, ◌==◌, ◌||◌, List, [], ◌∷◌, ◌++◌, length, codes, replicate, slice_index_or, slice_set, Option, Some, None, is_some, ok_or, option_and_then, Result, Ok, Err, if◌then◌else◌}
 use Rattle.std.specs.List.{list_all}
 use Rattle.std.specs.Str.{bytes_eq}
 use Rattle.circuit_model.specs.declared.circuit.Kind.{Kind as Tone}
@@ -9,7 +9,7 @@ use Rattle.circuit_model.specs.Circuits.{same_slot}
 use Rattle.number_plan.specs.declared.plan.Number.{Number}
 use Rattle.number_plan.specs.declared.target.Target.{Target}
 use Rattle.number_plan.specs.declared.target.Target.TheVariants as goal
-use Rattle.number_plan.specs.Plan.{is_number, is_number_taken}
+use Rattle.number_plan.specs.Plan.{is_listed, is_number, is_number_taken}
 use Rattle.tone_rules.specs.declared.tones.Tones.{Tones}
 use Rattle.tone_rules.specs.CallTones.{is_given}
 use Rattle.exchange_events.specs.declared.trace.Event.{Event}
@@ -29,7 +29,7 @@ use Rattle.trace_text.specs.declared.said.Said.TheVariants as said
 use Rattle.trace_text.specs.declared.timing.GivenTimer.{GivenTimer}
 use Rattle.trace_text.specs.declared.timing.GivenTimers.{GivenTimers}
 use Rattle.trace_text.specs.TraceTimers.{timer_named, if_some_frames, frames_given}
-use Rattle.trace_text.specs.TraceWords.{numeral, words, two, one_or_two, three, cut_at, is_comment, is_blank, is_printable}
+use Rattle.trace_text.specs.TraceWords.{numeral, words, two, one_or_two, digits_and_target, cut_at, is_comment, is_blank, is_printable}
 use Rattle.trace_text.specs.TraceFields.{external_line, slot, room, octets_written, thirty, at_most, longest_message, of_tone, header}
 
 -- the second step where the first passed its checks
@@ -96,23 +96,36 @@ message external others = do
 abbrev pub happens : Result Event Reason → Result Said Reason
 happens reading = reading >>= λ event. Ok (said.Happens event)
 
--- where a number leads: `line` and an external line, or `room` and a conference room
-abbrev pub target : ℕ → List ℕ → List ℕ → Result Target Reason
-target external name word =
+-- one more line of a list: an external line that isn't in it yet
+abbrev pub with_line : ℕ → List ℕ → List ℕ → Result (List ℕ) Reason
+with_line external lines word = do
+  line ← ok_or (external_line external word) reason.Slot
+  if is_listed line lines || (length lines == 32) then Err reason.Slot else Ok (lines ++ line ∷ [])
+
+abbrev pub with_lines : ℕ → List ℕ → List (List ℕ) → Result (List ℕ) Reason
+with_lines external lines [] = Ok lines
+with_lines external lines (word ∷ others) = with_line external lines word >>= λ more. with_lines external more others
+
+-- where a number leads: `line` and an external line, `lines` and several of them, or `room` and a conference room
+abbrev pub target : ℕ → List ℕ → List ℕ → List (List ℕ) → Result Target Reason
+target external name word others =
     if bytes_eq name (codes "line") then (do
       line ← ok_or (external_line external word) reason.Slot
       Ok (goal.Line line))
     else if bytes_eq name (codes "room") then (do
       number ← ok_or (room word) reason.Number
       Ok (goal.Room number))
+    else if bytes_eq name (codes "lines") then (do
+      lines ← with_lines external [] (word ∷ others)
+      Ok (goal.Lines lines))
     else Err reason.Word
 
 -- a number: 1 to 20 digits and where they lead
 abbrev pub number : ℕ → List (List ℕ) → Result Number Reason
 number external others = do
-  parts ← ok_or (three others) reason.Word
+  parts ← ok_or (digits_and_target others) reason.Word
   digits ← if is_number parts.0 then Ok parts.0 else Err reason.Number
-  stands ← target external parts.1 parts.2
+  stands ← target external parts.1 parts.2 parts.3
   Ok (record { digits = digits; target = stands })
 
 -- a number is given

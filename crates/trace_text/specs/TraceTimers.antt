@@ -6,12 +6,13 @@ use Rattle.call_timers.specs.Expiries.{usual}
 use Rattle.trace_text.specs.declared.timing.GivenTimer.{GivenTimer}
 use Rattle.trace_text.specs.declared.timing.GivenTimers.{GivenTimers}
 use Rattle.trace_text.specs.declared.timing.TimerName.{TimerName}
-use Rattle.trace_text.specs.declared.timing.TimerName.TheVariants.{T302, T303, T305, T308, T310}
+use Rattle.trace_text.specs.declared.timing.TimerName.TheVariants.{T301, T302, T303, T305, T308, T310}
 
 -- the timer that a word names
 abbrev pub timer_named : List ℕ → Option TimerName
 timer_named word =
-    if bytes_eq word (codes "T302") then Some T302
+    if bytes_eq word (codes "T301") then Some T301
+    else if bytes_eq word (codes "T302") then Some T302
     else if bytes_eq word (codes "T303") then Some T303
     else if bytes_eq word (codes "T305") then Some T305
     else if bytes_eq word (codes "T308") then Some T308
@@ -24,10 +25,11 @@ if_some_frames frames = if frames == 0 then None else Some frames
 
 -- no timer is given
 abbrev pub no_timers : GivenTimers
-no_timers = record { t302 = None; t303 = None; t305 = None; t308 = None; t310 = None }
+no_timers = record { t301 = None; t302 = None; t303 = None; t305 = None; t308 = None; t310 = None }
 
 -- how many frames a timer runs, where it is given
 abbrev pub frames_given : GivenTimers → TimerName → Option ℕ
+frames_given given T301 = given.t301
 frames_given given T302 = given.t302
 frames_given given T303 = given.t303
 frames_given given T305 = given.t305
@@ -36,6 +38,7 @@ frames_given given T310 = given.t310
 
 -- the timers once one more is given
 abbrev pub with_frames : GivenTimers → TimerName → ℕ → GivenTimers
+with_frames given T301 frames = record given { t301 = Some frames }
 with_frames given T302 frames = record given { t302 = Some frames }
 with_frames given T303 frames = record given { t303 = Some frames }
 with_frames given T305 frames = record given { t305 = Some frames }
@@ -48,6 +51,7 @@ with_timer given one = with_frames given one.name one.frames
 -- the timers of a trace: a timer that is not given has its usual value
 abbrev pub timers_by : GivenTimers → Timers
 timers_by given = record {
+  t301 = unwrap_or given.t301 usual.t301;
   t302 = unwrap_or given.t302 usual.t302;
   t303 = unwrap_or given.t303 usual.t303;
   t305 = unwrap_or given.t305 usual.t305;

@@ -1,13 +1,18 @@
 -- The lines, words and numerals of a trace. Source: this exchange's own.
-use Rattle.std.specs.Prelude.{ℕ, ◌+◌, ◌-◌, ◌*◌, Bool, true, false, ◌&&◌, ◌||◌, not, ◌==◌, List, [], ◌∷◌, length, take, drop, filter, fold, position, slice_index, Option, Some, None, option_map, if◌then◌else◌}
+use Rattle.std.specs.Prelude.{ℕ, ◌+◌, ◌-◌, ◌*◌, Bool, true, false, ◌&&◌, ◌||◌, not, ◌==◌, List, [], ◌∷◌, length, codes, take, drop, filter, fold, position, slice_index, Option, Some, None, option_map, if◌then◌else◌, ◌≡◌, ◌⊎◌, ◌++◌}
 use Rattle.std.specs.List.{list_all, onto_first, slice_split}
 use Rattle.std.specs.Char.{is_ascii_digit}
+use Rattle.std.specs.Str.{bytes_eq}
 use Rattle.circuit_model.specs.Channels.{between}
 
 -- the rows of octets that end before each line feed; octets after the last line feed are a line too
 abbrev pub lines : List ℕ → List (List ℕ)
 lines [] = []
 lines (octet ∷ octets) = if octet == 10 then [] ∷ lines octets else onto_first octet (lines octets)
+
+-- octets that end with a line feed, or no octets
+abbrev pub AreEnded : List ℕ → Type 0
+AreEnded octets = (octets ≡ []) ⊎ ((front : List ℕ) × (octets ≡ front ++ 10 ∷ []))
 
 -- the octet is the given one
 abbrev pub is_octet : ℕ → ℕ → Bool
@@ -36,6 +41,12 @@ one_or_two others = None
 abbrev pub three : List (List ℕ) → Option (List ℕ × List ℕ × List ℕ)
 three (one ∷ other ∷ last ∷ []) = Some (one, other, last)
 three others = None
+
+-- digits, the name of a target and its words: one word, or one or more behind `lines`
+abbrev pub digits_and_target : List (List ℕ) → Option (List ℕ × List ℕ × List ℕ × List (List ℕ))
+digits_and_target (digits ∷ name ∷ word ∷ []) = Some (digits, name, word, [])
+digits_and_target (digits ∷ name ∷ word ∷ other ∷ others) = if bytes_eq name (codes "lines") then Some (digits, name, word, other ∷ others) else None
+digits_and_target others = None
 
 -- what is before and after the first octet of a word that is the mark, where it has one
 abbrev pub cut_at : ℕ → List ℕ → Option (List ℕ × List ℕ)

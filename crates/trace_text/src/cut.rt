@@ -1,7 +1,7 @@
 // Lines, words and numerals, cut from borrowed octets.
 ghost use Rattle.std.specs.Prelude.{◌≡◌, ◌≢◌, ◌<◌, ◌≤◌, ◌∷◌, [], length, slice_index, MatchOption, option_map};
 ghost use Rattle.std.specs.List.{list_all};
-ghost use Rattle.trace_text.specs.TraceWords.{lines, words, two, one_or_two, three, cut_at, numeral, is_printable};
+ghost use Rattle.trace_text.specs.TraceWords.{lines, words, two, one_or_two, three, digits_and_target, cut_at, numeral, is_printable};
 
 use memchr::memchr;
 
@@ -87,6 +87,20 @@ pub(crate) fn three_words(line: &[u8]) -> Option<(&[u8], &[u8], &[u8])>
         return None;
     }
     Some((one, other, last))
+}
+
+/// The digits, the name of a target and its first word, and what follows it on a line of a number. Only behind `lines`
+/// more words follow.
+pub(crate) fn digits_and_target(line: &[u8]) -> Option<(&[u8], &[u8], &[u8], &[u8])>
+    ensures { option_map (λ all. (all.0.now, all.1.now, all.2.now, words all.3.now)) result ≡ digits_and_target (words line.now) }
+{
+    let (digits, rest) = first_word(line)?;
+    let (name, rest) = first_word(rest)?;
+    let (word, others) = first_word(rest)?;
+    if first_word(others).is_some() && name != b"lines".as_slice() {
+        return None;
+    }
+    Some((digits, name, word, others))
 }
 
 /// What is before and after the first octet of a word that is the mark, where one is.

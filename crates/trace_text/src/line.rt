@@ -1,11 +1,13 @@
 // What the words of a line say, kind by kind, or the first of their checks that fails.
-ghost use Rattle.std.specs.Prelude.{◌≡◌, ◌<◌, IsTrue, length, MatchResult, IfOk, Ok, Err};
+ghost use Rattle.std.specs.Prelude.{◌≡◌, ◌<◌, ◌∷◌, [], IsTrue, length, MatchResult, IfOk, Ok, Err};
 ghost use Rattle.number_plan.specs.Plan.{is_number};
 ghost use Rattle.trace_text.specs.TraceWords.{words};
-ghost use Rattle.trace_text.specs.TraceLines.{with_part, frame, message, nail, seat, free, target, number, tone, tone_named, timer, alone, kind_of, Gives};
+ghost use Rattle.trace_text.specs.TraceLines.{with_part, with_line, with_lines, frame, message, nail, seat, free, target, number, tone, tone_named, timer, alone, kind_of, Gives};
 ghost use Rattle.trace_text.specs.TraceTimers.{timer_named};
 
-use crate::cut::{first_word, halves_at, numeral_of, one_or_two_words, three_words, two_words};
+use crate::cut::{
+    digits_and_target, first_word, halves_at, numeral_of, one_or_two_words, two_words,
+};
 use crate::fault::{LineFault, Reason};
 use crate::fields::{line_of_word, room_of_word, slot_of_word};
 use crate::octets::{message_octets, thirty_octets, tone_octets};
@@ -13,7 +15,7 @@ use crate::said::{GivenTone, Kind, Said};
 use crate::timing::{GivenTimer, GivenTimers, TimerName};
 use circuit_model::Kind as Tone;
 use exchange_events::{Event, Input};
-use number_plan::{Digits, Number, Target, is_number};
+use number_plan::{Digits, LineList, Number, Target, is_number};
 use std::alloc::Global;
 use tone_rules::Tones;
 
@@ -91,9 +93,36 @@ pub(crate) fn message_of(alloc: Global, external: u8, line: &[u8]) -> Result<Eve
     Ok(Event::Message(line, octets))
 }
 
-// What the last two words of a number's line say that the number leads to.
-fn target_of(external: u8, name: &[u8], word: &[u8]) -> Result<Target, Reason>
-    ensures { result ≡ target external name.now word.now }
+// Appends the line that a word gives to a list.
+fn put_line(external: u8, lines: &mut LineList, word: &[u8]) -> Result<(), Reason>
+    ensures { MatchResult result (λ _. with_line external lines.old word.now ≡ Ok lines.new)
+        (λ why. with_line external lines.old word.now ≡ Err why) }
+{
+    let line = line_of_word(external, word).ok_or(Reason::Slot)?;
+    if lines.contains(line) || lines.is_full() {
+        return Err(Reason::Slot);
+    }
+    lines.push(line);
+    Ok(())
+}
+
+// The list of lines that a word and the words behind it give.
+fn lines_of(external: u8, word: &[u8], others: &[u8]) -> Result<LineList, Reason>
+    ensures { result ≡ with_lines external [] (word.now ∷ words others.now) }
+{
+    let mut lines = LineList::new();
+    put_line(external, &mut lines, word)?;
+    let mut rest = others;
+    while let Some((word, others)) = first_word(rest) {
+        put_line(external, &mut lines, word)?;
+        rest = others;
+    }
+    Ok(lines)
+}
+
+// What the words behind the digits of a number's line say that the number leads to.
+fn target_of(external: u8, name: &[u8], word: &[u8], others: &[u8]) -> Result<Target, Reason>
+    ensures { result ≡ target external name.now word.now (words others.now) }
 {
     if name == b"line".as_slice() {
         let line = line_of_word(external, word).ok_or(Reason::Slot)?;
@@ -101,6 +130,8 @@ fn target_of(external: u8, name: &[u8], word: &[u8]) -> Result<Target, Reason>
     } else if name == b"room".as_slice() {
         let room = room_of_word(word).ok_or(Reason::Number)?;
         Ok(Target::Room(room))
+    } else if name == b"lines".as_slice() {
+        Ok(Target::Lines(lines_of(external, word, others)?))
     } else {
         Err(Reason::Word)
     }
@@ -111,11 +142,11 @@ pub(crate) fn number_of(external: u8, line: &[u8]) -> Result<Number, Reason>
     ensures gives { result ≡ number external (words line.now) }
     ensures digits { IfOk result (λ n. IsTrue (is_number n.digits)) }
 {
-    let (digits, name, word) = three_words(line).ok_or(Reason::Word)?;
+    let (digits, name, word, others) = digits_and_target(line).ok_or(Reason::Word)?;
     if !is_number(digits) {
         return Err(Reason::Number);
     }
-    let target = target_of(external, name, word)?;
+    let target = target_of(external, name, word, others)?;
     let digits = Digits::of(digits);
     Ok(Number { digits, target })
 }
@@ -150,7 +181,9 @@ pub(crate) fn tone_of(alloc: Global, tones: &Tones, line: &[u8]) -> Result<Given
 fn timer_named(word: &[u8]) -> Option<TimerName>
     ensures { result ≡ timer_named word.now }
 {
-    if word == b"T302".as_slice() {
+    if word == b"T301".as_slice() {
+        Some(TimerName::T301)
+    } else if word == b"T302".as_slice() {
         Some(TimerName::T302)
     } else if word == b"T303".as_slice() {
         Some(TimerName::T303)

@@ -7,6 +7,8 @@ use call_timers::Timers;
 /// The name of a timer of calls (Q.931, 9.1, table 9-1).
 #[derive(Clone, Copy)]
 pub enum TimerName {
+    /// It runs in call received.
+    T301,
     /// It runs in overlap sending.
     T302,
     /// It runs in call present.
@@ -31,6 +33,8 @@ pub struct GivenTimer {
 /// The timers that the lines so far gave: how many frames each of them runs.
 #[derive(Clone, Copy)]
 pub struct GivenTimers {
+    /// That of call received.
+    pub t301: Option<u32>,
     /// That of overlap sending.
     pub t302: Option<u32>,
     /// That of call present.
@@ -49,6 +53,7 @@ impl GivenTimers {
         ensures { result ≡ no_timers }
     {
         GivenTimers {
+            t301: None,
             t302: None,
             t303: None,
             t305: None,
@@ -62,6 +67,7 @@ impl GivenTimers {
         ensures { result ≡ frames_given self.now name }
     {
         match name {
+            TimerName::T301 => self.t301,
             TimerName::T302 => self.t302,
             TimerName::T303 => self.t303,
             TimerName::T305 => self.t305,
@@ -76,6 +82,7 @@ impl GivenTimers {
     {
         let frames = Some(given.frames);
         match given.name {
+            TimerName::T301 => self.t301 = frames,
             TimerName::T302 => self.t302 = frames,
             TimerName::T303 => self.t303 = frames,
             TimerName::T305 => self.t305 = frames,
@@ -90,6 +97,7 @@ impl GivenTimers {
     {
         let usual = Timers::usual();
         Timers {
+            t301: self.t301.unwrap_or(usual.t301),
             t302: self.t302.unwrap_or(usual.t302),
             t303: self.t303.unwrap_or(usual.t303),
             t305: self.t305.unwrap_or(usual.t305),

@@ -20,8 +20,8 @@ use Step::{Frames, Message};
 /// A worked example: its timers, its steps, and the lines of the report, without the lines of frames that send no
 /// message.
 struct Worked {
-    /// The frames of T302, T303, T305, T308 and T310.
-    timers: [u32; 5],
+    /// The frames of T301, T302, T303, T305, T308 and T310.
+    timers: [u32; 6],
     steps: &'static [Step],
     wanted: &'static [&'static str],
     /// The frame in which the last call ended, and its cause.
@@ -35,9 +35,9 @@ const SETUP: Step = Message(0, "080200010504038090A31803A98381700480313031");
 const OFFERED: &str =
     "1 message 0:08028001021803A98381 1:0802000105A104038090A31803A98381700480313031";
 
-const WORKED: [Worked; 11] = [
+const WORKED: [Worked; 13] = [
     Worked {
-        timers: [LONG, 1, LONG, LONG, LONG],
+        timers: [LONG, LONG, 1, LONG, LONG, LONG],
         steps: &[SETUP, Frames(61)],
         wanted: &[
             OFFERED,
@@ -47,7 +47,7 @@ const WORKED: [Worked; 11] = [
         ended: Some((61, 18)),
     },
     Worked {
-        timers: [LONG, LONG, 1, 1, LONG],
+        timers: [LONG, LONG, LONG, 1, 1, LONG],
         steps: &[
             Message(0, "080200010504038090A370028031"),
             Message(0, "080200017B70028039"),
@@ -64,7 +64,7 @@ const WORKED: [Worked; 11] = [
         ended: None,
     },
     Worked {
-        timers: [LONG, 1, LONG, LONG, 40],
+        timers: [LONG, LONG, 1, LONG, LONG, 40],
         steps: &[SETUP, Message(1, "0802800102"), Frames(61)],
         wanted: &[
             OFFERED,
@@ -74,7 +74,7 @@ const WORKED: [Worked; 11] = [
         ended: Some((61, 18)),
     },
     Worked {
-        timers: [30, LONG, LONG, LONG, LONG],
+        timers: [LONG, 30, LONG, LONG, LONG, LONG],
         steps: &[
             Message(0, "080200010504038090A370028031"),
             Frames(30),
@@ -92,7 +92,7 @@ const WORKED: [Worked; 11] = [
         ended: None,
     },
     Worked {
-        timers: [LONG, 29, LONG, LONG, LONG],
+        timers: [LONG, LONG, 29, LONG, LONG, LONG],
         steps: &[Frames(1), SETUP, Frames(30)],
         wanted: &[
             "2 message 0:08028001021803A98381 1:0802000105A104038090A31803A98381700480313031",
@@ -101,7 +101,7 @@ const WORKED: [Worked; 11] = [
         ended: None,
     },
     Worked {
-        timers: [LONG, 30, LONG, LONG, LONG],
+        timers: [LONG, LONG, 30, LONG, LONG, LONG],
         steps: &[Frames(1), SETUP, Frames(60)],
         wanted: &[
             "2 message 0:08028001021803A98381 1:0802000105A104038090A31803A98381700480313031",
@@ -111,7 +111,7 @@ const WORKED: [Worked; 11] = [
     },
     // RELEASE by T305, and again by T308, to a called user.
     Worked {
-        timers: [LONG, LONG, 1, 1, LONG],
+        timers: [LONG, LONG, LONG, 1, 1, LONG],
         steps: &[
             SETUP,
             Message(0, "08020001450802809F"),
@@ -134,7 +134,7 @@ const WORKED: [Worked; 11] = [
     },
     // RELEASE without a cause, and its retransmission.
     Worked {
-        timers: [LONG, LONG, LONG, 30, LONG],
+        timers: [LONG, LONG, LONG, LONG, 30, LONG],
         steps: &[
             SETUP,
             Message(0, "08020001450802809F"),
@@ -153,7 +153,7 @@ const WORKED: [Worked; 11] = [
     },
     // CALL PROCEEDING for the second SETUP: RELEASE is sent twice too.
     Worked {
-        timers: [LONG, 1, 1, 1, 1],
+        timers: [LONG, LONG, 1, 1, 1, 1],
         steps: &[
             SETUP,
             Frames(31),
@@ -178,9 +178,44 @@ const WORKED: [Worked; 11] = [
         ],
         ended: Some((61, 18)),
     },
+    // ALERTING again does not restart T301, and the caller is cleared with another cause than the called user.
+    Worked {
+        timers: [40, LONG, LONG, LONG, LONG, LONG],
+        steps: &[
+            SETUP,
+            Message(1, "0802800101"),
+            Frames(31),
+            Message(1, "0802800101"),
+            Frames(31),
+        ],
+        wanted: &[
+            OFFERED,
+            "2 message 0:0802800101",
+            "34 message 1:080200017D080282E5140107",
+            "64 frame 60 send 1:0802000145080282E6 send 0:080280014508028293",
+        ],
+        ended: Some((61, 19)),
+    },
+    // The called user answers in the last frame before the one that examines its channel.
+    Worked {
+        timers: [1, LONG, LONG, LONG, LONG, LONG],
+        steps: &[
+            SETUP,
+            Message(1, "0802800101"),
+            Frames(30),
+            Message(1, "0802800107"),
+            Frames(31),
+        ],
+        wanted: &[
+            OFFERED,
+            "2 message 0:0802800101",
+            "33 message moved 0 0 1:080200010F 0:0802800107",
+        ],
+        ended: None,
+    },
     // RESTART while T303 runs for the second time, and the channel used again.
     Worked {
-        timers: [LONG, 1, LONG, LONG, LONG],
+        timers: [LONG, LONG, 1, LONG, LONG, LONG],
         steps: &[
             SETUP,
             Frames(60),
@@ -202,7 +237,7 @@ const WORKED: [Worked; 11] = [
     },
     // Channels 31, 1 and 2 of three lines, whose callers began to wait in frames 0, 1 and 3.
     Worked {
-        timers: [29, LONG, LONG, LONG, LONG],
+        timers: [LONG, 29, LONG, LONG, LONG, LONG],
         steps: &[
             Message(0, "080200010504038090A31803A9839F70028031"),
             Message(0, "080200020504038090A31803A9838170028031"),
@@ -263,9 +298,10 @@ fn take(alloc: Global, run: &mut PlainRun, step: Step) -> Result<(), Fail> {
     Ok(())
 }
 
-fn timers_of(frames: [u32; 5]) -> PlainTimers {
-    let [t302, t303, t305, t308, t310] = frames;
+fn timers_of(frames: [u32; 6]) -> PlainTimers {
+    let [t301, t302, t303, t305, t308, t310] = frames;
     PlainTimers {
+        t301,
         t302,
         t303,
         t305,

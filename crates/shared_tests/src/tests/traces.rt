@@ -11,6 +11,7 @@ use tone_rules::Tones;
 
 // The timers of a trace in which nothing waits.
 const TIMERS: Timers = Timers {
+    t301: 1,
     t302: 1,
     t303: 1,
     t305: 1,

@@ -1,9 +1,10 @@
 //! The number plan, step by step.
-use number_plan::{Found, Plan, PlanFault, Target, is_number};
+use number_plan::{Found, LineList, Plan, PlanFault, Target, is_number};
 use std::alloc::Global;
 use std::test::*;
 
 // A step on a plan, and its result.
+#[derive(Drop)]
 enum Step {
     Add(&'static [u8], Target, Result<(), PlanFault>),
     Look(&'static [u8], Found),
@@ -53,6 +54,35 @@ fn looks(rt: HostRuntime) {
     for (place, step) in STEPS.iter().enumerate() {
         assert!(rt; passes(&mut plan, step), "at step {place}");
     }
+}
+
+// Returns the list of the first 32 of these lines.
+fn list_of(lines: &[u8]) -> LineList {
+    let mut list = LineList::new();
+    for line in lines {
+        if !list.is_full() {
+            list.push(*line);
+        }
+    }
+    list
+}
+
+#[test]
+fn finds_lists_of_lines(rt: HostRuntime) {
+    let mut plan = Plan::new(rt.alloc());
+    let steps = [
+        Step::Add(b"20", Target::Lines(list_of(&[3, 31, 0])), Ok(())),
+        Step::Add(b"21", Target::Lines(list_of(&[4])), Ok(())),
+        Step::Look(b"205", Found::Lines(list_of(&[3, 31, 0]))),
+        Step::Look(b"21", Found::Lines(list_of(&[4]))),
+        Step::Look(b"2", Found::More),
+    ];
+    for (place, step) in steps.iter().enumerate() {
+        assert!(rt; passes(&mut plan, step), "at step {place}");
+    }
+    assert!(rt; plan.look(b"20") != Found::Lines(list_of(&[31, 3, 0])));
+    assert!(rt; plan.look(b"21") != Found::Line(4));
+    assert!(rt; list_of(&[7; 33]).as_slice() == [7; 32].as_slice());
 }
 
 // Adds the number of three digits, each from 0 to 9.

@@ -41,6 +41,10 @@ pub returns-clause-full : goal.returns-clause-full
 unfolding elements_of elements_within slots_of
 returns-clause-full c = refl
 
+pub returns-clause-hunt : goal.returns-clause-hunt
+unfolding elements_of elements_within slots_of
+returns-clause-hunt c = refl
+
 pub returns-clause-restart_called : goal.returns-clause-restart_called
 unfolding elements_of elements_within slots_of outcome_below
 returns-clause-restart_called c = refl

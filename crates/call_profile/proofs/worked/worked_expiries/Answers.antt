@@ -28,6 +28,18 @@ pub returns-clause-two_records : goal.returns-clause-two_records
 unfolding elements_of elements_within outcome_of_lines slots_of
 returns-clause-two_records c = refl
 
+pub returns-clause-alerting : goal.returns-clause-alerting
+unfolding elements_of elements_within outcome_of_lines slots_of
+returns-clause-alerting c = refl
+
+pub returns-clause-alerted_again : goal.returns-clause-alerted_again
+unfolding elements_of elements_within outcome_of_lines slots_of
+returns-clause-alerted_again c = refl
+
+pub returns-clause-answered : goal.returns-clause-answered
+unfolding elements_of elements_within outcome_of_lines slots_of
+returns-clause-answered c = refl
+
 pub returns-clause-digits : goal.returns-clause-digits
 unfolding elements_of elements_within outcome_of_lines slots_of
 returns-clause-digits c = refl

@@ -8,6 +8,9 @@ returns-clause-line c l = means c.args.self.now c.args.digits.now _ (answer.Line
 pub returns-clause-room : goal.returns-clause-room
 returns-clause-room c r = means c.args.self.now c.args.digits.now _ (answer.Room r) c.find.ensures.found c.find.ensures.apart
 
+pub returns-clause-lines : goal.returns-clause-lines
+returns-clause-lines c ls = means c.args.self.now c.args.digits.now _ (answer.Lines ls) c.find.ensures.found c.find.ensures.apart
+
 pub returns-clause-more : goal.returns-clause-more
 returns-clause-more c = means c.args.self.now c.args.digits.now _ answer.More c.find.ensures.found c.find.ensures.apart
 

@@ -1,7 +1,7 @@
 use Rattle.std.proofs.Common.{[], ◌++◌, Option, List, ◌∙◌, ap}
 use Rattle.std.specs.List.{cons_option}
 use Rattle.exchange_events.specs.declared.record.CallRecord.{CallRecord}
-use Rattle.call_control.proofs.operations.CallControl.proceeding_over.Goals as goal
+use Rattle.call_control.proofs.operations.CallControl.clear_both.Goals as goal
 
 pub returns-clause-records : goal.returns-clause-records
 returns-clause-records g c d w holds =
