@@ -3,11 +3,13 @@
 from __future__ import annotations
 
 import struct
+from collections import Counter
 from dataclasses import dataclass
 from fractions import Fraction
 from pathlib import Path
 
 from commands import Refused, watched
+from reading import FRAMES_PER_SECOND
 
 MAGIC = 0xA1B2C3D4  # of a pcap file with microseconds, in the order of octets that its writer uses
 NANOSECONDS = 0xA1B23C4D  # of one with nanoseconds
@@ -29,6 +31,7 @@ LAPD_HARDWARE = 8445  # ARPHRD_LAPD
 LAPD_PROTOCOL = 0x0030  # ETH_P_LAPD
 NETWORK_SIDE = 1  # first octet of the address: the capture was taken at the network side
 
+MICROSECONDS_PER_FRAME = 1_000_000 // FRAMES_PER_SECOND
 I_FRAME_HEADER = 4  # two octets of address and two of control (ITU-T Q.921, 3.2 to 3.4)
 
 
@@ -191,3 +194,41 @@ def read_signal(path, number, packet):
     if len(frame) < I_FRAME_HEADER:
         raise Refused(f"{path} has a packet {number} that is too short for an I frame")
     return Signal(number, packet.time, frame[1] >> 1, not is_from_network, frame[I_FRAME_HEADER:])
+
+
+# ---- a capture that is written
+
+
+class CaptureWriter:
+    """Writes a capture of LINUX_LAPD: each message is an I frame of SAPI 0, whose numbers count it on its line."""
+
+    HEADER = struct.pack(">IHHiIII", MAGIC, *VERSION, 0, 0, LONGEST_PACKET, LINUX_LAPD)
+
+    def __init__(self):
+        self.count = Counter()  # of the messages by line and direction
+
+    def packet(self, frames, line, is_sent, octets):
+        """A message with the frames before it, its line, and whether the exchange sent it."""
+        own, other = self.count[line, is_sent], self.count[line, not is_sent]
+        self.count[line, is_sent] += 1
+        packet = pseudo_header(is_sent) + lapd_header(line, is_sent, own, other) + octets
+        return record_header(frames, len(packet)) + packet
+
+
+def record_header(frames, length):
+    seconds, rest = divmod(frames, FRAMES_PER_SECOND)
+    return struct.pack(">IIII", seconds, rest * MICROSECONDS_PER_FRAME, length, length)
+
+
+def pseudo_header(is_sent):
+    """The header of a Linux capture: type of packet, hardware, an address of 8 octets, protocol."""
+    kind = FROM_US if is_sent else TO_US
+    return struct.pack(">HHHB7xH", kind, LAPD_HARDWARE, 1, NETWORK_SIDE, LAPD_PROTOCOL)
+
+
+def lapd_header(line, is_sent, own, other):
+    """Address and control of an I frame (ITU-T Q.921, 3.2 to 3.4): a command has C/R 1 from the network."""
+    sapi = 0
+    first = sapi << 2 | is_sent << 1
+    second = line << 1 | 1
+    return bytes([first, second, own % 128 << 1, other % 128 << 1])

@@ -174,7 +174,7 @@ class Run:
         call.rows.append(replace(row, leg=leg))
         leg.note(row)
         if message.kind in (DISCONNECT, RELEASE_COMPLETE):
-            self._clear(call, row.frame, 28 if leg.dials else 18)
+            self._clear(call, row.frame, 28 if leg.dials else 18 if call.alerted is None else 19)
         if message.kind == DISCONNECT:
             leg.dials = False
         elif message.kind == RELEASE_COMPLETE:

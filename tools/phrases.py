@@ -19,8 +19,10 @@ SPELLINGS = {
 
 # What a word of a kind looks like, and what it is called.
 SLOT = re.compile(r"(0|[1-9][0-9]{0,8})/(0|[1-9][0-9]{0,8})")
+LIST = re.compile(rf"(?:{NUMERAL.pattern})(?:,(?:{NUMERAL.pattern}))*")
 KINDS = {
     "LINE": (NUMERAL, "the number of a line"),
+    "LIST": (LIST, "the numbers of lines such as 2,0,1"),
     "CHANNEL": (NUMERAL, "the number of a channel"),
     "SLOT": (SLOT, "a slot such as 0/1"),
     "ROOM": (NUMERAL, "the number of a room"),
@@ -103,6 +105,12 @@ class Values:
         if int(word) >= self.lines:
             raise Refused(f"there is no line {word}: the exchange has lines 0 to {self.lines - 1}")
         return int(word)
+
+    def list(self, word):
+        lines = [self.line(line) for line in word.split(",")]
+        if len(set(lines)) < len(lines):
+            raise Refused(f"a line is twice in {word}")
+        return lines
 
     @staticmethod
     def channel(word):

@@ -26,7 +26,7 @@ FRAME_DIGITS = 2 * PLACES
 MOST_TONE_DIGITS = 16_000
 
 # The timers of calls, and how many frames each runs where a trace does not say.
-USUAL_TIMERS = {"T302": 120_000, "T303": 32_000, "T305": 240_000, "T308": 32_000, "T310": 80_000}
+USUAL_TIMERS = {"T301": 1_440_000, "T302": 120_000, "T303": 32_000, "T305": 240_000, "T308": 32_000, "T310": 80_000}
 
 
 class Fault(Exception):
@@ -93,7 +93,7 @@ class Trace:
     external: int
     bridges: int
     processors: int
-    numbers: dict  # digits to ("line", L) or ("room", R)
+    numbers: dict  # digits to ("line", L), ("lines", (L, ..)) or ("room", R)
     timers: dict  # names to frames; a timer that isn't given has its usual value
     events: tuple
     changes: tuple  # for each change of meters, how many events are before it
@@ -153,7 +153,7 @@ class TraceReader:
         self.changes = []
         self.segments = 0
         self.kinds = {
-            "number": (self.number, range(3, 4)),
+            "number": (self.number, range(3, MOST_BYTES)),
             "tone": (self.tone, range(2, 3)),
             "timer": (self.timer, range(2, 3)),
             "nail": (self.nail, range(2, 3)),
@@ -181,6 +181,7 @@ class TraceReader:
         if len(words) not in counts:
             few = len(words) < counts.start
             said = f"`{first}` has {counts.start} to {counts.stop - 1} words after it".replace(" 0 to 0 ", " no ")
+            said = said.replace(f" to {MOST_BYTES - 1} ", " or more ")
             raise Fault("word", f"too {'few' if few else 'many'} words: {said}", len(words) if few else counts.stop)
         event = act(*words)
         if event is not None:
@@ -199,15 +200,29 @@ class TraceReader:
             raise Fault("slot", "a slot is a line, / and a channel, 1 to 15 or 17 to 31", at)
         return Slot(self.line(line, at), number)
 
-    def number(self, digits, kind, target):
+    def lines(self, words):
+        """The lines of a list, each once."""
+        lines = []
+        for at, word in enumerate(words, start=3):
+            line = self.line(word, at)
+            if line in lines:
+                raise Fault("slot", f"the list has line {line} before", at)
+            lines.append(line)
+        return tuple(lines)
+
+    def number(self, digits, kind, target, *others):
+        if others and kind != "lines":
+            raise Fault("word", "too many words: `number` has 3 words after it, or more if the second is `lines`", 4)
         if not DIGITS.fullmatch(digits):
             raise Fault("number", "a number has 1 to 20 digits 0 to 9", 1)
         if kind == "line":
             leads_to = self.line(target, 3)
         elif kind == "room":
             leads_to = room(target, 3)
+        elif kind == "lines":
+            leads_to = self.lines((target, *others))
         else:
-            raise Fault("word", "a number leads to a `line` or a `room`", 2)
+            raise Fault("word", "a number leads to a `line`, to `lines` or to a `room`", 2)
         for held in self.numbers:
             if digits.startswith(held) or held.startswith(digits):
                 raise Fault("prefix", f"number {digits} equals, begins or continues number {held}", 1)

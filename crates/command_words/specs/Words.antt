@@ -100,6 +100,22 @@ asked_as (Some name.Check) words = check_of words
 unfoldable pub command_of : List Text → Option Command
 command_of words = asked_as (name_in words) words
 
+abbrev pub follow_app : App
+follow_app = strict_app (codes "follow")
+
+-- the first argument is `follow`
+abbrev pub is_follow : List Text → Bool
+is_follow [] = false
+is_follow (word ∷ others) = bytes_eq word (codes "follow")
+
+-- whether the flag is among the arguments of `follow`
+abbrev pub flag_of_follow : List Text → Option Bool
+flag_of_follow words = if takes_words follow_app words then Some (is_true (text_for (codes "strict") follow_app words)) else None
+
+-- whether a trace is followed on a strict fabric, if the arguments request that a trace is followed
+unfoldable pub follow_of : List Text → Option Bool
+follow_of words = if is_follow words then flag_of_follow words else None
+
 -- whether the text's first octet is a hyphen
 abbrev pub begins_with_hyphen : Text → Bool
 begins_with_hyphen [] = false

@@ -1,5 +1,5 @@
 ghost use Rattle.std.specs.Prelude.{◌≡◌, ◌≢◌, codes, map, string_bytes, IfOk, IfSome, IsErrOf, Some, None};
-ghost use Rattle.command_words.specs.Words.{IsInRange, check_of, command_of, generation, generation_of, is_true, name_in, run_of};
+ghost use Rattle.command_words.specs.Words.{IsInRange, check_of, command_of, flag_of_follow, follow_of, generation, generation_of, is_follow, is_true, name_in, run_of};
 ghost use Rattle.clap.specs.Words.{first_value, found_of, kind_of};
 
 use crate::numerals::numeral_within;
@@ -53,6 +53,44 @@ pub fn read_command(alloc: Global, words: &[String]) -> Result<Command, WordsFau
         Some(Name::Gen) => read_generation(alloc, words),
         Some(Name::Check) => read_check(alloc, words),
         None => Err(WordsFault::NoCommand),
+    }
+}
+
+/// Parses the arguments of `follow`, and returns whether they have the flag `--strict`. The rules of `run` apply.
+///
+/// # Errors
+///
+/// [`WordsFault::NoCommand`] if the arguments do not request that a trace is followed, and [`WordsFault::Memory`] if an
+/// allocation fails.
+pub fn read_follow(alloc: Global, words: &[String]) -> Result<bool, WordsFault>
+    ensures follow { IfOk result (λ strict. follow_of (map string_bytes words.now) ≡ Some strict) }
+    ensures no_follow { IsErrOf result WordsFault.NoCommand → follow_of (map string_bytes words.now) ≡ None }
+{
+    if is_follow(words) {
+        read_follow_flag(alloc, words)
+    } else {
+        Err(WordsFault::NoCommand)
+    }
+}
+
+// Parses the arguments of `follow` after its name.
+fn read_follow_flag(alloc: Global, words: &[String]) -> Result<bool, WordsFault>
+    ensures flag { IfOk result (λ strict. flag_of_follow (map string_bytes words.now) ≡ Some strict) }
+    ensures no_follow { IsErrOf result WordsFault.NoCommand → flag_of_follow (map string_bytes words.now) ≡ None }
+{
+    match strict_matches(alloc, "follow", words) {
+        Ok(matches) => Ok(is_strict(&matches)),
+        Err(error) => Err(fault_of(&error)),
+    }
+}
+
+// Returns whether the first argument is `follow`.
+fn is_follow(words: &[String]) -> bool
+    ensures { result ≡ is_follow (map string_bytes words.now) }
+{
+    match words.first() {
+        Some(word) => word.as_str() == "follow",
+        None => false,
     }
 }
 

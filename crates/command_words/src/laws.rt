@@ -1,7 +1,7 @@
 //! Theorems on the commands of arguments.
 ghost use Rattle.std.specs.Prelude.{◌≡◌, ◌<◌, ◌≤◌, ◌^◌, ℕ, List, [], ◌∷◌, codes, decimal, Some, None, true, false};
 ghost use Rattle.command_words.specs.Numerals.{numeral};
-ghost use Rattle.command_words.specs.Words.{begins_with_hyphen, command_of, generation};
+ghost use Rattle.command_words.specs.Words.{begins_with_hyphen, command_of, follow_of, generation};
 ghost use Rattle.command_words.specs.declared.command.Command.TheVariants.{Check, Generate, Run};
 
 /// Two texts after `gen`, neither of which begins with a hyphen, are a command if and only if they are the decimal
@@ -34,6 +34,16 @@ pub fn worked_checks()
     ensures too_late { command_of (codes "check" ∷ codes "--" ∷ codes "--strict" ∷ []) ≡ None }
     ensures twice { command_of (codes "check" ∷ codes "--strict" ∷ codes "--strict" ∷ []) ≡ None }
     ensures capital { command_of (codes "Check" ∷ []) ≡ None }
+{}
+
+/// Worked examples: `follow` accepts the same flag in the same way. It is not a command of a whole input.
+pub fn worked_follows()
+    ensures follow { follow_of (codes "follow" ∷ []) ≡ Some false }
+    ensures strict { follow_of (codes "follow" ∷ codes "--strict" ∷ []) ≡ Some true }
+    ensures and_more { follow_of (codes "follow" ∷ codes "x" ∷ []) ≡ None }
+    ensures twice { follow_of (codes "follow" ∷ codes "--strict" ∷ codes "--strict" ∷ []) ≡ None }
+    ensures another { follow_of (codes "run" ∷ []) ≡ None }
+    ensures whole { command_of (codes "follow" ∷ []) ≡ None }
 {}
 
 /// Worked examples of `gen`, which has no flag.

@@ -4,6 +4,8 @@
 //!   returns the error of wrong arguments if and only if they are not a command (`no_command`), unless an allocation
 //!   fails. The arguments are read as clap reads three short grammars: `run` and `check` with at most one flag
 //!   `--strict`, and `gen SEED CALLS` ([`laws::worked_runs`], [`laws::worked_checks`], [`laws::worked_generations`]).
+//! - [`read_follow`] returns whether the arguments of `follow` have the same flag (`follow`, `no_follow`,
+//!   [`laws::worked_follows`]).
 //! - The text of a number is its decimal digits and no other ([`laws::law_of_numerals`]), and every seed and number of
 //!   calls has a command ([`laws::law_of_asking`]).
 #![tactic(auto)]
@@ -13,4 +15,4 @@ pub mod laws;
 mod numerals;
 mod readings;
 
-pub use command::{Command, WordsFault, read_command};
+pub use command::{Command, WordsFault, read_command, read_follow};

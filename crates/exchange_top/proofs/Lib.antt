@@ -12,3 +12,12 @@ pub mod Divisions
 pub mod Dues
 pub mod Endings
 pub mod Sums
+pub mod FollowedLines
+pub mod FollowedStories
+pub mod PlacedLines
+pub mod FollowedSteps
+pub mod SaidLines
+pub mod Handled
+pub mod HandledSteps
+pub mod SteppingLemmas
+pub mod FollowedEndings

@@ -4,7 +4,7 @@ use Rattle.std.specs.Prelude.{AllPairs, replicate}
 use Rattle.std.specs.List.{concat}
 use Rattle.std.proofs.lemmas.Bool.{cases_eq, eq-eqb, ne_eqb}
 use Rattle.exchange_events.specs.declared.record.CallRecord.{CallRecord}
-use Rattle.meters.specs.Changing.{AreMetered, IsAt, IsPast, Metering, Meters_changed, after_step, after_steps, changes_at, steps_text}
+use Rattle.meters.specs.Changing.{AreChangedBy, AreMetered, IsAt, IsPast, Metering, Meters_changed, after_step, after_steps, changes_at, steps_text}
 use Rattle.meters.proofs.Changes.{metered-change, says-change}
 use Rattle.meters.proofs.Cursor.{all_done, past_these}
 use Rattle.exchange_top.specs.Changes.{AreChangesDone, AreMoved, IsRow, leaving}
@@ -98,6 +98,15 @@ module _ {M : Type 0} (stands : M → List CallRecord → Type 0) (text : M → 
       let then = drop 1 meters ++ take 1 spare in
       (λ i. sym (says-change stands text s meters spare a) i ++ said_leaving n (after_step Meters_changed s) then (drop 1 spare) (metered-change stands text s meters spare a) i)
       ∙ (sym (texts-append text (take 1 meters) (leaving n then (drop 1 spare))) ∙ ap (texts text) (leaving-more n meters spare))
+
+  -- ---- one change
+
+  pub changed_once : (meters spare between now now_spare : List M) (cleared said out all : List ℕ) → cleared ≡ [] → said ≡ cleared ++ texts text (leaving 1 meters spare) → between ≡ meters
+      → AreMoved stands text 1 between spare now now_spare → all ≡ out ++ said → AreChangedBy stands text 1 meters spare out now now_spare all
+  changed_once meters spare between now now_spare cleared said out all none says same moved is = record {
+    left = subst (λ (ms : List M). AreMoved stands text 1 ms spare now now_spare) same moved;
+    said_is = λ s a. is ∙ ap (λ (t : List ℕ). out ++ t) (says ∙ (ap (λ (t : List ℕ). t ++ texts text (leaving 1 meters spare)) none ∙ sym (said_leaving 1 s meters spare a)));
+  }
 
   -- ---- what is left
 

@@ -4,7 +4,7 @@ use Rattle.exchange_events.specs.declared.trace.Trace.{Trace}
 use Rattle.trace_text.specs.declared.fault.Reason.{Reason}
 use Rattle.trace_text.specs.declared.fault.Reason.TheVariants as reason
 use Rattle.trace_text.specs.TraceGrammar.{IsTrace, IsRefused}
-use Rattle.trace_text.specs.TraceWords.{lines}
+use Rattle.trace_text.specs.TraceWords.{AreEnded, lines}
 use Rattle.run_verifier.specs.Verdicts.{IsInvalidAt, IsValid}
 use Rattle.exchange_top.specs.Inputs.{IsInputWithin}
 use Rattle.exchange_top.specs.Refusals.{Says, line_of}
@@ -21,10 +21,6 @@ most_checked = 268435456
 -- the line that divides a trace from a report
 abbrev pub divider : List ℕ
 divider = codes "report"
-
--- octets that end with a line feed, or no octets
-abbrev pub AreEnded : List ℕ → Type 0
-AreEnded octets = (octets ≡ []) ⊎ ((front : List ℕ) × (octets ≡ front ++ 10 ∷ []))
 
 -- none of their lines is the divider
 abbrev pub HaveNoDivider : List ℕ → Type 0

@@ -1,7 +1,7 @@
 //! Meters that are changed in the middle of a run.
 ghost use Rattle.std.specs.Prelude.{◌≡◌, ◌+◌, ◌<◌, ◌≤◌, ◌++◌, ◌-◌, [], List, ℕ, AllPairs, drop, length, map, take, vec_capacity, vec_len, IfOk, OnOk, OnErr};
 ghost use Rattle.std.specs.List.{concat};
-ghost use Rattle.meters.specs.Changing.{IsAt};
+ghost use Rattle.meters.specs.Changing.{AreChangedBy, IsAt};
 ghost use Rattle.exchange_top.specs.Changes.{AreChangesDone, AreMoved, IsRow, leaving};
 
 use meters::{Meter, append_summaries};
@@ -34,6 +34,28 @@ pub fn change_at(
         move_at(end - start, meters, spare);
     }
     Ok(end)
+}
+
+/// Makes one change, and appends the summary of the removed meter to a text. The buffer `said` is for that summary.
+///
+/// # Errors
+///
+/// [`AllocError`] if an allocation fails. Then nothing is changed.
+pub fn change_once(
+    meters: &mut Vec<Box<dyn Meter>>,
+    spare: &mut VecDeque<Box<dyn Meter>>,
+    said: &mut Vec<u8>,
+    out: &mut Vec<u8>,
+) -> Result<(), AllocError>
+    ensures done { OnOk result (AreChangedBy (λ m. stands m) (λ m. text m) 1
+        meters.old.items spare.old.items out.old.items meters.new.items spare.new.items out.new.items) }
+    ensures kept { OnErr result ((meters.new.items ≡ meters.old.items) × (spare.new.items ≡ spare.old.items) × (out.new.items ≡ out.old.items)) }
+{
+    said.clear();
+    say_at(1, meters, spare, said)?;
+    out.extend_from_slice(said.as_slice())?;
+    move_at(1, meters, spare);
+    Ok(())
 }
 
 // Returns the number of changes up to the last of a place, whose first has the index `start`.

@@ -1,13 +1,19 @@
-//! Theorems: a strict fabric moves no path, a run without changes has one report, and an input has one trace and one
-//! report.
-ghost use Rattle.std.specs.Prelude.{◌≡◌, ℕ, List, [], All, true};
+//! Theorems: a strict fabric moves no path, a run without changes has one report, an input has one trace and one report,
+//! and a trace that is followed has the report of a run in file order.
+ghost use Rattle.std.specs.Prelude.{◌≡◌, ◌≤◌, ℕ, List, [], All, length, true};
 ghost use Rattle.exchange_events.specs.declared.trace.Trace.{Trace};
-ghost use Rattle.exchange_events.specs.Orders.{IsEvent};
-ghost use Rattle.circuit_model.specs.Hears.{Plays};
+ghost use Rattle.exchange_events.specs.Orders.{IsEvent, IsLawful, file_order};
+ghost use Rattle.circuit_model.specs.Hears.{Plays, hears};
 ghost use Rattle.report_text.specs.RunReport.{report};
 ghost use Rattle.line_list.specs.declared.listing.Listing.{Listing};
+ghost use Rattle.line_list.specs.declared.listing.Listing.TheVariants.{Report};
 ghost use Rattle.line_list.specs.Lines.{listed};
 ghost use Rattle.meters.specs.Changing.{handed_in, steps_text};
+ghost use Rattle.run_verifier.specs.Verdicts.{IsValid};
+ghost use Rattle.trace_text.specs.declared.said.Said.{Said};
+ghost use Rattle.trace_text.specs.TraceGrammar.{IsTrace, IsWhatLinesSay};
+ghost use Rattle.trace_text.specs.TraceWords.{lines};
+ghost use Rattle.exchange_top.specs.Following.{EachFollows, most_line, story_said};
 ghost use Rattle.exchange_top.specs.Checking.{IsDivided};
 ghost use Rattle.exchange_top.specs.Commands.{fabric_of};
 ghost use Rattle.exchange_top.specs.Outcomes.{MovesFew, MovesNone, NotesAll};
@@ -27,6 +33,22 @@ pub fn law_of_unchanged_meters<M: Meter>()
         → steps_text M.text (story plays l slots trace order) (handed_in old spare) ≡ listed l (report plays slots trace order) }
     ensures meters { (plays : Plays) (l : Listing) (slots : ℕ) (trace : Trace) (order : List ℕ) → trace.changes ≡ [] → All (IsEvent trace) order
         → NotesAll M.stands M.text plays l slots trace order }
+{}
+
+/// If the bytes that are followed are a trace, their story is the story of a run of the trace in file order, which is a
+/// lawful order. If the trace changes no meters, the text of the story is a valid report of the trace.
+pub fn followed_traces_are_runs<M: Meter>()
+    ensures story { (plays : Plays) (slots : ℕ) (bytes : List ℕ) (t : Trace) (told : List Said) → IsTrace bytes t → EachFollows [] (lines bytes) told
+        → story_said plays slots told ≡ story plays Report slots t (file_order (length t.events)) }
+    ensures lawful { (t : Trace) → IsLawful t (file_order (length t.events)) }
+    ensures valid { (slots : ℕ) (bytes : List ℕ) (t : Trace) (told : List Said) (old spare : List M) → IsTrace bytes t → EachFollows [] (lines bytes) told → t.changes ≡ []
+        → IsValid slots t (steps_text M.text (story_said hears slots told) (handed_in old spare)) }
+{}
+
+/// Each trace whose lines have at most 65,535 octets is followed.
+pub fn traces_are_followed()
+    ensures { (bytes : List ℕ) (t : Trace) → IsTrace bytes t → All (λ line. length line ≤ most_line) (lines bytes)
+        → (told : List Said) × EachFollows [] (lines bytes) told × IsWhatLinesSay t told }
 {}
 
 /// An input is divided into a trace and a report in only one way.

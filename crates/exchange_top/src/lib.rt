@@ -21,6 +21,11 @@
 //! and the output names its first wrong or missing line (`IsReportRejected`). Each report of a trace gets one of the
 //! two, because the arguments and the input decide the ending, unless a read, a write or an allocation fails (`due`).
 //!
+//! [`follow`] processes the lines of a trace when they arrive. Before each read it has written exactly the text of the
+//! lines read so far (`promise`), and its clause `ends` has a case for each ending (`FollowsTo`). A followed trace has
+//! the report of a run in file order ([`followed_traces_are_runs`]), and each trace with short lines is followed
+//! ([`traces_are_followed`]).
+//!
 //! Statuses 3 and 4 occur only after an error was counted (`HasReadFailed`, `HasWriteFailed`), and no other status
 //! hides one (`reads`, `writes`). With status 4 a prefix of the text was written. With status 5 it is a prefix that
 //! ends with a segment and the changes after it (`HasRunOutOfMemory`, `IsRunInterrupted`). No more of the input is read
@@ -31,15 +36,24 @@ mod call;
 mod changing;
 mod checking;
 mod ending;
+mod fabrics;
+mod follow_loop;
+mod follower;
+mod following;
 mod laws;
 mod refusals;
 mod run;
 mod segments;
 mod setting;
+mod stepping;
 mod streams;
 mod summary;
 mod telling;
 
 pub use call::{Outcome, exchange};
 pub use ending::Ending;
-pub use laws::{law_of_divisions, law_of_unchanged_meters, strict_runs_move_nothing};
+pub use following::{Followed, follow};
+pub use laws::{
+    followed_traces_are_runs, law_of_divisions, law_of_unchanged_meters, strict_runs_move_nothing,
+    traces_are_followed,
+};

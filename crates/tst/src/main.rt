@@ -4,9 +4,11 @@
 //!   never moves a path.
 //! - `gen SEED CALLS` writes the summary of a generated trace.
 //! - `check` reads a trace and a report, and writes the verdict on the report.
+//! - `follow` reads a trace and writes the report line of each event when its line arrives. It accepts the same flag.
 //!
-//! The program makes the standard source and sink, three meters and three spare ones. It calls `exchange_top::exchange`
-//! with the engine of three stages in a box, and ends with its status. The guarantee is that call's, because `main` has
+//! The program makes the standard source and sink, three meters and three spare ones. It calls `exchange_top::follow`
+//! for `follow`, and `exchange_top::exchange` for all other arguments, with the engine of three stages in a box, and ends
+//! with the status of the call. The guarantee is that call's, because `main` has
 //! no contract. Nothing is proved about standard input and output, so the tests here run whole traces over in-memory
 //! streams.
 #![tactic(auto)]
@@ -22,10 +24,12 @@ mod tests;
 #[cfg(test)]
 mod verdicts;
 
+use command_words::{WordsFault, read_follow};
 use ex_io::{Sink, Source, StdSink, StdSource};
-use exchange_top::{Outcome, exchange};
+use exchange_top::{Followed, Outcome, exchange, follow};
 use frame_engine::Engine;
 use gate::OpenGate;
+use line_wire::StdWire;
 use meters::{CallDetail, HoldingTime, Meter, PegCount};
 use std::alloc::{AllocError, Global};
 use std::collections::VecDeque;
@@ -51,8 +55,7 @@ fn status_of<S: Source, K: Sink, R: Threads + Wait + Sync>(
     rt: &R,
     alloc: Global,
     words: &[String],
-    source: &mut S,
-    sink: &mut K,
+    wire: &mut StdWire<S, K>,
 ) -> Result<u8, AllocError> {
     let mut boxed: VecDeque<Box<dyn Meter>> = VecDeque::with_capacity(alloc, 6)?;
     for _ in 0..2 {
@@ -63,18 +66,34 @@ fn status_of<S: Source, K: Sink, R: Threads + Wait + Sync>(
     let half = boxed.len() / 2;
     let mut spare = boxed.split_off(half)?;
     let mut meters = Vec::from(boxed);
-    // In a box the engine moves from segment to segment as one word.
-    let outcome: Outcome<Box<Engine>> = exchange(
-        rt,
-        alloc,
-        words,
-        source,
-        sink,
-        &OpenGate,
-        &mut meters,
-        &mut spare,
-    );
-    Ok(outcome.status)
+    match read_follow(alloc, words) {
+        Ok(strict) => {
+            // In a box the engine moves as one word.
+            let followed: Followed<Box<Engine>> = follow(
+                rt,
+                alloc,
+                strict,
+                wire,
+                &mut meters,
+                &mut spare,
+            );
+            Ok(followed.status)
+        }
+        Err(WordsFault::Memory) => Ok(5),
+        Err(WordsFault::NoCommand) => {
+            let outcome: Outcome<Box<Engine>> = exchange(
+                rt,
+                alloc,
+                words,
+                &mut wire.source,
+                &mut wire.sink,
+                &OpenGate,
+                &mut meters,
+                &mut spare,
+            );
+            Ok(outcome.status)
+        }
+    }
 }
 
 fn main(rt: HostRuntime) -> ExitCode {
@@ -82,8 +101,9 @@ fn main(rt: HostRuntime) -> ExitCode {
     let Ok(words) = words_of(&rt) else {
         return ExitCode::from(5);
     };
-    let mut source = StdSource::new(rt.stdin());
-    let mut sink = StdSink::new(rt.stdout());
-    let status = status_of(&rt, rt.alloc(), &words, &mut source, &mut sink);
+    let source = StdSource::new(rt.stdin());
+    let sink = StdSink::new(rt.stdout());
+    let mut wire = StdWire::new(source, sink);
+    let status = status_of(&rt, rt.alloc(), &words, &mut wire);
     ExitCode::from(status.unwrap_or(5))
 }

@@ -1,0 +1,21 @@
+use Rattle.std.proofs.Common.{◌++◌, ◌∙◌, refl, sym}
+use Rattle.line_follower.specs.declared.following.Following.TheVariants as ended
+use Rattle.line_follower.proofs.Steps.{cut_due, cut_text, reads_same, writes_same}
+use Rattle.exchange_top.proofs.follow_loop.follow_with.Goals as goal
+
+pub returns-in-WriteFailed-clause-followed : goal.returns-in-WriteFailed-clause-followed
+returns-in-WriteFailed-clause-followed g c =
+    let (heard, said, stood, has) = c.in-WriteFailed.ensures.ended in
+    (heard, said, stood, cut_due ended.WriteFailed _ heard (said ++ c.follow_to_end-why.new.text.items) said c.follow_to_end-why.new.text.items refl has)
+
+pub returns-in-Err : goal.returns-in-Err
+returns-in-Err g c =
+    let (heard, said, stood, has) = c.follow_to_end-why.ensures.ended in
+    let (front, back, is, now) = c.in-Err.ensures.front heard said stood in
+    let reads = reads_same c.follow_to_end-why.result _ _ c.in_default.not-ReadFailed c.follow_to_end-why.ensures.reads in
+    let writes = writes_same c.follow_to_end-why.result _ _ c.in_default.not-WriteFailed c.follow_to_end-why.ensures.writes in
+    record {
+      followed = (heard, said ++ front, now, cut_text c.follow_to_end-why.result _ heard said c.follow_to_end-why.new.text.items front back (sym c.as_slice.ensures.value ∙ is) has);
+      reads = c.write_all.ensures.reads ∙ reads;
+      writes = rw writes at c.in-Err.ensures.cause;
+    }

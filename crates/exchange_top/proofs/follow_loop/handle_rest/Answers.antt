@@ -1,0 +1,20 @@
+use Rattle.std.proofs.Common.{rules, ◌≢◌, []}
+use Rattle.std.proofs.lemmas.Result.{IfErr-weaker}
+use Rattle.line_follower.proofs.Steps.{answered_all, has_unfed, ok_weaker, stopped_next}
+use Rattle.exchange_top.proofs.follow_loop.handle_rest.Goals as goal
+
+pub returns-clause-done : goal.returns-clause-done
+returns-clause-done g c =
+    let some : c.args.rest.now ≢ [] = search rules in
+    ok_weaker c.handle_line.result (λ step old old_spare heard u. answered_all _ _ _ _ heard _ _ _ _ _ u some c.requires.partial (step old old_spare heard)) c.handle_line.ensures.done
+
+pub returns-clause-stopped : goal.returns-clause-stopped
+returns-clause-stopped g c =
+    let some : c.args.rest.now ≢ [] = search rules in
+    IfErr-weaker c.handle_line.result _ _
+    (λ why step old old_spare heard u. stopped_next (g.W.Wire.stands c.args.wire.now) (g.W.Wire.stands c.handle_line.new.wire)
+    _
+    _
+    why heard c.args.rest.now c.args.rest.now [] c.args.text.now.items c.handle_line.new.text.items c.args.handler.now.lines u
+    (has_unfed c.args.rest.now some c.requires.partial) c.requires.room (step old old_spare heard))
+    c.handle_line.ensures.stopped

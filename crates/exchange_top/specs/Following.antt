@@ -1,0 +1,226 @@
+-- A trace whose lines are processed when they arrive: its story, and the ending of its call. Source: this project.
+use Rattle.std.specs.Prelude.{◌≡◌, ℕ, ◌+◌, nat_lt, if◌then◌else◌, List, [], ◌∷◌, ◌++◌, length, Option, Some, None, Result, Ok, Err}
+use Rattle.circuit_model.specs.Hears.{Plays}
+use Rattle.tone_rules.specs.Tables.{table_of}
+use Rattle.exchange_events.specs.declared.record.CallRecord.{CallRecord}
+use Rattle.exchange_events.specs.Kept.{kept_of}
+use Rattle.exchange_events.specs.Sizes.{Dimensions, Setting}
+use Rattle.call_profile.specs.CallsTold.{calls_kept}
+use Rattle.call_profile.specs.Step.{next, reply, world_after_all}
+use Rattle.call_profile.specs.World.{World, start}
+use Rattle.report_text.specs.RunReport.{Played, event_line}
+use Rattle.meters.specs.Changing.{Step, Event_done, Meters_changed, records_of}
+use Rattle.trace_text.specs.declared.fault.Reason.{Reason}
+use Rattle.trace_text.specs.declared.fault.Reason.TheVariants as reason
+use Rattle.trace_text.specs.declared.said.Said.{Said}
+use Rattle.trace_text.specs.declared.said.Said.TheVariants.{Happens, Change}
+use Rattle.trace_text.specs.declared.said.Sizes.{Sizes}
+use Rattle.trace_text.specs.TraceGrammar.{events_in, numbers_in, plan_of, sizes_in, so_far, timers_in, timers_of, tones_in, tones_of}
+use Rattle.trace_text.specs.TraceLines.{line_limits, says}
+use Rattle.trace_text.specs.TraceTimers.{timers_by}
+use Rattle.trace_text.specs.TraceWords.{lines}
+use Rattle.line_follower.specs.Following.{Dues, HasFollowed, IsSettled}
+use Rattle.line_follower.specs.declared.following.Following.{Following}
+use Rattle.line_follower.specs.declared.following.Following.TheVariants as followed
+use Rattle.call_processor.specs.Frames.{Carrying}
+use Rattle.exchange_top.specs.Outcomes.{HandsOut}
+use Rattle.exchange_top.specs.Refusals.{refusal}
+use Rattle.exchange_top.specs.Telling.{MeterStory, meter_story}
+
+-- ---- lines that follow one another
+
+-- the maximum number of octets in a line
+abbrev pub most_line : ℕ
+most_line = 65535
+
+-- the maximum number of lines
+abbrev pub most_lines : ℕ
+most_lines = 4294967294
+
+-- the content of a line after the lines with these contents, or the reason for which it is refused: it is too long,
+-- there are too many lines before it, or a check of it fails
+abbrev pub follows : List Said → List ℕ → Result Said Reason
+follows told line =
+    if nat_lt most_line (length line) then Err reason.Limit
+    else if nat_lt (length told) most_lines then says line_limits (so_far told) line
+    else Err reason.Limit
+
+-- each line follows those before it, with the content in its place
+abbrev pub EachFollows : List Said → List (List ℕ) → List Said → Type 0
+EachFollows before [] [] = Unit {0}
+EachFollows before [] (said ∷ told) = ⊥
+EachFollows before (line ∷ others) [] = ⊥
+EachFollows before (line ∷ others) (said ∷ told) = (follows before line ≡ Ok said) × EachFollows (before ++ said ∷ []) others told
+
+-- ---- the story of lines
+
+-- the setting that the header, the numbers, the tones and the timers give, over a fabric of n internal slots
+abbrev pub setting_said : ℕ → Sizes → List Said → Setting
+setting_said slots sizes told = record {
+  dimensions = record { external = sizes.external; bridges = sizes.bridges; slots = slots };
+  plan = plan_of (numbers_in told);
+  tones = tones_of (tones_in told);
+  timers = timers_by (timers_of (timers_in told));
+}
+
+-- the exchange state after the events of these lines
+abbrev pub world_said : ℕ → Sizes → List Said → World
+world_said slots sizes told = let s = setting_said slots sizes told in world_after_all s (start s.dimensions) (events_in told)
+
+-- the events and the changes of meters of these lines, from an exchange state on and after n events: for each event its
+-- line, which has its number, and the records of the calls that ended with it
+abbrev pub steps_said : Played → Setting → World → ℕ → List Said → List Step
+steps_said played s w n [] = []
+steps_said played s w n (Happens e ∷ told) =
+    Event_done (event_line played s w (n + 1) e) (calls_kept (kept_of (reply s w e))) ∷ steps_said played s (next s w e) (n + 1) told
+steps_said played s w n (Change ∷ told) = Meters_changed ∷ steps_said played s w n told
+steps_said played s w n (said ∷ told) = steps_said played s w n told
+
+-- the story of these lines in an exchange of these sizes; before the header it has no step
+abbrev pub story_by : Plays → ℕ → Option Sizes → List Said → List Step
+story_by plays slots None told = []
+story_by plays slots (Some sizes) told =
+    let s = setting_said slots sizes told in steps_said (plays (table_of s.tones)) s (start s.dimensions) 0 told
+
+-- the story of these lines: an event happens at each line that gives one, in the order of the lines
+abbrev pub story_said : Plays → ℕ → List Said → List Step
+story_said plays slots told = story_by plays slots (sizes_in told) told
+
+-- ---- the facts about lines that were followed
+
+-- the parts on which the story of lines depends: the output of an engine, the number of internal slots of the fabric,
+-- and the meters before and after
+pub record Course : Type 1 where
+  pub plays : Plays
+  pub slots : ℕ
+  pub meters : MeterStory
+
+-- the parts of a story with these meters, by the definitions of their type
+abbrev pub course : {M : Type 0} → Plays → ℕ → (M → List CallRecord → Type 0) → (M → List CallRecord → List ℕ) → (old spare new new_spare : List M) → Course
+course plays slots stands text old spare new new_spare = record { plays = plays; slots = slots; meters = meter_story stands text old spare new new_spare }
+
+-- the octets that are due for these lines are the text of their story
+pub record AreAnswered (plays : Plays) (slots : ℕ) (written : List Step → List ℕ) (ls : List (List ℕ)) (said : List ℕ) : Type 0 where
+  pub told : List Said
+  pub meets : EachFollows [] ls told
+  pub text : said ≡ written (story_said plays slots told)
+
+-- all whole lines of an input were processed, and exactly the text of their story was written
+abbrev pub IsAnswered : Plays → ℕ → (List Step → List ℕ) → (heard said : List ℕ) → Type 0
+IsAnswered plays slots written heard said = IsSettled (AreAnswered plays slots written) heard said
+
+-- these lines were processed: the text of their story is due, and the meters are its result
+pub record AreProcessed (x : Course) (ls : List (List ℕ)) (said : List ℕ) : Type 0 where
+  pub told : List Said
+  pub meets : EachFollows [] ls told
+  pub text : said ≡ x.meters.written (story_said x.plays x.slots told)
+  pub meters : x.meters.left (story_said x.plays x.slots told)
+
+-- these lines were processed, and the header is among them
+pub record IsWhole (x : Course) (ls : List (List ℕ)) (said : List ℕ) : Type 0 where
+  pub told : List Said
+  pub meets : EachFollows [] ls told
+  pub sizes : Sizes
+  pub header : sizes_in told ≡ Some sizes
+  pub text : said ≡ x.meters.written (story_said x.plays x.slots told)
+  pub meters : x.meters.left (story_said x.plays x.slots told)
+
+-- the last of these lines is the first that is refused: its refusal is due after the text of the lines before it
+pub record IsLineRefused (x : Course) (ls : List (List ℕ)) (said : List ℕ) : Type 0 where
+  pub before : List (List ℕ)
+  pub line : List ℕ
+  pub told : List Said
+  pub why : Reason
+  pub parts : ls ≡ before ++ line ∷ []
+  pub meets : EachFollows [] before told
+  pub fails : follows told line ≡ Err why
+  pub text : said ≡ x.meters.written (story_said x.plays x.slots told) ++ refusal (length ls) why
+  pub meters : x.meters.left (story_said x.plays x.slots told)
+
+-- no line is refused, and none is the header: the refusal names the line after the last
+pub record IsEndRefused (x : Course) (ls : List (List ℕ)) (said : List ℕ) : Type 0 where
+  pub told : List Said
+  pub meets : EachFollows [] ls told
+  pub none : sizes_in told ≡ None
+  pub text : said ≡ refusal (length ls + 1) reason.Header
+  pub meters : x.meters.left []
+
+-- the further lines of an interrupted input give these steps: there is none, or its content could not be stored, or it
+-- gives a step
+pub data IsNext (x : Course) (told : List Said) : List (List ℕ) → List Step → Type 0 where
+  No_line : IsNext x told [] []
+  Unread : (line : List ℕ) → IsNext x told (line ∷ []) []
+  Read : (line : List ℕ) (said : Said) (others : List Step) → follows told line ≡ Ok said
+      → story_said x.plays x.slots (told ++ said ∷ []) ≡ story_said x.plays x.slots told ++ others → IsNext x told (line ∷ []) others
+
+-- An allocation failed after these lines, or in the last of them. The text of the lines before it is due. The meters
+-- are the result of their story, and recorded perhaps a prefix of the calls that ended in the last line.
+pub record IsInterrupted (x : Course) (ls : List (List ℕ)) (said : List ℕ) : Type 0 where
+  pub before : List (List ℕ)
+  pub rest : List (List ℕ)
+  pub told : List Said
+  pub others : List Step
+  pub parts : ls ≡ before ++ rest
+  pub meets : EachFollows [] before told
+  pub next : IsNext x told rest others
+  pub text : said ≡ x.meters.written (story_said x.plays x.slots told)
+  pub meters : x.meters.left_beyond (story_said x.plays x.slots told) (records_of others)
+
+-- ---- the ending of the call
+
+-- the octets that are due for lines, by the way in which they end
+abbrev pub dues_of : Course → Dues
+dues_of x = record {
+  answers = AreProcessed x;
+  refuses = IsLineRefused x;
+  strands = IsInterrupted x;
+  ends = IsWhole x;
+  refuses_end = IsEndRefused x;
+}
+
+-- the status of each ending
+abbrev pub followed_status : Following → ℕ
+followed_status followed.Completed = 0
+followed_status followed.Refused = 1
+followed_status followed.ReadFailed = 3
+followed_status followed.WriteFailed = 4
+followed_status followed.OutOfMemory = 5
+
+-- the parts that every ending has in common: the story's, the engine that is returned, and its absence
+pub record FollowParties : Type 1 where
+  pub course : Course
+  pub handed : Dimensions → World → Type 0
+  pub no_engine : Type 0
+
+-- the parties of a call, by the definitions of its engine and of its meters
+abbrev pub follow_parties : {M E : Type 0} → Plays → ℕ → (E → Dimensions) → Carrying E → Option E → (M → List CallRecord → Type 0) → (M → List CallRecord → List ℕ)
+    → (old spare new new_spare : List M) → FollowParties
+follow_parties plays slots sizes carries engine stands text old spare new new_spare = record {
+  course = course plays slots stands text old spare new new_spare;
+  handed = HandsOut sizes carries engine;
+  no_engine = engine ≡ None;
+}
+
+-- the returned engine has the size of the exchange, and carries the frames of these lines
+pub record IsEngineOf (x : FollowParties) (ls : List (List ℕ)) : Type 0 where
+  pub told : List Said
+  pub meets : EachFollows [] ls told
+  pub sizes : Sizes
+  pub header : sizes_in told ≡ Some sizes
+  pub engine : x.handed (setting_said x.course.slots sizes told).dimensions (world_said x.course.slots sizes told)
+
+-- the engine that a call returns: the engine of all lines if they were all processed, and otherwise none
+abbrev pub HasReturned : FollowParties → Following → List ℕ → Type 0
+HasReturned x followed.Completed heard = IsEngineOf x (lines heard)
+HasReturned x followed.Refused heard = x.no_engine
+HasReturned x followed.ReadFailed heard = x.no_engine
+HasReturned x followed.WriteFailed heard = x.no_engine
+HasReturned x followed.OutOfMemory heard = x.no_engine
+
+-- the octets that were read and written, by the ending; the definition `HasFollowed` has a case for each ending
+pub record FollowsTo (x : FollowParties) (stands : List ℕ → List ℕ → Type 0) (ending : Following) : Type 0 where
+  pub heard : List ℕ
+  pub said : List ℕ
+  pub stood : stands heard said
+  pub due : HasFollowed ending (dues_of x.course) heard said
+  pub engine : HasReturned x ending heard

@@ -1,0 +1,98 @@
+-- The state of an exchange that follows a trace, between two lines. Source: this project.
+use Rattle.std.specs.Prelude.{◌≡◌, ℕ, ◌<◌, ◌≤◌, true, List, [], length, Option, Some, None}
+use Rattle.circuit_model.specs.Dimensions.{Dimensions}
+use Rattle.number_plan.specs.Plan.{all_targets}
+use Rattle.circuit_model.specs.Hears.{Plays}
+use Rattle.exchange_events.specs.declared.record.CallRecord.{CallRecord}
+use Rattle.exchange_events.specs.Sound.{is_reached}
+use Rattle.lone_exchange.specs.declared.exchange.LoneExchange.{LoneExchange}
+use Rattle.lone_exchange.specs.At.{Carrying, IsAt}
+use Rattle.trace_text.specs.declared.said.Said.{Said}
+use Rattle.trace_text.specs.declared.said.Sizes.{Sizes}
+use Rattle.trace_text.specs.TraceGrammar.{events_in, sizes_in, so_far}
+use Rattle.line_follower.specs.declared.following.Following.{Following}
+use Rattle.line_follower.specs.declared.following.Following.TheVariants as followed
+use Rattle.trace_text.specs.declared.heading.Happening.{Happening}
+use Rattle.trace_text.specs.TraceHeading.{IsLineRead}
+use Rattle.trace_text.specs.TraceLines.{SoFar, line_limits}
+use Rattle.line_follower.specs.Following.{Dues}
+use Rattle.exchange_top.specs.Following.{Course, EachFollows, IsEndRefused, IsInterrupted, IsLineRefused, IsWhole, course, setting_said, story_said, world_said}
+
+-- what is known of lines that follow one another: the header has the sizes of an exchange, the numbers are routed to its
+-- lines, and before the header there is no number, no event and no change
+pub record IsSaid (k : SoFar) : Type 0 where
+  pub some : (sizes : Sizes) → k.sizes ≡ Some sizes → 1 ≤ sizes.external
+  pub few : (sizes : Sizes) → k.sizes ≡ Some sizes → sizes.external ≤ 32
+  pub bridges : (sizes : Sizes) → k.sizes ≡ Some sizes → sizes.bridges ≤ 2
+  pub planned : (sizes : Sizes) → k.sizes ≡ Some sizes → all_targets (is_reached sizes.external) k.plan ≡ true
+  pub unplanned : k.sizes ≡ None → k.plan ≡ []
+  pub no_events : k.sizes ≡ None → k.events ≡ 0
+  pub no_changes : k.sizes ≡ None → k.changes ≡ 0
+
+-- the exchange is in the state after these lines, in the setting of their header
+pub record IsAfter {P E : Type 0} (carries : Carrying E) (frames : E → ℕ) (sizes : E → Dimensions) (slots : ℕ) (told : List Said) (x : LoneExchange P E) : Type 0 where
+  pub header : Sizes
+  pub given : sizes_in told ≡ Some header
+  pub at : IsAt carries frames sizes x (setting_said slots header told) (world_said slots header told)
+
+-- there is no exchange before the first event, and after it the exchange is in the state after these lines
+abbrev pub IsDriven : {P E : Type 0} → Carrying E → (E → ℕ) → (E → Dimensions) → ℕ → List Said → Option (LoneExchange P E) → Type 0
+IsDriven carries frames sizes slots told None = events_in told ≡ []
+IsDriven carries frames sizes slots told (Some x) = (1 ≤ length (events_in told)) × IsAfter carries frames sizes slots told x
+
+-- these lines were processed: exactly the text of their story is due, the meters are its result, and these lines give
+-- the heading, the count of lines and the exchange
+pub record HasHandled {P E : Type 0} (carries : Carrying E) (frames : E → ℕ) (sizes : E → Dimensions) (x : Course) (heading : SoFar) (count : ℕ)
+    (exchange : Option (LoneExchange P E)) (ls : List (List ℕ)) (said : List ℕ) : Type 0 where
+  pub told : List Said
+  pub meets : EachFollows [] ls told
+  pub text : said ≡ x.meters.written (story_said x.plays x.slots told)
+  pub meters : x.meters.left (story_said x.plays x.slots told)
+  pub known : heading ≡ so_far told
+  pub sound : IsSaid (so_far told)
+  pub counted : count ≡ length ls
+  pub driven : IsDriven carries frames sizes x.slots told exchange
+
+-- a further line was read, and what happens at it was not yet processed: the heading has its content
+pub record HasRead {P E : Type 0} (carries : Carrying E) (frames : E → ℕ) (sizes : E → Dimensions) (x : Course) (heading : SoFar) (count : ℕ)
+    (exchange : Option (LoneExchange P E)) (ls : List (List ℕ)) (line said : List ℕ) (hap : Happening) : Type 0 where
+  pub before : SoFar
+  pub handled : HasHandled carries frames sizes x before count exchange ls said
+  pub short : length line ≤ 65535
+  pub few : count < 4294967294
+  pub read : IsLineRead line_limits before line hap heading
+
+-- the engine of an exchange after these lines
+pub record IsEngineAfter {P E : Type 0} (carries : Carrying E) (frames : E → ℕ) (sizes : E → Dimensions) (slots : ℕ) (ls : List (List ℕ))
+    (exchange : Option (LoneExchange P E)) : Type 0 where
+  pub told : List Said
+  pub meets : EachFollows [] ls told
+  pub driver : LoneExchange P E
+  pub is : exchange ≡ Some driver
+  pub after : IsAfter carries frames sizes slots told driver
+
+-- all lines were processed, and there is an exchange
+pub record HasFinished {P E : Type 0} (carries : Carrying E) (frames : E → ℕ) (sizes : E → Dimensions) (x : Course)
+    (exchange : Option (LoneExchange P E)) (ls : List (List ℕ)) (said : List ℕ) : Type 0 where
+  pub whole : IsWhole x ls said
+  pub engine : IsEngineAfter carries frames sizes x.slots ls exchange
+
+-- the octets that are due for lines that an exchange follows, from the meters before the first line and the parts of the
+-- exchange now
+abbrev pub handler_dues : {M P E : Type 0} → (M → List CallRecord → Type 0) → (M → List CallRecord → List ℕ) → Carrying E → (E → ℕ) → (E → Dimensions)
+    → Plays → ℕ → (old old_spare on spare : List M) → SoFar → ℕ → Option (LoneExchange P E) → Dues
+handler_dues stands text carries frames sizes plays slots old old_spare on spare heading count exchange = record {
+  answers = HasHandled carries frames sizes (course plays slots stands text old old_spare on spare) heading count exchange;
+  refuses = IsLineRefused (course plays slots stands text old old_spare on spare);
+  strands = IsInterrupted (course plays slots stands text old old_spare on spare);
+  ends = HasFinished carries frames sizes (course plays slots stands text old old_spare on spare) exchange;
+  refuses_end = IsEndRefused (course plays slots stands text old old_spare on spare);
+}
+
+-- the engine that a call returns, by its ending
+abbrev pub engine_returned : {E : Type 0} → Following → Option E → Option E
+engine_returned followed.Completed engine = engine
+engine_returned followed.Refused engine = None
+engine_returned followed.ReadFailed engine = None
+engine_returned followed.WriteFailed engine = None
+engine_returned followed.OutOfMemory engine = None

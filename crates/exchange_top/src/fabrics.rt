@@ -1,0 +1,41 @@
+//! The fabrics on which a trace can be followed.
+ghost use Rattle.std.specs.Prelude.{◌≡◌, ◌<◌, ◌≤◌, ℕ, IfOk};
+ghost use Rattle.exchange_core.specs.Beginnings.{IsUnused};
+
+use control_memory::PathMap;
+use fabric_map::FabricMap;
+use std::alloc::{AllocError, Global};
+use strict_map::StrictMap;
+
+/// A map of paths that is made when the number of lines is known. All maps of one type have the same number of internal
+/// slots.
+pub trait Fabric: PathMap + Sized + Drop {
+    /// The number of internal slots.
+    ghost slots: { ℕ };
+
+    /// Returns a map of this many lines, without paths.
+    ///
+    /// # Errors
+    ///
+    /// [`AllocError`] if an allocation fails.
+    fn unused(alloc: Global, lines: u8) -> Result<Self, AllocError>
+        requires { (0 < lines) × (lines ≤ 34) }
+        ensures unused { IfOk result (λ m. IsUnused lines (Self.width m) (Self.depth m) (Self.layout m)) }
+        ensures depth { IfOk result (λ m. Self.depth m ≡ slots) };
+}
+
+impl Fabric for FabricMap {
+    ghost slots = { 30 };
+
+    fn unused(alloc: Global, lines: u8) -> Result<FabricMap, AllocError> {
+        FabricMap::new(alloc, lines)
+    }
+}
+
+impl Fabric for StrictMap {
+    ghost slots = { 59 };
+
+    fn unused(alloc: Global, lines: u8) -> Result<StrictMap, AllocError> {
+        StrictMap::new(alloc, lines)
+    }
+}

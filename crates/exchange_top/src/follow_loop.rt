@@ -1,0 +1,417 @@
+// The lines of a wire, which an exchange processes in sequence.
+ghost use Rattle.std.specs.Prelude.{◌≡◌, ◌<◌, ◌≤◌, ◌++◌, ◌+◌, ◌∷◌, [], ℕ, List, length, take, drop, IfOk, IfErr, OnOk};
+ghost use Rattle.line_follower.specs.Following.{CountsReads, CountsWrites, HasFollowed, HasNoFeed};
+ghost use Rattle.line_follower.specs.Progress.{HasStopped, IsUnderway, OwesText};
+ghost use Rattle.line_follower.specs.declared.following.Following.TheVariants as ended;
+ghost use Rattle.meters.specs.Changing.{handed_in, steps_text};
+ghost use Rattle.trace_text.specs.TraceWords.{lines as lines_of};
+ghost use Rattle.exchange_top.specs.Following.{IsAnswered};
+ghost use Rattle.exchange_top.specs.Handling.{handler_dues};
+
+use crate::fabrics::Fabric;
+use crate::follower::TraceFollower;
+use frame_engine::Carrier;
+use line_follower::{Following, Stop, first_fed, flush, move_to_front, read_after, write_all};
+use line_wire::Wire;
+use meters::Meter;
+use std::alloc::Global;
+use std::thread::Threads;
+
+// The maximum number of octets in a line, without its line feed.
+const MAX_LINE: usize = 65_535;
+
+// The octets of the buffer.
+const BUFFER_OCTETS: usize = 131_072;
+
+// A text of this length is written after the line that completed it.
+const FULL_TEXT: usize = 65_536;
+
+// Processes a line.
+//
+// # Errors
+//
+// The cause for which the call of `follow_lines` ends.
+fn handle_next<P: Fabric, C: Carrier, R: Threads + Sync>(
+    handler: &mut TraceFollower<'_, P, C, R>,
+    line: &[u8],
+    text: &mut Vec<u8>,
+) -> Result<(), Following>
+    requires at { (old old_spare : List _) × (done : List (List ℕ)) × (front : List ℕ)
+        × (handler_dues (λ m. (⟦<dyn Meter as Meter>⟧ m.vtable).stands m.value)
+        (λ m. (⟦<dyn Meter as Meter>⟧ m.vtable).text m.value) C.carries C.next C.sizes C.plays P.slots old
+        old_spare handler.old.metering.on.items handler.old.metering.spare.items handler.old.heading handler.old.lines
+        handler.old.exchange).answers done (front ++ text.old.items) }
+    requires one { HasNoFeed line.now }
+
+    ensures done { OnOk result ((old old_spare : List _) (done : List (List ℕ)) (front : List ℕ)
+        → (handler_dues (λ m. (⟦<dyn Meter as Meter>⟧ m.vtable).stands m.value)
+        (λ m. (⟦<dyn Meter as Meter>⟧ m.vtable).text m.value) C.carries C.next C.sizes C.plays P.slots old
+        old_spare handler.old.metering.on.items handler.old.metering.spare.items handler.old.heading handler.old.lines
+        handler.old.exchange).answers done (front ++ text.old.items)
+        → (handler_dues (λ m. (⟦<dyn Meter as Meter>⟧ m.vtable).stands m.value)
+        (λ m. (⟦<dyn Meter as Meter>⟧ m.vtable).text m.value) C.carries C.next C.sizes C.plays P.slots old
+        old_spare handler.new.metering.on.items handler.new.metering.spare.items handler.new.heading handler.new.lines
+        handler.new.exchange).answers (done ++ line.now ∷ []) (front ++ text.new.items)) }
+    ensures short { OnOk result (length line.now ≤ 65535) }
+    ensures counted { OnOk result (handler.new.lines ≡ handler.old.lines + 1) }
+    ensures few { OnOk result (handler.new.lines ≤ 4294967294) }
+
+    ensures stopped { IfErr result (λ why. (old old_spare : List _) (done : List (List ℕ)) (front : List ℕ)
+        → (handler_dues (λ m. (⟦<dyn Meter as Meter>⟧ m.vtable).stands m.value)
+        (λ m. (⟦<dyn Meter as Meter>⟧ m.vtable).text m.value) C.carries C.next C.sizes C.plays P.slots old
+        old_spare handler.old.metering.on.items handler.old.metering.spare.items handler.old.heading handler.old.lines
+        handler.old.exchange).answers done (front ++ text.old.items)
+        → HasStopped why (handler_dues (λ m. (⟦<dyn Meter as Meter>⟧ m.vtable).stands m.value)
+        (λ m. (⟦<dyn Meter as Meter>⟧ m.vtable).text m.value) C.carries C.next C.sizes C.plays P.slots old
+        old_spare handler.new.metering.on.items handler.new.metering.spare.items handler.new.heading handler.new.lines
+        handler.new.exchange) done line.now (front ++ text.new.items)) }
+    ensures no_read { IfErr result (λ why. CountsReads why 0 0) }
+    ensures no_write { IfErr result (λ why. CountsWrites why 0 0) }
+{
+    match handler.handle(line, text) {
+        Ok(()) => Ok(()),
+        Err(Stop::Refused) => Err(Following::Refused),
+        Err(Stop::OutOfMemory) => Err(Following::OutOfMemory),
+    }
+}
+
+// Processes a line, and writes the text if it is long enough.
+//
+// # Errors
+//
+// The cause for which the call of `follow_lines` ends. The text is still to be written, unless a write failed.
+fn handle_line<W: Wire, P: Fabric, C: Carrier, R: Threads + Sync>(
+    wire: &mut W,
+    handler: &mut TraceFollower<'_, P, C, R>,
+    line: &[u8],
+    text: &mut Vec<u8>,
+) -> Result<(), Following>
+    requires at { (old old_spare : List _) × (heard : List ℕ) × (done : List (List ℕ))
+        × OwesText (W.stands wire.old) (handler_dues (λ m. (⟦<dyn Meter as Meter>⟧ m.vtable).stands m.value)
+        (λ m. (⟦<dyn Meter as Meter>⟧ m.vtable).text m.value) C.carries C.next C.sizes C.plays P.slots old
+        old_spare handler.old.metering.on.items handler.old.metering.spare.items handler.old.heading handler.old.lines
+        handler.old.exchange).answers heard done text.old.items handler.old.lines }
+    requires one { HasNoFeed line.now }
+
+    ensures done { OnOk result ((old old_spare : List _) (heard : List ℕ) (done : List (List ℕ))
+        → OwesText (W.stands wire.old) (handler_dues (λ m. (⟦<dyn Meter as Meter>⟧ m.vtable).stands m.value)
+        (λ m. (⟦<dyn Meter as Meter>⟧ m.vtable).text m.value) C.carries C.next C.sizes C.plays P.slots old
+        old_spare handler.old.metering.on.items handler.old.metering.spare.items handler.old.heading handler.old.lines
+        handler.old.exchange).answers heard done text.old.items handler.old.lines
+        → OwesText (W.stands wire.new) (handler_dues (λ m. (⟦<dyn Meter as Meter>⟧ m.vtable).stands m.value)
+        (λ m. (⟦<dyn Meter as Meter>⟧ m.vtable).text m.value) C.carries C.next C.sizes C.plays P.slots old
+        old_spare handler.new.metering.on.items handler.new.metering.spare.items handler.new.heading handler.new.lines
+        handler.new.exchange).answers heard (done ++ line.now ∷ []) text.new.items
+        handler.new.lines) }
+    ensures short { OnOk result (length line.now ≤ 65535) }
+    ensures counted { OnOk result (handler.new.lines ≡ handler.old.lines + 1) }
+    ensures few { OnOk result (handler.new.lines ≤ 4294967294) }
+    ensures steady { OnOk result (W.write_faults wire.new ≡ W.write_faults wire.old) }
+
+    ensures stopped { IfErr result (λ why. (old old_spare : List _) (heard : List ℕ) (done : List (List ℕ))
+        → OwesText (W.stands wire.old) (handler_dues (λ m. (⟦<dyn Meter as Meter>⟧ m.vtable).stands m.value)
+        (λ m. (⟦<dyn Meter as Meter>⟧ m.vtable).text m.value) C.carries C.next C.sizes C.plays P.slots old
+        old_spare handler.old.metering.on.items handler.old.metering.spare.items handler.old.heading handler.old.lines
+        handler.old.exchange).answers heard done text.old.items handler.old.lines
+        → (said : List ℕ) × W.stands wire.new heard said
+        × HasStopped why (handler_dues (λ m. (⟦<dyn Meter as Meter>⟧ m.vtable).stands m.value)
+        (λ m. (⟦<dyn Meter as Meter>⟧ m.vtable).text m.value) C.carries C.next C.sizes C.plays P.slots old
+        old_spare handler.new.metering.on.items handler.new.metering.spare.items handler.new.heading handler.new.lines
+        handler.new.exchange) done line.now
+        (said ++ text.new.items)) }
+    ensures writes { IfErr result (λ why. CountsWrites why (W.write_faults wire.old) (W.write_faults wire.new)) }
+    ensures reads { W.read_faults wire.new ≡ W.read_faults wire.old }
+    ensures no_read { IfErr result (λ why. CountsReads why 0 0) }
+{
+    handle_next(handler, line, text)?;
+    if text.len() < FULL_TEXT {
+        return Ok(());
+    }
+    match flush(wire, text) {
+        Ok(()) => Ok(()),
+        Err(_) => Err(Following::WriteFailed),
+    }
+}
+
+// Processes the lines that have a line feed. Returns the number of octets in them, with their line feeds.
+//
+// # Errors
+//
+// The cause for which the call of `follow_lines` ends. The text is still to be written, unless a write failed.
+fn handle_lines<W: Wire, P: Fabric, C: Carrier, R: Threads + Sync>(
+    wire: &mut W,
+    handler: &mut TraceFollower<'_, P, C, R>,
+    bytes: &[u8],
+    text: &mut Vec<u8>,
+) -> Result<usize, Following>
+    requires at { (old old_spare : List _) × (heard : List ℕ)
+        × IsUnderway (W.stands wire.old) (handler_dues (λ m. (⟦<dyn Meter as Meter>⟧ m.vtable).stands m.value)
+        (λ m. (⟦<dyn Meter as Meter>⟧ m.vtable).text m.value) C.carries C.next C.sizes C.plays P.slots old
+        old_spare handler.old.metering.on.items handler.old.metering.spare.items handler.old.heading handler.old.lines
+        handler.old.exchange).answers heard bytes.now text.old.items handler.old.lines }
+    requires room { length bytes.now ≤ 131072 }
+
+    ensures within { IfOk result (λ n. n ≤ length bytes.now) }
+    ensures partial { IfOk result (λ n. HasNoFeed (drop n bytes.now)) }
+    ensures short { IfOk result (λ n. length bytes.now ≤ n + 65535) }
+    ensures done { IfOk result (λ n. (old old_spare : List _) (heard : List ℕ)
+        → IsUnderway (W.stands wire.old) (handler_dues (λ m. (⟦<dyn Meter as Meter>⟧ m.vtable).stands m.value)
+        (λ m. (⟦<dyn Meter as Meter>⟧ m.vtable).text m.value) C.carries C.next C.sizes C.plays P.slots old
+        old_spare handler.old.metering.on.items handler.old.metering.spare.items handler.old.heading handler.old.lines
+        handler.old.exchange).answers heard bytes.now text.old.items handler.old.lines
+        → IsUnderway (W.stands wire.new) (handler_dues (λ m. (⟦<dyn Meter as Meter>⟧ m.vtable).stands m.value)
+        (λ m. (⟦<dyn Meter as Meter>⟧ m.vtable).text m.value) C.carries C.next C.sizes C.plays P.slots old
+        old_spare handler.new.metering.on.items handler.new.metering.spare.items handler.new.heading handler.new.lines
+        handler.new.exchange).answers heard (drop n bytes.now) text.new.items
+        handler.new.lines) }
+    ensures counted { IfOk result (λ n. 0 < n → handler.old.lines < handler.new.lines) }
+    ensures later { OnOk result (handler.old.lines ≤ handler.new.lines) }
+    ensures few { OnOk result (handler.old.lines ≤ 4294967294 → handler.new.lines ≤ 4294967294) }
+    ensures steady { OnOk result (W.write_faults wire.new ≡ W.write_faults wire.old) }
+
+    ensures stopped { IfErr result (λ why. (old old_spare : List _) (heard : List ℕ)
+        → IsUnderway (W.stands wire.old) (handler_dues (λ m. (⟦<dyn Meter as Meter>⟧ m.vtable).stands m.value)
+        (λ m. (⟦<dyn Meter as Meter>⟧ m.vtable).text m.value) C.carries C.next C.sizes C.plays P.slots old
+        old_spare handler.old.metering.on.items handler.old.metering.spare.items handler.old.heading handler.old.lines
+        handler.old.exchange).answers heard bytes.now text.old.items handler.old.lines
+        → (said : List ℕ) × W.stands wire.new heard said
+        × HasFollowed why (handler_dues (λ m. (⟦<dyn Meter as Meter>⟧ m.vtable).stands m.value)
+        (λ m. (⟦<dyn Meter as Meter>⟧ m.vtable).text m.value) C.carries C.next C.sizes C.plays P.slots old
+        old_spare handler.new.metering.on.items handler.new.metering.spare.items handler.new.heading handler.new.lines
+        handler.new.exchange) heard
+        (said ++ text.new.items)) }
+    ensures writes { IfErr result (λ why. CountsWrites why (W.write_faults wire.old) (W.write_faults wire.new)) }
+    ensures reads { W.read_faults wire.new ≡ W.read_faults wire.old }
+    ensures no_read { IfErr result (λ why. CountsReads why 0 0) }
+{
+    let mut rest = bytes;
+    while let Some((line, others)) = first_fed(rest) {
+        handle_line(wire, handler, line, text)?;
+        rest = others;
+    }
+    if rest.len() <= MAX_LINE {
+        return Ok(bytes.len() - rest.len());
+    }
+    match handle_rest(wire, handler, rest, text) {
+        Err(why) => Err(why),
+        // No line of this length is processed.
+        Ok(()) => Err(Following::Refused),
+    }
+}
+
+// Processes the octets after the last line feed. They are a line, unless there are none.
+//
+// # Errors
+//
+// The cause for which the call of `follow_lines` ends. The text is still to be written, unless a write failed.
+fn handle_rest<W: Wire, P: Fabric, C: Carrier, R: Threads + Sync>(
+    wire: &mut W,
+    handler: &mut TraceFollower<'_, P, C, R>,
+    rest: &[u8],
+    text: &mut Vec<u8>,
+) -> Result<(), Following>
+    requires at { (old old_spare : List _) × (heard : List ℕ)
+        × IsUnderway (W.stands wire.old) (handler_dues (λ m. (⟦<dyn Meter as Meter>⟧ m.vtable).stands m.value)
+        (λ m. (⟦<dyn Meter as Meter>⟧ m.vtable).text m.value) C.carries C.next C.sizes C.plays P.slots old
+        old_spare handler.old.metering.on.items handler.old.metering.spare.items handler.old.heading handler.old.lines
+        handler.old.exchange).answers heard rest.now text.old.items handler.old.lines }
+    requires partial { HasNoFeed rest.now }
+    requires room { length rest.now ≤ 131072 }
+
+    ensures done { OnOk result ((old old_spare : List _) (heard : List ℕ)
+        → IsUnderway (W.stands wire.old) (handler_dues (λ m. (⟦<dyn Meter as Meter>⟧ m.vtable).stands m.value)
+        (λ m. (⟦<dyn Meter as Meter>⟧ m.vtable).text m.value) C.carries C.next C.sizes C.plays P.slots old
+        old_spare handler.old.metering.on.items handler.old.metering.spare.items handler.old.heading handler.old.lines
+        handler.old.exchange).answers heard rest.now text.old.items handler.old.lines
+        → OwesText (W.stands wire.new) (handler_dues (λ m. (⟦<dyn Meter as Meter>⟧ m.vtable).stands m.value)
+        (λ m. (⟦<dyn Meter as Meter>⟧ m.vtable).text m.value) C.carries C.next C.sizes C.plays P.slots old
+        old_spare handler.new.metering.on.items handler.new.metering.spare.items handler.new.heading handler.new.lines
+        handler.new.exchange).answers heard (lines_of heard) text.new.items handler.new.lines) }
+    ensures short { OnOk result (length rest.now ≤ 65535) }
+    ensures steady { OnOk result (W.write_faults wire.new ≡ W.write_faults wire.old) }
+
+    ensures stopped { IfErr result (λ why. (old old_spare : List _) (heard : List ℕ)
+        → IsUnderway (W.stands wire.old) (handler_dues (λ m. (⟦<dyn Meter as Meter>⟧ m.vtable).stands m.value)
+        (λ m. (⟦<dyn Meter as Meter>⟧ m.vtable).text m.value) C.carries C.next C.sizes C.plays P.slots old
+        old_spare handler.old.metering.on.items handler.old.metering.spare.items handler.old.heading handler.old.lines
+        handler.old.exchange).answers heard rest.now text.old.items handler.old.lines
+        → (said : List ℕ) × W.stands wire.new heard said
+        × HasFollowed why (handler_dues (λ m. (⟦<dyn Meter as Meter>⟧ m.vtable).stands m.value)
+        (λ m. (⟦<dyn Meter as Meter>⟧ m.vtable).text m.value) C.carries C.next C.sizes C.plays P.slots old
+        old_spare handler.new.metering.on.items handler.new.metering.spare.items handler.new.heading handler.new.lines
+        handler.new.exchange) heard
+        (said ++ text.new.items)) }
+    ensures writes { IfErr result (λ why. CountsWrites why (W.write_faults wire.old) (W.write_faults wire.new)) }
+    ensures reads { W.read_faults wire.new ≡ W.read_faults wire.old }
+    ensures no_read { IfErr result (λ why. CountsReads why 0 0) }
+{
+    if rest.is_empty() {
+        return Ok(());
+    }
+    handle_line(wire, handler, rest, text)
+}
+
+// Processes the octets after the last line feed and the end of the input. Returns the cause for which the call of
+// `follow_lines` ends. The text is still to be written, unless a write failed.
+fn handle_end<W: Wire, P: Fabric, C: Carrier, R: Threads + Sync>(
+    wire: &mut W,
+    handler: &mut TraceFollower<'_, P, C, R>,
+    rest: &[u8],
+    text: &mut Vec<u8>,
+) -> Following
+    requires at { (old old_spare : List _) × (heard : List ℕ)
+        × IsUnderway (W.stands wire.old) (handler_dues (λ m. (⟦<dyn Meter as Meter>⟧ m.vtable).stands m.value)
+        (λ m. (⟦<dyn Meter as Meter>⟧ m.vtable).text m.value) C.carries C.next C.sizes C.plays P.slots old
+        old_spare handler.old.metering.on.items handler.old.metering.spare.items handler.old.heading handler.old.lines
+        handler.old.exchange).answers heard rest.now text.old.items handler.old.lines }
+    requires partial { HasNoFeed rest.now }
+    requires room { length rest.now ≤ 131072 }
+
+    ensures ended { (old old_spare : List _) (heard : List ℕ)
+        → IsUnderway (W.stands wire.old) (handler_dues (λ m. (⟦<dyn Meter as Meter>⟧ m.vtable).stands m.value)
+        (λ m. (⟦<dyn Meter as Meter>⟧ m.vtable).text m.value) C.carries C.next C.sizes C.plays P.slots old
+        old_spare handler.old.metering.on.items handler.old.metering.spare.items handler.old.heading handler.old.lines
+        handler.old.exchange).answers heard rest.now text.old.items handler.old.lines
+        → (said : List ℕ) × W.stands wire.new heard said
+        × HasFollowed result (handler_dues (λ m. (⟦<dyn Meter as Meter>⟧ m.vtable).stands m.value)
+        (λ m. (⟦<dyn Meter as Meter>⟧ m.vtable).text m.value) C.carries C.next C.sizes C.plays P.slots old
+        old_spare handler.new.metering.on.items handler.new.metering.spare.items handler.new.heading handler.new.lines
+        handler.new.exchange) heard
+        (said ++ text.new.items) }
+    ensures writes { CountsWrites result (W.write_faults wire.old) (W.write_faults wire.new) }
+    ensures reads { W.read_faults wire.new ≡ W.read_faults wire.old }
+    ensures no_read { CountsReads result 0 0 }
+{
+    match handle_rest(wire, handler, rest, text) {
+        Err(why) => why,
+        Ok(()) => match handler.finish(text) {
+            Ok(()) => Following::Completed,
+            Err(Stop::Refused) => Following::Refused,
+            Err(Stop::OutOfMemory) => Following::OutOfMemory,
+        },
+    }
+}
+
+// Processes all lines of a wire and the end of its input. Returns the cause for which the call of `follow_lines` ends.
+// The text is still to be written, unless a read or a write failed.
+fn follow_to_end<W: Wire, P: Fabric, C: Carrier, R: Threads + Sync>(
+    wire: &mut W,
+    handler: &mut TraceFollower<'_, P, C, R>,
+    buffer: &mut [u8],
+    text: &mut Vec<u8>,
+) -> Following
+    requires size { length buffer.old ≡ 131072 }
+    requires blank { text.old.items ≡ [] }
+    requires fresh { W.stands wire.old [] [] }
+    requires unread { (handler_dues (λ m. (⟦<dyn Meter as Meter>⟧ m.vtable).stands m.value)
+        (λ m. (⟦<dyn Meter as Meter>⟧ m.vtable).text m.value) C.carries C.next C.sizes C.plays P.slots handler.old.metering.on.items
+        handler.old.metering.spare.items handler.old.metering.on.items handler.old.metering.spare.items handler.old.heading handler.old.lines
+        handler.old.exchange).answers [] [] }
+    requires promise { (heard said : List ℕ) → IsAnswered C.plays P.slots
+        (λ steps. steps_text (λ m. (⟦<dyn Meter as Meter>⟧ m.vtable).text m.value) steps
+        (handed_in handler.old.metering.on.items handler.old.metering.spare.items)) heard said → W.relies heard said }
+
+    ensures ended { (heard : List ℕ) × (said : List ℕ) × W.stands wire.new heard said
+        × HasFollowed result (handler_dues (λ m. (⟦<dyn Meter as Meter>⟧ m.vtable).stands m.value)
+        (λ m. (⟦<dyn Meter as Meter>⟧ m.vtable).text m.value) C.carries C.next C.sizes C.plays P.slots handler.old.metering.on.items
+        handler.old.metering.spare.items handler.new.metering.on.items handler.new.metering.spare.items handler.new.heading handler.new.lines
+        handler.new.exchange) heard
+        (said ++ text.new.items) }
+    ensures unheard { result ≡ ended.ReadFailed → text.new.items ≡ [] }
+    ensures reads { CountsReads result (W.read_faults wire.old) (W.read_faults wire.new) }
+    ensures writes { CountsWrites result (W.write_faults wire.old) (W.write_faults wire.new) }
+{
+    let mut held = 0;
+    loop {
+        let more = match read_after(wire, buffer, held) {
+            Ok(more) => more,
+            Err(_) => return Following::ReadFailed,
+        };
+        if more == 0 {
+            return handle_end(wire, handler, &buffer[..held], text);
+        }
+        let end = held + more;
+        let taken = match handle_lines(wire, handler, &buffer[..end], text) {
+            Ok(taken) => taken,
+            Err(why) => return why,
+        };
+        match flush(wire, text) {
+            Ok(()) => {}
+            Err(_) => return Following::WriteFailed,
+        }
+        move_to_front(buffer, taken, end);
+        held = end - taken;
+    }
+}
+
+// Processes all lines of a wire and the end of its input, and writes all that is due. Returns the cause for which it
+// ended.
+fn follow_with<W: Wire, P: Fabric, C: Carrier, R: Threads + Sync>(
+    wire: &mut W,
+    handler: &mut TraceFollower<'_, P, C, R>,
+    buffer: &mut [u8],
+    text: &mut Vec<u8>,
+) -> Following
+    requires size { length buffer.old ≡ 131072 }
+    requires blank { text.old.items ≡ [] }
+    requires fresh { W.stands wire.old [] [] }
+    requires unread { (handler_dues (λ m. (⟦<dyn Meter as Meter>⟧ m.vtable).stands m.value)
+        (λ m. (⟦<dyn Meter as Meter>⟧ m.vtable).text m.value) C.carries C.next C.sizes C.plays P.slots handler.old.metering.on.items
+        handler.old.metering.spare.items handler.old.metering.on.items handler.old.metering.spare.items handler.old.heading handler.old.lines
+        handler.old.exchange).answers [] [] }
+    requires promise { (heard said : List ℕ) → IsAnswered C.plays P.slots
+        (λ steps. steps_text (λ m. (⟦<dyn Meter as Meter>⟧ m.vtable).text m.value) steps
+        (handed_in handler.old.metering.on.items handler.old.metering.spare.items)) heard said → W.relies heard said }
+
+    ensures followed { (heard : List ℕ) × (said : List ℕ) × W.stands wire.new heard said
+        × HasFollowed result (handler_dues (λ m. (⟦<dyn Meter as Meter>⟧ m.vtable).stands m.value)
+        (λ m. (⟦<dyn Meter as Meter>⟧ m.vtable).text m.value) C.carries C.next C.sizes C.plays P.slots handler.old.metering.on.items
+        handler.old.metering.spare.items handler.new.metering.on.items handler.new.metering.spare.items handler.new.heading handler.new.lines
+        handler.new.exchange) heard
+        said }
+    ensures reads { CountsReads result (W.read_faults wire.old) (W.read_faults wire.new) }
+    ensures writes { CountsWrites result (W.write_faults wire.old) (W.write_faults wire.new) }
+{
+    let why = follow_to_end(wire, handler, buffer, text);
+    match why {
+        Following::ReadFailed => Following::ReadFailed,
+        Following::WriteFailed => Following::WriteFailed,
+        _ => match write_all(wire, text.as_slice()) {
+            Ok(()) => why,
+            Err(_) => Following::WriteFailed,
+        },
+    }
+}
+
+/// Reads a wire to the end of its input and passes each line to a handler. Before each read, it has written all that is
+/// due for the lines that were read. Returns the cause for which it ended.
+///
+/// Octets after the last line feed are a line. More than 65,535 octets without a line feed are passed as one line,
+/// which the handler refuses.
+pub fn follow_lines<W: Wire, P: Fabric, C: Carrier, R: Threads + Sync>(
+    alloc: Global,
+    wire: &mut W,
+    handler: &mut TraceFollower<'_, P, C, R>,
+) -> Following
+    requires fresh { W.stands wire.old [] [] }
+    requires unread { (handler_dues (λ m. (⟦<dyn Meter as Meter>⟧ m.vtable).stands m.value)
+        (λ m. (⟦<dyn Meter as Meter>⟧ m.vtable).text m.value) C.carries C.next C.sizes C.plays P.slots handler.old.metering.on.items
+        handler.old.metering.spare.items handler.old.metering.on.items handler.old.metering.spare.items handler.old.heading handler.old.lines
+        handler.old.exchange).answers [] [] }
+    requires promise { (heard said : List ℕ) → IsAnswered C.plays P.slots
+        (λ steps. steps_text (λ m. (⟦<dyn Meter as Meter>⟧ m.vtable).text m.value) steps
+        (handed_in handler.old.metering.on.items handler.old.metering.spare.items)) heard said → W.relies heard said }
+
+    ensures followed { (heard : List ℕ) × (said : List ℕ) × W.stands wire.new heard said
+        × HasFollowed result (handler_dues (λ m. (⟦<dyn Meter as Meter>⟧ m.vtable).stands m.value)
+        (λ m. (⟦<dyn Meter as Meter>⟧ m.vtable).text m.value) C.carries C.next C.sizes C.plays P.slots handler.old.metering.on.items
+        handler.old.metering.spare.items handler.new.metering.on.items handler.new.metering.spare.items handler.new.heading handler.new.lines
+        handler.new.exchange) heard
+        said }
+    ensures reads { CountsReads result (W.read_faults wire.old) (W.read_faults wire.new) }
+    ensures writes { CountsWrites result (W.write_faults wire.old) (W.write_faults wire.new) }
+{
+    let mut buffer = [0u8; BUFFER_OCTETS];
+    let mut text = Vec::new(alloc);
+    follow_with(wire, handler, &mut buffer, &mut text)
+}

@@ -1,0 +1,188 @@
+//! A trace whose lines are processed in sequence.
+ghost use Rattle.std.specs.Prelude.{◌≡◌, ◌<◌, ◌≤◌, ◌++◌, ◌∷◌, [], ℕ, List, length, OnOk, OnErr, IsErrOf};
+ghost use Rattle.line_follower.specs.declared.handler.Stop.TheVariants.{OutOfMemory, Refused};
+ghost use Rattle.exchange_top.specs.Refusals.{refusal};
+
+use crate::changing::change_once;
+use crate::fabrics::Fabric;
+use crate::refusals::refusal;
+use crate::setting::Metering;
+use crate::stepping::{advance, ready};
+use control_memory::PathMap;
+use frame_engine::Carrier;
+use line_follower::Stop;
+use lone_exchange::LoneExchange;
+use meters::Meter;
+use std::alloc::{AllocError, Global};
+use std::thread::Threads;
+use trace_text::{Happening, Heading, Limits, LineFault, Reason};
+
+// The maximum number of octets in a line.
+const MOST_LINE: usize = 65_535;
+
+// The maximum number of lines.
+const MOST_LINES: u32 = 4_294_967_294;
+
+/// An exchange that processes the lines of a trace in sequence.
+#[derive(Drop)]
+pub struct TraceFollower<'a, P: PathMap + Drop, C: Carrier, R> {
+    /// The runtime, whose threads an engine may use.
+    pub rt: &'a R,
+    /// The allocator.
+    pub alloc: Global,
+    /// The content of the lines so far.
+    pub heading: Heading,
+    /// The number of lines so far.
+    pub lines: u32,
+    /// The exchange, from the first event on.
+    pub exchange: Option<LoneExchange<P, C>>,
+    /// The active and the spare meters.
+    pub metering: Metering,
+    /// The buffer for the summary of a meter.
+    pub said: Vec<u8>,
+}
+
+impl<'a, P: Fabric, C: Carrier, R: Threads + Sync> TraceFollower<'a, P, C, R> {
+    ghost use Rattle.exchange_top.specs.Following.{IsEndRefused, IsInterrupted, IsLineRefused, course};
+    ghost use Rattle.exchange_top.specs.Handling.{HasFinished, HasHandled, HasRead};
+
+    // Processes what happens at a line that was read, and counts the line.
+    fn take(&mut self, happening: Happening, out: &mut Vec<u8>) -> Result<(), AllocError>
+        requires read { (old old_spare : List _) × (ls : List (List ℕ)) × (line : List ℕ) × (said : List ℕ) × HasRead C.carries C.next C.sizes (course C.plays P.slots (λ m. stands m) (λ m. text m)
+            old old_spare self.old.metering.on.items self.old.metering.spare.items) self.old.heading self.old.lines self.old.exchange ls line said happening }
+        ensures done { OnOk result ((old old_spare : List _) (ls : List (List ℕ)) (line front : List ℕ)
+            → HasRead C.carries C.next C.sizes (course C.plays P.slots (λ m. stands m) (λ m. text m)
+            old old_spare self.old.metering.on.items self.old.metering.spare.items) self.old.heading self.old.lines self.old.exchange
+            ls line (front ++ out.old.items) happening
+            → HasHandled C.carries C.next C.sizes (course C.plays P.slots (λ m. stands m) (λ m. text m)
+            old old_spare self.new.metering.on.items self.new.metering.spare.items) self.new.heading self.new.lines self.new.exchange
+            (ls ++ line ∷ []) (front ++ out.new.items)) }
+        ensures stranded { OnErr result ((old old_spare : List _) (ls : List (List ℕ)) (line front : List ℕ)
+            → HasRead C.carries C.next C.sizes (course C.plays P.slots (λ m. stands m) (λ m. text m)
+            old old_spare self.old.metering.on.items self.old.metering.spare.items) self.old.heading self.old.lines self.old.exchange
+            ls line (front ++ out.old.items) happening
+            → IsInterrupted (course C.plays P.slots (λ m. stands m) (λ m. text m)
+            old old_spare self.new.metering.on.items self.new.metering.spare.items) (ls ++ line ∷ []) (front ++ out.new.items)) }
+    {
+        match happening {
+            Happening::Nothing => {}
+            Happening::SegmentEnd => {}
+            Happening::Event(event) => {
+                let meters = &mut self.metering.on;
+                advance(
+                    self.rt,
+                    self.alloc,
+                    &self.heading,
+                    &mut self.exchange,
+                    meters,
+                    &event,
+                    out,
+                )?;
+            }
+            Happening::Change => {
+                let metering = &mut self.metering;
+                change_once(&mut metering.on, &mut metering.spare, &mut self.said, out)?;
+            }
+        }
+        self.lines += 1;
+        Ok(())
+    }
+
+    /// Processes the next line, which is given without its line feed, and appends the octets that are due for it.
+    ///
+    /// # Errors
+    ///
+    /// [`Stop::Refused`] if the line is refused, and [`Stop::OutOfMemory`] if an allocation failed.
+    pub fn handle(&mut self, line: &[u8], out: &mut Vec<u8>) -> Result<(), Stop>
+        requires at { (old old_spare : List _) × (ls : List (List ℕ)) × (said : List ℕ)
+            × HasHandled C.carries C.next C.sizes (course C.plays P.slots (λ m. stands m) (λ m. text m)
+            old old_spare self.old.metering.on.items self.old.metering.spare.items) self.old.heading self.old.lines self.old.exchange ls said }
+
+        ensures done { OnOk result ((old old_spare : List _) (ls : List (List ℕ)) (front : List ℕ)
+            → HasHandled C.carries C.next C.sizes (course C.plays P.slots (λ m. stands m) (λ m. text m)
+            old old_spare self.old.metering.on.items self.old.metering.spare.items) self.old.heading self.old.lines self.old.exchange ls (front ++ out.old.items)
+            → HasHandled C.carries C.next C.sizes (course C.plays P.slots (λ m. stands m) (λ m. text m)
+            old old_spare self.new.metering.on.items self.new.metering.spare.items) self.new.heading self.new.lines self.new.exchange
+            (ls ++ line.now ∷ []) (front ++ out.new.items)) }
+        ensures short { OnOk result (length line.now ≤ 65535) }
+        ensures few { OnOk result (self.old.lines < 4294967294) }
+
+        ensures refused { IsErrOf result Stop.Refused → (old old_spare : List _) (ls : List (List ℕ)) (front : List ℕ)
+            → HasHandled C.carries C.next C.sizes (course C.plays P.slots (λ m. stands m) (λ m. text m)
+            old old_spare self.old.metering.on.items self.old.metering.spare.items) self.old.heading self.old.lines self.old.exchange ls (front ++ out.old.items)
+            → IsLineRefused (course C.plays P.slots (λ m. stands m) (λ m. text m)
+            old old_spare self.new.metering.on.items self.new.metering.spare.items) (ls ++ line.now ∷ []) (front ++ out.new.items) }
+        ensures stranded { IsErrOf result Stop.OutOfMemory → (old old_spare : List _) (ls : List (List ℕ)) (front : List ℕ)
+            → HasHandled C.carries C.next C.sizes (course C.plays P.slots (λ m. stands m) (λ m. text m)
+            old old_spare self.old.metering.on.items self.old.metering.spare.items) self.old.heading self.old.lines self.old.exchange ls (front ++ out.old.items)
+            → IsInterrupted (course C.plays P.slots (λ m. stands m) (λ m. text m)
+            old old_spare self.new.metering.on.items self.new.metering.spare.items) (ls ++ line.now ∷ []) (front ++ out.new.items) }
+    {
+        if line.len() > MOST_LINE || self.lines >= MOST_LINES {
+            return Err(refuse(self.alloc, self.lines + 1, Reason::Limit, out));
+        }
+        match self
+            .heading
+            .read_line(self.alloc, Limits::for_lines(), line)
+        {
+            Ok(happening) => match self.take(happening, out) {
+                Ok(()) => Ok(()),
+                Err(_) => Err(Stop::OutOfMemory),
+            },
+            Err(LineFault::Memory) => Err(Stop::OutOfMemory),
+            Err(LineFault::Refused(reason)) => {
+                Err(refuse(self.alloc, self.lines + 1, reason, out))
+            }
+        }
+    }
+
+    /// Processes the end of the input, and appends the octets that are due for it.
+    ///
+    /// # Errors
+    ///
+    /// [`Stop::Refused`] if no line was the header, and [`Stop::OutOfMemory`] if an allocation failed.
+    pub fn finish(&mut self, out: &mut Vec<u8>) -> Result<(), Stop>
+        requires at { (old old_spare : List _) × (ls : List (List ℕ)) × (said : List ℕ)
+            × HasHandled C.carries C.next C.sizes (course C.plays P.slots (λ m. stands m) (λ m. text m)
+            old old_spare self.old.metering.on.items self.old.metering.spare.items) self.old.heading self.old.lines self.old.exchange ls said }
+
+        ensures done { OnOk result ((old old_spare : List _) (ls : List (List ℕ)) (front : List ℕ)
+            → HasHandled C.carries C.next C.sizes (course C.plays P.slots (λ m. stands m) (λ m. text m)
+            old old_spare self.old.metering.on.items self.old.metering.spare.items) self.old.heading self.old.lines self.old.exchange ls (front ++ out.old.items)
+            → HasFinished C.carries C.next C.sizes (course C.plays P.slots (λ m. stands m) (λ m. text m)
+            old old_spare self.new.metering.on.items self.new.metering.spare.items) self.new.exchange ls (front ++ out.new.items)) }
+
+        ensures refused { IsErrOf result Stop.Refused → (old old_spare : List _) (ls : List (List ℕ)) (front : List ℕ)
+            → HasHandled C.carries C.next C.sizes (course C.plays P.slots (λ m. stands m) (λ m. text m)
+            old old_spare self.old.metering.on.items self.old.metering.spare.items) self.old.heading self.old.lines self.old.exchange ls (front ++ out.old.items)
+            → IsEndRefused (course C.plays P.slots (λ m. stands m) (λ m. text m)
+            old old_spare self.new.metering.on.items self.new.metering.spare.items) ls (front ++ out.new.items) }
+        ensures stranded { IsErrOf result Stop.OutOfMemory → (old old_spare : List _) (ls : List (List ℕ)) (front : List ℕ)
+            → HasHandled C.carries C.next C.sizes (course C.plays P.slots (λ m. stands m) (λ m. text m)
+            old old_spare self.old.metering.on.items self.old.metering.spare.items) self.old.heading self.old.lines self.old.exchange ls (front ++ out.old.items)
+            → IsInterrupted (course C.plays P.slots (λ m. stands m) (λ m. text m)
+            old old_spare self.new.metering.on.items self.new.metering.spare.items) ls (front ++ out.new.items) }
+    {
+        if self.heading.sizes().is_none() {
+            return Err(refuse(self.alloc, self.lines + 1, Reason::Header, out));
+        }
+        match ready(self.alloc, &self.heading, &mut self.exchange) {
+            Ok(()) => Ok(()),
+            Err(_) => Err(Stop::OutOfMemory),
+        }
+    }
+}
+
+// Appends the refusal of the line with this number to a text. If an allocation fails, the text is unchanged.
+fn refuse(alloc: Global, number: u32, reason: Reason, text: &mut Vec<u8>) -> Stop
+    ensures refused { result ≡ Refused → text.new.items ≡ text.old.items ++ refusal number reason }
+    ensures kept { result ≡ OutOfMemory → text.new.items ≡ text.old.items }
+{
+    let Ok(line) = refusal(alloc, number, reason) else {
+        return Stop::OutOfMemory;
+    };
+    match text.extend_from_slice(line.as_slice()) {
+        Ok(()) => Stop::Refused,
+        Err(_) => Stop::OutOfMemory,
+    }
+}

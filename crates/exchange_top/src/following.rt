@@ -1,0 +1,160 @@
+//! The call that follows a trace.
+ghost use Rattle.std.specs.Prelude.{◌≡◌, ℕ, List, []};
+ghost use Rattle.std.specs.Option.{option_map};
+ghost use Rattle.line_follower.specs.declared.following.Following.{Following as An_ending};
+ghost use Rattle.line_follower.specs.Following.{CountsReads, CountsWrites};
+ghost use Rattle.meters.specs.Changing.{handed_in, steps_text};
+ghost use Rattle.exchange_top.specs.Checking.{slots_of};
+ghost use Rattle.exchange_top.specs.Handling.{engine_returned};
+ghost use Rattle.exchange_top.specs.Following.{FollowsTo, IsAnswered, follow_parties, followed_status};
+
+use crate::fabrics::Fabric;
+use crate::follow_loop::follow_lines;
+use crate::follower::TraceFollower;
+use crate::setting::Metering;
+use control_memory::PathMap;
+use fabric_map::FabricMap;
+use frame_engine::Carrier;
+use line_follower::Following;
+use line_wire::Wire;
+use lone_exchange::LoneExchange;
+use meters::Meter;
+use std::alloc::Global;
+use std::collections::VecDeque;
+use std::mem;
+use std::thread::Threads;
+use strict_map::StrictMap;
+use trace_text::Heading;
+
+/// The ending of a call of [`follow`].
+#[derive(Drop)]
+pub struct Followed<C: Carrier> {
+    /// 0: all lines were processed. 1: a line was refused, or there is no header. 3: a read failed. 4: a write failed.
+    /// 5: an allocation failed.
+    pub status: u8,
+    /// The engine that carried the octets, if the status is 0.
+    pub engine: Option<C>,
+}
+
+// The ending of a call on one kind of fabric, and the engine that is returned.
+#[derive(Drop)]
+struct Ended<C: Carrier> {
+    ending: Following,
+    engine: Option<C>,
+}
+
+// Returns the exit status of an ending.
+fn status_of(ending: Following) -> u8
+    ensures { result ≡ followed_status ending }
+{
+    match ending {
+        Following::Completed => 0,
+        Following::Refused => 1,
+        Following::ReadFailed => 3,
+        Following::WriteFailed => 4,
+        Following::OutOfMemory => 5,
+    }
+}
+
+// Returns the engine of an exchange, if all lines were processed.
+fn engine_of<P: PathMap + Drop, C: Carrier>(
+    ending: Following,
+    exchange: Option<LoneExchange<P, C>>,
+) -> Option<C>
+    ensures { result ≡ engine_returned ending (option_map (λ x. x.engine) exchange) }
+{
+    match (ending, exchange) {
+        (Following::Completed, Some(driver)) => Some(driver.engine),
+        (Following::Completed, None) => None,
+        (Following::Refused, _) => None,
+        (Following::ReadFailed, _) => None,
+        (Following::WriteFailed, _) => None,
+        (Following::OutOfMemory, _) => None,
+    }
+}
+
+// Follows the trace of a wire on one kind of fabric.
+fn follow_on<W: Wire, P: Fabric, C: Carrier, R: Threads + Sync>(
+    rt: &R,
+    alloc: Global,
+    wire: &mut W,
+    meters: &mut Vec<Box<dyn Meter>>,
+    spare: &mut VecDeque<Box<dyn Meter>>,
+) -> Ended<C>
+    requires fresh { W.stands wire.old [] [] }
+    requires promise { (heard said : List ℕ) → IsAnswered C.plays P.slots
+        (λ steps. steps_text (λ m. (⟦<dyn Meter as Meter>⟧ m.vtable).text m.value) steps (handed_in meters.old.items spare.old.items)) heard said → W.relies heard said }
+    ensures ends { FollowsTo (follow_parties C.plays P.slots C.sizes C.carries result.engine (λ m. (⟦<dyn Meter as Meter>⟧ m.vtable).stands m.value) (λ m. (⟦<dyn Meter as Meter>⟧ m.vtable).text m.value)
+        meters.old.items spare.old.items meters.new.items spare.new.items) (W.stands wire.new) result.ending }
+    ensures reads { CountsReads result.ending (W.read_faults wire.old) (W.read_faults wire.new) }
+    ensures writes { CountsWrites result.ending (W.write_faults wire.old) (W.write_faults wire.new) }
+{
+    let mut follower: TraceFollower<P, C, R> = TraceFollower {
+        rt,
+        alloc,
+        heading: Heading::new(alloc),
+        lines: 0,
+        exchange: None,
+        metering: Metering {
+            on: mem::replace(meters, Vec::new(alloc)),
+            spare: mem::replace(spare, VecDeque::new(alloc)),
+        },
+        said: Vec::new(alloc),
+    };
+    let ending = follow_lines(alloc, wire, &mut follower);
+    let TraceFollower {
+        exchange,
+        metering,
+        ..
+    } = follower;
+    let Metering { on, spare: left } = metering;
+    *meters = on;
+    *spare = left;
+    Ended {
+        ending,
+        engine: engine_of(ending, exchange),
+    }
+}
+
+/// Processes the lines of a trace when they arrive, each event in the order of its line, and writes the report line of
+/// each event. Before each read it has written everything that is due for the lines read so far, and nothing else.
+///
+/// The numbers in the report count the events in the order of the lines. `sync` has no effect. At a change the first
+/// active meter writes its summary and is dropped, and the first of `spare` becomes active after the others. The fabric
+/// has 30 internal slots. If `strict` is true, it has 59, and no path ever moves.
+///
+/// A line that fails a check is refused, and so are a line of more than 65,535 octets and a line after 4,294,967,294
+/// others. The report of the lines before it remains, the refusal is written after it, and the call ends. A trace without
+/// a header is refused at its end. A last line without its line feed is a line.
+///
+/// The octets of a frame are the output of the engine of type `C`. The engine is returned if the status is 0.
+pub fn follow<W: Wire, C: Carrier, R: Threads + Sync>(
+    rt: &R,
+    alloc: Global,
+    strict: bool,
+    wire: &mut W,
+    meters: &mut Vec<Box<dyn Meter>>,
+    spare: &mut VecDeque<Box<dyn Meter>>,
+) -> Followed<C>
+    requires fresh { W.stands wire.old [] [] }
+    // The other side may rely on it at each read that exactly the text of the lines so far was written.
+    requires promise { (heard said : List ℕ) → IsAnswered C.plays (slots_of strict)
+        (λ steps. steps_text (λ m. (⟦<dyn Meter as Meter>⟧ m.vtable).text m.value) steps (handed_in meters.old.items spare.old.items)) heard said → W.relies heard said }
+    // The ending of the call, with the facts for it: statuses 3 and 4 occur only after an error was counted, and no other
+    // status hides one.
+    ensures ends { (ending : An_ending) × (result.status ≡ followed_status ending)
+        × FollowsTo (follow_parties C.plays (slots_of strict) C.sizes C.carries result.engine (λ m. (⟦<dyn Meter as Meter>⟧ m.vtable).stands m.value) (λ m. (⟦<dyn Meter as Meter>⟧ m.vtable).text m.value)
+        meters.old.items spare.old.items meters.new.items spare.new.items) (W.stands wire.new) ending
+        × CountsReads ending (W.read_faults wire.old) (W.read_faults wire.new)
+        × CountsWrites ending (W.write_faults wire.old) (W.write_faults wire.new) }
+{
+    let ended = if strict {
+        follow_on::<W, StrictMap, C, R>(rt, alloc, wire, meters, spare)
+    } else {
+        follow_on::<W, FabricMap, C, R>(rt, alloc, wire, meters, spare)
+    };
+    Followed {
+        status: status_of(ended.ending),
+        engine: ended.engine,
+    }
+}

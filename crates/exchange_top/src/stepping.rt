@@ -1,0 +1,142 @@
+//! One event of a trace that is followed.
+ghost use Rattle.std.specs.Prelude.{◌≡◌, ◌<◌, ◌≤◌, List, IfOk, OnOk, OnErr};
+ghost use Rattle.exchange_events.specs.Kept.{kept_of};
+ghost use Rattle.exchange_events.specs.Responses.{reply_of};
+ghost use Rattle.exchange_events.specs.Sound.{Fits};
+ghost use Rattle.call_profile.specs.CallsTold.{calls_kept};
+ghost use Rattle.call_profile.specs.Step.{reply};
+ghost use Rattle.trace_text.specs.TraceTimers.{timers_by};
+ghost use Rattle.lone_exchange.specs.At.{Appends, EachAt, IsSomewhere, Passes, StartsAt};
+ghost use Rattle.exchange_top.specs.Stepping.{HasHappened, IsEventDue, IsHeard, IsRunning, calls_at};
+ghost use Rattle.trace_text.specs.declared.said.Said.{Said};
+ghost use Rattle.trace_text.specs.declared.said.Sizes.{Sizes as A_header};
+ghost use Rattle.exchange_top.specs.Telling.{AreTold, AreToldFront};
+
+use crate::fabrics::Fabric;
+use crate::telling::tell;
+use control_memory::PathMap;
+use exchange_events::{CallRecord, Event, Outbox, Response};
+use frame_engine::Carrier;
+use lone_exchange::LoneExchange;
+use meters::Meter;
+use std::alloc::{AllocError, Global};
+use std::thread::Threads;
+use trace_text::{Heading, Sizes};
+
+// Makes the exchange with the sizes and the timers of a heading, before its first event.
+fn opened<P: Fabric, C: Carrier>(
+    alloc: Global,
+    heading: &Heading,
+    sizes: Sizes,
+) -> Result<LoneExchange<P, C>, AllocError>
+    requires external { 1 ≤ sizes.external × (sizes.external ≤ 32) }
+    requires bridges { sizes.bridges ≤ 2 }
+    ensures start { IfOk result (StartsAt C.carries C.next C.sizes sizes.external sizes.bridges P.slots) }
+{
+    let paths = P::unused(alloc, sizes.external + sizes.bridges)?;
+    LoneExchange::new(
+        alloc,
+        sizes.external,
+        sizes.bridges,
+        heading.timers(),
+        paths,
+    )
+}
+
+/// Makes the exchange of a heading before its first event. It does nothing if there is one.
+///
+/// # Errors
+///
+/// [`AllocError`] if an allocation fails.
+pub fn ready<P: Fabric, C: Carrier>(
+    alloc: Global,
+    heading: &Heading,
+    exchange: &mut Option<LoneExchange<P, C>>,
+) -> Result<(), AllocError>
+    requires heard { (told : List Said) × (z : A_header) × IsHeard C.carries C.next C.sizes P.slots told z heading.now exchange.old }
+    ensures running { (told : List Said) (z : A_header) → IsHeard C.carries C.next C.sizes P.slots told z heading.now exchange.old
+        → OnOk result (IsRunning C.carries C.next C.sizes P.slots told z exchange.new) }
+{
+    if exchange.is_none() {
+        let Some(sizes) = heading.sizes() else {
+            unreachable!()
+        };
+        *exchange = Some(opened(alloc, heading, sizes)?);
+    }
+    Ok(())
+}
+
+/// Makes the exchange before its first event, processes an event on it, records the calls that ended with it on the
+/// meters, and appends its line to a text.
+///
+/// # Errors
+///
+/// [`AllocError`] if an allocation fails. Then the text is unchanged, and each meter recorded a prefix of the calls.
+pub fn advance<P: Fabric, C: Carrier, R: Threads + Sync>(
+    rt: &R,
+    alloc: Global,
+    heading: &Heading,
+    exchange: &mut Option<LoneExchange<P, C>>,
+    meters: &mut Vec<Box<dyn Meter>>,
+    event: &Event,
+    out: &mut Vec<u8>,
+) -> Result<(), AllocError>
+    requires due { (told : List Said) × (z : A_header) × IsEventDue C.carries C.next C.sizes P.slots told z heading.now exchange.old event.now }
+    ensures happened { (told : List Said) (z : A_header) → IsEventDue C.carries C.next C.sizes P.slots told z heading.now exchange.old event.now
+        → OnOk result (HasHappened C.plays C.carries C.next C.sizes P.slots (λ m. stands m) (λ m. text m) told z heading.now.events event.now
+        meters.old.items meters.new.items out.old.items out.new.items exchange.new) }
+    ensures front { (told : List Said) (z : A_header) → IsEventDue C.carries C.next C.sizes P.slots told z heading.now exchange.old event.now
+        → OnErr result (AreToldFront (λ m. stands m) (λ m. text m) meters.old.items meters.new.items (calls_at P.slots told z event.now)) }
+    ensures kept { OnErr result (out.new.items ≡ out.old.items) }
+{
+    ready(alloc, heading, exchange)?;
+    let Some(driver) = exchange else {
+        unreachable!()
+    };
+    process(rt, heading, driver, meters, event, out)
+}
+
+// Processes an event on an exchange, records the calls that ended with it on the meters, and appends its line to a
+// text. The line has the number of events in the heading. If an allocation fails, the text is unchanged.
+fn process<P: PathMap, C: Carrier, R: Threads + Sync>(
+    rt: &R,
+    heading: &Heading,
+    exchange: &mut LoneExchange<P, C>,
+    meters: &mut Vec<Box<dyn Meter>>,
+    event: &Event,
+    out: &mut Vec<u8>,
+) -> Result<(), AllocError>
+    requires at { IsSomewhere C.carries C.next C.sizes heading.now.plan heading.now.tones (timers_by heading.now.timers) exchange.old }
+    requires fits { Fits exchange.old.control.map.external event.now }
+    requires room { exchange.old.control.map.next < 4294967295 }
+    ensures world { Passes C.carries C.next C.sizes heading.now.plan heading.now.tones (timers_by heading.now.timers)
+        event.now exchange.old exchange.new }
+    ensures line { EachAt C.carries C.next C.sizes heading.now.plan heading.now.tones (timers_by heading.now.timers) exchange.old
+        (λ s w. OnOk result (Appends C.plays s w event.now heading.now.events out.old.items out.new.items)) }
+    ensures told { EachAt C.carries C.next C.sizes heading.now.plan heading.now.tones (timers_by heading.now.timers) exchange.old
+        (λ s w. OnOk result (AreTold (λ m. stands m) (λ m. text m) meters.old.items meters.new.items (calls_kept (kept_of (reply s w event.now))))) }
+    ensures kept { OnErr result (out.new.items ≡ out.old.items) }
+    ensures told_front { EachAt C.carries C.next C.sizes heading.now.plan heading.now.tones (timers_by heading.now.timers) exchange.old
+        (λ s w. OnErr result (AreToldFront (λ m. stands m) (λ m. text m) meters.old.items meters.new.items (calls_kept (kept_of (reply s w event.now))))) }
+{
+    let timers = heading.timers();
+    let response = exchange.happen(rt, heading.plan(), heading.tones(), &timers, event);
+    tell(meters, records_in(response, &exchange.desk.out))?;
+    exchange.append_line(out, heading.event_count(), response)
+}
+
+// Returns the records of the calls that ended with an event, by its response and its outbox.
+fn records_in(response: Response, out: &Outbox) -> &[CallRecord]
+    ensures { result.now ≡ calls_kept (kept_of (reply_of response out.now)) }
+{
+    match response {
+        Response::Sent => out.records.as_slice(),
+        Response::Frame(_) => out.records.as_slice(),
+        Response::Granted(_, _) => &[],
+        Response::Busy => &[],
+        Response::Seated(_, _) => &[],
+        Response::NoPort => &[],
+        Response::Freed => &[],
+        Response::NotNailed => &[],
+    }
+}

@@ -1,0 +1,10 @@
+//! The handler of lines.
+
+/// The cause for which a handler stops before the end of its input.
+#[derive(Clone, Copy, Debug, PartialEq, Eq)]
+pub enum Stop {
+    /// The line, or the end of the input, is refused.
+    Refused,
+    /// An allocation failed.
+    OutOfMemory,
+}

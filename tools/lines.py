@@ -1,0 +1,224 @@
+"""A line of a running exchange: the queue of what its endpoint sent, and the socket of its endpoint."""
+
+from __future__ import annotations
+
+import socket
+from collections import deque
+
+from commands import NAME, Refused, say
+from live import FRAMES, IDLE_ROW, LONGEST_LINE, MESSAGE, NO_FRAMES, PIECE, without_delay
+from q931 import RESTART, restart_indicator, written
+
+AHEAD = 8_000  # frames and messages in a queue from which on its endpoint is not read
+MOST_UNREAD = 1 << 23  # octets that an endpoint may leave unread: 16 seconds of frames
+
+SILENCE, GONE = "silence", "gone"  # marks in a queue: no octets from there on; no endpoint from there on
+SHUT_DOWN = written(0, 0, RESTART, restart_indicator(whole_line=True)).hex().upper().encode()
+
+
+class Line:
+    """A line with a socket on which it listens for its endpoint.
+
+    Its queue has lists of frames, messages and marks, in the order in which the endpoint sent them. A frame there is
+    the part of a trace line, ` L:HEX`. `loop.watch` waits until a socket can be read or written.
+    """
+
+    def __init__(self, number, address, loop):
+        self.number = number
+        self.key = b"%d" % number
+        self.loop = loop
+        self.address = address
+        self.listener, place = address.listening()
+        self.listener.setblocking(False)
+        self.endpoint = None
+        self.queue = deque()
+        self.queued = 0  # frames and messages
+        self.begun = b""  # the line that the endpoint has sent a part of
+        self.unsent = bytearray()  # what the endpoint's socket did not take yet
+        self.due = []  # lines for the endpoint, without their ends
+        self.is_speaking = False  # it sends octets
+        self.is_listening = False  # it gets octets
+        self.messages = self.frames = self.late = 0  # how many were taken, and how many frames were not there in time
+        self.say(f"listens on {place}")
+
+    def open(self):
+        """Accepts an endpoint."""
+        self.loop.watch(self.listener, self.accept)
+
+    def close(self):
+        if self.endpoint is not None:
+            self.endpoint.close()
+        self.listener.close()
+        self.address.remove()
+
+    # ---- its endpoint
+
+    def accept(self):
+        try:
+            connection, _ = self.listener.accept()
+        except OSError:  # it has gone again
+            return
+        connection.setblocking(False)
+        if self.endpoint is not None:
+            self.refuse(connection, f"line {self.number} has an endpoint already")
+            return
+        self.endpoint = without_delay(connection)
+        self.say("an endpoint is attached")
+        self.due.append(b"line %d" % self.number)
+        self.send()
+
+    def say(self, text):
+        say(f"{NAME}: line {self.number}: {text}")
+
+    def watch(self):
+        """Waits for the endpoint; if its queue is long, it is not read."""
+        if self.endpoint is not None:
+            can_read = self.queued < AHEAD
+            self.loop.watch(self.endpoint, self.receive if can_read else None, self.write if self.unsent else None)
+
+    def receive(self):
+        try:
+            text = self.endpoint.recv(PIECE)
+        except BlockingIOError:
+            return
+        except OSError:
+            text = b""
+        if not text:
+            self.leave("has gone")
+            return
+        whole, end, self.begun = (self.begun + text).rpartition(b"\n")
+        try:
+            self.take(whole + end)
+            if len(self.begun) > LONGEST_LINE:
+                raise Refused(f"a line has at most {LONGEST_LINE} octets")
+        except Refused as refusal:
+            self.leave(f"is refused: {refusal}", refusal)
+        self.watch()
+
+    def send(self):
+        """Sends the lines that are due."""
+        if self.due and self.endpoint is not None:
+            self.unsent += b"\n".join(self.due) + b"\n"
+            self.write()
+        self.due.clear()
+
+    def write(self):
+        try:
+            del self.unsent[: self.endpoint.send(self.unsent)]
+        except BlockingIOError:
+            pass
+        except OSError:
+            self.leave("has gone")
+        if len(self.unsent) > MOST_UNREAD:
+            self.leave("does not read")
+        self.watch()
+
+    def leave(self, why, refusal=None):
+        """The endpoint goes. The next one is accepted when the exchange has answered the restart of the line."""
+        self.say(f"its endpoint {why}")
+        gone, self.endpoint = self.endpoint, None
+        self.loop.watch(gone)
+        self.loop.watch(self.listener)
+        if refusal is None:
+            gone.close()
+        else:
+            self.refuse(gone, refusal)
+        self.queue.append(GONE)
+        self.is_listening = False
+        self.begun = b""
+        self.unsent.clear()
+
+    def refuse(self, connection, why):
+        """Says why an endpoint is refused, and reads until it has gone: else what it sent could undo the line."""
+
+        def drain():
+            try:
+                rest = connection.recv(PIECE)
+            except OSError:
+                rest = b""
+            if not rest:
+                self.loop.watch(connection)
+                connection.close()
+
+        try:
+            connection.send(f"refused {why}\n".encode())
+            connection.shutdown(socket.SHUT_WR)
+        except OSError:
+            pass
+        self.loop.watch(connection, drain)
+
+    # ---- what its endpoint sends
+
+    def take(self, text):
+        """Appends whole lines to the queue."""
+        at = 0
+        while at < len(text):
+            frames = FRAMES.match(text, at)
+            if frames:
+                self.take_frames(frames.group())
+                at = frames.end()
+            else:
+                end = text.index(b"\n", at)
+                self.take_line(text[at:end].rstrip(b" \r"))
+                at = end + 1
+
+    def take_frames(self, text):
+        rows = text.replace(b"F ", b" %d:" % self.number).split(b"\n")
+        rows.pop()
+        if not (self.queue and isinstance(self.queue[-1], list)):
+            self.queue.append([])
+        self.queue[-1] += rows
+        self.queued += len(rows)
+        self.is_listening = True
+
+    def take_line(self, text):
+        message = MESSAGE.fullmatch(text)
+        if message:
+            self.queue.append(message.group(1))
+            self.queued += 1
+        elif text == NO_FRAMES:
+            self.queue.append(SILENCE)
+            self.is_listening = True
+        elif FRAMES.fullmatch(text + b"\n"):
+            self.take_frames(text + b"\n")
+        else:
+            begun = text[:40].decode("ascii", "backslashreplace")
+            raise Refused(f'"{begun}" is not `M HEX`, `F HEX` with 60 digits, or `F none`')
+
+    # ---- what the exchange gets
+
+    def messages_due(self):
+        """Takes what comes before the next frame. A shutdown of the line is a message too."""
+        while self.queue and not isinstance(self.queue[0], list):
+            item = self.queue.popleft()
+            if isinstance(item, bytes):
+                self.queued -= 1
+                self.messages += 1
+                yield item
+            else:
+                self.is_speaking = False
+                if item is GONE:
+                    yield SHUT_DOWN
+
+    def column(self, count):
+        """Takes the parts of the next frames; an idle frame has none."""
+        rows = []
+        if self.queue:
+            rows, rest = self.queue[0][:count], self.queue[0][count:]
+            if rest:
+                self.queue[0] = rest
+            else:
+                self.queue.popleft()
+            self.is_speaking = True
+        self.queued -= len(rows)
+        self.frames += len(rows)
+        missing = count - len(rows)
+        if self.is_speaking:
+            self.late += missing
+        return rows + [b""] * missing if missing else rows
+
+    # ---- what the exchange sends
+
+    def hear(self, octets):
+        """Its octets of the next frame, None if they are idle."""
+        self.due.append(b"F " + (octets or IDLE_ROW))
