@@ -1,4 +1,4 @@
-// Where bytes come from and go to, and when either may say that it failed.
+// The traits of a source of bytes and a sink of bytes, with their error counts.
 ghost use Rattle.std.specs.Prelude.{◌≡◌, ℕ, ◌<◌, ◌≤◌, List, [], length, take, Some, IfOk, OnOk, OnErr};
 ghost use Rattle.std.specs.declared.option.Option.{Option};
 ghost use Rattle.std.specs.Io.KnownBytes.{Appends, Consumes, IsAtEnd, Keeps};
@@ -6,26 +6,25 @@ ghost use Rattle.ex_io.specs.Ends.{Rose};
 
 use thiserror::Error;
 
-/// A read or a write failed. The end's count of faults rose when it did.
+/// The error of a failed read or write. The error count of the source or sink has risen.
 #[derive(Clone, Copy, Debug, PartialEq, Eq, Error)]
 #[error("a read or a write failed")]
 pub struct Failed;
 
-/// Where bytes come from (this exchange's own). Its count of faults tells of each failed read, and of
-/// nothing else.
+/// A source of bytes (defined by this project). Its error count rises at each failed read, and at nothing else.
 pub trait Source {
-    /// The bytes that are left to read, where the source tells them.
+    /// The bytes that are left to read. `None` if the source does not expose them.
     ghost left: { Self → Option (List ℕ) };
 
-    /// How many reads have failed. Where it is kept as a `u64`, it stops at that type's last value.
+    /// The number of failed reads. A count stored as a `u64` stops at the greatest value of that type.
     ghost faults: { Self → ℕ };
 
-    /// Puts the next bytes at the beginning of `buf` and answers how many, at least one of them unless
-    /// the source is at its end. `buf` must have room for a byte.
+    /// Copies the next bytes to the start of `buf` and returns their number. The number is 0 if and only if the source
+    /// is at its end. `buf` must have at least one byte.
     ///
     /// # Errors
     ///
-    /// [`Failed`] where the read failed: the count of faults rose, and no byte was taken.
+    /// [`Failed`] if the read failed. The error count has risen, and no byte was read.
     fn read(&mut self, buf: &mut [u8]) -> Result<usize, Failed>
         requires { 0 < length buf.old }
 
@@ -40,20 +39,19 @@ pub trait Source {
         ensures later { faults self.old ≤ faults self.new };
 }
 
-/// Where bytes go (this exchange's own). Its count of faults tells of each failed write, and of nothing
-/// else.
+/// A sink of bytes (defined by this project). Its error count rises at each failed write, and at nothing else.
 pub trait Sink {
-    /// The bytes written so far, where the sink tells them.
+    /// The bytes written so far. `None` if the sink does not expose them.
     ghost written: { Self → Option (List ℕ) };
 
-    /// How many writes have failed. Where it is kept as a `u64`, it stops at that type's last value.
+    /// The number of failed writes. A count stored as a `u64` stops at the greatest value of that type.
     ghost faults: { Self → ℕ };
 
-    /// Appends a prefix of `bytes` and answers its length: at least 1, unless there are no bytes.
+    /// Appends a prefix of `bytes` and returns its length. The length is at least 1 if `bytes` is not empty.
     ///
     /// # Errors
     ///
-    /// [`Failed`] where the write failed: the count of faults rose, and nothing was appended.
+    /// [`Failed`] if the write failed. The error count has risen, and nothing was appended.
     fn write(&mut self, bytes: &[u8]) -> Result<usize, Failed>
         ensures bound { IfOk result (λ n. n ≤ length bytes.now) }
         ensures some { 0 < length bytes.now → IfOk result (λ n. 0 < n) }

@@ -1,11 +1,11 @@
-// How many calls of an end have failed.
+// The error count of a source or sink.
 ghost use Rattle.std.specs.Prelude.{◌≡◌, ◌≤◌};
 ghost use Rattle.ex_io.specs.Ends.{counted};
 
 use crate::ends::Failed;
 use std::marker::Model;
 
-// A count of faults, which stops at its last value.
+// An error count. It stops at the greatest value of a `u64`.
 #[derive(Debug, Drop)]
 pub(crate) struct Faults {
     count: u64,
@@ -32,7 +32,7 @@ impl Faults {
         self.count
     }
 
-    // One more fault, and the answer for it.
+    // Counts one more error and returns the error.
     pub(crate) fn rise(&mut self) -> Failed
         ensures counted { self.new ≡ counted self.old }
         ensures later { self.old ≤ self.new }

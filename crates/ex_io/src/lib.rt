@@ -1,13 +1,13 @@
-//! The source and the sink of the exchange: where its bytes come from, and where they go.
+//! The source and the sink of the exchange: the stream that it reads and the stream that it writes.
 //!
 //! - `read` of a [`Source`] returns the next bytes (`next`), and none if and only if it is at the end (`end`,
 //!   `no_more`).
-//! - `write` of a [`Sink`] appends a prefix of its bytes (`appended`), of one byte at least (`some`).
+//! - `write` of a [`Sink`] appends a prefix of its bytes (`appended`), of at least one byte if there is one (`some`).
 //! - Both count their errors. A call fails only if that count rises (`cause`), and then nothing else changes (`kept`).
 //!   A call that succeeds leaves it unchanged (`steady`).
 //!
 //! [`MemSource`] and [`MemSink`] are in memory and fail at given calls. [`StdSource`] and [`StdSink`] are standard
-//! input and output, of whose bytes no clause speaks.
+//! input and output. No clause states the bytes of these two.
 #![tactic(auto)]
 
 mod ends;

@@ -1,4 +1,4 @@
-// Ends in memory, which fail at given calls.
+// A source and a sink in memory. They fail at given calls.
 ghost use Rattle.std.specs.Prelude.{◌≡◌, ◌↔◌, ◌<◌, ◌≤◌, [], ◌++◌, length, take, drop, Some, IsTrue, IfOk, OnErr, IsErr, Contains, vec_len};
 ghost use Rattle.std.specs.Vec.{vec_capacity};
 ghost use Rattle.std.specs.Io.KnownBytes.{Appends, Consumes, IsAtEnd, Keeps};
@@ -10,7 +10,7 @@ use crate::faults::Faults;
 use std::alloc::{AllocError, Global};
 use std::marker::Model;
 
-// Which calls are to fail, and how many there were.
+// The calls that fail, and the number of calls so far.
 #[derive(Debug, Drop)]
 struct Script {
     fails: Vec<u32>,
@@ -24,7 +24,7 @@ impl Script {
         Script { fails, calls: 0 }
     }
 
-    // Counts a call, and tells whether it is to fail. A call past the last number of a list isn't.
+    // Counts a call and returns whether it fails. The count stops at its greatest value, which no list contains.
     fn fails_now(&mut self) -> bool
         ensures counted { self.new ≡ record self.old { calls = counted self.old.calls } }
         ensures listed { IsTrue result ↔ Contains self.old.fails.items (counted self.old.calls) }
@@ -35,8 +35,7 @@ impl Script {
     }
 }
 
-/// A source that holds its bytes, gives at most `piece` of them in one read, and fails at the reads
-/// that are listed.
+/// A source in memory. One read returns at most `piece` bytes. The listed reads fail.
 #[derive(Debug, Drop)]
 pub struct MemSource {
     bytes: Vec<u8>,
@@ -61,8 +60,8 @@ impl Model for MemSource {
 }
 
 impl MemSource {
-    /// A source of these bytes. `piece`, at least 1, is the greatest number of bytes in one read, and
-    /// `fails` lists the reads that are to fail, counted from 1.
+    /// Returns a source of `bytes`. One read returns at most `piece` bytes, at least 1. `fails` lists the reads that
+    /// fail, counted from 1.
     pub fn new(bytes: Vec<u8>, piece: usize, fails: Vec<u32>) -> MemSource
         requires { 1 ≤ piece }
         ensures { result ≡ record {
@@ -82,7 +81,7 @@ impl MemSource {
         }
     }
 
-    /// How many reads have failed.
+    /// Returns the number of failed reads.
     pub fn faults(&self) -> u64
         ensures { result ≡ self.now.faults }
     {
@@ -119,8 +118,8 @@ impl Source for MemSource {
     }
 }
 
-/// A sink that keeps what is written, up to `room` bytes, takes at most `piece` of them in one
-/// write, and fails at the writes that are listed.
+/// A sink in memory of `room` bytes. One write takes at most `piece` bytes. The listed writes fail, and so does a write
+/// to a full sink.
 #[derive(Debug, Drop)]
 pub struct MemSink {
     bytes: Vec<u8>,
@@ -142,17 +141,17 @@ impl Model for MemSink {
       faults = s.faults;
     } };
 
-    // The room is reserved, so that no write asks for memory.
+    // No write allocates, because the capacity is reserved.
     ghost invariant = { λ s. (vec_len s.bytes ≤ s.room) × (s.room ≤ vec_capacity s.bytes) × (1 ≤ s.piece) };
 }
 
 impl MemSink {
-    /// A sink with room for `room` bytes, which it reserves. `piece`, at least 1, is the greatest
-    /// number of bytes in one write, and `fails` lists the writes that are to fail, counted from 1.
+    /// Returns an empty sink with a reserved capacity of `room` bytes. One write takes at most `piece` bytes, at least
+    /// 1. `fails` lists the writes that fail, counted from 1.
     ///
     /// # Errors
     ///
-    /// [`AllocError`] where there is no memory for the room.
+    /// [`AllocError`] if the allocation of the capacity fails.
     pub fn new(
         alloc: Global,
         room: usize,
@@ -178,14 +177,14 @@ impl MemSink {
         })
     }
 
-    /// The bytes written so far.
+    /// Returns the bytes written so far.
     pub fn bytes(&self) -> &[u8]
         ensures { result.now ≡ self.now.written }
     {
         &self.bytes
     }
 
-    /// How many writes have failed.
+    /// Returns the number of failed writes.
     pub fn faults(&self) -> u64
         ensures { result ≡ self.now.faults }
     {
@@ -219,7 +218,7 @@ impl Sink for MemSink {
     }
 }
 
-// Copies the first `count` bytes of `from` over the beginning of `to`.
+// Copies the first `count` bytes of `from` to the start of `to`.
 fn copy_front(to: &mut [u8], from: &[u8], count: usize)
     requires { (count ≤ length to.old) × (count ≤ length from.now) }
     ensures { to.new ≡ take count from.now ++ drop count to.old }

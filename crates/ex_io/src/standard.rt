@@ -1,5 +1,5 @@
-// Standard input and output. What the system gives and takes is outside any proof, so these few
-// lines are trusted for its bytes; they are proved to pass on what they get, and to count.
+// Standard input and output. No proof covers the bytes that the system reads and writes. The code that passes them on
+// and counts the errors is proved.
 ghost use Rattle.std.specs.Prelude.{◌≡◌, ◌<◌, ◌≤◌, [], length, take, Some, IfOk, OnOk, OnErr};
 ghost use Rattle.std.specs.Io.KnownBytes.{Appends, Consumes, IsAtEnd, Keeps};
 ghost use Rattle.ex_io.specs.Ends.{Rose};
@@ -10,11 +10,11 @@ use crate::faults::Faults;
 use std::io::{Read, Stdin, Stdout, Write};
 use std::marker::Model;
 
-/// Bytes from a reader, as they come from standard input. Nothing is said of these; over a reader
-/// that tells its bytes, the source tells them.
+/// A source over a reader, by default standard input. It exposes its bytes if the reader does, and standard input does
+/// not.
 ///
-/// Each read is one read of the reader, with no buffer between. Each error of it counts as a fault,
-/// an interrupted call too, which comes only to a program that handles signals.
+/// Each read is one read of the reader, without a buffer. Each error of the reader counts. An interrupted call also
+/// counts, and occurs only in a program that handles signals.
 #[derive(Debug, Drop)]
 pub struct StdSource<R = Stdin> {
     reader: R,
@@ -30,7 +30,7 @@ impl<R> Model for StdSource<R> {
 }
 
 impl<R: Read> StdSource<R> {
-    /// A source over the reader, with no faults yet.
+    /// Returns a source over the reader, with an error count of 0.
     pub fn new(reader: R) -> StdSource<R>
         ensures { result ≡ record { inner = reader; faults = 0 } }
     {
@@ -50,7 +50,7 @@ impl<R: Read> Source for StdSource<R> {
         requires { 0 < length buf.old }
         ensures counts { self.new.faults ≡ faults_after self.old.faults result }
 
-        // What every source promises.
+        // The contract of every source.
         ensures bound { IfOk result (λ n. n ≤ length buf.new) }
         ensures next { IfOk result (λ n. Consumes (R.remaining self.old.inner) (R.remaining self.new.inner) (take n buf.new)) }
         ensures end { IfOk result (λ n. n ≡ 0 → IsAtEnd (R.remaining self.new.inner)) }
@@ -67,11 +67,11 @@ impl<R: Read> Source for StdSource<R> {
     }
 }
 
-/// Bytes to a writer, as they go to standard output. Nothing is said of these; over a writer that
-/// tells its bytes, the sink tells them.
+/// A sink over a writer, by default standard output. It exposes its bytes if the writer does, and standard output does
+/// not.
 ///
-/// Each write is one write of the writer, with no buffer between, so nothing is left to flush. Each
-/// error of it counts as a fault, and so does a write that takes none of the bytes that it is given.
+/// Each write is one write of the writer, without a buffer, so there is nothing to flush. Each error of the writer
+/// counts, and so does a write that takes none of the given bytes.
 #[derive(Debug, Drop)]
 pub struct StdSink<W = Stdout> {
     writer: W,
@@ -87,7 +87,7 @@ impl<W> Model for StdSink<W> {
 }
 
 impl<W: Write> StdSink<W> {
-    /// A sink over the writer, with no faults yet.
+    /// Returns a sink over the writer, with an error count of 0.
     pub fn new(writer: W) -> StdSink<W>
         ensures { result ≡ record { inner = writer; faults = 0 } }
     {
@@ -106,7 +106,7 @@ impl<W: Write> Sink for StdSink<W> {
     fn write(&mut self, bytes: &[u8]) -> Result<usize, Failed>
         ensures counts { self.new.faults ≡ faults_after self.old.faults result }
 
-        // What every sink promises.
+        // The contract of every sink.
         ensures bound { IfOk result (λ n. n ≤ length bytes.now) }
         ensures some { 0 < length bytes.now → IfOk result (λ n. 0 < n) }
         ensures appended { IfOk result (λ n. Appends (W.contents self.old.inner) (W.contents self.new.inner) (take n bytes.now)) }
