@@ -1,4 +1,4 @@
--- What a reader holds of the lines that it has read. Source: this exchange's own.
+-- The state of the parser after some lines. Source: this project.
 use Rattle.std.specs.Prelude.{◌≡◌, ℕ, ◌+◌, List, ◌++◌, length, Option, None}
 use Rattle.number_plan.specs.declared.plan.PlanFault.{PlanFault}
 use Rattle.number_plan.specs.declared.plan.PlanFault.TheVariants as plan_fault
@@ -12,25 +12,25 @@ use Rattle.trace_text.specs.declared.said.Sizes.{Sizes}
 use Rattle.trace_text.specs.declared.said.Said.{Said}
 use Rattle.trace_text.specs.TraceGrammar.{so_far, events_in, open_segment_end, segment_ends, ends_after, changes_in, IsRefused}
 
--- a fault of a line, at its place in the trace
+-- the error of a trace, from the error of its line
 abbrev pub at_line : LineFault → ℕ → TraceFault
 at_line line_fault.Memory number = trace_fault.Memory
 at_line (line_fault.Refused why) number = trace_fault.Line number why
 
--- why a number can't join a plan, as the fault of its line
+-- the error of a line, from the error of a number plan
 abbrev pub of_plan : PlanFault → LineFault
 of_plan plan_fault.Prefix = line_fault.Refused reason.Prefix
 of_plan plan_fault.TooMany = line_fault.Refused reason.Limit
 of_plan plan_fault.Memory = line_fault.Memory
 
--- the draft holds what the lines so far said: the heading, the events, the ends of the segments that ended, and the changes of meters
+-- the draft is the result of the lines so far: the heading, the events, the ends of the closed segments, and the changes of meters
 pub record Holds (d : Draft) (told : List Said) : Type 0 where
   pub heading : d.heading ≡ so_far told
   pub events : d.events.items ≡ events_in told
   pub ends : (more : List Said) → segment_ends (told ++ more) ≡ d.ends.items ++ ends_after d.begun (length d.events.items) more
   pub changes : d.changes.items ≡ changes_in told
 
--- the draft, once the segment that is open has ended
+-- the draft after the end of its open segment
 pub record IsEnded (d n : Draft) : Type 0 where
   pub heading : n.heading ≡ d.heading
   pub events : n.events.items ≡ d.events.items
@@ -38,12 +38,12 @@ pub record IsEnded (d n : Draft) : Type 0 where
   pub begun : n.begun ≡ d.heading.events
   pub changes : n.changes.items ≡ d.changes.items
 
--- at the end of n lines a fault is memory that ran out, or no header was among them
+-- the error at the end of `count` lines: a failed allocation, or a trace without a header
 abbrev pub FailsAtEnd : Option Sizes → ℕ → TraceFault → Type 0
 FailsAtEnd sizes count trace_fault.Memory = Unit {0}
 FailsAtEnd sizes count (trace_fault.Line number why) = (sizes ≡ None) × (number ≡ count + 1) × (why ≡ reason.Header)
 
--- what is answered in place of a trace: memory ran out, or the first fault of the bytes
+-- the error for these bytes: a failed allocation, or their first wrong line
 abbrev pub IsFault : List ℕ → TraceFault → Type 0
 IsFault bytes trace_fault.Memory = Unit {0}
 IsFault bytes (trace_fault.Line number why) = IsRefused bytes number why

@@ -1,5 +1,5 @@
--- The fields of a trace's lines: lines, slots and rooms of the exchange, octets as hexadecimal digits, sizes. Source: this exchange's own;
--- the channels are from ITU-T Q.931 (05/98), section 4.5.13.
+-- The fields of a trace's lines: lines, slots and rooms of the exchange, octets in hexadecimal digits, sizes. Source: this project. The channels are
+-- from ITU-T Q.931 (05/98), section 4.5.13.
 use Rattle.std.specs.Prelude.{ℕ, ◌+◌, ◌-◌, ◌*◌, Bool, ◌&&◌, nat_lt, nat_le, ◌==◌, List, [], ◌∷◌, length, codes, Option, Some, None, option_and_then, is_some, Result, Ok, Err, if◌then◌else◌}
 use Rattle.std.specs.Str.{bytes_eq}
 use Rattle.circuit_model.specs.Channels.{between, place_of}
@@ -9,12 +9,12 @@ use Rattle.trace_text.specs.declared.fault.Reason.TheVariants.{Hex, Length}
 use Rattle.trace_text.specs.declared.said.Sizes.{Sizes}
 use Rattle.trace_text.specs.TraceWords.{numeral, cut_at, three}
 
--- the second step where the first found something
+-- the second step, if the first returned a value
 infixl 10 ◌>>=◌
 abbrev pub ◌>>=◌ : {A B : Type 0} → Option A → (A → Option B) → Option B
 found >>= step = option_and_then step found
 
--- the number that a word writes, where it is a numeral and lies between two others, both included
+-- the value of a field that is a decimal number from `low` to `high`
 abbrev pub numeral_in : ℕ → ℕ → List ℕ → Option ℕ
 numeral_in low high word = do
   number ← numeral word
@@ -24,13 +24,13 @@ numeral_in low high word = do
 abbrev pub slash : ℕ
 slash = 47
 
--- the external line that a word names: the numeral of a line of the exchange
+-- an external line: its decimal number
 abbrev pub external_line : ℕ → List ℕ → Option ℕ
 external_line external word = do
   line ← numeral word
   if nat_lt line external then Some line else None
 
--- the slot that a word names: the numeral of an external line, `/`, and the numeral of a bearer channel
+-- a slot: the decimal number of an external line, `/`, and the decimal number of a bearer channel
 abbrev pub slot : ℕ → List ℕ → Option Slot
 slot external word = do
   halves ← cut_at slash word
@@ -39,7 +39,7 @@ slot external word = do
   place ← place_of channel
   Some (record { line = line; place = place })
 
--- the conference room that a word names: the numeral of one of the 64 rooms
+-- a conference room: a decimal number from 0 to 63
 abbrev pub room : List ℕ → Option ℕ
 room word = numeral_in 0 63 word
 
@@ -55,7 +55,7 @@ digit_value digit =
 abbrev pub is_digit : ℕ → Bool
 is_digit octet = is_some (digit_value octet)
 
--- the octets that hexadecimal digits write, two digits each
+-- the octets of hexadecimal digits, 2 digits each
 abbrev pub octets_written : List ℕ → Option (List ℕ)
 octets_written [] = Some []
 octets_written (digit ∷ []) = None
@@ -65,12 +65,12 @@ octets_written (high ∷ low ∷ digits) = do
   octets ← octets_written digits
   Some ((upper * 16 + lower) ∷ octets)
 
--- the octets of a line of one frame: thirty of them
+-- the octets of a line of one frame: 30 octets
 abbrev pub thirty : Option (List ℕ) → Result (List ℕ) Reason
 thirty None = Err Hex
 thirty (Some octets) = if length octets == 30 then Ok octets else Err Length
 
--- at most n octets: 260 of a message
+-- at most n octets, for example 260 of a message
 abbrev pub at_most : ℕ → Option (List ℕ) → Result (List ℕ) Reason
 at_most most None = Err Hex
 at_most most (Some octets) = if nat_le (length octets) most then Ok octets else Err Length
@@ -84,14 +84,14 @@ at_least_one (Err why) = Err why
 at_least_one (Ok []) = Err Length
 at_least_one (Ok (octet ∷ octets)) = Ok (octet ∷ octets)
 
--- the octets of a tone: 1 to 8000, a second of speech
+-- the octets of a tone: 1 to 8000, which is 1 second of speech
 abbrev pub longest_tone : ℕ
 longest_tone = 8000
 
 abbrev pub of_tone : Option (List ℕ) → Result (List ℕ) Reason
 of_tone written = at_least_one (at_most longest_tone written)
 
--- the sizes that three words give: the numbers of external lines, bridge lines and processors
+-- the sizes of three fields: the numbers of external lines, bridge lines and processors
 abbrev pub exchange_sizes : List (List ℕ) → Option Sizes
 exchange_sizes words = do
   all ← three words
@@ -100,7 +100,7 @@ exchange_sizes words = do
   processors ← numeral_in 1 8 all.2
   Some (record { external = external; bridges = bridges; processors = processors })
 
--- the sizes that the words of a header give, which begin with `exchange` and `1`
+-- the sizes of a header, which starts with the fields `exchange` and `1`
 abbrev pub header : List (List ℕ) → Option Sizes
 header (name ∷ version ∷ others) = if bytes_eq name (codes "exchange") && bytes_eq version (codes "1") then exchange_sizes others else None
 header other = None

@@ -1,4 +1,4 @@
--- Which bytes are a trace, which trace they are, and why other bytes are none. Source: this exchange's own.
+-- The grammar of a trace: the trace of some bytes, or the reason why they are refused. Source: this project.
 use Rattle.std.specs.Prelude.{◌≡◌, ℕ, ◌+◌, ◌≤◌, ◌<◌, ◌==◌, List, [], ◌∷◌, ◌++◌, length, fold, Option, Some, None, Ok, Err, if◌then◌else◌}
 use Rattle.std.specs.List.{filter_map}
 use Rattle.number_plan.specs.declared.plan.Number.{Number}
@@ -18,11 +18,11 @@ use Rattle.trace_text.specs.TraceTimers.{no_timers, with_timer, timers_by}
 use Rattle.trace_text.specs.TraceWords.{lines}
 use Rattle.trace_text.specs.TraceLines.{SoFar, says, trace_limits, with_tone}
 
--- how many bytes a trace has at most
+-- the maximum number of bytes of a trace
 abbrev pub most_bytes : ℕ
 most_bytes = 67108864
 
--- the sizes of the header, where there is one
+-- the sizes of the header, if there is one
 abbrev pub sizes_in : List Said → Option Sizes
 sizes_in [] = None
 sizes_in (Header sizes ∷ others) = Some sizes
@@ -44,11 +44,11 @@ number_said other = None
 abbrev pub numbers_in : List Said → List Number
 numbers_in told = filter_map number_said told
 
--- the plan of these numbers: each in its place
+-- the number plan of these numbers
 abbrev pub plan_of : List Number → List Number
 plan_of numbers = fold with_number [] numbers
 
--- the tones that are given, in file order
+-- the tones, in file order
 abbrev pub tone_said : Said → Option GivenTone
 tone_said (Toned given) = Some given
 tone_said other = None
@@ -56,14 +56,14 @@ tone_said other = None
 abbrev pub tones_in : List Said → List GivenTone
 tones_in told = filter_map tone_said told
 
--- these tones, each under its kind; one that isn't given has no octets
+-- the octets of each tone; a tone without a line has none
 abbrev pub no_tones : Tones
 no_tones = record { ringback = []; busy = [] }
 
 abbrev pub tones_of : List GivenTone → Tones
 tones_of given = fold with_tone no_tones given
 
--- the timers that are given, in file order
+-- the timers, in file order
 abbrev pub timer_said : Said → Option GivenTimer
 timer_said (Timed given) = Some given
 timer_said other = None
@@ -71,15 +71,15 @@ timer_said other = None
 abbrev pub timers_in : List Said → List GivenTimer
 timers_in told = filter_map timer_said told
 
--- these timers, each under its name
+-- the duration of each timer
 abbrev pub timers_of : List GivenTimer → GivenTimers
 timers_of given = fold with_timer no_timers given
 
--- a segment ends with the last event so far, where it has any
+-- the end of a segment, if it has events: the number of the last event so far
 abbrev pub open_segment_end : ℕ → ℕ → List ℕ
 open_segment_end begun count = if begun == count then [] else count ∷ []
 
--- the numbers of the last events of the segments that have any. n events came before, and m before the segment that is open
+-- the numbers of the last events of the segments that have events, after `count` events, `begun` of them before the open segment
 abbrev pub ends_after : ℕ → ℕ → List Said → List ℕ
 ends_after begun count [] = open_segment_end begun count
 ends_after begun count (Happens event ∷ others) = ends_after begun (count + 1) others
@@ -90,7 +90,7 @@ ends_after begun count (said ∷ others) = ends_after begun count others
 abbrev pub segment_ends : List Said → List ℕ
 segment_ends told = ends_after 0 0 told
 
--- for each change of meters, in file order, how many events are before it. `count` came before these lines
+-- the number of events before each change of meters, in file order, after `count` events
 abbrev pub changes_after : ℕ → List Said → List ℕ
 changes_after count [] = []
 changes_after count (Happens event ∷ others) = changes_after (count + 1) others
@@ -100,19 +100,19 @@ changes_after count (said ∷ others) = changes_after count others
 abbrev pub changes_in : List Said → List ℕ
 changes_in told = changes_after 0 told
 
--- what lines said, as far as the next line depends on it
+-- the result of some lines, as far as the next line depends on it
 abbrev pub so_far : List Said → SoFar
 so_far told = record { sizes = sizes_in told; events = length (events_in told); plan = plan_of (numbers_in told); tones = tones_of (tones_in told); timers = timers_of (timers_in told); changes = length (changes_in told) }
 
--- each line, after those before it, meets all of its checks and says what is at its place
+-- each line passes all of its checks after the lines before it, and has this content
 abbrev pub EachSays : List Said → List (List ℕ) → List Said → Type 0
 EachSays before [] [] = Unit {0}
 EachSays before [] (said ∷ told) = ⊥
 EachSays before (line ∷ others) [] = ⊥
 EachSays before (line ∷ others) (said ∷ told) = (says trace_limits (so_far before) line ≡ Ok said) × EachSays (before ++ said ∷ []) others told
 
--- the trace is what the lines say: the sizes of the header, the plan of the numbers, the tones, the timers, the events, the ends of the
--- segments, and the changes of meters
+-- the trace of lines with this content: the sizes of the header, the number plan, the tones, the timers, the events, the ends of the segments, and
+-- the changes of meters
 pub record IsWhatLinesSay (t : Trace) (told : List Said) : Type 0 where
   pub sizes : sizes_in told ≡ Some (record { external = t.external; bridges = t.bridges; processors = t.processors })
   pub plan : t.plan ≡ plan_of (numbers_in told)
@@ -122,14 +122,14 @@ pub record IsWhatLinesSay (t : Trace) (told : List Said) : Type 0 where
   pub segments : t.segments ≡ segment_ends told
   pub changes : t.changes ≡ changes_in told
 
--- the bytes are the trace: each line meets all of its checks, given the lines before it, and the trace is what the lines say
+-- the bytes are the trace: each line passes all of its checks after the lines before it, and the trace is the result of the lines
 pub record IsTrace (bytes : List ℕ) (t : Trace) : Type 0 where
   pub few : length bytes ≤ most_bytes
   pub told : List Said
   pub meets : EachSays [] (lines bytes) told
   pub all : IsWhatLinesSay t told
 
--- a line of the bytes is the first that fails, and a check of it is the first that does
+-- the first line that fails, with its first failing check
 pub record IsFirstFault (bytes : List ℕ) (number : ℕ) (why : Reason) : Type 0 where
   pub before : List (List ℕ)
   pub line : List ℕ
@@ -140,7 +140,7 @@ pub record IsFirstFault (bytes : List ℕ) (number : ℕ) (why : Reason) : Type 
   pub fails : says trace_limits (so_far told) line ≡ Err why
   pub place : number ≡ length before + 1
 
--- no line fails, and none is the header
+-- no line fails, and there is no header
 pub record LacksHeader (bytes : List ℕ) (number : ℕ) (why : Reason) : Type 0 where
   pub told : List Said
   pub meets : EachSays [] (lines bytes) told
@@ -148,7 +148,7 @@ pub record LacksHeader (bytes : List ℕ) (number : ℕ) (why : Reason) : Type 0
   pub place : number ≡ length (lines bytes) + 1
   pub named : why ≡ reason.Header
 
--- the bytes are no trace, for the reason that is given first: too many bytes, which is line 0; the first line that fails; no header, at the line after the last
+-- the bytes are refused, for the first of these reasons: too many bytes (line 0), a line that fails, or no header (the line after the last)
 pub data IsRefused (bytes : List ℕ) (number : ℕ) (why : Reason) : Type 0 where
   Too_long : most_bytes < length bytes → number ≡ 0 → why ≡ reason.Limit → IsRefused bytes number why
   At_line : length bytes ≤ most_bytes → IsFirstFault bytes number why → IsRefused bytes number why

@@ -1,4 +1,4 @@
--- What a line changes: what happens by it, and what is known of the lines so far once it is read. Source: this exchange's own.
+-- The effect of a line, and the result of the lines after it. Source: this project.
 use Rattle.std.specs.Prelude.{◌≡◌, ℕ, ◌+◌, IsTrue, List, [], ◌∷◌, ◌++◌, Some, None, Ok}
 use Rattle.number_plan.specs.Plan.{is_number, with_number}
 use Rattle.trace_text.specs.declared.heading.Happening.{Happening}
@@ -10,14 +10,14 @@ use Rattle.trace_text.specs.TraceTimers.{with_timer}
 use Rattle.trace_text.specs.TraceLines.{SoFar, says, with_tone}
 use Rattle.trace_text.specs.TraceGrammar.{so_far}
 
--- what happens by a line: an event, the end of the segment, or that and a change of meters
+-- the effect of a line with this content: an event, the end of the segment, or the end and a change of meters
 abbrev pub happening_of : Said → Happening
 happening_of (Happens event) = happening.Event event
 happening_of Sync = happening.SegmentEnd
 happening_of Change = happening.Change
 happening_of other = happening.Nothing
 
--- what is known of the lines so far, once a line said more
+-- the result of the lines after one more line with this content
 abbrev pub with_said : SoFar → Said → SoFar
 with_said known (Header sizes) = record known { sizes = Some sizes }
 with_said known (Numbered number) = record known { plan = with_number known.plan number }
@@ -27,14 +27,13 @@ with_said known (Happens event) = record known { events = known.events + 1 }
 with_said known Change = record known { changes = known.changes + 1 }
 with_said known other = known
 
--- what a line says fits what is known: a header is the first, and a number is one
+-- the content of a line fits the lines before it: the header comes first, and a number has valid digits
 abbrev pub Suits : SoFar → Said → Type 0
 Suits known (Header sizes) = known.sizes ≡ None
 Suits known (Numbered number) = IsTrue (is_number number.digits)
 Suits known other = Unit {0}
 
--- a line was read: what it says behind those before it, what happens by it, and what is known then. If that was what some lines say, then it is
--- what they and this line say
+-- the effect of a line after these lines, and the result of the lines with it
 pub record IsLineRead (limits : Limits) (before : SoFar) (line : List ℕ) (happening : Happening) (after : SoFar) : Type 0 where
   pub said : Said
   pub meets : says limits before line ≡ Ok said

@@ -1,4 +1,4 @@
--- What a line of a trace says, or the first of its checks that fails. Source: this exchange's own.
+-- The content of a line of a trace, or its first failing check. Source: this project.
 use Rattle.std.specs.Prelude.{◌≡◌, ℕ, nat_lt, ◌==◌, ◌||◌, List, [], ◌∷◌, ◌++◌, length, codes, replicate, slice_index_or, slice_set, Option, Some, None, is_some, ok_or, option_and_then, Result, Ok, Err, if◌then◌else◌}
 use Rattle.std.specs.List.{list_all}
 use Rattle.std.specs.Str.{bytes_eq}
@@ -32,7 +32,7 @@ use Rattle.trace_text.specs.TraceTimers.{timer_named, if_some_frames, frames_giv
 use Rattle.trace_text.specs.TraceWords.{numeral, words, two, one_or_two, digits_and_target, cut_at, is_comment, is_blank, is_printable}
 use Rattle.trace_text.specs.TraceFields.{external_line, slot, room, octets_written, thirty, at_most, longest_message, of_tone, header}
 
--- the second step where the first passed its checks
+-- the second step, if the first passed its checks
 infixl 10 ◌>>=◌
 abbrev pub ◌>>=◌ : {A B : Type 0} → Result A Reason → (A → Result B Reason) → Result B Reason
 (Ok value) >>= step = step value
@@ -42,7 +42,7 @@ abbrev pub ◌>>=◌ : {A B : Type 0} → Result A Reason → (A → Result B Re
 abbrev pub colon : ℕ
 colon = 58
 
--- one word of a frame: the numeral of an external line that isn't given yet, `:`, and its thirty octets
+-- one field of a frame: the decimal number of an external line that the frame does not have yet, `:`, and its 30 octets
 abbrev pub with_part : ℕ → Input → List ℕ → Result Input Reason
 with_part external given word = do
   halves ← ok_or (cut_at colon word) reason.Slot
@@ -55,13 +55,13 @@ abbrev pub with_parts : ℕ → Input → List (List ℕ) → Result Input Reaso
 with_parts external given [] = Ok given
 with_parts external given (word ∷ others) = with_part external given word >>= λ more. with_parts external more others
 
--- a frame: what its words give, every other external line being idle
+-- a frame: the octets of some external lines; the other lines are idle
 abbrev pub frame : ℕ → List (List ℕ) → Result Event Reason
 frame external parts = do
   input ← with_parts external (replicate external None) parts
   Ok (Frame input)
 
--- a nail: two different slots
+-- a nailed connection: two different slots
 abbrev pub nail : ℕ → List (List ℕ) → Result Event Reason
 nail external others = do
   both ← ok_or (two others) reason.Word
@@ -69,7 +69,7 @@ nail external others = do
   y ← ok_or (slot external both.1) reason.Slot
   if same_slot x y then Err reason.Slot else Ok (Nail x y)
 
--- a seat: a slot and the room that it is put into
+-- a seat: a slot and the conference room that it joins
 abbrev pub seat : ℕ → List (List ℕ) → Result Event Reason
 seat external others = do
   both ← ok_or (two others) reason.Word
@@ -77,14 +77,14 @@ seat external others = do
   number ← ok_or (room both.1) reason.Number
   Ok (Seat x number)
 
--- a free: the slot whose nail or seat is undone
+-- a release: the slot whose connection or seat is released
 abbrev pub free : ℕ → List (List ℕ) → Result Event Reason
 free external (word ∷ []) = do
   x ← ok_or (slot external word) reason.Slot
   Ok (Free x)
 free external others = Err reason.Word
 
--- a message: the external line on which it arrives, and its octets, none where no digits follow
+-- a message: the external line on which it arrives, and its octets, which are empty if there are no digits
 abbrev pub message : ℕ → List (List ℕ) → Result Event Reason
 message external others = do
   both ← ok_or (one_or_two others) reason.Word
@@ -92,11 +92,11 @@ message external others = do
   octets ← at_most longest_message (octets_written both.1)
   Ok (Message line octets)
 
--- an event happens
+-- a line that is an event
 abbrev pub happens : Result Event Reason → Result Said Reason
 happens reading = reading >>= λ event. Ok (said.Happens event)
 
--- one more line of a list: an external line that isn't in it yet
+-- one more line of a list: an external line that the list does not have yet
 abbrev pub with_line : ℕ → List ℕ → List ℕ → Result (List ℕ) Reason
 with_line external lines word = do
   line ← ok_or (external_line external word) reason.Slot
@@ -106,7 +106,7 @@ abbrev pub with_lines : ℕ → List ℕ → List (List ℕ) → Result (List �
 with_lines external lines [] = Ok lines
 with_lines external lines (word ∷ others) = with_line external lines word >>= λ more. with_lines external more others
 
--- where a number leads: `line` and an external line, `lines` and several of them, or `room` and a conference room
+-- the target of a number: `line` with an external line, `lines` with at least one, or `room` with a conference room
 abbrev pub target : ℕ → List ℕ → List ℕ → List (List ℕ) → Result Target Reason
 target external name word others =
     if bytes_eq name (codes "line") then (do
@@ -120,7 +120,7 @@ target external name word others =
       Ok (goal.Lines lines))
     else Err reason.Word
 
--- a number: 1 to 20 digits and where they lead
+-- a number: 1 to 20 digits and their target
 abbrev pub number : ℕ → List (List ℕ) → Result Number Reason
 number external others = do
   parts ← ok_or (digits_and_target others) reason.Word
@@ -128,18 +128,18 @@ number external others = do
   stands ← target external parts.1 parts.2 parts.3
   Ok (record { digits = digits; target = stands })
 
--- a number is given
+-- a line that is a number
 abbrev pub numbered : Result Number Reason → Result Said Reason
 numbered reading = reading >>= λ n. Ok (said.Numbered n)
 
--- the tone that a word names
+-- the tone with this name
 abbrev pub tone_named : List ℕ → Option Tone
 tone_named name =
     if bytes_eq name (codes "ringback") then Some Ringback
     else if bytes_eq name (codes "busy") then Some Busy
     else None
 
--- a tone: `ringback` or `busy`, which isn't given yet, and its octets
+-- a tone: `ringback` or `busy`, without an earlier line, and its octets
 abbrev pub tone : Tones → List (List ℕ) → Result GivenTone Reason
 tone tones others = do
   both ← ok_or (two others) reason.Word
@@ -148,11 +148,11 @@ tone tones others = do
   octets ← of_tone (octets_written both.1)
   Ok (record { kind = kind; octets = octets })
 
--- a tone is given
+-- a line that is a tone
 abbrev pub toned : Result GivenTone Reason → Result Said Reason
 toned reading = reading >>= λ t. Ok (said.Toned t)
 
--- the tones once one more is given
+-- the tones after one more line
 abbrev pub with_octets : Tones → Tone → List ℕ → Tones
 with_octets tones Ringback octets = record tones { ringback = octets }
 with_octets tones Busy octets = record tones { busy = octets }
@@ -160,7 +160,7 @@ with_octets tones Busy octets = record tones { busy = octets }
 abbrev pub with_tone : Tones → GivenTone → Tones
 with_tone tones given = with_octets tones given.kind given.octets
 
--- a timer: its name, which isn't given yet, and how many frames it runs
+-- a timer: its name, without an earlier line, and its duration in frames
 abbrev pub timer : GivenTimers → List (List ℕ) → Result GivenTimer Reason
 timer given others = do
   both ← ok_or (two others) reason.Word
@@ -169,16 +169,16 @@ timer given others = do
   frames ← ok_or (option_and_then if_some_frames (numeral both.1)) reason.Number
   Ok (record { name = name; frames = frames })
 
--- a timer is given
+-- a line that is a timer
 abbrev pub timed : Result GivenTimer Reason → Result Said Reason
 timed reading = reading >>= λ t. Ok (said.Timed t)
 
--- a line of one word, which says this
+-- a line of one field
 abbrev pub alone : Said → List (List ℕ) → Result Said Reason
 alone said [] = Ok said
 alone said (word ∷ others) = Err reason.Word
 
--- the kind of line that a first word names
+-- the kind of a line with this first field
 abbrev pub kind_of : List ℕ → Kind
 kind_of word =
     if bytes_eq word (codes "F") then kind.Frame
@@ -193,8 +193,8 @@ kind_of word =
     else if bytes_eq word (codes "change") then kind.Change
     else kind.Unknown
 
--- what the lines so far said, as far as the next line depends on it: the sizes of the header, where there was one, how many events, the
--- numbers, the tones, the timers and how many changes of meters
+-- the result of the lines so far, as far as the next line depends on it: the sizes of the header, the number of events, the numbers, the tones, the
+-- timers and the number of changes of meters
 pub record SoFar : Type 0 where
   pub sizes : Option Sizes
   pub events : ℕ
@@ -203,11 +203,11 @@ pub record SoFar : Type 0 where
   pub timers : GivenTimers
   pub changes : ℕ
 
--- a line that comes before the first event, or nowhere
+-- a line that is valid only before the first event
 abbrev pub before_events : SoFar → Result Said Reason → Result Said Reason
 before_events so_far reading = if so_far.events == 0 then reading else Err reason.Word
 
--- a line of a kind, whose further words are given, in an exchange with n external lines
+-- a line of a kind, from the fields after the first, in an exchange with `external` external lines
 abbrev pub by_kind : SoFar → ℕ → Kind → List (List ℕ) → Result Said Reason
 by_kind so_far external kind.Frame others = happens (frame external others)
 by_kind so_far external kind.Message others = happens (message external others)
@@ -225,29 +225,29 @@ abbrev pub by_words : SoFar → ℕ → List (List ℕ) → Result Said Reason
 by_words so_far external [] = Ok said.Nothing
 by_words so_far external (first ∷ others) = by_kind so_far external (kind_of first) others
 
--- a line after the header: all its octets are printable, and its words are as its kind has them
+-- a line after the header: its octets are printable, and its fields are valid for its kind
 abbrev pub after_header : SoFar → ℕ → List ℕ → Result Said Reason
 after_header so_far external line = if list_all is_printable line then by_words so_far external (words line) else Err reason.Word
 
--- the first line that isn't passed over is the header
+-- the first line that is neither blank nor a comment is the header
 abbrev pub by_place : SoFar → Option Sizes → List ℕ → Result Said Reason
 by_place so_far None line = ok_or (header (words line)) reason.Header >>= λ sizes. Ok (said.Header sizes)
 by_place so_far (Some sizes) line = after_header so_far sizes.external line
 
--- what a line says by its octets and words. Blank lines and comments are passed over
+-- the content of a line, without the last checks; a blank line or a comment has none
 abbrev pub reads : SoFar → List ℕ → Result Said Reason
 reads so_far line = if is_comment line || is_blank line then Ok said.Nothing else by_place so_far so_far.sizes line
 
--- the limits of a trace that is read as a whole
+-- the limits of a complete trace
 abbrev pub trace_limits : Limits
 trace_limits = record { max_events = most_events; max_changes = most_changes }
 
--- the limits of lines that are read as they come, which fewer than 2^32 lines never exceed
+-- the limits of lines that are read as they arrive, which fewer than 2^32 lines never exceed
 abbrev pub line_limits : Limits
 line_limits = record { max_events = 4294967295; max_changes = 4294967295 }
 
--- the last checks of a line: no number equals, begins or continues an earlier one, there are at most 256 numbers, and neither the events nor
--- the changes exceed their limit
+-- the last checks of a line: no number equals, begins or continues an earlier one, there are at most 256 numbers, and neither the events nor the
+-- changes exceed their limit
 abbrev pub joins : Limits → SoFar → Said → Result Said Reason
 joins limits so_far (said.Numbered number) =
     if is_number_taken so_far.plan number.digits then Err reason.Prefix
@@ -257,11 +257,11 @@ joins limits so_far (said.Happens event) = if nat_lt so_far.events limits.max_ev
 joins limits so_far said.Change = if nat_lt so_far.changes limits.max_changes then Ok said.Change else Err reason.Limit
 joins limits so_far other = Ok other
 
--- what a line says behind the lines so far
+-- the content of a line after the lines so far, or its first failing check
 abbrev pub says : Limits → SoFar → List ℕ → Result Said Reason
 says limits so_far line = reads so_far line >>= joins limits so_far
 
--- a function answered what reading gives, unless memory ran out
+-- the error of a line: its first failing check, or a failed allocation
 abbrev pub Fails : {T : Type 0} → LineFault → Result T Reason → Type 0
 Fails fault.Memory reading = Unit {0}
 Fails (fault.Refused why) reading = reading ≡ Err why

@@ -1,4 +1,4 @@
--- Lines as most are written: single spaces, and numerals of one or two digits. Source: this exchange's own.
+-- Lines in the common form: single spaces, and decimal numbers of one or two digits. Source: this project.
 use Rattle.std.specs.Prelude.{◌≡◌, ℕ, ◌<◌, Bool, true, false, not, ◌==◌, List, ◌∷◌, ◌++◌, length, slice_index_or, Some, Result, Ok}
 use Rattle.std.specs.List.{list_all}
 use Rattle.std.specs.Char.{is_ascii_digit}
@@ -10,18 +10,18 @@ use Rattle.trace_text.specs.TraceFields.{slot}
 use Rattle.trace_text.specs.TraceLines.{with_part}
 use Rattle.circuit_model.specs.declared.channel.Slot.{Slot}
 
--- a word ends here: with its line, or at a space
+-- a field ends before these octets: they are empty, or begin with a space
 abbrev pub ends_word : List ℕ → Bool
 ends_word octets = slice_index_or octets 0 32 == 32
 
--- a numeral comes before other octets
+-- a decimal number and the octets after it
 pub record NumberAt (octets : List ℕ) (n : ℕ) (others : List ℕ) : Type 0 where
   pub front : List ℕ
   pub digits : list_all is_ascii_digit front ≡ true
   pub number : numeral front ≡ Some n
   pub parts : octets ≡ front ++ others
 
--- a space, the numeral of a line, `:` and sixty octets come before other octets, among them the end of the word
+-- a field of a frame and the octets after it: a space, the decimal number of a line, `:` and 60 octets
 pub record PartAt (rest : List ℕ) (line : ℕ) (sixty others : List ℕ) : Type 0 where
   pub front : List ℕ
   pub digits : list_all is_ascii_digit front ≡ true
@@ -30,7 +30,7 @@ pub record PartAt (rest : List ℕ) (line : ℕ) (sixty others : List ℕ) : Typ
   pub whole : length sixty ≡ 60
   pub ends : ends_word others ≡ true
 
--- the first word of what is left of a line is put into a frame, and the others are left
+-- the next field of a frame, added to it, and the octets after it
 pub record TakesPart (given now : Input) (rest others : List ℕ) : Type 0 where
   pub word : List ℕ
   pub cut : words rest ≡ word ∷ words others
@@ -38,12 +38,12 @@ pub record TakesPart (given now : Input) (rest others : List ℕ) : Type 0 where
   pub put : with_part (length given) given word ≡ Ok now
   pub text : list_all is_printable others ≡ true → list_all is_printable rest ≡ true
 
--- what is left of a line is printable, and its words give the event
+-- the rest of a line is printable, and its fields are the event
 pub record GivesPlainly (reading : Result Event Reason) (line : List ℕ) (event : Event) : Type 0 where
   pub reads : reading ≡ Ok event
   pub text : list_all is_printable line ≡ true
 
--- a slot comes before other octets
+-- a slot and the octets after it
 pub record SlotAt (external : ℕ) (octets : List ℕ) (at : Slot) (others : List ℕ) : Type 0 where
   pub word : List ℕ
   pub some : 0 < length word
@@ -52,7 +52,7 @@ pub record SlotAt (external : ℕ) (octets : List ℕ) (at : Slot) (others : Lis
   pub names : slot external word ≡ Some at
   pub parts : octets ≡ word ++ others
 
--- the line begins with a word, is printable, and its other words give the event
+-- a line that starts with this field, is printable, and whose other fields are the event
 pub record IsPlain (first : List ℕ) (reading : List (List ℕ) → Result Event Reason) (line : List ℕ) (event : Event) : Type 0 where
   pub others : List (List ℕ)
   pub cut : words line ≡ first ∷ others

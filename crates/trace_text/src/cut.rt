@@ -1,4 +1,4 @@
-// Lines, words and numerals, cut from borrowed octets.
+// Lines, fields and decimal numbers, as slices of borrowed octets.
 ghost use Rattle.std.specs.Prelude.{◌≡◌, ◌≢◌, ◌<◌, ◌≤◌, ◌∷◌, [], length, slice_index, MatchOption, option_map};
 ghost use Rattle.std.specs.List.{list_all};
 ghost use Rattle.trace_text.specs.TraceWords.{lines, words, two, one_or_two, three, digits_and_target, cut_at, numeral, is_printable};
@@ -8,10 +8,10 @@ use memchr::memchr;
 /// The octet that ends a line.
 const LINE_FEED: u8 = b'\n';
 
-/// The octet that parts words.
+/// The octet between fields.
 const SPACE: u8 = b' ';
 
-/// The first line, and what follows it.
+/// Returns the first line without its line feed, and the octets after it.
 pub(crate) fn first_line(bytes: &[u8]) -> (&[u8], &[u8])
     requires { 0 < length bytes.now }
     ensures first { lines bytes.now ≡ result.0.now ∷ lines result.1.now }
@@ -23,7 +23,7 @@ pub(crate) fn first_line(bytes: &[u8]) -> (&[u8], &[u8])
     }
 }
 
-// What is left of a line behind the spaces at its beginning.
+// Returns a line without the spaces at its start.
 fn behind_spaces(line: &[u8]) -> &[u8]
     ensures same { words result.now ≡ words line.now }
     ensures shorter { length result.now ≤ length line.now }
@@ -36,7 +36,7 @@ fn behind_spaces(line: &[u8]) -> &[u8]
     rest
 }
 
-/// The first word of what is left of a line, and what follows it; nothing where there is no word.
+/// Returns the first field and the octets after it. `None` if there is no field.
 pub(crate) fn first_word(line: &[u8]) -> Option<(&[u8], &[u8])>
     ensures { MatchOption result (words line.now ≡ [])
         (λ cut. (words line.now ≡ cut.0.now ∷ words cut.1.now) × (length cut.1.now < length line.now)) }
@@ -49,7 +49,7 @@ pub(crate) fn first_word(line: &[u8]) -> Option<(&[u8], &[u8])>
     Some(rest.split_at(end))
 }
 
-/// The words of what is left of a line, where they are two.
+/// Returns the two fields. `None` if their number is not 2.
 pub(crate) fn two_words(line: &[u8]) -> Option<(&[u8], &[u8])>
     ensures { option_map (λ both. (both.0.now, both.1.now)) result ≡ two (words line.now) }
 {
@@ -61,8 +61,7 @@ pub(crate) fn two_words(line: &[u8]) -> Option<(&[u8], &[u8])>
     Some((one, other))
 }
 
-/// The words of what is left of a line, where they are one or two. Where there is one, an empty word
-/// comes behind it.
+/// Returns the one or two fields, with an empty second field if there is one. `None` if their number is neither.
 pub(crate) fn one_or_two_words(line: &[u8]) -> Option<(&[u8], &[u8])>
     ensures { option_map (λ both. (both.0.now, both.1.now)) result ≡ one_or_two (words line.now) }
 {
@@ -76,7 +75,7 @@ pub(crate) fn one_or_two_words(line: &[u8]) -> Option<(&[u8], &[u8])>
     Some((one, other))
 }
 
-/// The words of what is left of a line, where they are three.
+/// Returns the three fields. `None` if their number is not 3.
 pub(crate) fn three_words(line: &[u8]) -> Option<(&[u8], &[u8], &[u8])>
     ensures { option_map (λ all. (all.0.now, all.1.now, all.2.now)) result ≡ three (words line.now) }
 {
@@ -89,8 +88,8 @@ pub(crate) fn three_words(line: &[u8]) -> Option<(&[u8], &[u8], &[u8])>
     Some((one, other, last))
 }
 
-/// The digits, the name of a target and its first word, and what follows it on a line of a number. Only behind `lines`
-/// more words follow.
+/// Returns the digits, the kind of target, its first field, and the octets after it. `None` if fields follow and the
+/// kind is not `lines`.
 pub(crate) fn digits_and_target(line: &[u8]) -> Option<(&[u8], &[u8], &[u8], &[u8])>
     ensures { option_map (λ all. (all.0.now, all.1.now, all.2.now, words all.3.now)) result ≡ digits_and_target (words line.now) }
 {
@@ -103,7 +102,7 @@ pub(crate) fn digits_and_target(line: &[u8]) -> Option<(&[u8], &[u8], &[u8], &[u
     Some((digits, name, word, others))
 }
 
-/// What is before and after the first octet of a word that is the mark, where one is.
+/// Returns the octets before and after the first `mark` of a field. `None` if the field has no `mark`.
 pub(crate) fn halves_at(mark: u8, word: &[u8]) -> Option<(&[u8], &[u8])>
     ensures { option_map (λ halves. (halves.0.now, halves.1.now)) result ≡ cut_at mark word.now }
 {
@@ -111,11 +110,11 @@ pub(crate) fn halves_at(mark: u8, word: &[u8]) -> Option<(&[u8], &[u8])>
     Some((&word[..at], &word[at + 1..]))
 }
 
-/// Whether all octets of a line are printable.
+/// Returns whether all octets of a line are printable.
 pub(crate) fn is_text(line: &[u8]) -> bool
     ensures { result ≡ list_all is_printable line.now }
 {
-    // Every octet is looked at, so that many are tested at once.
+    // The loop has no early exit, so that it tests several octets at once.
     let mut all = true;
     for octet in line {
         all &= (0x20..=0x7E).contains(octet);
@@ -123,7 +122,8 @@ pub(crate) fn is_text(line: &[u8]) -> bool
     all
 }
 
-/// The number that a word writes, where it is a numeral.
+/// Returns the value of a field. `None` if the field is not a decimal number of at most 9 digits without a leading
+/// zero.
 pub(crate) fn numeral_of(word: &[u8]) -> Option<u32>
     ensures { result ≡ numeral word.now }
 {

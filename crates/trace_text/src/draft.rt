@@ -1,17 +1,17 @@
-// A trace in the making.
+// The trace of the lines read so far.
 use crate::fault::{LineFault, Reason, TraceFault};
 use crate::heading::{Happening, Heading};
 use crate::limits::Limits;
 use exchange_events::{Changes, Event, Events, Segments, Trace};
 use std::alloc::{AllocError, Global};
 
-/// What the lines so far said: the heading, the events, where the segments ended, and the changes of meters.
+/// The result of the lines so far: the heading, the events, the ends of the segments, and the changes of meters.
 #[derive(Drop)]
 pub struct Draft {
     heading: Heading,
     events: Vec<Event>,
     ends: Vec<u32>,
-    // How many events came before the segment that is open.
+    // The number of events before the open segment.
     begun: u32,
     changes: Vec<u32>,
 }
@@ -23,7 +23,7 @@ impl Draft {
     ghost use Rattle.trace_text.specs.TraceGrammar.{so_far, IsWhatLinesSay};
     ghost use Rattle.trace_text.specs.TraceDraft.{Holds, IsEnded, FailsAtEnd};
 
-    /// The draft of no lines.
+    /// Returns the draft of an empty trace.
     pub fn new(alloc: Global) -> Draft
         ensures { Holds result [] }
     {
@@ -36,7 +36,7 @@ impl Draft {
         }
     }
 
-    // Ends the segment that is open.
+    // Ends the open segment, if it has events.
     fn end_segment(&mut self) -> Result<(), AllocError>
         ensures { OnOk result (IsEnded self.old self.new) }
     {
@@ -49,6 +49,11 @@ impl Draft {
     }
 
     /// Reads one more line.
+    ///
+    /// # Errors
+    ///
+    /// - [`LineFault::Refused`] if the line fails a check, with the first one.
+    /// - [`LineFault::Memory`] if an allocation fails.
     pub fn read_line(&mut self, alloc: Global, line: &[u8]) -> Result<(), LineFault>
         ensures read { OnOk result ((told : List Said) →
             Holds self.old told → (said : Said)
@@ -68,7 +73,12 @@ impl Draft {
         Ok(())
     }
 
-    /// The trace of n lines.
+    /// Returns the trace of `lines` lines.
+    ///
+    /// # Errors
+    ///
+    /// - [`TraceFault::Line`] with `lines + 1` and [`Reason::Header`] if the trace has no header.
+    /// - [`TraceFault::Memory`] if an allocation fails.
     pub fn finish(mut self, lines: u32) -> Result<Trace, TraceFault>
         requires { lines < 4294967295 }
         ensures read { IfOk result (λ t. (told : List Said) → Holds self told → IsWhatLinesSay t told) }

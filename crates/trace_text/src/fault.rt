@@ -1,53 +1,50 @@
-//! Why octets are no trace.
+//! The errors of reading a trace.
 ghost use Rattle.std.specs.Prelude.{◌≡◌};
 ghost use Rattle.trace_text.specs.declared.fault.LineFault.TheVariants.{Memory, Refused};
 
 use number_plan::PlanFault;
 use std::alloc::{AllocError, AllocFailed};
 
-/// Why a line of a trace is refused: the first of its checks that fails.
-///
-/// The checks and their order are this exchange's own.
+/// The first check that a line of a trace fails. The checks and their order are defined by this project.
 #[derive(Clone, Copy, Debug, PartialEq, Eq)]
 pub enum Reason {
-    /// The first line that is neither blank nor a comment is no header, or there is none.
+    /// The first line that is neither blank nor a comment is not a header, or there is no such line.
     Header,
-    /// An octet that isn't printable, an unknown first word, a number, a tone or a timer behind an event,
-    /// a wrong count of words, a number that leads to neither a line nor a room, or a tone or a timer
-    /// that is none or was given before.
+    /// A line has an octet that is not printable, an unknown first field, or a wrong number of fields. Or a number, a
+    /// tone or a timer comes after an event, a number routes to something other than `line`, `lines` or `room`, or a
+    /// tone or timer is unknown or repeated.
     Word,
-    /// A word that writes no line or no slot of the exchange, a line given twice in one frame, or a
-    /// slot nailed to itself.
+    /// A field is not a line or slot of the exchange, a frame or a list has a line twice, or a slot is nailed to
+    /// itself.
     Slot,
-    /// Octets with a digit that isn't hexadecimal, or with an odd number of digits.
+    /// The octets have a digit that is not hexadecimal, or an odd number of digits.
     Hex,
-    /// Octets that are too few or too many.
+    /// The octets are too few or too many.
     Length,
-    /// A subscriber number, a room or a count of frames that isn't one.
+    /// A subscriber number, a room or a number of frames is not valid.
     Number,
-    /// A subscriber number that equals, begins or continues an earlier one.
+    /// A subscriber number equals an earlier one, is a prefix of it, or has it as a prefix.
     Prefix,
-    /// Too many events, numbers or bytes.
+    /// There are too many events, changes of meters, numbers or bytes.
     Limit,
 }
 
-/// Why bytes could not be read as a trace.
+/// The error of reading a trace.
 #[derive(Clone, Copy, Debug, PartialEq, Eq)]
 pub enum TraceFault {
-    /// There is not enough memory for the trace.
+    /// An allocation failed.
     Memory,
-    /// The line with this number, counted from 1, is the first that is refused, and this is the
-    /// first of its checks that fails. The number is 0 where there are too many bytes, and one more
-    /// than the number of lines where there is no header.
+    /// The first line that fails a check, counted from 1, with its first failing check. The number is 0 if there are
+    /// too many bytes, and one more than the number of lines if there is no header.
     Line { number: u32, reason: Reason },
 }
 
-/// Why a line could not be read.
+/// The error of reading a line.
 #[derive(Clone, Copy, Debug, PartialEq, Eq)]
 pub enum LineFault {
     /// An allocation failed.
     Memory,
-    /// The line is refused, for the first of its checks that fails.
+    /// The line fails a check. This is the first one.
     Refused(Reason),
 }
 
@@ -55,7 +52,7 @@ impl LineFault {
     ghost use Rattle.std.specs.Prelude.{◌≡◌};
     ghost use Rattle.trace_text.specs.TraceDraft.{at_line};
 
-    /// The fault of the trace whose line this is.
+    /// Returns the error of a trace with this error at line `number`.
     pub fn at_line(self, number: u32) -> TraceFault
         ensures { result ≡ at_line self number }
     {

@@ -1,4 +1,4 @@
-// The fields of a line: lines, slots and rooms of the exchange, sizes.
+// The fields of a line that are lines, slots and rooms of the exchange, and the sizes of a header.
 ghost use Rattle.std.specs.Prelude.{◌≡◌, ◌<◌, IfSome};
 ghost use Rattle.trace_text.specs.TraceWords.{words};
 ghost use Rattle.trace_text.specs.TraceFields.{external_line, slot, room, numeral_in, header, exchange_sizes};
@@ -7,7 +7,7 @@ use crate::cut::{first_word, halves_at, numeral_of, three_words};
 use crate::said::Sizes;
 use circuit_model::{Slot, slot_of_channel};
 
-/// The external line that a word names, where the exchange has it.
+/// Returns the external line of a field. `None` if the field is not one of the exchange.
 pub(crate) fn line_of_word(external: u8, word: &[u8]) -> Option<u8>
     ensures named { result ≡ external_line external word.now }
     ensures below { IfSome result (λ line. line < external) }
@@ -20,7 +20,7 @@ pub(crate) fn line_of_word(external: u8, word: &[u8]) -> Option<u8>
     }
 }
 
-/// The slot that a word names, where the exchange has it.
+/// Returns the slot of a field. `None` if the field is not one of the exchange.
 pub(crate) fn slot_of_word(external: u8, word: &[u8]) -> Option<Slot>
     ensures { result ≡ slot external word.now }
 {
@@ -34,7 +34,7 @@ pub(crate) fn slot_of_word(external: u8, word: &[u8]) -> Option<Slot>
     Some(Slot { line, place })
 }
 
-// The number that a word writes, where it is a numeral and lies between two others.
+// Returns the value of a field. `None` if it is not a decimal number from `low` to `high`.
 fn numeral_within(low: u8, high: u8, word: &[u8]) -> Option<u8>
     ensures { result ≡ numeral_in low high word.now }
 {
@@ -46,14 +46,14 @@ fn numeral_within(low: u8, high: u8, word: &[u8]) -> Option<u8>
     }
 }
 
-/// The conference room that a word names, 0 to 63.
+/// Returns the conference room of a field, 0 to 63.
 pub(crate) fn room_of_word(word: &[u8]) -> Option<u8>
     ensures { result ≡ room word.now }
 {
     numeral_within(0, 63, word)
 }
 
-/// The sizes that the words of a line give, where they are a header's.
+/// Returns the sizes of a header. `None` if the line is not a header.
 pub(crate) fn header_of(line: &[u8]) -> Option<Sizes>
     ensures { result ≡ header (words line.now) }
 {
@@ -65,7 +65,7 @@ pub(crate) fn header_of(line: &[u8]) -> Option<Sizes>
     sizes_of(rest)
 }
 
-// The sizes that the words behind the first two of a header give.
+// Returns the sizes in the last three fields of a header.
 fn sizes_of(line: &[u8]) -> Option<Sizes>
     ensures { result ≡ exchange_sizes (words line.now) }
 {

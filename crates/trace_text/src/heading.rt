@@ -1,4 +1,4 @@
-//! What the lines of a trace said so far, and reading one more.
+//! The result of the lines read so far, as far as the next line depends on it.
 ghost use Rattle.std.specs.Prelude.{◌≡◌};
 ghost use Rattle.trace_text.specs.TraceLines.{with_tone};
 
@@ -20,24 +20,23 @@ use std::alloc::{AllocError, Global};
 use std::marker::Model;
 use tone_rules::Tones;
 
-/// What happens by a line.
+/// The effect of a line.
 #[derive(Drop)]
 pub enum Happening {
-    /// Nothing: the line is blank, a comment, the header, a number, a tone or a timer.
+    /// None: the line is blank, a comment, the header, a number, a tone or a timer.
     Nothing,
     /// An event.
     Event(Event),
-    /// The segment ends.
+    /// The end of the segment.
     SegmentEnd,
-    /// The segment ends, and the meters change.
+    /// The end of the segment and a change of meters.
     Change,
 }
 
-/// The content of the lines of a trace so far that the next line depends on: the sizes of the header, the
-/// numbers, the tones, the timers, and how many events and changes of meters there were. Contracts see it
-/// as that record.
+/// The result of the lines so far that the next line depends on: the sizes, the numbers, the tones, the timers, and the
+/// numbers of events and changes of meters. A contract views it as that record.
 ///
-/// It does not store the events, so its size does not depend on how many lines it read.
+/// It does not store the events, so its size does not depend on the number of lines.
 #[derive(Drop)]
 pub struct Heading {
     sizes: Option<Sizes>,
@@ -63,7 +62,7 @@ impl Model for Heading {
     } };
 }
 
-// Puts the octets of a tone under its kind.
+// Stores the octets of a tone.
 fn give(tones: &mut Tones, given: GivenTone)
     ensures { tones.new ≡ with_tone tones.old given }
 {
@@ -81,7 +80,7 @@ impl Heading {
     ghost use Rattle.trace_text.specs.TraceGrammar.{so_far};
     ghost use Rattle.trace_text.specs.TraceHeading.{happening_of, with_said, Suits, IsLineRead};
 
-    /// The content of no lines.
+    /// Returns the heading before the first line.
     pub fn new(alloc: Global) -> Heading
         ensures { result ≡ so_far [] }
     {
@@ -95,42 +94,42 @@ impl Heading {
         }
     }
 
-    /// The sizes of the header; `None` before the header.
+    /// Returns the sizes of the header. `None` before the header.
     pub fn sizes(&self) -> Option<Sizes>
         ensures { result ≡ self.now.sizes }
     {
         self.sizes
     }
 
-    /// The plan of the numbers so far.
+    /// Returns the number plan of the lines so far.
     pub fn plan(&self) -> &Plan
         ensures { result.now ≡ self.now.plan }
     {
         &self.plan
     }
 
-    /// The tones so far; one that no line gave has no octets.
+    /// Returns the tones of the lines so far. A tone without a line has no octets.
     pub fn tones(&self) -> &Tones
         ensures { result.now ≡ self.now.tones }
     {
         &self.tones
     }
 
-    /// The timers so far; one that no line gave has its usual value.
+    /// Returns the timers of the lines so far. A timer without a line has its usual value.
     pub fn timers(&self) -> Timers
         ensures { result ≡ timers_by self.now.timers }
     {
         self.timers.timers()
     }
 
-    /// The number of events so far.
+    /// Returns the number of events so far.
     pub fn event_count(&self) -> u32
         ensures { result ≡ self.now.events }
     {
         self.events
     }
 
-    /// The plan, the tones and the timers.
+    /// Returns the number plan, the tones and the timers.
     pub fn into_parts(self) -> (Plan, Tones, Timers)
         ensures { result ≡ (self.plan, self.tones, timers_by self.timers) }
     {
@@ -138,7 +137,7 @@ impl Heading {
         (self.plan, self.tones, timers)
     }
 
-    // Takes in what a line said, where it passes the last checks.
+    // Adds the content of a line, if it passes the last checks.
     fn take(&mut self, limits: Limits, said: Said) -> Result<Happening, LineFault>
         requires { Suits self.old said }
         ensures taken { OnOk result (self.new ≡ with_said self.old said) }
@@ -172,7 +171,7 @@ impl Heading {
         Ok(Happening::Nothing)
     }
 
-    // A number's line, whose further words are given.
+    // Reads the fields of a number after `number`.
     fn number_line(&self, external: u8, line: &[u8]) -> Result<Said, Reason>
         ensures reads { result ≡ before_events self.now (numbered (number external (words line.now))) }
         ensures suits { IfOk result (λ said. Suits self.now said) }
@@ -183,7 +182,7 @@ impl Heading {
         Ok(Said::Numbered(number_of(external, line)?))
     }
 
-    // A tone's line, whose further words are given.
+    // Reads the fields of a tone after `tone`.
     fn tone_line(&self, alloc: Global, line: &[u8]) -> Result<Said, LineFault>
         ensures reads { Gives result (before_events self.now (toned (tone self.now.tones (words line.now)))) }
         ensures suits { IfOk result (λ said. Suits self.now said) }
@@ -194,7 +193,7 @@ impl Heading {
         Ok(Said::Toned(tone_of(alloc, &self.tones, line)?))
     }
 
-    // A timer's line, whose further words are given.
+    // Reads the fields of a timer after `timer`.
     fn timer_line(&self, line: &[u8]) -> Result<Said, Reason>
         ensures reads { result ≡ before_events self.now (timed (timer self.now.timers (words line.now))) }
         ensures suits { IfOk result (λ said. Suits self.now said) }
@@ -205,7 +204,7 @@ impl Heading {
         Ok(Said::Timed(timer_of(&self.timers, line)?))
     }
 
-    // A line of a kind, whose further words are given.
+    // Reads the fields of a line after the first.
     fn line_of_kind(
         &self,
         alloc: Global,
@@ -231,7 +230,7 @@ impl Heading {
         }
     }
 
-    // The event that a line gives, where it is written as most are.
+    // Returns the event of a line in the common form. `None` for any other line.
     fn plain_event(&self, alloc: Global, line: &[u8]) -> Result<Option<Event>, AllocError>
         ensures { IfOk result (λ found. IfSome found (λ event. reads self.now line.now ≡ Ok (Said.Happens event))) }
     {
@@ -247,7 +246,7 @@ impl Heading {
         }
     }
 
-    // What a line says by its octets and words.
+    // Reads a line, without the last checks.
     fn reads(&self, alloc: Global, line: &[u8]) -> Result<Said, LineFault>
         ensures reads { Gives result (reads self.now line.now) }
         ensures suits { IfOk result (λ said. Suits self.now said) }
@@ -255,7 +254,7 @@ impl Heading {
         if line.first() == Some(&b'#') {
             return Ok(Said::Nothing);
         }
-        // Most lines of a trace of messages are this one.
+        // Most lines of a trace of messages are `sync`.
         if self.sizes.is_some() && line == b"sync".as_slice() {
             return Ok(Said::Sync);
         }
@@ -275,7 +274,7 @@ impl Heading {
         self.line_of_kind(alloc, sizes.external, kind_of(kind), rest)
     }
 
-    /// Reads one more line, within these limits, and returns what happens by it.
+    /// Reads one more line, within the limits, and returns its effect.
     ///
     /// # Errors
     ///
@@ -289,11 +288,9 @@ impl Heading {
         limits: Limits,
         line: &[u8],
     ) -> Result<Happening, LineFault>
-        // The line says what it says behind the lines before it.
         ensures read { IfOk result (λ happening. IsLineRead limits self.old line.now happening self.new) }
-        // A line that is refused fails a check, and the reason is its first.
+        // The error is the first check that the line fails, or a failed allocation.
         ensures refused { IfErr result (λ e. Fails e (says limits self.old line.now)) }
-        // A line that isn't read changes nothing.
         ensures kept { OnErr result (self.new ≡ self.old) }
     {
         let said = self.reads(alloc, line)?;

@@ -1,11 +1,11 @@
-//! Laws of the trace grammar.
+//! Theorems on the grammar of traces.
 ghost use Rattle.std.specs.Prelude.{◌≡◌, ◌⊎◌, ℕ, List};
 ghost use Rattle.trace_text.specs.declared.fault.Reason.{Reason};
 ghost use Rattle.exchange_events.specs.declared.trace.Trace.{Trace};
 ghost use Rattle.exchange_events.specs.Sound.{IsSound};
 ghost use Rattle.trace_text.specs.TraceGrammar.{IsTrace, IsRefused};
 
-/// Bytes have one reading: they are one trace, or they are refused for one reason at one line.
+/// Bytes have at most one reading: they are one trace, or they are refused for one reason at one line.
 pub fn one_reading()
     ensures one_trace { (bytes : List ℕ) (t u : Trace) → IsTrace bytes t → IsTrace bytes u → t ≡ u }
     ensures never_both { (bytes : List ℕ) (t : Trace) (number : ℕ) (why : Reason) →
@@ -21,9 +21,8 @@ pub fn some_reading()
         ⊎ ((number : ℕ) × (why : Reason) × IsRefused bytes number why) }
 {}
 
-/// What bytes say is sound: the sizes are an exchange's, the lines of the numbers and each
-/// event fit an exchange with as many external lines as the header gives, there are not too
-/// many events, and each is in a segment.
+/// Every trace is sound. Its sizes are the sizes of an exchange, and the lines of its numbers and events exist. Its
+/// events are at most 65,535, and each is in a segment.
 pub fn traces_are_sound()
     ensures { (bytes : List ℕ) (t : Trace) → IsTrace bytes t → IsSound t }
 {}

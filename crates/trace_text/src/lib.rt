@@ -1,12 +1,12 @@
-//! Reads a trace: its lines, their words, and the fields of the words.
+//! The parser of a trace: its lines, their fields, and the values of the fields.
 //!
-//! The grammar is a relation in `specs/`, separate from the reader.
+//! The grammar is a relation in `specs/`, separate from the parser.
 //!
 //! - [`read_trace`] returns a trace if and only if the bytes are one (`read`, `reads_each`). Otherwise it returns the
 //!   first line that fails, with its first failing check (`refused`, `refuses_each`).
 //! - [`Heading::read_line`] reads one line after the lines before it, within [`Limits`], and returns its [`Happening`]
-//!   (`read`, `refused`). If it fails, the heading is unchanged (`kept`). It is the reader of a trace that arrives line
-//!   by line, and [`read_trace`] reads by it.
+//!   (`read`, `refused`). If it fails, the heading is unchanged (`kept`). It is the parser of a trace that arrives line
+//!   by line, and [`read_trace`] calls it.
 //! - All bytes have exactly one reading, a trace or a refusal ([`one_reading`], [`some_reading`]).
 //! - Every trace that is read is sound: its lines exist, and its sizes are the sizes of an exchange
 //!   ([`traces_are_sound`]).

@@ -1,26 +1,26 @@
-//! How much the lines of a trace may give.
+//! The limits on the lines of a trace.
 ghost use Rattle.std.specs.Prelude.{◌≡◌};
 ghost use Rattle.trace_text.specs.TraceLines.{trace_limits, line_limits};
 
-/// How many events a trace has at most.
+/// The maximum number of events of a trace.
 const MOST_EVENTS: u32 = 65_535;
 
-/// How many changes of meters a trace has at most.
+/// The maximum number of changes of meters of a trace.
 const MOST_CHANGES: u32 = 65_535;
 
-/// The most events and the most changes of meters that lines may give.
+/// The maximum numbers of events and of changes of meters.
 ///
-/// The two values that contracts use are [`Limits::for_trace`] and [`Limits::for_lines`].
+/// Contracts use two values, [`Limits::for_trace`] and [`Limits::for_lines`].
 #[derive(Clone, Copy)]
 pub struct Limits {
-    /// The most events.
+    /// The maximum number of events.
     pub max_events: u32,
-    /// The most changes of meters.
+    /// The maximum number of changes of meters.
     pub max_changes: u32,
 }
 
 impl Limits {
-    /// The limits of a trace that is read as a whole: 65,535 events and 65,535 changes.
+    /// Returns the limits of a complete trace: 65,535 events and 65,535 changes.
     pub fn for_trace() -> Limits
         ensures { result ≡ trace_limits }
     {
@@ -30,8 +30,8 @@ impl Limits {
         }
     }
 
-    /// The limits of lines that are processed as they arrive: 4,294,967,295 events and as many changes,
-    /// which fewer than 4,294,967,296 lines never exceed.
+    /// Returns the limits of lines that are processed as they arrive: 4,294,967,295 events and 4,294,967,295 changes.
+    /// Fewer than 4,294,967,296 lines never exceed them.
     pub fn for_lines() -> Limits
         ensures { result ≡ line_limits }
     {

@@ -1,4 +1,4 @@
-// What the words of a line say, kind by kind, or the first of their checks that fails.
+// The fields of each kind of line, with their checks.
 ghost use Rattle.std.specs.Prelude.{◌≡◌, ◌<◌, ◌∷◌, [], IsTrue, length, MatchResult, IfOk, Ok, Err};
 ghost use Rattle.number_plan.specs.Plan.{is_number};
 ghost use Rattle.trace_text.specs.TraceWords.{words};
@@ -19,7 +19,7 @@ use number_plan::{Digits, LineList, Number, Target, is_number};
 use std::alloc::Global;
 use tone_rules::Tones;
 
-// Puts the octets of one line into a frame.
+// Stores the octets of one line of a frame.
 fn put_part(given: &mut [Option<[u8; 30]>], word: &[u8]) -> Result<(), Reason>
     requires { length given.old < 256 }
     ensures { MatchResult result (λ _. with_part (length given.old) given.old word.now ≡ Ok given.new)
@@ -35,7 +35,7 @@ fn put_part(given: &mut [Option<[u8; 30]>], word: &[u8]) -> Result<(), Reason>
     Ok(())
 }
 
-/// The frame that the words of a line give.
+/// Returns the frame of the fields.
 pub(crate) fn frame_of(alloc: Global, external: u8, line: &[u8]) -> Result<Event, LineFault>
     ensures { Gives result (frame external (words line.now)) }
 {
@@ -48,7 +48,7 @@ pub(crate) fn frame_of(alloc: Global, external: u8, line: &[u8]) -> Result<Event
     Ok(Event::Frame(Input::of(input)))
 }
 
-/// The nail that the words of a line give.
+/// Returns the nailed connection of the fields.
 pub(crate) fn nail_of(external: u8, line: &[u8]) -> Result<Event, Reason>
     ensures { result ≡ nail external (words line.now) }
 {
@@ -61,7 +61,7 @@ pub(crate) fn nail_of(external: u8, line: &[u8]) -> Result<Event, Reason>
     Ok(Event::Nail(one, other))
 }
 
-/// The seat that the words of a line give.
+/// Returns the seat of the fields.
 pub(crate) fn seat_of(external: u8, line: &[u8]) -> Result<Event, Reason>
     ensures { result ≡ seat external (words line.now) }
 {
@@ -71,7 +71,7 @@ pub(crate) fn seat_of(external: u8, line: &[u8]) -> Result<Event, Reason>
     Ok(Event::Seat(slot, room))
 }
 
-/// The free that the one word of a line gives.
+/// Returns the release of the field.
 pub(crate) fn free_of(external: u8, line: &[u8]) -> Result<Event, Reason>
     ensures { result ≡ free external (words line.now) }
 {
@@ -83,7 +83,7 @@ pub(crate) fn free_of(external: u8, line: &[u8]) -> Result<Event, Reason>
     Ok(Event::Free(slot))
 }
 
-/// The message that the words of a line give.
+/// Returns the message of the fields.
 pub(crate) fn message_of(alloc: Global, external: u8, line: &[u8]) -> Result<Event, LineFault>
     ensures { Gives result (message external (words line.now)) }
 {
@@ -93,7 +93,7 @@ pub(crate) fn message_of(alloc: Global, external: u8, line: &[u8]) -> Result<Eve
     Ok(Event::Message(line, octets))
 }
 
-// Appends the line that a word gives to a list.
+// Appends the line of a field to a list.
 fn put_line(external: u8, lines: &mut LineList, word: &[u8]) -> Result<(), Reason>
     ensures { MatchResult result (λ _. with_line external lines.old word.now ≡ Ok lines.new)
         (λ why. with_line external lines.old word.now ≡ Err why) }
@@ -106,7 +106,7 @@ fn put_line(external: u8, lines: &mut LineList, word: &[u8]) -> Result<(), Reaso
     Ok(())
 }
 
-// The list of lines that a word and the words behind it give.
+// Returns the list of the lines of `word` and `others`.
 fn lines_of(external: u8, word: &[u8], others: &[u8]) -> Result<LineList, Reason>
     ensures { result ≡ with_lines external [] (word.now ∷ words others.now) }
 {
@@ -120,7 +120,7 @@ fn lines_of(external: u8, word: &[u8], others: &[u8]) -> Result<LineList, Reason
     Ok(lines)
 }
 
-// What the words behind the digits of a number's line say that the number leads to.
+// Returns the target that a number routes to.
 fn target_of(external: u8, name: &[u8], word: &[u8], others: &[u8]) -> Result<Target, Reason>
     ensures { result ≡ target external name.now word.now (words others.now) }
 {
@@ -137,7 +137,7 @@ fn target_of(external: u8, name: &[u8], word: &[u8], others: &[u8]) -> Result<Ta
     }
 }
 
-/// The number that the words of a line give.
+/// Returns the number of the fields.
 pub(crate) fn number_of(external: u8, line: &[u8]) -> Result<Number, Reason>
     ensures gives { result ≡ number external (words line.now) }
     ensures digits { IfOk result (λ n. IsTrue (is_number n.digits)) }
@@ -151,7 +151,7 @@ pub(crate) fn number_of(external: u8, line: &[u8]) -> Result<Number, Reason>
     Ok(Number { digits, target })
 }
 
-// The tone that a word names.
+// Returns the tone with this name.
 fn tone_named(word: &[u8]) -> Option<Tone>
     ensures { result ≡ tone_named word.now }
 {
@@ -164,7 +164,7 @@ fn tone_named(word: &[u8]) -> Option<Tone>
     }
 }
 
-/// The tone that the words of a line give, where it isn't among those that are given already.
+/// Returns the tone of the fields, if it is not among `tones`.
 pub(crate) fn tone_of(alloc: Global, tones: &Tones, line: &[u8]) -> Result<GivenTone, LineFault>
     ensures { Gives result (tone tones.now (words line.now)) }
 {
@@ -177,7 +177,7 @@ pub(crate) fn tone_of(alloc: Global, tones: &Tones, line: &[u8]) -> Result<Given
     Ok(GivenTone { kind, octets })
 }
 
-// The timer that a word names.
+// Returns the timer with this name.
 fn timer_named(word: &[u8]) -> Option<TimerName>
     ensures { result ≡ timer_named word.now }
 {
@@ -198,7 +198,7 @@ fn timer_named(word: &[u8]) -> Option<TimerName>
     }
 }
 
-/// The timer that the words of a line give, where it isn't among those that are given already.
+/// Returns the timer of the fields, if it is not among the given ones.
 pub(crate) fn timer_of(given: &GivenTimers, line: &[u8]) -> Result<GivenTimer, Reason>
     ensures { result ≡ timer given.now (words line.now) }
 {
@@ -214,7 +214,7 @@ pub(crate) fn timer_of(given: &GivenTimers, line: &[u8]) -> Result<GivenTimer, R
     Ok(GivenTimer { name, frames })
 }
 
-/// What a line of one word says, where it has no further word.
+/// Returns `said` for a line without further fields.
 pub(crate) fn alone(said: Said, line: &[u8]) -> Result<Said, Reason>
     ensures says { result ≡ alone said (words line.now) }
     ensures suits { IfOk result (λ s. s ≡ said) }
@@ -225,7 +225,7 @@ pub(crate) fn alone(said: Said, line: &[u8]) -> Result<Said, Reason>
     Ok(said)
 }
 
-/// The kind of line that a first word names.
+/// Returns the kind of a line with this first field.
 pub(crate) fn kind_of(word: &[u8]) -> Kind
     ensures { result ≡ kind_of word.now }
 {

@@ -1,7 +1,7 @@
-// Octets, written as hexadecimal digits.
+// Octets in hexadecimal digits.
 //
-// Digits are read sixty-four at a time, by loops of fixed length, without a table and with one test at
-// their end, so that many are read at once. Where there are fewer, more behind them fill whole vectors.
+// The loops read 64 digits at a time. They have a fixed length, no table, and one test at their end, so that they
+// become vector instructions. Fewer digits are padded to 64.
 ghost use Rattle.std.specs.Prelude.{◌≡◌, ◌++◌, ◌*◌, ◌-◌, ◌%◌, ◌<◌, ◌≤◌, ◌^◌, ℕ, List, length, take, true, Some, is_some, option_map, map, replicate, ok_or, IfOk, IfErr, OnOk, Ok};
 ghost use Rattle.std.specs.List.{list_all};
 ghost use Rattle.trace_text.specs.TraceFields.{digit_value, is_digit, octets_written, thirty, at_most, longest_message, of_tone};
@@ -12,36 +12,36 @@ use exchange_events::{FEW_OCTETS, Octets};
 use std::alloc::Global;
 use tone_rules::ToneOctets;
 
-/// How many octets a message has at most.
+/// The maximum number of octets of a message.
 const LONGEST_MESSAGE: usize = 260;
 
-/// How many octets a tone has at most: a second of speech.
+/// The maximum number of octets of a tone: 1 second of speech.
 const LONGEST_TONE: usize = 8000;
 
-// Whether an octet is a hexadecimal digit of either case.
+// Returns whether an octet is a hexadecimal digit of either case.
 fn is_digit(octet: u8) -> bool
     ensures { result ≡ is_digit octet }
 {
-    // A letter of either case is looked at as its lower case.
+    // `| 0x20` makes a letter lower-case.
     octet.wrapping_sub(b'0') < 10 || (octet | 0x20).wrapping_sub(b'a') < 6
 }
 
-// The value of a digit: the low half of its octet, and nine more for a letter. That of any other octet
-// says nothing.
+// Returns the value of a digit: the low half of its octet, plus 9 for a letter. The value for another octet is not
+// specified.
 fn value(digit: u8) -> u8
     ensures { (v : ℕ) → digit_value digit ≡ Some v → result ≡ v }
 {
     digit % 16 + 9 * (digit / 64)
 }
 
-// Whether these are pairs of hexadecimal digits.
+// Returns whether the octets are pairs of hexadecimal digits.
 fn are_pairs(digits: &[u8]) -> bool
     ensures { result ≡ is_some (octets_written digits.now) }
 {
     digits.len() % 2 == 0 && digits.iter().all(|octet| is_digit(*octet))
 }
 
-// At most sixty-four digits, and more behind them.
+// Pads at most 64 digits with `0` to 64.
 fn wide(digits: &[u8]) -> [u8; 64]
     requires { length digits.now ≤ 64 }
     ensures { result ≡ digits.now ++ replicate (64 - length digits.now) 48 }
@@ -51,7 +51,7 @@ fn wide(digits: &[u8]) -> [u8; 64]
     text
 }
 
-// Whether all of these are digits. Every octet is looked at.
+// Returns whether all octets are digits, without an early exit.
 fn are_digits(text: &[u8; 64]) -> bool
     ensures { result ≡ list_all is_digit text.now }
 {
@@ -62,7 +62,7 @@ fn are_digits(text: &[u8; 64]) -> bool
     all
 }
 
-// The values of digits.
+// Returns the values of the digits.
 fn values_of(digits: &[u8; 64]) -> [u8; 64]
     requires { list_all is_digit digits.now ≡ true }
     ensures { map digit_value digits.now ≡ map Some result }
@@ -74,8 +74,8 @@ fn values_of(digits: &[u8; 64]) -> [u8; 64]
     values
 }
 
-// The octets that digits with these values write. The two values of an octet are looked at as one number,
-// so that eight of them are one vector.
+// Returns the octets of digits with these values. The two values of an octet are combined as one number, so that the
+// loop becomes vector instructions.
 fn octets_of(values: &[u8; 64]) -> [u8; 32]
     ensures { (digits : List ℕ) → map digit_value digits ≡ map Some values.now → octets_written digits ≡ Some result }
 {
@@ -87,7 +87,7 @@ fn octets_of(values: &[u8; 64]) -> [u8; 32]
     octets
 }
 
-// The octets of a line's own digits.
+// Returns the first 30 octets.
 fn front(row: &[u8; 32]) -> [u8; 30]
     ensures { result ≡ take 30 row.now }
 {
@@ -96,7 +96,7 @@ fn front(row: &[u8; 32]) -> [u8; 30]
     octets
 }
 
-/// The thirty octets of a line of one frame, which sixty hexadecimal digits write.
+/// Returns the 30 octets of a line of one frame, from 60 hexadecimal digits.
 pub(crate) fn thirty_octets(digits: &[u8]) -> Result<[u8; 30], Reason>
     ensures { result ≡ thirty (octets_written digits.now) }
 {
@@ -114,7 +114,7 @@ pub(crate) fn thirty_octets(digits: &[u8]) -> Result<[u8; 30], Reason>
     Ok(front(&octets_of(&values_of(&text))))
 }
 
-// Puts the octets that at most sixty-four digits write behind others.
+// Appends the octets of at most 64 digits.
 fn push_octets(octets: &mut Vec<u8>, digits: &[u8]) -> Result<(), LineFault>
     requires { (length digits.now ≤ 64) × (length digits.now % 2 ≡ 0) }
     ensures read { OnOk result (option_map (λ written. octets.old.items ++ written) (octets_written digits.now) ≡ Some octets.new.items) }
@@ -129,7 +129,7 @@ fn push_octets(octets: &mut Vec<u8>, digits: &[u8]) -> Result<(), LineFault>
     Ok(())
 }
 
-// The octets that digits write.
+// Returns the octets of the digits.
 fn octets_read(alloc: Global, digits: &[u8]) -> Result<Vec<u8>, LineFault>
     ensures read { IfOk result (λ octets. octets_written digits.now ≡ Some octets.items) }
     ensures refused { IfErr result (λ e. Fails e (ok_or (octets_written digits.now) Reason.Hex)) }
@@ -147,7 +147,7 @@ fn octets_read(alloc: Global, digits: &[u8]) -> Result<Vec<u8>, LineFault>
     Ok(octets)
 }
 
-// The octets, at most n, which hexadecimal digits write.
+// Returns the octets of the digits, at most `most`.
 fn octets_up_to(alloc: Global, most: usize, digits: &[u8]) -> Result<Vec<u8>, LineFault>
     requires { most < 2 ^ 32 }
     ensures read { IfOk result (λ octets. at_most most (octets_written digits.now) ≡ Ok octets.items) }
@@ -162,7 +162,7 @@ fn octets_up_to(alloc: Global, most: usize, digits: &[u8]) -> Result<Vec<u8>, Li
     }
 }
 
-// The octets that few digits write.
+// Returns the octets of at most 32 digits. It does not allocate.
 fn few_octets(digits: &[u8]) -> Result<Octets, LineFault>
     requires { (length digits.now ≤ 32) × (length digits.now % 2 ≡ 0) }
     ensures read { IfOk result (λ octets. octets_written digits.now ≡ Some octets) }
@@ -176,7 +176,7 @@ fn few_octets(digits: &[u8]) -> Result<Octets, LineFault>
     Ok(Octets::few(&read[..digits.len() / 2]))
 }
 
-/// The octets of a message, at most 260, which hexadecimal digits write. Few of them take no memory.
+/// Returns the octets of a message, at most 260. Up to 16 octets do not allocate.
 pub(crate) fn message_octets(alloc: Global, digits: &[u8]) -> Result<Octets, LineFault>
     ensures { Gives result (at_most longest_message (octets_written digits.now)) }
 {
@@ -186,7 +186,7 @@ pub(crate) fn message_octets(alloc: Global, digits: &[u8]) -> Result<Octets, Lin
     Ok(Octets::of(octets_up_to(alloc, LONGEST_MESSAGE, digits)?))
 }
 
-/// The octets of a tone, 1 to 8000, which hexadecimal digits write.
+/// Returns the octets of a tone, 1 to 8000.
 pub(crate) fn tone_octets(alloc: Global, digits: &[u8]) -> Result<ToneOctets, LineFault>
     ensures { Gives result (of_tone (octets_written digits.now)) }
 {

@@ -1,5 +1,5 @@
-// Lines as most are written: single spaces, and numerals of one or two digits. Each octet of such a line
-// is looked at once. Any other line is read word by word.
+// Lines in the common form: single spaces, and decimal numbers of one or two digits. The functions of this module scan
+// each octet once. Any other line is read field by field.
 ghost use Rattle.std.specs.Prelude.{◌≡◌, ◌<◌, ◌+◌, ◌∷◌, codes, length, IfOk, IfSome};
 ghost use Rattle.trace_text.specs.TraceWords.{words};
 ghost use Rattle.trace_text.specs.TraceLines.{frame, nail, free, message};
@@ -10,7 +10,7 @@ use circuit_model::{Slot, slot_of_channel};
 use exchange_events::{Event, Input};
 use std::alloc::{AllocError, Global};
 
-/// Whether a word ends before these octets.
+/// Returns whether a field ends before these octets.
 pub(crate) fn ends_word(octets: &[u8]) -> bool
     ensures { result ≡ ends_word octets.now }
 {
@@ -20,7 +20,7 @@ pub(crate) fn ends_word(octets: &[u8]) -> bool
     }
 }
 
-// The value of the decimal digit before other octets.
+// Returns the decimal digit at the start, and the octets after it.
 fn digit_at(octets: &[u8]) -> Option<(u8, &[u8])>
     ensures { IfSome result (λ found. (octets.now ≡ (48 + found.0) ∷ found.1.now) × (found.0 < 10)) }
 {
@@ -31,7 +31,7 @@ fn digit_at(octets: &[u8]) -> Option<(u8, &[u8])>
     Some((*first - b'0', others))
 }
 
-// The numeral of one or two digits before other octets.
+// Returns the decimal number of one or two digits at the start, and the octets after it.
 fn number_at(octets: &[u8]) -> Option<(u8, &[u8])>
     ensures { IfSome result (λ found. NumberAt octets.now found.0 found.1.now) }
 {
@@ -42,7 +42,7 @@ fn number_at(octets: &[u8]) -> Option<(u8, &[u8])>
     }
 }
 
-// The number of a line and the sixty octets behind it at the beginning of what is left of a frame's line.
+// Returns the line and the 60 digits of the next field of a frame, and the octets after them.
 fn part_at(rest: &[u8]) -> Option<(u8, &[u8; 60], &[u8])>
     ensures { IfSome result (λ found. PartAt rest.now found.0 found.1.now found.2.now) }
 {
@@ -60,7 +60,7 @@ fn part_at(rest: &[u8]) -> Option<(u8, &[u8; 60], &[u8])>
     Some((line, sixty, others))
 }
 
-// Puts the first word of what is left of a frame's line into the frame, and answers what follows it.
+// Stores the next field of a frame and returns the octets after it.
 fn plain_part<'a>(given: &mut [Option<[u8; 30]>], rest: &'a [u8]) -> Option<&'a [u8]>
     requires { length given.old < 256 }
     ensures { IfSome result (λ others. TakesPart given.old given.new rest.now others.now) }
@@ -75,7 +75,7 @@ fn plain_part<'a>(given: &mut [Option<[u8; 30]>], rest: &'a [u8]) -> Option<&'a 
     Some(others)
 }
 
-/// The frame that the words of a line give, where the line is written as most are.
+/// Returns the frame of a line in the common form. `None` for any other line.
 pub(crate) fn plain_frame(
     alloc: Global,
     external: u8,
@@ -94,7 +94,7 @@ pub(crate) fn plain_frame(
     Ok(Some(Event::Frame(Input::of(input))))
 }
 
-// The slot before other octets, where the exchange has it.
+// Returns the slot at the start, if the exchange has it, and the octets after it.
 fn slot_at(external: u8, octets: &[u8]) -> Option<(Slot, &[u8])>
     ensures { IfSome result (λ found. SlotAt external octets.now found.0 found.1.now) }
 {
@@ -110,7 +110,7 @@ fn slot_at(external: u8, octets: &[u8]) -> Option<(Slot, &[u8])>
     Some((Slot { line, place }, others))
 }
 
-/// The nail that a line gives, where it is written as most are.
+/// Returns the nailed connection of a line in the common form. `None` for any other line.
 pub(crate) fn plain_nail(external: u8, line: &[u8]) -> Option<Event>
     ensures { IfSome result (λ event. IsPlain (codes "nail") (nail external) line.now event) }
 {
@@ -128,7 +128,7 @@ pub(crate) fn plain_nail(external: u8, line: &[u8]) -> Option<Event>
     Some(Event::Nail(one, other))
 }
 
-/// The free that a line gives, where it is written as most are.
+/// Returns the release of a line in the common form. `None` for any other line.
 pub(crate) fn plain_free(external: u8, line: &[u8]) -> Option<Event>
     ensures { IfSome result (λ event. IsPlain (codes "free") (free external) line.now event) }
 {
@@ -142,7 +142,7 @@ pub(crate) fn plain_free(external: u8, line: &[u8]) -> Option<Event>
     Some(Event::Free(slot))
 }
 
-/// The message that a line gives, where it is written as most are.
+/// Returns the message of a line in the common form. `None` for any other line.
 pub(crate) fn plain_message(alloc: Global, external: u8, line: &[u8]) -> Option<Event>
     ensures { IfSome result (λ event. IsPlain (codes "M") (message external) line.now event) }
 {

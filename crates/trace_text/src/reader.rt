@@ -1,4 +1,4 @@
-// A trace, read line by line.
+// Reading a trace line by line.
 ghost use Rattle.std.specs.Prelude.{◌≡◌, ℕ, ◌⊎◌, IfOk, IfErr, Ok, Err};
 ghost use Rattle.trace_text.specs.TraceGrammar.{IsTrace, IsRefused};
 ghost use Rattle.trace_text.specs.TraceDraft.{IsFault};
@@ -9,7 +9,7 @@ use crate::fault::{Reason, TraceFault};
 use exchange_events::Trace;
 use std::alloc::Global;
 
-/// How many bytes a trace has at most: 64 MiB (this exchange's own).
+/// The maximum number of bytes of a trace: 64 MiB (defined by this project).
 pub const MOST_BYTES: usize = 67_108_864;
 
 // Reads a trace line by line.
@@ -37,21 +37,21 @@ fn read_lines(alloc: Global, bytes: &[u8]) -> Result<Trace, TraceFault>
     draft.finish(number)
 }
 
-/// Reads a trace.
+/// Reads a trace (`docs/FORMATS.md`).
 ///
-/// The bytes are a row of lines, and the trace is what they say (`docs/FORMATS.md`). A line that
-/// fails a check of its kind is refused: the answer is then the number of the first such line and
-/// the first of its checks that fails. Memory may run out instead, at any trace.
+/// # Errors
+///
+/// - [`TraceFault::Line`] if the bytes are not a trace, with the first line that fails and its first failing check.
+/// - [`TraceFault::Memory`] if an allocation fails.
 pub fn read_trace(alloc: Global, bytes: &[u8]) -> Result<Trace, TraceFault>
-    // What is read is what the bytes say.
     ensures read { IfOk result (λ t. IsTrace bytes.now t) }
-    // What is refused is refused at its first fault.
+    // The error is the first line that fails, with its first failing check.
     ensures refused { (number : ℕ) (why : Reason) →
         result ≡ Err (TraceFault.Line number why) → IsRefused bytes.now number why }
-    // Every trace is read, unless memory runs out.
+    // Every trace is read, unless an allocation fails.
     ensures reads_each { (t : Trace) →
         IsTrace bytes.now t → (result ≡ Ok t) ⊎ (result ≡ Err TraceFault.Memory) }
-    // All that is no trace is refused, unless memory runs out.
+    // All other bytes are refused, unless an allocation fails.
     ensures refuses_each { (number : ℕ) (why : Reason) →
         IsRefused bytes.now number why
         → (result ≡ Err (TraceFault.Line number why)) ⊎ (result ≡ Err TraceFault.Memory) }

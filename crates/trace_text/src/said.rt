@@ -1,18 +1,18 @@
-//! What a line of a trace says.
+//! The content of a line of a trace.
 use crate::timing::GivenTimer;
 use circuit_model::Kind as Tone;
 use exchange_events::Event;
 use number_plan::Number;
 use tone_rules::ToneOctets;
 
-/// The sizes that the header of a trace gives.
+/// The sizes in the header of a trace.
 #[derive(Clone, Copy)]
 pub struct Sizes {
-    /// How many external lines there are, 1 to 32.
+    /// The number of external lines, 1 to 32.
     pub external: u8,
-    /// How many conference bridge lines there are, at most 2.
+    /// The number of conference bridge lines, 0 to 2.
     pub bridges: u8,
-    /// How many call processors share the work, 1 to 8.
+    /// The number of call processors, 1 to 8.
     pub processors: u8,
 }
 
@@ -29,46 +29,46 @@ pub enum Kind {
     Change,
     /// Two slots are connected.
     Nail,
-    /// A slot takes a seat in a conference room.
+    /// A slot joins a conference room.
     Seat,
-    /// The nail or the seat of a slot is undone.
+    /// The connection or seat of a slot is released.
     Free,
-    /// A number leads to a line or a conference room.
+    /// A number routes to a line, a list of lines or a conference room.
     Number,
-    /// A tone is given its octets.
+    /// The octets of a tone.
     Tone,
-    /// A timer is given its frames.
+    /// The number of frames of a timer.
     Timer,
-    /// The line is none of a trace.
+    /// The first field is not a kind of line.
     Unknown,
 }
 
-/// A tone that a line gives.
+/// The content of a line `tone`.
 #[derive(Drop)]
 pub struct GivenTone {
-    /// Which tone it is.
+    /// The tone.
     pub kind: Tone,
-    /// Its octets.
+    /// The octets of the tone.
     pub octets: ToneOctets,
 }
 
-/// What one line of a trace says.
+/// The content of a line of a trace.
 #[derive(Drop)]
 pub enum Said {
-    /// The line is blank or a comment.
+    /// A blank line or a comment.
     Nothing,
-    /// The line is the header.
+    /// The header.
     Header(Sizes),
-    /// A number leads somewhere.
+    /// A number and its target.
     Numbered(Number),
-    /// A tone is given.
+    /// The octets of a tone.
     Toned(GivenTone),
-    /// A timer is given.
+    /// The number of frames of a timer.
     Timed(GivenTimer),
-    /// An event happens.
+    /// An event.
     Happens(Event),
-    /// The segment ends.
+    /// The end of the segment.
     Sync,
-    /// The segment ends, and the meters change.
+    /// The end of the segment and a change of meters.
     Change,
 }

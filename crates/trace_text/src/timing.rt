@@ -1,54 +1,54 @@
-//! The timers that lines of a trace give.
+//! The timers that the lines of a trace set.
 ghost use Rattle.std.specs.Prelude.{◌≡◌};
 ghost use Rattle.trace_text.specs.TraceTimers.{no_timers, frames_given, with_timer, timers_by};
 
 use call_timers::Timers;
 
-/// The name of a timer of calls (Q.931, 9.1, table 9-1).
+/// A call timer (ITU-T Q.931, 9.1, table 9-1).
 #[derive(Clone, Copy)]
 pub enum TimerName {
-    /// It runs in call received.
+    /// The timer of the state call received.
     T301,
-    /// It runs in overlap sending.
+    /// The timer of the state overlap sending.
     T302,
-    /// It runs in call present.
+    /// The timer of the state call present.
     T303,
-    /// It runs in disconnect indication.
+    /// The timer of the state disconnect indication.
     T305,
-    /// It runs in release request.
+    /// The timer of the state release request.
     T308,
-    /// It runs in incoming call proceeding.
+    /// The timer of the state incoming call proceeding.
     T310,
 }
 
-/// A timer that a line gives.
+/// The content of a line `timer`.
 #[derive(Clone, Copy)]
 pub struct GivenTimer {
-    /// Which timer it is.
+    /// The timer.
     pub name: TimerName,
-    /// How many frames it runs, at least 1.
+    /// Its duration in frames, at least 1.
     pub frames: u32,
 }
 
-/// The timers that the lines so far gave: how many frames each of them runs.
+/// The durations in frames that the lines so far set. `None` for a timer without a line.
 #[derive(Clone, Copy)]
 pub struct GivenTimers {
-    /// That of call received.
+    /// The timer of call received.
     pub t301: Option<u32>,
-    /// That of overlap sending.
+    /// The timer of overlap sending.
     pub t302: Option<u32>,
-    /// That of call present.
+    /// The timer of call present.
     pub t303: Option<u32>,
-    /// That of disconnect indication.
+    /// The timer of disconnect indication.
     pub t305: Option<u32>,
-    /// That of release request.
+    /// The timer of release request.
     pub t308: Option<u32>,
-    /// That of incoming call proceeding.
+    /// The timer of incoming call proceeding.
     pub t310: Option<u32>,
 }
 
 impl GivenTimers {
-    /// No timer is given.
+    /// Returns the timers of a trace without a line `timer`.
     pub fn none() -> GivenTimers
         ensures { result ≡ no_timers }
     {
@@ -62,7 +62,7 @@ impl GivenTimers {
         }
     }
 
-    /// How many frames a timer runs, where it is given.
+    /// Returns the duration of a timer in frames. `None` if no line set it.
     pub fn frames(&self, name: TimerName) -> Option<u32>
         ensures { result ≡ frames_given self.now name }
     {
@@ -76,7 +76,7 @@ impl GivenTimers {
         }
     }
 
-    /// Takes in a timer that is given.
+    /// Sets a timer.
     pub fn give(&mut self, given: GivenTimer)
         ensures { self.new ≡ with_timer self.old given }
     {
@@ -91,7 +91,7 @@ impl GivenTimers {
         }
     }
 
-    /// The timers of the trace: one that isn't given has its usual value.
+    /// Returns the timers of the trace. A timer without a line has its usual value.
     pub fn timers(&self) -> Timers
         ensures { result ≡ timers_by self.now }
     {
