@@ -1,4 +1,4 @@
--- A trace that is done again, event by event, on one thread. Source: this exchange's own.
+-- Processing a trace again, event by event, on one thread. Source: this project.
 use Rattle.std.specs.Prelude.{ℕ, ◌<◌, List, length}
 use Rattle.circuit_model.specs.Dimensions.{Dimensions}
 use Rattle.circuit_model.specs.Hears.{hears}
@@ -16,14 +16,14 @@ use Rattle.lone_exchange.specs.At.{IsAt}
 abbrev pub engine_sizes : Stages → Dimensions
 engine_sizes e = record { external = e.external; bridges = e.bridges; slots = e.slots }
 
--- the exchange has processed the events with these numbers, in this order and from the first world on
+-- the exchange has processed the events with these numbers, in this order, from its initial state
 abbrev pub HasDone : {P : Type 0} → ℕ → Trace → List ℕ → LoneExchange P Stages → Type 0
 HasDone slots trace order x = IsAt EngineCarries (λ (e : Stages). e.next) engine_sizes x (setting_of slots trace) (world_after slots trace order)
 
--- it has processed some of the trace's events so, and not all
+-- the exchange has processed some events of the trace, and not all
 abbrev pub HasDoneSome : {P : Type 0} → Trace → LoneExchange P Stages → Type 0
 HasDoneSome trace x = (slots : ℕ) × (order : List ℕ) × HasDone slots trace order x × (length order < length trace.events)
 
--- the line of an event that happens behind these
+-- the report line of an event after these events
 abbrev pub line_due : ℕ → Trace → List ℕ → ℕ → Event → List ℕ
 line_due slots trace order n e = event_line (hears (table_of trace.tones)) (setting_of slots trace) (world_after slots trace order) n e

@@ -1,19 +1,18 @@
-//! Laws of what is verified.
+//! Theorems on verdicts.
 ghost use Rattle.std.specs.Prelude.{◌≡◌, ◌+◌, ◌≤◌, ◌++◌, ◌↔◌, ◌⊎◌, ℕ, List, [], ◌∷◌, length};
 ghost use Rattle.exchange_events.specs.declared.trace.Trace.{Trace};
 ghost use Rattle.exchange_events.specs.Orders.{IsLawfulPrefix};
 ghost use Rattle.exchange_events.specs.Sound.{IsSound};
 ghost use Rattle.run_verifier.specs.Verdicts.{IsGood, IsInvalidAt, IsValid, MayFollow, report_due};
 
-/// A report says in which order the events happened: two orders, lawful as far as they go, that have one
-/// report are the same.
+/// A report determines the order of its events: two lawful prefixes of an order with the same report are equal.
 pub fn law_of_orders()
     ensures { (slots : ℕ) (trace : Trace) (one other : List ℕ)
         → IsSound trace → IsLawfulPrefix trace one → IsLawfulPrefix trace other
         → report_due slots trace one ≡ report_due slots trace other → one ≡ other }
 {}
 
-/// One verdict is right, and no other.
+/// Exactly one verdict is correct.
 pub fn law_of_verdicts()
     ensures never_both { (slots : ℕ) (trace : Trace) (bytes : List ℕ) (n : ℕ)
         → IsValid slots trace bytes → IsInvalidAt slots trace bytes n → ⊥ }
@@ -23,8 +22,8 @@ pub fn law_of_verdicts()
         → IsValid slots trace bytes ⊎ ((n : ℕ) × IsInvalidAt slots trace bytes n) }
 {}
 
-/// Where lines are good, those at the beginning are; and there are no more good lines than events, so that
-/// a verdict names the line behind as many at the most.
+/// If the first k lines are correct, each shorter prefix is correct. A trace of n events has at most n correct lines,
+/// so a verdict refers to line n + 1 at most.
 pub fn law_of_lines()
     ensures fewer { (slots : ℕ) (trace : Trace) (bytes : List ℕ) (j k : ℕ)
         → j ≤ k → IsGood slots trace bytes k → IsGood slots trace bytes j }
@@ -34,7 +33,7 @@ pub fn law_of_lines()
         → IsInvalidAt slots trace bytes n → n ≤ length trace.events + 1 }
 {}
 
-/// What is lawful goes on with an event exactly where it may come next.
+/// A lawful prefix extended by an event is lawful if and only if the event may come next.
 pub fn law_of_turns()
     ensures { (trace : Trace) (order : List ℕ) (n : ℕ)
         → IsLawfulPrefix trace (order ++ n ∷ []) ↔ (IsLawfulPrefix trace order × MayFollow trace order n) }

@@ -3,9 +3,9 @@
 //! `specs/Verdicts.antt` defines this. A report is valid if it is the report of all events in a lawful order. Otherwise
 //! exactly one of its lines is the first that is wrong or missing.
 //!
-//! - [`verify`] finds a report valid, or returns its first wrong or missing line, if and only if it is so. It refuses
-//!   the bytes of the trace if and only if they are no trace. Otherwise an allocation fails (`valid`, `invalid`,
-//!   `refused`, `finds_valid`, `finds_invalid`, `refuses_each`).
+//! - [`verify`] returns the correct verdict: the report is valid, or a line is the first that is wrong or missing. It
+//!   refuses the bytes of the trace if and only if they are not a trace. Any other result is a failed allocation
+//!   (`valid`, `invalid`, `refused`, `finds_valid`, `finds_invalid`, `refuses_each`).
 //! - The numbers at the start of its lines give the order in which the events of a report were processed: two orders
 //!   with one report are equal ([`law_of_orders`]).
 //! - Exactly one verdict is correct ([`law_of_verdicts`]). For a trace of n events it names line n + 1 at most

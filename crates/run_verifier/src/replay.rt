@@ -1,4 +1,4 @@
-//! One event done again, and its line.
+//! Processing one event again, and its report line.
 ghost use Rattle.std.specs.Prelude.{◌≡◌, ◌++◌, ◌∷◌, [], ℕ, List, OnOk};
 ghost use Rattle.exchange_events.specs.declared.trace.Event.{Event as An_event};
 ghost use Rattle.exchange_events.specs.Orders.{IsEvent};
@@ -13,11 +13,11 @@ use lone_exchange::LoneExchange;
 use std::alloc::AllocError;
 use std::thread::Threads;
 
-/// Does an event, and puts its line into `line`, in place of what is there.
+/// Processes an event and replaces the content of `line` with its report line.
 ///
 /// # Errors
 ///
-/// [`AllocError`] where there is no memory for the line.
+/// [`AllocError`] if the allocation of the line fails.
 pub(crate) fn line_of<P: PathMap, R: Threads + Sync>(
     rt: &R,
     trace: &Trace,

@@ -1,4 +1,4 @@
-//! A report, verified line by line.
+//! Verification of a report line by line.
 ghost use Rattle.std.specs.Prelude.{[], ℕ, List, IfOk, MatchOption};
 ghost use Rattle.exchange_events.specs.Sound.{IsSound};
 ghost use Rattle.run_verifier.specs.Replaying.{HasDone};
@@ -15,8 +15,8 @@ use report_reader::number_at;
 use std::alloc::AllocError;
 use std::thread::Threads;
 
-// What is behind the next line of a text, where it is the line of an event that may come next; the event
-// is done then. `line` is room for it.
+// Processes the event of the next line of a text, if that event may come next, and returns the text after the line.
+// Returns `None` if the line does not belong to such an event. `line` is a buffer for one line.
 fn next_line<'r, P: PathMap, R: Threads + Sync>(
     rt: &R,
     trace: &Trace,
@@ -45,12 +45,12 @@ fn next_line<'r, P: PathMap, R: Threads + Sync>(
     Ok(Some(behind))
 }
 
-/// The verdict on a report, by doing the events of a trace again in the order that the report gives, with an
-/// exchange that has done none. `line` is room for a line.
+/// Returns the verdict on a report. It processes the events of the trace in the order that the report gives, with an
+/// exchange that has processed none. `line` is a buffer for one line.
 ///
 /// # Errors
 ///
-/// [`AllocError`] where there is no memory for a line.
+/// [`AllocError`] if the allocation of a line fails.
 pub(crate) fn verdict_on<P: PathMap, R: Threads + Sync>(
     rt: &R,
     trace: &Trace,

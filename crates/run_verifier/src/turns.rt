@@ -1,4 +1,4 @@
-//! Which event may come next.
+//! The events that may come next.
 ghost use Rattle.std.specs.Prelude.{◌≡◌, ◌≢◌, ◌+◌, ◌<◌, ◌≤◌, ◌++◌, ℕ, List, [], ◌∷◌, length, slice_index, true, false};
 ghost use Rattle.exchange_events.specs.Orders.{IsEvent};
 ghost use Rattle.exchange_events.specs.Sound.{IsSound};
@@ -8,14 +8,14 @@ ghost use Rattle.run_verifier.specs.Verdicts.{MayFollow};
 use call_processor::{numbers_of, processor_of};
 use exchange_events::Trace;
 
-// How many workers an exchange has at most: eight call processors and the frame worker.
+// The maximum number of workers of an exchange: 8 call processors and the frame worker.
 const WORKERS: usize = 9;
 
-// Where the frame worker's next event is noted.
+// The index of the frame worker.
 const FRAME_WORKER: usize = 8;
 
-/// How far the events of a trace are done: the segment that is underway, where it ends, and each worker's
-/// next event in it. A worker that has none left there has a number behind its end.
+/// The events of a trace that have been processed: the current segment, its end, and the next event of each worker in
+/// it. The next event of a worker without events left is at or after the end.
 #[derive(Clone, Copy)]
 pub(crate) struct Turns {
     segment: u32,
@@ -23,7 +23,7 @@ pub(crate) struct Turns {
     next: [u32; WORKERS],
 }
 
-// Where the next event is noted of the worker who does this one.
+// Returns the index of the worker that processes an event.
 fn place(trace: &Trace, number: u32) -> usize
     requires sound { IsSound trace.now }
     requires known { IsEvent trace.now number }
@@ -36,8 +36,7 @@ fn place(trace: &Trace, number: u32) -> usize
     }
 }
 
-// The first event of a worker's from one number on and below another, or that other number where it has
-// none.
+// Returns the first event of a worker from `from` to before `end`, or `end` if it has none.
 fn next_of(trace: &Trace, worker: usize, from: u32, end: u32) -> u32
     requires sound { IsSound trace.now }
     requires order { from ≤ end }
@@ -55,7 +54,7 @@ fn next_of(trace: &Trace, worker: usize, from: u32, end: u32) -> u32
     end
 }
 
-// Each worker's first event of a segment with these numbers.
+// Returns the first event of each worker in a segment with these numbers.
 fn first_events(trace: &Trace, first: u32, end: u32) -> [u32; WORKERS]
     requires sound { IsSound trace.now }
     requires order { first ≤ end }
@@ -71,7 +70,7 @@ fn first_events(trace: &Trace, first: u32, end: u32) -> [u32; WORKERS]
     next
 }
 
-// Whether no worker has an event left.
+// Returns whether no worker has an event left.
 fn are_over(next: &[u32; WORKERS], end: u32) -> bool
     ensures over { result ≡ true → (w : ℕ) → w < 9 → end ≤ slice_index next.now w }
     ensures left { result ≡ false → (w : ℕ) × (w < 9) × (slice_index next.now w < end) }
@@ -84,7 +83,7 @@ fn are_over(next: &[u32; WORKERS], end: u32) -> bool
     true
 }
 
-// The turns at the beginning of a segment; behind the last one nobody has any.
+// Returns the turns at the start of a segment. After the last segment no worker has an event.
 fn begin(trace: &Trace, segment: u32) -> Turns
     requires sound { IsSound trace.now }
     requires within { segment ≤ length trace.now.segments }
@@ -105,7 +104,7 @@ fn begin(trace: &Trace, segment: u32) -> Turns
     Turns { segment, end, next }
 }
 
-// Goes on to the next segment where no event is left in this one.
+// Advances to the first segment, from this one on, that has events left.
 fn settled(trace: &Trace, turns: Turns) -> Turns
     requires sound { IsSound trace.now }
     requires within { turns.segment ≤ length trace.now.segments }
@@ -123,7 +122,7 @@ fn settled(trace: &Trace, turns: Turns) -> Turns
     turns
 }
 
-// Whether an event has this number.
+// Returns whether the trace has an event with this number.
 fn is_event(trace: &Trace, number: u32) -> bool
     ensures is { result ≡ true → IsEvent trace.now number }
     ensures each { IsEvent trace.now number → result ≡ true }
@@ -132,7 +131,7 @@ fn is_event(trace: &Trace, number: u32) -> bool
 }
 
 impl Turns {
-    /// Before the first event of a trace.
+    /// Returns the turns before the first event of a trace.
     pub(crate) fn new(trace: &Trace) -> Turns
         requires sound { IsSound trace.now }
         ensures within { result.segment ≤ length trace.now.segments }
@@ -142,7 +141,7 @@ impl Turns {
         settled(trace, begin(trace, 0))
     }
 
-    /// Whether an event may come next.
+    /// Returns whether an event may come next.
     pub(crate) fn may_come(&self, trace: &Trace, number: u32) -> bool
         requires sound { IsSound trace.now }
         requires left { IsLeft trace.now self.now.segment self.now.end self.now.next }
@@ -161,7 +160,7 @@ impl Turns {
         self.next[place(trace, number)] == number
     }
 
-    /// Goes on behind an event that came.
+    /// Records that an event came.
     pub(crate) fn pass(&mut self, trace: &Trace, number: u32)
         requires sound { IsSound trace.now }
         requires within { self.old.segment ≤ length trace.now.segments }

@@ -3,22 +3,21 @@
 use std::alloc::AllocError;
 use trace_text::{Reason, TraceFault};
 
-/// What a report is of a trace.
+/// The verdict on the report of a trace.
 #[derive(Clone, Copy, Debug, PartialEq, Eq)]
 pub enum Verdict {
-    /// The report of all its events in a lawful order.
+    /// The report of all events in a lawful order.
     Valid,
-    /// No such report. The line with this number, counted from 1, is the first that isn't good, or that is
-    /// lacking.
+    /// Not such a report. The line with this number, counted from 1, is the first that is wrong or missing.
     Invalid(u32),
 }
 
-/// Why there is no verdict.
+/// The error of a verification.
 #[derive(Clone, Copy, Debug, PartialEq, Eq)]
 pub enum VerifyFault {
-    /// There is not enough memory.
+    /// An allocation failed.
     Memory,
-    /// The trace is none: the line with this number is the first that is refused, and why.
+    /// The bytes of the trace are not a trace: the first line that fails, with its first failing check.
     Trace { number: u32, reason: Reason },
 }
 

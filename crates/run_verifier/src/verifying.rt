@@ -1,4 +1,4 @@
-//! A report against the bytes of its trace.
+//! The verification of a report against the bytes of its trace.
 ghost use Rattle.std.specs.Prelude.{◌≡◌, ◌+◌, ◌⊎◌, ℕ, Ok, Err, IfOk};
 ghost use Rattle.exchange_events.specs.declared.trace.Trace.{Trace};
 ghost use Rattle.exchange_events.specs.Sound.{IsSound};
@@ -20,15 +20,16 @@ use std::thread::Threads;
 use strict_map::{SLOTS as STRICT_SLOTS, StrictMap};
 use trace_text::read_trace;
 
-/// Verifies a report against its trace, on a fabric of 30 internal slots, or of 59, where no path ever moves.
+/// Verifies a report against its trace, on a fabric of 30 internal slots, or of 59, on which no path ever moves.
 ///
-/// The report is valid where it is what a run of all events in some lawful order prints. Else the verdict
-/// names its first line that can't be: the lines before it are the report of events in an order that is
-/// lawful so far, and with it they aren't, or it is lacking. What a meter says is no line of a report.
+/// The report is valid if it is the report of a run of all events in some lawful order. Otherwise the verdict gives the
+/// first line that is wrong or missing. The lines before it are the report of a lawful prefix of an order, and no such
+/// report continues with it. Lines of meters are not part of a report.
 ///
 /// # Errors
 ///
-/// [`VerifyFault::Trace`] where the bytes are no trace, and [`VerifyFault::Memory`] where memory runs out.
+/// - [`VerifyFault::Trace`] if the bytes are not a trace.
+/// - [`VerifyFault::Memory`] if an allocation fails.
 pub fn verify<R: Threads + Sync>(
     rt: &R,
     alloc: Global,
@@ -37,14 +38,14 @@ pub fn verify<R: Threads + Sync>(
     slots: u8,
 ) -> Result<Verdict, VerifyFault>
     requires slots { (slots ≡ 30) ⊎ (slots ≡ 59) }
-    // What is answered is so: of the trace, of its report, and why the bytes are none.
+    // The result is correct.
     ensures valid { result ≡ Ok Verdict.Valid
         → (t : Trace) × IsTrace trace.now t × IsValid slots t report.now }
     ensures invalid { (n : ℕ) → result ≡ Ok (Verdict.Invalid n)
         → (t : Trace) × IsTrace trace.now t × IsInvalidAt slots t report.now n }
     ensures refused { (number : ℕ) (why : Reason) →
         result ≡ Err (VerifyFault.Trace number why) → IsRefused trace.now number why }
-    // What is so is answered, unless memory runs out.
+    // Each correct result is returned, unless an allocation fails.
     ensures finds_valid { (t : Trace) → IsTrace trace.now t → IsValid slots t report.now
         → (result ≡ Ok Verdict.Valid) ⊎ (result ≡ Err VerifyFault.Memory) }
     ensures finds_invalid { (t : Trace) (n : ℕ) → IsTrace trace.now t → IsInvalidAt slots t report.now n
@@ -55,7 +56,7 @@ pub fn verify<R: Threads + Sync>(
     answer(rt, alloc, trace, report, slots)
 }
 
-// The same, with what it means in one clause.
+// The function [`verify`] with one clause.
 fn answer<R: Threads + Sync>(
     rt: &R,
     alloc: Global,
@@ -71,7 +72,7 @@ fn answer<R: Threads + Sync>(
     Ok(verdict)
 }
 
-// The verdict on the report of a trace, on the fabric with this many internal slots.
+// Returns the verdict on the report of a trace, on the fabric with this number of internal slots.
 fn on_fabric<R: Threads + Sync>(
     rt: &R,
     alloc: Global,
@@ -93,7 +94,7 @@ fn on_fabric<R: Threads + Sync>(
     }
 }
 
-// The verdict on the report of a trace whose paths are laid in a map that has none yet.
+// Returns the verdict on the report of a trace, with an empty path map.
 fn on_map<P: PathMap + Drop, R: Threads + Sync>(
     rt: &R,
     alloc: Global,
