@@ -1,16 +1,16 @@
-//! How often each course of a message was drawn.
+//! The number of messages with each effect.
 
 use std::fmt;
 use test_exchange::{Act, Course, Refusal};
 
-/// How often each course of a message came.
+/// The number of messages with each effect.
 #[derive(Clone, Copy)]
 pub struct Counts {
     // In the order of `COURSES`.
     counts: [u32; 40],
 }
 
-// Each course.
+// Each effect of a message.
 const COURSES: [Course; 40] = [
     Course::Discarded,
     Course::Unanswered,
@@ -55,7 +55,7 @@ const COURSES: [Course; 40] = [
 ];
 
 impl Counts {
-    /// Nothing has come.
+    /// Returns counts of 0.
     pub fn new() -> Counts {
         Counts { counts: [0; 40] }
     }
@@ -69,14 +69,14 @@ impl Counts {
         }
     }
 
-    /// Adds what was counted elsewhere.
+    /// Adds the counts of `other`.
     pub fn add(&mut self, other: &Counts) {
         for (count, more) in self.counts.iter_mut().zip(other.counts.iter()) {
             *count = count.saturating_add(*more);
         }
     }
 
-    /// Whether every course has come.
+    /// Returns whether each effect has occurred.
     pub fn is_whole(&self) -> bool {
         self.counts.iter().all(|count| *count > 0)
     }
@@ -150,7 +150,7 @@ fn words_of(refusal: Refusal) -> &'static str {
     }
 }
 
-// What is counted for a caller who is cleared for what it dialled.
+// Returns the description of a clearing with this refusal.
 fn words_of_clearing(refusal: Refusal) -> &'static str {
     match refusal {
         Refusal::NoNumber => "cleared for too many octets or none",

@@ -1,4 +1,4 @@
-//! What a caller sends who dials its number in parts.
+//! The messages of a caller that uses overlap sending.
 
 use crate::random::Random;
 use circuit_model::Slot;
@@ -6,8 +6,8 @@ use std::alloc::AllocError;
 use test_exchange::PlainExchange;
 use test_exchange::types::{CALLED_PARTY_NUMBER, SENDING_COMPLETE};
 
-/// Adds the elements of an INFORMATION of the caller at a slot: mostly the next digits of a number of the
-/// plan, and with the last ones as often as not Sending complete, on either side of them.
+/// Adds the elements of an INFORMATION of the caller at a slot, mostly the next digits of a number of the plan. Half of
+/// the messages with the last digits have a Sending complete, before or after them.
 pub(crate) fn add_next_part(
     octets: &mut Vec<u8>,
     random: &mut Random,
@@ -30,8 +30,7 @@ pub(crate) fn add_next_part(
     Ok(())
 }
 
-// What is left of a number of the plan behind the contents of a called party number so far; nothing where
-// these begin no number.
+// Returns the rest of a number of the plan after the digits in `dialled`. Returns no digits if they begin no number.
 fn draw_rest<'a>(random: &mut Random, exchange: &'a PlainExchange, dialled: &[u8]) -> &'a [u8] {
     let begun = dialled.get(1..).unwrap_or(&[]);
     let mut rest: &[u8] = b"";
@@ -52,8 +51,8 @@ fn is_begun(digits: &[u8], begun: &[u8]) -> bool {
         .all(|(digit, octet)| *digit == *octet % 0x80)
 }
 
-// These digits, or now and then others: none in some way, one that is no digit, one that no number goes on
-// with, or too many.
+// Adds these digits, or occasionally other contents: none in some form, a character that is not a digit, a digit that
+// no number continues with, or too many digits.
 fn add_part(octets: &mut Vec<u8>, random: &mut Random, part: &[u8]) -> Result<(), AllocError> {
     match random.below(24) {
         0 => Ok(()),

@@ -1,10 +1,10 @@
-//! How often each expiry of a timer was drawn.
+//! The number of expiries of each kind.
 
 use std::fmt;
 use test_exchange::{Expired, Expiry};
 
-/// How often something was done for a leg that had waited too long: each expiry, at another place than the
-/// first, in a frame behind another one, and at an alerted user whose caller was sent ringing tone or nothing.
+/// The number of expiries of each kind, at other places than the first, after another expiry in the same frame, and at
+/// an alerted user whose caller had ringing tone or silence.
 #[derive(Clone, Copy)]
 pub struct Expiries {
     // In the order of `EACH`.
@@ -15,7 +15,7 @@ pub struct Expiries {
     silent: u32,
 }
 
-// Each expiry.
+// Each kind of expiry.
 const EACH: [Expiry; 8] = [
     Expiry::Digits,
     Expiry::SetupAgain,
@@ -28,7 +28,7 @@ const EACH: [Expiry; 8] = [
 ];
 
 impl Expiries {
-    /// Nothing has come.
+    /// Returns counts of 0.
     pub fn new() -> Expiries {
         Expiries {
             counts: [0; 8],
@@ -39,7 +39,7 @@ impl Expiries {
         }
     }
 
-    /// Counts what was done in a run, in its order.
+    /// Counts the expiries of a run, in their order.
     pub fn of(expired: &[Expired]) -> Expiries {
         let mut expiries = Expiries::new();
         let mut before = None;
@@ -76,7 +76,7 @@ impl Expiries {
         *count = count.saturating_add(1);
     }
 
-    /// Adds what was counted elsewhere.
+    /// Adds the counts of `other`.
     pub fn add(&mut self, other: &Expiries) {
         for (count, more) in self.counts.iter_mut().zip(other.counts.iter()) {
             *count = count.saturating_add(*more);
@@ -87,7 +87,7 @@ impl Expiries {
         self.silent = self.silent.saturating_add(other.silent);
     }
 
-    /// Whether all that is counted has come.
+    /// Returns whether each counted case has occurred.
     pub fn is_whole(&self) -> bool {
         let others = [self.beyond, self.beside, self.ringing, self.silent];
         self.counts.iter().all(|count| *count > 0) && others.iter().all(|count| *count > 0)

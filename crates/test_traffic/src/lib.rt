@@ -1,11 +1,12 @@
-//! Pseudo-random traces of calls, for tests: messages of the users of several lines, with nails, seats, frees and
-//! frames.
+//! Pseudo-random traces of calls, for tests. They have messages from the users of several lines, nailed connections,
+//! seats, releases and frames.
 //!
-//! [`draw_traffic`] and [`draw_long_traffic`] look at the legs of a reference model that processes the same events.
-//! Therefore most messages are expected ones, and calls proceed to their end. The others are unexpected or damaged, or
-//! are no messages. In some traces frames come in sequences, so that timers expire. [`Counts`] counts each act for a
-//! message, [`Expiries`] each timer that expired, and [`is_lawful`] decides whether an order of the events is lawful.
-//! The crate is proved safe; no clause says what is drawn.
+//! [`draw_traffic`] and [`draw_long_traffic`] read the legs of a reference model that processes the same events.
+//! Therefore most messages are expected ones, and calls proceed to their end. The others are unexpected or corrupted,
+//! or are not messages. In some traces frames come in sequences, so that timers expire. [`Counts`] counts the messages
+//! by their effect and [`Expiries`] the expired timers. [`is_lawful`] returns whether an order of the events is lawful.
+//!
+//! The crate is proved safe. No clause states the generated events.
 #![tactic(auto)]
 
 mod counts;

@@ -1,17 +1,17 @@
-//! Which orders of a trace's events are lawful.
+//! The lawful orders of the events of a trace.
 
 use crate::script::Post;
 
-/// How many workers do the events of a trace at the most: eight call processors and the frame worker.
+/// The maximum number of workers of a trace: 8 call processors and the frame worker.
 pub const MOST_WORKERS: usize = 9;
 
-/// The thing of an event, by the event's number, which counts from 1.
+/// Returns the element of the event with this number, counted from 1.
 pub fn of_event<T>(things: &[T], number: u32) -> Option<&T> {
     things.get(number.checked_sub(1)? as usize)
 }
 
-/// Whether an order holds every event once, none before an event of an earlier segment, and none before an
-/// earlier one of its own worker in its segment.
+/// Returns whether an order is lawful. It has every event once. No event comes before an event of an earlier segment,
+/// or before an earlier event of its worker in its segment.
 pub fn is_lawful(posts: &[Post], order: &[u32]) -> bool {
     let mut segment = 0;
     // The last event of each worker in the segment so far.

@@ -4,15 +4,15 @@ ghost use Rattle.std.specs.Prelude.{◌<◌, length, IfSome};
 
 use circuit_model::{PLACES, Slot};
 
-/// A linear congruential generator of 64 bits, with the numbers of D. E. Knuth's MMIX. The high
-/// bits of each state are used, since the low ones repeat soon.
+/// A linear congruential generator of 64 bits with the constants of D. E. Knuth's MMIX. It uses the high bits of each
+/// state, because the low bits have short periods.
 #[derive(Drop)]
 pub struct Random {
     state: u64,
 }
 
 impl Random {
-    /// The generator that starts from this state.
+    /// Returns the generator that starts from this state.
     pub fn new(seed: u64) -> Random {
         Random { state: seed }
     }
@@ -25,7 +25,7 @@ impl Random {
         self.state >> 33
     }
 
-    /// A number below `bound`.
+    /// Returns a number below `bound`.
     pub fn below(&mut self, bound: u8) -> u8
         requires { 0 < bound }
         ensures { result < bound }
@@ -33,19 +33,19 @@ impl Random {
         (self.next_bits() % u64::from(bound)) as u8
     }
 
-    /// Any octet.
+    /// Returns any octet.
     pub fn octet(&mut self) -> u8 {
         (self.next_bits() % 256) as u8
     }
 
-    /// True once in n times.
+    /// Returns `true` with probability 1 in `times`.
     pub fn once_in(&mut self, times: u8) -> bool
         requires { 0 < times }
     {
         self.below(times) == 0
     }
 
-    /// One of these octets; 0 where there is none.
+    /// Returns one of the octets, or 0 if there are none.
     pub fn pick(&mut self, octets: &[u8]) -> u8 {
         if octets.is_empty() {
             return 0;
@@ -54,7 +54,7 @@ impl Random {
         octets[place as usize]
     }
 
-    /// A slot of one of n lines.
+    /// Returns a slot of one of `lines` lines.
     pub fn slot(&mut self, lines: u8) -> Slot
         requires { 0 < lines }
         ensures line { result.line < lines }
@@ -66,7 +66,7 @@ impl Random {
         }
     }
 
-    /// Octets for each place of a line.
+    /// Returns 30 octets, one for each place of a line.
     pub fn row(&mut self) -> [u8; 30] {
         let mut octets = [0; 30];
         for octet in octets.iter_mut() {

@@ -1,34 +1,33 @@
-//! A trace that is being written, line by line, and who does each event.
+//! A trace that is generated line by line, with the worker of each event.
 
 use circuit_model::{Slot, channel_of};
 use std::alloc::{AllocError, Global};
 use test_exchange::{PlainEvent, append_octets};
 
-/// Who does an event, and in which segment; both are counted from 0. The frame worker comes behind
-/// the call processors.
+/// The worker and the segment of an event, both counted from 0. The frame worker comes after the call processors.
 #[derive(Clone, Copy)]
 pub struct Post {
-    /// The number of the worker who does it.
+    /// The number of the worker.
     pub worker: u8,
-    /// The number of the segment that it is in.
+    /// The number of the segment.
     pub segment: u32,
 }
 
-/// A trace that is being written.
+/// A trace that is generated line by line.
 #[derive(Drop)]
 pub struct Script {
     /// The lines so far.
     pub text: String,
-    /// The events of these lines, as the plain program takes them.
+    /// The events of these lines, for the reference model.
     pub events: Vec<PlainEvent>,
-    /// Who does each event.
+    /// The worker and the segment of each event.
     pub posts: Vec<Post>,
     processors: u8,
     segment: u32,
 }
 
 impl Script {
-    /// A trace of n call processors. The text has the lines before its first event.
+    /// Returns a trace for `processors` call processors. `text` has the lines before its first event.
     pub fn new(alloc: Global, text: String, processors: u8) -> Script {
         Script {
             text,
@@ -39,7 +38,7 @@ impl Script {
         }
     }
 
-    /// Adds an event, and the end of its segment where that ends with it.
+    /// Adds an event, and the end of its segment if it is the last one of it.
     pub fn append(&mut self, event: PlainEvent, ends: bool) -> Result<(), AllocError> {
         let worker = worker_of(&event, self.processors);
         append_event(&mut self.text, &event)?;
@@ -55,7 +54,8 @@ impl Script {
         Ok(())
     }
 
-    /// Whether some segment has two workers, so that there is more than one lawful order.
+    /// Returns whether two consecutive events of one segment have different workers, so that there is more than one
+    /// lawful order.
     pub fn has_choice(&self) -> bool {
         let later = self.posts.iter().skip(1);
         self.posts.iter().zip(later).any(|(one, next)| {
@@ -64,7 +64,7 @@ impl Script {
     }
 }
 
-// The call processor that does an event, by its first line; frames have a worker of their own.
+// Returns the worker of an event: the call processor of its first line, or the frame worker.
 fn worker_of(event: &PlainEvent, processors: u8) -> u8 {
     let line = match event {
         PlainEvent::Nail(x, _) | PlainEvent::Seat(x, _) | PlainEvent::Free(x) => x.line,
@@ -74,7 +74,7 @@ fn worker_of(event: &PlainEvent, processors: u8) -> u8 {
     line.checked_rem(processors).unwrap_or(0)
 }
 
-// Adds the line of a trace that says the event.
+// Appends the trace line of an event.
 fn append_event(text: &mut String, event: &PlainEvent) -> Result<(), AllocError> {
     match event {
         PlainEvent::Nail(x, y) => {
@@ -92,7 +92,7 @@ fn append_event(text: &mut String, event: &PlainEvent) -> Result<(), AllocError>
     text.push_str("\n")
 }
 
-// Adds a slot behind a word.
+// Appends a slot after a field.
 fn append_slot(text: &mut String, word: &str, at: Slot) -> Result<(), AllocError> {
     let channel = channel_of(at.place.min(29));
     write!(text, "{word} {}/{channel}", at.line)

@@ -1,4 +1,4 @@
-//! A pseudo-random trace of calls, nails, seats and frames.
+//! A pseudo-random trace of calls, nailed connections, seats and frames.
 
 ghost use Rattle.std.specs.Prelude.{◌<◌};
 
@@ -14,31 +14,31 @@ use test_exchange::{
     append_octets,
 };
 
-/// A trace of calls, and what the plain exchange makes of it in file order.
+/// A trace of calls, and the result of the reference model in file order.
 #[derive(Drop)]
 pub struct Drawn {
     /// The trace.
     pub script: Script,
-    /// What its exchange is set up with.
+    /// The setting of its exchange.
     pub setting: Setting,
-    /// What became of its messages.
+    /// The effects of its messages.
     pub counts: Counts,
-    /// How many paths were moved.
+    /// The number of moved live paths.
     pub moved: u32,
-    /// By which chains they were.
+    /// The chains by which they moved.
     pub chains: Chains,
-    /// How often ringing tone and busy tone were put on a slot.
+    /// The number of slots that received ringing tone, and that received busy tone.
     pub sounded: (u32, u32),
-    /// What was done for legs that had waited too long.
+    /// The expiries of its timers.
     pub expiries: Expiries,
 }
 
-// How many internal slots a fabric has: one where paths may have to move, and one where none ever does.
+// The number of internal slots of the fabric that may move live paths.
 const REARRANGED_SLOTS: u8 = 30;
 
 const STRICT_SLOTS: u8 = 59;
 
-// The numbers of a plan: one for each line, two for lists of lines, two rooms, and a longer one.
+// Returns the numbers of a plan: one for each line, two for lists of lines, two for rooms, and a longer one.
 fn draw_numbers(alloc: Global, external: u8, hunts: &[Hunted]) -> Result<Vec<Number>, AllocError> {
     let mut numbers = Vec::new(alloc);
     add_lines(alloc, &mut numbers, external)?;
@@ -63,7 +63,7 @@ fn add_lines(alloc: Global, numbers: &mut Vec<Number>, external: u8) -> Result<(
     Ok(())
 }
 
-// Two lists of lines.
+// Returns two lists of lines.
 fn draw_hunts(alloc: Global, random: &mut Random, external: u8) -> Result<Vec<Hunted>, AllocError> {
     let mut hunts = Vec::new(alloc);
     for _ in 0..2 {
@@ -72,7 +72,7 @@ fn draw_hunts(alloc: Global, random: &mut Random, external: u8) -> Result<Vec<Hu
     Ok(hunts)
 }
 
-// A list of 1 to n lines, each once: up from one of them, and from the first again behind the last.
+// Returns a list of 1 to `external` different lines, in ascending order from one of them and then from the first line.
 fn draw_hunt(random: &mut Random, external: u8) -> Hunted {
     let lines = external.max(1);
     let drawn = random.below(lines);
@@ -109,7 +109,7 @@ fn append_numbers(text: &mut String, numbers: &[Number]) -> Result<(), AllocErro
     Ok(())
 }
 
-// Adds the lines of a list.
+// Appends the lines of a list.
 fn append_lines(text: &mut String, lines: &Hunted) -> Result<(), AllocError> {
     text.push_str(" lines")?;
     for entry in lines {
@@ -120,10 +120,10 @@ fn append_lines(text: &mut String, lines: &Hunted) -> Result<(), AllocError> {
     text.push_str("\n")
 }
 
-/// How many octets a tone has at most.
+/// The maximum number of octets of a tone.
 pub const LONGEST_TONE: usize = 8000;
 
-// A tone of no octet, of one, of two, or of the most there can be.
+// Returns a tone of 0, 1, 2 or the maximum number of octets.
 fn draw_tone(alloc: Global, random: &mut Random) -> Result<Vec<u8>, AllocError> {
     let length = match random.below(4) {
         0 => 0,
@@ -147,8 +147,8 @@ fn append_tone(text: &mut String, name: &str, octets: &[u8]) -> Result<(), Alloc
     text.push_str("\n")
 }
 
-// A timer: mostly of a few frames, otherwise of the usual number, of the most that a trace can give, or of nearly one or
-// two rounds of the places of a line.
+// Returns the number of frames of a timer: mostly a few. Otherwise it is the usual number, the maximum of a trace, or
+// nearly one or two rounds of the places of a line.
 fn draw_timer(random: &mut Random, usual: u32) -> u32 {
     let near = 1 + u32::from(random.below(3));
     match random.below(10) {
@@ -160,7 +160,7 @@ fn draw_timer(random: &mut Random, usual: u32) -> u32 {
     }
 }
 
-// The usual timers, or some that run out.
+// Returns the usual timers, or timers that mostly expire.
 fn draw_timers(random: &mut Random) -> PlainTimers {
     let usual = PlainTimers::usual();
     if random.once_in(5) {
@@ -176,7 +176,7 @@ fn draw_timers(random: &mut Random) -> PlainTimers {
     }
 }
 
-// Adds the timers that haven't their usual values.
+// Appends the timers that differ from their usual values.
 fn append_timers(text: &mut String, timers: &PlainTimers) -> Result<(), AllocError> {
     let usual = PlainTimers::usual();
     for (name, frames, usual) in [
@@ -194,8 +194,8 @@ fn append_timers(text: &mut String, timers: &PlainTimers) -> Result<(), AllocErr
     Ok(())
 }
 
-/// How often segments end: after an event once in n times. With 1 each event has a segment of
-/// its own, and with 255 most traces are one segment.
+/// Returns n for a trace in which each event ends its segment once in n times. With 1 each event has its own segment.
+/// With 255 most traces are one segment.
 pub fn draw_pace(random: &mut Random) -> u8
     ensures { 0 < result }
 {
@@ -221,7 +221,7 @@ pub struct Setting {
 }
 
 impl Setting {
-    // For one to eight external lines.
+    // Returns a setting for 1 to 8 external lines.
     fn draw(alloc: Global, random: &mut Random) -> Result<Setting, AllocError> {
         let external = match random.below(6) {
             0 => 1,
@@ -233,7 +233,7 @@ impl Setting {
         Setting::draw_for(alloc, random, external)
     }
 
-    // For n external lines.
+    // Returns a setting for `external` external lines.
     fn draw_for(alloc: Global, random: &mut Random, external: u8) -> Result<Setting, AllocError> {
         let hunts = draw_hunts(alloc, random, external)?;
         let numbers = draw_numbers(alloc, external, hunts.as_slice())?;
@@ -250,17 +250,17 @@ impl Setting {
         })
     }
 
-    /// How many lines there are, external and bridge lines together.
+    /// Returns the number of external and bridge lines.
     pub fn lines(&self) -> u32 {
         u32::from(self.external) + u32::from(self.bridges)
     }
 
-    /// How many octets ringing tone and busy tone have; 0 where the tone isn't given.
+    /// Returns the lengths of ringing tone and busy tone in octets. A tone that the trace does not set has length 0.
     pub fn lengths(&self) -> (usize, usize) {
         (self.tones.ringback.len(), self.tones.busy.len())
     }
 
-    // The lines of the trace before its first event, for n call processors.
+    // Returns the lines of the trace before its first event, for `processors` call processors.
     fn header(&self, alloc: Global, processors: u8) -> Result<String, AllocError> {
         let (external, bridges) = (self.external, self.bridges);
         let mut text = format!(in alloc; "exchange 1 {external} {bridges} {processors}\n")?;
@@ -276,7 +276,7 @@ impl Setting {
         append_timers(text, &self.timers)
     }
 
-    /// A plain exchange of this setting before its first event, on a strict fabric or on the other.
+    /// Returns a reference model with this setting before its first event, on the strict fabric or the other one.
     pub fn exchange(&self, alloc: Global, strict: bool) -> Result<PlainExchange, AllocError> {
         let slots = if strict {
             STRICT_SLOTS
@@ -300,10 +300,10 @@ impl Setting {
     }
 }
 
-/// Draws a trace of n events, for one to eight call processors: calls on several lines with the
-/// replies of both sides, beside nails, seats, frees and frames. Some traces begin with a line that is all
-/// but full, or with many nails; in some frames come in runs of thirty and more; most give tones, and timers
-/// of few frames. The users act on what happens in file order.
+/// Generates a trace of n events, for 1 to 8 call processors: calls on several lines with the replies of both sides,
+/// and nailed connections, seats, releases and frames. Some traces start with a line that is almost full, or with many
+/// nailed connections. Some have sequences of at least 30 frames. Most set tones, and timers of few frames. The users
+/// react to the result in file order.
 pub fn draw_traffic(alloc: Global, random: &mut Random, events: u32) -> Result<Drawn, AllocError> {
     let setting = Setting::draw(alloc, random)?;
     let processors = 1 + random.below(8);
@@ -318,8 +318,8 @@ pub fn draw_traffic(alloc: Global, random: &mut Random, events: u32) -> Result<D
     Ok(draft.drawn(setting))
 }
 
-/// Draws a trace of n events in one segment, for four call processors and as many lines, as [`draw_traffic`] draws a
-/// trace without runs of frames.
+/// Generates a trace of n events in one segment, for 4 call processors and 4 lines, like a trace of [`draw_traffic`]
+/// without sequences of frames.
 pub fn draw_long_traffic(
     alloc: Global,
     random: &mut Random,
@@ -336,7 +336,7 @@ pub fn draw_long_traffic(
     Ok(draft.drawn(setting))
 }
 
-/// A trace that is being drawn, and what the plain exchange makes of it.
+/// A trace that is being generated, with the reference model that processes its events.
 #[derive(Drop)]
 struct Draft {
     script: Script,
@@ -345,7 +345,7 @@ struct Draft {
 }
 
 impl Draft {
-    // A trace of this setting before its first event, for n call processors.
+    // Returns a trace of this setting before its first event, for `processors` call processors.
     fn new(alloc: Global, setting: &Setting, processors: u8) -> Result<Draft, AllocError> {
         let text = setting.header(alloc, processors)?;
         let exchange = setting.exchange(alloc, false)?;
@@ -356,7 +356,7 @@ impl Draft {
         })
     }
 
-    // The next event, after n.
+    // Returns event `number`.
     fn next_event(
         &self,
         alloc: Global,
@@ -375,7 +375,7 @@ impl Draft {
         }
     }
 
-    // Takes an event, which ends its segment or not.
+    // Appends an event, and the end of its segment if `ends`.
     fn take(&mut self, alloc: Global, event: PlainEvent, ends: bool) -> Result<(), AllocError> {
         if let Some(course) = self.run.step(alloc, &event)? {
             self.counts.note(course);
@@ -383,7 +383,7 @@ impl Draft {
         self.script.append(event, ends)
     }
 
-    // The trace, with its setting.
+    // Returns the trace with its setting.
     fn drawn(self, setting: Setting) -> Drawn {
         let Draft {
             script,
@@ -403,7 +403,7 @@ impl Draft {
     }
 }
 
-// The next event, after n.
+// Returns event `number`.
 fn draw_next(
     alloc: Global,
     random: &mut Random,
@@ -420,7 +420,8 @@ fn draw_next(
     }
 }
 
-// How many commands a trace begins with: nails that fill the first line, or circuits of any slots.
+// The number of commands at the start of a trace: nailed connections that fill the first line, or circuits of any
+// slots.
 #[derive(Clone, Copy)]
 struct Crowd {
     within: u8,
@@ -428,7 +429,7 @@ struct Crowd {
 }
 
 impl Crowd {
-    // None where the users pause.
+    // Returns no commands if the trace has sequences of frames.
     fn draw(random: &mut Random, pauses: &Pauses) -> Crowd
         ensures { result.within < 16 }
     {
@@ -442,7 +443,7 @@ impl Crowd {
     }
 }
 
-// Runs of frames: one begins once in n events, never with 0, and has these left.
+// The sequences of frames: one event in `times` starts one, none if 0, and the current sequence has `left` frames left.
 #[derive(Drop)]
 struct Pauses {
     times: u8,
@@ -457,7 +458,8 @@ impl Pauses {
         }
     }
 
-    // Whether the next event is a frame of a run, which has thirty at least: in thirty each place has its turn.
+    // Returns whether the next event is a frame of a sequence. A sequence has at least 30 frames, so that each place
+    // has its turn.
     fn has_frame(&mut self, random: &mut Random) -> bool {
         if self.left > 0 {
             self.left -= 1;
@@ -471,7 +473,7 @@ impl Pauses {
     }
 }
 
-// A frame of a run, mostly one in which nothing arrives.
+// Returns a frame of a sequence, mostly without octets.
 fn draw_pause(alloc: Global, random: &mut Random, lines: u8) -> Result<PlainEvent, AllocError> {
     if random.once_in(8) {
         draw_frame(alloc, random, lines)
@@ -481,7 +483,7 @@ fn draw_pause(alloc: Global, random: &mut Random, lines: u8) -> Result<PlainEven
     }
 }
 
-// A nail of two slots of the first line.
+// Returns a nailed connection of two slots of the first line.
 fn nail_in_itself(number: u8) -> PlainEvent
     requires { number < 15 }
 {
@@ -511,7 +513,7 @@ fn draw_event(
     }
 }
 
-// A nail, a seat or a free, mostly one that isn't refused.
+// Returns a nailed connection, a seat or a release, which is mostly accepted.
 fn draw_circuit(random: &mut Random, exchange: &PlainExchange) -> PlainEvent {
     let lines = exchange.external().max(1);
     let x = draw_spare(random, exchange);
@@ -529,7 +531,7 @@ fn draw_circuit(random: &mut Random, exchange: &PlainExchange) -> PlainEvent {
     }
 }
 
-// A slot that is mostly idle: the first of seven slots that is idle, or the last of the seven.
+// Returns a slot that is mostly idle: the first idle one of 7, or the last of the 7.
 fn draw_spare(random: &mut Random, exchange: &PlainExchange) -> Slot {
     let lines = exchange.external().max(1);
     for _ in 0..6 {
@@ -541,7 +543,7 @@ fn draw_spare(random: &mut Random, exchange: &PlainExchange) -> Slot {
     random.slot(lines)
 }
 
-// A frame in which about every fourth line is idle.
+// Returns a frame in which about every fourth line is idle.
 fn draw_frame(alloc: Global, random: &mut Random, lines: u8) -> Result<PlainEvent, AllocError> {
     let mut input = Vec::new(alloc);
     for _ in 0..lines {

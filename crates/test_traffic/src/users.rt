@@ -1,4 +1,4 @@
-//! What the users of a line send, by the state of their legs.
+//! The messages of a user by the state of its legs.
 
 ghost use Rattle.std.specs.Prelude.{◌<◌};
 
@@ -14,7 +14,7 @@ use test_exchange::types::{
 };
 use test_exchange::{Leg, PlainExchange, Side, State};
 
-// What a user mostly sends in a state: each type as often as it is here.
+// Returns the common message types of a user in a state, each by its frequency.
 fn mostly_sent(state: State) -> &'static [u8] {
     match state {
         State::CallProceeding | State::Delivered => &[
@@ -71,7 +71,7 @@ fn mostly_sent(state: State) -> &'static [u8] {
     }
 }
 
-/// Draws a message from a user of the exchange: its line and its octets.
+/// Generates a message from a user of the exchange: its line and its octets.
 pub(crate) fn draw_message(
     alloc: Global,
     random: &mut Random,
@@ -87,7 +87,7 @@ pub(crate) fn draw_message(
     }
 }
 
-// One of the legs.
+// Returns one of the legs.
 fn draw_leg(random: &mut Random, exchange: &PlainExchange) -> Option<Leg> {
     let legs = exchange.legs();
     let mut drawn = legs.first().copied();
@@ -99,7 +99,7 @@ fn draw_leg(random: &mut Random, exchange: &PlainExchange) -> Option<Leg> {
     drawn
 }
 
-// A message that is mostly expected of the leg's user.
+// Returns a message that is mostly expected of the user of the leg.
 fn message_to_leg(
     alloc: Global,
     random: &mut Random,
@@ -122,7 +122,7 @@ fn message_to_leg(
     Ok(octets)
 }
 
-// A named message type, or now and then any octet.
+// Returns a known message type, or occasionally any octet.
 fn draw_kind(random: &mut Random) -> u8 {
     if random.once_in(4) {
         random.octet()
@@ -131,7 +131,7 @@ fn draw_kind(random: &mut Random) -> u8 {
     }
 }
 
-// A message whose reference mostly names no leg.
+// Returns a message whose call reference mostly identifies no leg.
 fn stray_message(alloc: Global, random: &mut Random) -> Result<Vec<u8>, AllocError> {
     let flag = random.once_in(2);
     let reference = draw_reference(random);
@@ -142,7 +142,7 @@ fn stray_message(alloc: Global, random: &mut Random) -> Result<Vec<u8>, AllocErr
     Ok(octets)
 }
 
-// A RESTART, mostly one that is taken: of a channel, named in some way, or of the line.
+// Returns a RESTART, mostly a valid one, of a channel or of the line.
 fn restart_message(alloc: Global, random: &mut Random) -> Result<Vec<u8>, AllocError> {
     let flag = random.once_in(12);
     let mut octets = header(alloc, flag, 0, RESTART)?;
@@ -159,7 +159,7 @@ fn restart_message(alloc: Global, random: &mut Random) -> Result<Vec<u8>, AllocE
     Ok(octets)
 }
 
-// Octets of any kind.
+// Returns octets that are mostly not a message.
 fn noise(alloc: Global, random: &mut Random) -> Result<Vec<u8>, AllocError> {
     let mut octets = Vec::new(alloc);
     for _ in 0..random.below(12) {
@@ -169,7 +169,7 @@ fn noise(alloc: Global, random: &mut Random) -> Result<Vec<u8>, AllocError> {
     Ok(octets)
 }
 
-// A call reference value, mostly a small one.
+// Returns a call reference value, mostly a small one.
 fn draw_reference(random: &mut Random) -> u16 {
     match random.below(16) {
         0 => 0,
@@ -185,7 +185,7 @@ fn header(alloc: Global, flag: bool, reference: u16, kind: u8) -> Result<Vec<u8>
     Vec::from_slice(alloc, &[0x08, 0x02, high, low, kind])
 }
 
-// Now and then cuts a message short, or writes over one of its octets.
+// Occasionally truncates a message, or overwrites one of its octets.
 fn damage(octets: &mut Vec<u8>, random: &mut Random) {
     if !random.once_in(12) {
         return;
@@ -198,7 +198,7 @@ fn damage(octets: &mut Vec<u8>, random: &mut Random) {
     }
 }
 
-// A cause and a call state as users give them: whole, long, cut short or not at all, in either order.
+// Adds a cause and a call state, each complete, too long, truncated or absent, in either order.
 fn add_reply_elements(octets: &mut Vec<u8>, random: &mut Random) -> Result<(), AllocError> {
     if random.once_in(12) {
         add_shift(octets, random)?;
@@ -234,7 +234,7 @@ fn add_call_state(octets: &mut Vec<u8>, random: &mut Random) -> Result<(), Alloc
     }
 }
 
-// A shift, mostly a non-locking one with something behind it.
+// Adds a shift, mostly a non-locking one with an element after it.
 fn add_shift(octets: &mut Vec<u8>, random: &mut Random) -> Result<(), AllocError> {
     match random.below(6) {
         0 => octets.push(0x96)?,
@@ -245,7 +245,7 @@ fn add_shift(octets: &mut Vec<u8>, random: &mut Random) -> Result<(), AllocError
     Ok(())
 }
 
-// A SETUP, mostly one that a call comes of. Its elements come in any order.
+// Returns a SETUP, mostly one that starts a call. Its elements are in any order.
 fn setup(
     alloc: Global,
     random: &mut Random,
@@ -356,7 +356,7 @@ fn add_called(
     Ok(())
 }
 
-// The digits of a number of the plan.
+// Returns the digits of a number of the plan.
 fn drawn_digits<'a>(random: &mut Random, exchange: &'a PlainExchange) -> &'a [u8] {
     let mut digits: &[u8] = b"";
     for number in exchange.numbers() {
