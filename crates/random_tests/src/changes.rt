@@ -1,26 +1,25 @@
-//! Changes of meters: lines that ask for them in a trace, and plain meters that are changed.
+//! Changes of meters: the lines `change` of a trace, and reference meters that change with them.
 
 use crate::check::append_call;
 use std::alloc::{AllocError, Global};
 use test_exchange::CallRecord;
 use test_traffic::{Random, Script};
 
-/// A trace in which meters are changed, and what is handed in with it.
+/// A trace with changes of meters, and the numbers of meters passed with it.
 #[derive(Drop)]
 pub struct Changing {
-    /// The trace: the lines of a script, and `change` lines before its first event and between its
-    /// segments.
+    /// The trace: the lines of a script, and lines `change` before its first event and after its segments.
     pub text: String,
-    /// How many events come before each change.
+    /// The number of events before each change.
     pub places: Vec<u32>,
-    /// How many meters are on at first.
+    /// The number of active meters at the start.
     pub on: u32,
-    /// How many are spare.
+    /// The number of spare meters at the start.
     pub spare: u32,
 }
 
-/// How many changes traces have, how many of them find no meter that is on, no spare one, or neither, and
-/// how many meters were put in and taken out again.
+/// The number of changes in all traces, of changes without an active meter, without a spare one and without either, and
+/// of meters that a trace adds and removes.
 #[derive(Clone, Copy, Default)]
 pub struct ChangeCounts {
     pub changes: u32,
@@ -31,7 +30,7 @@ pub struct ChangeCounts {
 }
 
 impl ChangeCounts {
-    /// Counts a change that finds as many meters that are on and spare ones.
+    /// Counts a change with these numbers of active and spare meters.
     fn count(&mut self, on: u32, spare: u32) {
         self.changes = self.changes.saturating_add(1);
         match (on, spare) {
@@ -51,7 +50,7 @@ impl ChangeCounts {
         self.again = self.again.saturating_add(more.again);
     }
 
-    /// Whether each case came.
+    /// Returns whether each case has occurred.
     pub fn is_whole(&self) -> bool {
         let counts = [self.none_on, self.none_spare, self.neither, self.again];
         counts.iter().all(|count| *count > 0)
@@ -59,7 +58,7 @@ impl ChangeCounts {
 }
 
 impl Changing {
-    /// The trace of a script. Where that ends a segment, meters are changed up to five times, mostly not at all.
+    /// Returns the trace of a script. Each segment end has up to five changes, mostly none.
     pub fn of(alloc: Global, script: &Script) -> Result<Changing, AllocError> {
         let mut random = Random::new(script.text.len() as u64);
         let mut changing = Changing {
@@ -76,7 +75,7 @@ impl Changing {
         Ok(changing)
     }
 
-    // Adds a line behind n events, and changes where there may be some. How many events there are then.
+    // Appends a line after `events` events, and changes if a segment ends there. Returns the number of events.
     fn append(&mut self, random: &mut Random, line: &str, events: u32) -> Result<u32, AllocError> {
         let is_event = is_event(line);
         if is_event && events == 0 {
@@ -90,10 +89,10 @@ impl Changing {
         Ok(events)
     }
 
-    /// What its changes find, one after the other.
+    /// Returns the counts of its changes, in sequence.
     pub fn counts(&self) -> ChangeCounts {
         let mut counts = ChangeCounts::default();
-        // The meters that are on from the start come before all that were put in.
+        // The meters that are active from the start come before all added meters.
         let (mut on, mut spare, mut from_start) = (self.on, self.spare, self.on);
         for _ in self.places.as_slice() {
             counts.count(on, spare);
@@ -110,7 +109,7 @@ impl Changing {
         counts
     }
 
-    // Draws changes at a place.
+    // Generates changes after `place` events.
     fn draw(&mut self, random: &mut Random, place: u32) -> Result<(), AllocError> {
         if !random.once_in(3) {
             return Ok(());
@@ -123,15 +122,15 @@ impl Changing {
     }
 }
 
-// Whether a line of a script is of an event.
+// Returns whether a line of a script is an event.
 fn is_event(line: &str) -> bool {
     ["nail ", "seat ", "free ", "M ", "F"]
         .iter()
         .any(|word| line.starts_with(*word))
 }
 
-/// A meter as a list of the records that it noted. Its kind is its number among all that are handed in:
-/// call details, a peg count, the holding time, and over again.
+/// A meter as a list of its records. Its number determines its kind: call details, a peg count, the holding time, and
+/// so on in turn.
 #[derive(Drop)]
 struct PlainMeter {
     number: u32,
@@ -139,7 +138,7 @@ struct PlainMeter {
 }
 
 impl PlainMeter {
-    // Appends what it says, each line behind a word.
+    // Appends its summary, with `word` before each line.
     fn append(&self, word: &str, out: &mut String) -> Result<(), AllocError> {
         match self.number.checked_rem(3) {
             Some(0) => {
@@ -161,7 +160,7 @@ impl PlainMeter {
     }
 }
 
-// How many frames calls held their circuits, together and the longest.
+// Returns the total and the longest time in frames for which the calls held their circuits.
 fn held_by(records: &[CallRecord]) -> (u32, u32) {
     let (mut total, mut longest): (u32, u32) = (0, 0);
     for record in records {
@@ -172,7 +171,7 @@ fn held_by(records: &[CallRecord]) -> (u32, u32) {
     (total, longest)
 }
 
-// The first n meters.
+// Returns the first `count` meters.
 fn meters_in(alloc: Global, count: u32) -> Result<Vec<PlainMeter>, AllocError> {
     let mut meters = Vec::new(alloc);
     for number in 0..count {
@@ -182,8 +181,8 @@ fn meters_in(alloc: Global, count: u32) -> Result<Vec<PlainMeter>, AllocError> {
     Ok(meters)
 }
 
-/// Meters that are on and spare ones, as lists, and what those said that were taken out: each line behind
-/// the number of the events before it.
+/// Active and spare meters as lists, and the summaries of the removed meters. The number of the events before it
+/// precedes each line.
 #[derive(Drop)]
 pub struct PlainMeters {
     on: Vec<PlainMeter>,
@@ -192,7 +191,7 @@ pub struct PlainMeters {
 }
 
 impl PlainMeters {
-    /// As many as are handed in.
+    /// Returns the meters of the trace before its first change.
     pub fn of(alloc: Global, changing: &Changing) -> Result<PlainMeters, AllocError> {
         Ok(PlainMeters {
             on: meters_in(alloc, changing.on)?,
@@ -201,7 +200,7 @@ impl PlainMeters {
         })
     }
 
-    /// Notes records of calls.
+    /// Records calls.
     pub fn note(&mut self, records: &[CallRecord]) -> Result<(), AllocError> {
         for meter in self.on.iter_mut() {
             meter.records.extend_from_slice(records)?;
@@ -209,7 +208,7 @@ impl PlainMeters {
         Ok(())
     }
 
-    /// Makes the changes at a place.
+    /// Makes the changes after `place` events.
     pub fn change(&mut self, alloc: Global, places: &[u32], place: u32) -> Result<(), AllocError> {
         for at in places {
             if *at == place {
@@ -232,12 +231,12 @@ impl PlainMeters {
         Ok(())
     }
 
-    /// What those said that were taken out.
+    /// Returns the summaries of the removed meters.
     pub fn said(&self) -> &str {
         self.said.as_str()
     }
 
-    /// Whether all that are left say this: those that are on, and then the spare ones.
+    /// Returns whether `left` is the summaries of the remaining meters, first of the active and then of the spare ones.
     pub fn leave(&self, alloc: Global, left: &[u8]) -> Result<bool, AllocError> {
         let mut wanted = String::new(alloc);
         for meter in self.on.iter().chain(self.spare.iter()) {
@@ -247,18 +246,17 @@ impl PlainMeters {
     }
 }
 
-/// The lines of events of a report, and the lines of meters in it, each behind the number of the lines
-/// of events before it.
+/// The event lines of a report, and its meter lines. The number of the event lines before it precedes each meter line.
 #[derive(Drop)]
 pub struct Parted {
-    /// The lines of events.
+    /// The event lines.
     pub events: String,
-    /// The lines of meters.
+    /// The meter lines.
     pub said: String,
 }
 
 impl Parted {
-    /// The lines of a report.
+    /// Returns the lines of a report.
     pub fn of(alloc: Global, report: &str) -> Result<Parted, AllocError> {
         let mut parted = Parted {
             events: String::new(alloc),
@@ -271,7 +269,7 @@ impl Parted {
         Ok(parted)
     }
 
-    // Adds a line behind n lines of events. How many there are then.
+    // Appends a line after `count` event lines. Returns their number with it.
     fn append(&mut self, line: &str, count: u32) -> Result<u32, AllocError> {
         if line.starts_with(is_digit) {
             write!(self.events, "{line}\n")?;

@@ -15,30 +15,29 @@ use std::thread::Threads;
 use test_exchange::{CallRecord, Party, PlainEvent, PlainRun};
 use test_traffic::{Script, Setting as CallSetting, is_lawful, of_event};
 
-// More than a report of a short trace takes.
+// More octets than the report of a short trace has.
 const ROOM: usize = 400_000;
 
-// More than the calls of a trace.
+// More calls than a trace has.
 const CALLS: u32 = 4000;
 
-/// What a plain program is set up with.
+/// The setting of a reference model.
 pub trait Setting {
     type Program: Plain + Drop;
 
-    /// The program before its first event, for a run on a strict fabric or on the other.
+    /// Returns the reference model before its first event, for a run on the strict fabric or the other one.
     fn program(&self, alloc: Global, strict: bool) -> Result<Self::Program, AllocError>;
 }
 
-/// A plain program that takes events one by one, and reports them in lines that it numbers as they
-/// come.
+/// A reference model. It processes the events one by one and numbers its report lines in that order.
 pub trait Plain {
-    /// Takes an event.
+    /// Processes an event.
     fn take(&mut self, alloc: Global, event: &PlainEvent) -> Result<(), AllocError>;
 
-    /// The report. `_ _` is in it in place of two numbers of moved paths that the program doesn't know.
+    /// Returns the report. It has `_ _` instead of two numbers of moved paths that the model does not know.
     fn text(&self) -> &str;
 
-    /// The records of the calls that ended, in order.
+    /// Returns the records of the calls that ended, in order.
     fn records(&self) -> &[CallRecord];
 }
 
@@ -82,7 +81,7 @@ pub fn append_call(calls: &mut String, record: &CallRecord) -> Result<(), AllocE
     write!(calls, "{from} {to} {cause}\n")
 }
 
-// Appends a slot by its line and its channel; a place that no line has stays as it is.
+// Appends a slot as its line and channel. A place of no channel is unchanged.
 fn append_slot(calls: &mut String, slot: Slot) -> Result<(), AllocError> {
     let Slot { line, place } = slot;
     let channel = if place < PLACES {
@@ -93,18 +92,18 @@ fn append_slot(calls: &mut String, slot: Slot) -> Result<(), AllocError> {
     write!(calls, "{line}/{channel} ")
 }
 
-/// What the exchange says of a run: its report, and what the meters say that are left, those that are on
-/// and then the spare ones.
+/// The result of a run of the exchange: its report, and the summaries of the remaining meters, first of the active and
+/// then of the spare ones.
 #[derive(Drop)]
 struct Heard {
     report: Vec<u8>,
     left: Vec<u8>,
 }
 
-/// A gate that holds no thread, and asks for threads.
+/// A gate that holds no thread and requests threads.
 #[derive(Clone, Copy)]
 pub struct Apart {
-    /// Whether it says that it may hold one, so that each turn has one event.
+    /// Whether the gate may hold a thread. Each turn then has one event.
     pub may_hold: bool,
 }
 
@@ -122,11 +121,11 @@ impl Gate for Apart {
     }
 }
 
-/// Runs a trace through the exchange at a gate, on a strict fabric or on the other. What is said of the
-/// order of its report, where that has the events in a lawful order, and says of each what the plain
-/// program says that takes them in that order, from nothing, where on a strict fabric each number of moved
-/// paths is 0, and where the lines of meters in the report, and what the meters say that are left, are
-/// what plain meters say that are changed at the same places. The verifier has to find its other lines valid.
+/// Runs a trace through the exchange at a gate, on the strict fabric or the other one. Returns the properties of the
+/// order of its report, if all checks pass. The order must be lawful. The report must be the report of the reference
+/// model that processes the events in this order from the start. On the strict fabric each number of moved paths must
+/// be 0. The meter lines and the remaining summaries must be the text of reference meters that change at the same
+/// places. The verifier must accept the event lines.
 pub fn agreed<S: Setting, G: Gate, R: Threads + Wait + Sync>(
     rt: &R,
     alloc: Global,
@@ -154,8 +153,8 @@ pub fn agreed<S: Setting, G: Gate, R: Threads + Wait + Sync>(
     compared(alloc, script, setting, strict, &changing, &parted, left)
 }
 
-// Whether the verifier finds the lines of events of a report valid, and where they are of a strict fabric each
-// number of moved paths in them is 0.
+// Returns whether the verifier accepts the event lines of a report. On the strict fabric each number of moved paths
+// must also be 0.
 fn is_whole<R: Threads + Sync>(
     rt: &R,
     alloc: Global,
@@ -167,8 +166,7 @@ fn is_whole<R: Threads + Sync>(
         && is_verdict(rt, alloc, trace, events.as_bytes(), strict, Verdict::Valid)
 }
 
-// What is said of the order of a report, where it is lawful, and where the plain program says the same
-// and plain meters do.
+// Returns the properties of the order of a report, if it is lawful and the reference model and reference meters agree.
 fn compared<S: Setting>(
     alloc: Global,
     script: &Script,
@@ -194,8 +192,8 @@ fn compared<S: Setting>(
     }
 }
 
-// Whether a plain program that takes the events in an order says the lines of events of a report, and
-// plain meters say its lines of meters and what is left.
+// Returns whether a reference model that processes the events in this order prints the event lines, and reference
+// meters print the meter lines and the remaining summaries.
 fn is_said_by<P: Plain + Drop>(
     alloc: Global,
     plain: P,
@@ -214,7 +212,7 @@ fn is_said_by<P: Plain + Drop>(
     )
 }
 
-// Takes the events in an order, with plain meters that are changed at their places.
+// Processes the events in this order, with reference meters that change at their places.
 fn metered<P: Plain>(
     alloc: Global,
     plain: &mut P,
@@ -234,7 +232,7 @@ fn metered<P: Plain>(
     Ok(meters)
 }
 
-// Takes an event, and notes the calls that ended with it to plain meters.
+// Processes an event, and records the calls that ended with it.
 fn take_metered<P: Plain>(
     alloc: Global,
     plain: &mut P,
@@ -251,7 +249,7 @@ fn take_metered<P: Plain>(
     }
 }
 
-// The words that ask for a run.
+// Returns the command line arguments of a run.
 fn words_of(alloc: Global, strict: bool) -> Result<Vec<String>, AllocError> {
     let mut words = vec![in alloc; String::from_str(alloc, "run")?]?;
     if strict {
@@ -260,7 +258,7 @@ fn words_of(alloc: Global, strict: bool) -> Result<Vec<String>, AllocError> {
     Ok(words)
 }
 
-// What a call of the exchange reads and writes.
+// The arguments, the source and the sink of a run of the exchange.
 #[derive(Drop)]
 struct Ends {
     words: Vec<String>,
@@ -269,8 +267,8 @@ struct Ends {
 }
 
 impl Ends {
-    // The words that ask for a run, the trace to read, and room for its report: a report has less than four octets for
-    // each of a long trace.
+    // Returns the arguments of a run, its trace, and a sink with enough capacity for its report. The report of a long
+    // trace has fewer than 4 octets for each octet of the trace.
     fn of(alloc: Global, trace: &str, strict: bool) -> Result<Ends, AllocError> {
         let room = ROOM.max(trace.len().saturating_mul(4));
         let sink = MemSink::new(alloc, room, 4096, Vec::new(alloc))?;
@@ -283,7 +281,7 @@ impl Ends {
     }
 }
 
-// What the exchange says of a trace; nothing where it was not run.
+// Returns the result of a run of a trace. `None` if the trace was not run.
 fn heard_of<G: Gate, R: Threads + Wait + Sync>(
     rt: &R,
     alloc: Global,
@@ -302,9 +300,9 @@ fn heard_of<G: Gate, R: Threads + Wait + Sync>(
     Ok(heard)
 }
 
-// Calls the exchange with meters and spare ones, and appends what those say then that are on, and then what
-// the spare ones do. Whether the trace was run, and nothing is appended where it was not. The ends are the
-// caller's, so that they are no value to drop where memory runs out for a meter.
+// Runs the exchange with active and spare meters. Appends the summaries of the active ones after the run, and then of
+// the spare ones. Returns whether the trace was run, and appends nothing if it was not. The caller owns the source and
+// the sink, so that no value is dropped if the allocation of a meter fails.
 fn is_run<G: Gate, R: Threads + Wait + Sync>(
     rt: &R,
     alloc: Global,
@@ -343,7 +341,7 @@ fn is_run<G: Gate, R: Threads + Wait + Sync>(
     )
 }
 
-// Appends what meters say, and then what spare ones do, if they are to. Whether they are.
+// Appends the summaries of the active and then of the spare meters if `is_whole`. Returns `is_whole`.
 fn say_if(
     is_whole: bool,
     on: &[Box<dyn Meter>],
@@ -357,7 +355,7 @@ fn say_if(
     Ok(is_whole)
 }
 
-// Whether the numbers of moved paths of a line are 0, if it tells some.
+// Returns whether the numbers of moved paths of a line are 0, if it has any.
 fn tells_of_no_moves(line: &str) -> bool {
     let Some((_, words)) = numbered(line) else {
         return false;
@@ -370,7 +368,7 @@ fn tells_of_no_moves(line: &str) -> bool {
     true
 }
 
-// Whether the lines of a report say what is wanted, behind the numbers, by which the order was read.
+// Returns whether the lines of a report are the wanted ones, without the numbers that gave the order.
 fn is_wanted(report: &str, wanted: &str) -> bool {
     report.lines().count() == wanted.lines().count()
         && report
@@ -386,7 +384,7 @@ fn says(line: &str, wanted: &str) -> bool {
     }
 }
 
-// Whether words are those that are wanted, with two numbers for `_ _`.
+// Returns whether the text is the wanted one, in which `_ _` matches any two numbers.
 fn are_wanted(words: &str, wanted: &str) -> bool {
     match wanted.strip_suffix("_ _") {
         Some(front) => words.strip_prefix(front).map_or(false, are_two_numbers),

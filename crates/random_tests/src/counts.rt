@@ -4,9 +4,9 @@ use crate::orders::Taken;
 use test_exchange::Chains;
 use test_traffic::{Counts as Courses, Drawn, Expiries, LONGEST_TONE, Script};
 
-/// How many traces there were, how many of them leave their workers a choice, in how many of those the
-/// threads took another order than the file's, of how many segments the caller did all events and
-/// the threads did, and what the changes of meters found.
+/// The number of traces and of their events, of traces with more than one lawful order, and of traces whose order in
+/// threads was not file order. The number of segments that the caller processed and that threads processed, and the
+/// counts of the changes of meters.
 #[derive(Clone, Copy, Default)]
 pub struct Orders {
     pub traces: u32,
@@ -19,9 +19,9 @@ pub struct Orders {
 }
 
 impl Orders {
-    /// Counts a trace whose reports were the wanted ones in the orders that they have: in threads by turns of one event,
-    /// as the program decides, and in threads that keep their turns. It doesn't count one whose segments of too few
-    /// events are out of the order of the file, or in which another worker has an event within a turn that was kept.
+    /// Counts a trace whose reports are correct for their orders: in threads by turns of one event, as the program
+    /// decides, and in threads that keep their turns. It does not count a trace with a small segment out of file order,
+    /// or with an event of another worker within a kept turn.
     pub fn add(&mut self, script: &Script, in_threads: Taken, decided: Taken, kept: Taken) {
         if !decided.keeps_file_order || !kept.keeps_turns {
             return;
@@ -40,8 +40,8 @@ impl Orders {
         self.changes.add(decided.changes);
     }
 
-    /// Whether all of n traces were counted, threads took another order than the file's in some,
-    /// the program did segments both ways, and meters were changed in each case.
+    /// Returns whether all `traces` traces were counted, threads took another order than file order in some, the
+    /// program processed segments in both ways, and meters changed in each case.
     pub fn is_whole(&self, traces: u32) -> bool {
         self.traces == traces
             && self.others > 0
@@ -51,7 +51,7 @@ impl Orders {
     }
 }
 
-/// What the traces come to in file order.
+/// The results of the traces in file order.
 #[derive(Clone, Copy, Default)]
 pub struct Counts {
     pub refused: u32,
@@ -67,8 +67,8 @@ impl Counts {
     }
 }
 
-/// How many paths were moved in file order, in how many traces some were, by which chains, and in how many
-/// traces more moved for one path than there are other lines.
+/// The number of moved paths in file order, of traces with moved paths, of moves by each chain, and of traces in which
+/// one path moved more paths than there are other lines.
 #[derive(Clone, Copy, Default)]
 pub struct Moves {
     pub paths: u32,
@@ -89,15 +89,14 @@ impl Moves {
         }
     }
 
-    /// Whether each chain was taken, both had as many paths at times, and never too many moved.
+    /// Returns whether each chain was taken, both chains had the same length at times, and never too many paths moved.
     pub fn is_whole(&self) -> bool {
         let counts = [self.chains.incoming, self.chains.outgoing, self.chains.tied];
         counts.iter().all(|count| *count > 0) && self.beyond == 0
     }
 }
 
-/// How many of the traces gave tones of a length, and how often each tone was put on a slot in file
-/// order.
+/// The number of traces with tones of each length, and of slots that received each tone in file order.
 #[derive(Clone, Copy, Default)]
 pub struct Tones {
     pub one: u32,
@@ -122,14 +121,14 @@ impl Tones {
         self.busy = self.busy.saturating_add(drawn.sounded.1);
     }
 
-    /// Whether tones of each length were given, and both were put on slots.
+    /// Returns whether tones of each length were set, and slots received both tones.
     pub fn is_whole(&self) -> bool {
         let counts = [self.one, self.two, self.longest, self.ringback, self.busy];
         counts.iter().all(|count| *count > 0)
     }
 }
 
-/// What the traces of calls come to in file order.
+/// The results of the traces of calls in file order.
 #[derive(Clone, Copy)]
 pub struct CallCounts {
     pub courses: Courses,
@@ -139,7 +138,7 @@ pub struct CallCounts {
 }
 
 impl CallCounts {
-    /// Of no trace.
+    /// Returns the counts of no trace.
     pub fn new() -> CallCounts {
         CallCounts {
             courses: Courses::new(),
@@ -156,7 +155,7 @@ impl CallCounts {
         self.expiries.add(&drawn.expiries);
     }
 
-    /// Whether each course, each tone, each chain of moved paths and each expiry came.
+    /// Returns whether each effect of a message, each tone, each chain of moved paths and each expiry has occurred.
     pub fn is_whole(&self) -> bool {
         self.courses.is_whole()
             && self.tones.is_whole()

@@ -1,11 +1,11 @@
-//! The delay line of a yardstick.
+//! The delay line of a reference model.
 
 use circuit_model::{IDLE, PLACES, Slot};
 use frame_buffer::DelayLine;
 use std::alloc::{AllocError, Global};
 use std::marker::Model;
 
-/// A delay line of two frames that knows how many lines it has.
+/// A delay line of two frames with its number of lines.
 #[derive(Drop)]
 pub struct Delayed {
     external: u8,
@@ -23,20 +23,20 @@ impl Model for Delayed {
 }
 
 impl Delayed {
-    /// A delay line for n external lines, on which nothing has arrived yet.
+    /// Returns a delay line for `external` external lines, on which no octets have arrived.
     pub fn new(alloc: Global, external: u8) -> Result<Delayed, AllocError> {
         let line = DelayLine::new(alloc, external)?;
         Ok(Delayed { external, line })
     }
 
-    /// Takes in what arrives in a frame, which is something or nothing for each of its lines.
+    /// Stores the input of a frame, if it has the number of lines of the delay line.
     pub fn push(&mut self, input: &[Option<[u8; 30]>]) {
         if input.len() == usize::from(self.external) {
             self.line.push(input);
         }
     }
 
-    /// What arrived on a slot two frames before; a slot of a nail is always one of the exchange.
+    /// Returns the octet that arrived on a slot two frames earlier. The slot of a nailed connection always exists.
     pub fn back_two(&self, from: Slot) -> u8 {
         if from.line < self.external && from.place < PLACES {
             self.line.back_two(from)

@@ -4,25 +4,25 @@ use std::alloc::{AllocError, Global};
 use test_exchange::PlainEvent;
 use test_traffic::{Random, Script, draw_pace};
 
-/// A trace, and what a plain reading of its events says in file order.
+/// A trace, and the result of its reference model in file order.
 #[derive(Drop)]
 pub struct Trial {
     /// The trace.
     pub script: Script,
-    /// What its yardstick is set up with.
+    /// The setting of its reference model.
     pub lines: Lines,
-    /// How many frames there are.
+    /// The number of frames.
     pub frames: u32,
-    /// How many events are refused.
+    /// The number of refused events.
     pub refused: u32,
-    /// How many octets other than the idle one are heard.
+    /// The number of octets sent on slots, without idle octets.
     pub octets: u32,
 }
 
-/// How many events a long trace has: enough for threads in one segment of four call processors.
+/// The number of events of a long trace. They are enough for threads in one segment of 4 call processors.
 pub const LONG_EVENTS: u32 = 7000;
 
-/// Draws a trace of a kind, for one to eight call processors.
+/// Generates a trace of a kind, for 1 to 8 call processors.
 pub fn drawn(alloc: Global, random: &mut Random, kind: Kind) -> Result<Trial, AllocError> {
     let external = 1 + random.below(8);
     let bridges = random.below(3);
@@ -42,7 +42,7 @@ pub fn drawn(alloc: Global, random: &mut Random, kind: Kind) -> Result<Trial, Al
     Ok(draft.drawn(lines))
 }
 
-/// Draws a long trace of a kind: one segment of [`LONG_EVENTS`] events, for four call processors.
+/// Generates a long trace of a kind: one segment of [`LONG_EVENTS`] events, for 4 call processors.
 pub fn drawn_long(alloc: Global, random: &mut Random, kind: Kind) -> Result<Trial, AllocError> {
     let lines = Lines {
         kind,
@@ -57,7 +57,7 @@ pub fn drawn_long(alloc: Global, random: &mut Random, kind: Kind) -> Result<Tria
     Ok(draft.drawn(lines))
 }
 
-/// A trace that is being drawn, and what takes its events.
+/// A trace that is being generated, and the reference model that processes its events.
 #[derive(Drop)]
 struct Draft {
     script: Script,
@@ -65,7 +65,7 @@ struct Draft {
 }
 
 impl Draft {
-    // A trace with these lines before its first event, for n call processors.
+    // Returns a trace before its first event, for `processors` call processors.
     fn new(alloc: Global, lines: Lines, processors: u8) -> Result<Draft, AllocError> {
         let Lines {
             external,
@@ -80,13 +80,13 @@ impl Draft {
         })
     }
 
-    // Takes an event, which ends its segment or not.
+    // Processes an event, and ends its segment if `ends`.
     fn take(&mut self, alloc: Global, event: PlainEvent, ends: bool) -> Result<(), AllocError> {
         self.yardstick.step(alloc, &event)?;
         self.script.append(event, ends)
     }
 
-    // The trace, with its lines.
+    // Returns the trace with its setting.
     fn drawn(self, lines: Lines) -> Trial {
         let Draft { script, yardstick } = self;
         Trial {
@@ -99,7 +99,7 @@ impl Draft {
     }
 }
 
-// The next event of a trace, after the events that the yardstick has taken.
+// Returns the next event of a trace after the events of the reference model.
 fn draw_event(
     alloc: Global,
     random: &mut Random,
@@ -115,7 +115,7 @@ fn draw_event(
     })
 }
 
-// A slot that is mostly idle: the first of seven slots that is idle, or the last of the seven.
+// Returns the first idle slot of 7 random ones, or the last if none is idle.
 fn draw_spare(random: &mut Random, yardstick: &Yardstick) -> Slot {
     let lines = yardstick.external().max(1);
     for _ in 0..6 {
@@ -127,7 +127,7 @@ fn draw_spare(random: &mut Random, yardstick: &Yardstick) -> Slot {
     random.slot(lines)
 }
 
-// A nail of two slots, or the free of one that was drawn twice.
+// Returns a nailed connection of two slots, or the release of a slot that was drawn twice.
 fn draw_nail(random: &mut Random, yardstick: &Yardstick) -> PlainEvent {
     let x = draw_spare(random, yardstick);
     let y = draw_spare(random, yardstick);
@@ -138,7 +138,7 @@ fn draw_nail(random: &mut Random, yardstick: &Yardstick) -> PlainEvent {
     }
 }
 
-// What arrives in a frame: nothing on about every fourth line.
+// Returns the input of a frame, without octets on about every fourth line.
 fn draw_input(
     alloc: Global,
     random: &mut Random,

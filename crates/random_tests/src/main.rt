@@ -1,28 +1,28 @@
-//! The test of the main theorem: pseudo-random traces through the whole exchange, whose reports are compared with the
-//! reports of reference models in the order that the threads took.
+//! The test of the main theorem: pseudo-random traces through the whole exchange. It compares each report with the report
+//! of a reference model that processes the events in the order of the threads.
 //!
-//! `random_tests TRACES` draws that many traces of each of three kinds. The octets of nails are compared with the
-//! octets of a delay line. The octets of rooms are compared with a program of the definitions. Calls with tones and
-//! timers are compared with a reference model of calls. The traces are for one to eight call processors, and their
-//! segments have any length. One long trace of each kind follows, whose one segment has enough events for threads.
+//! `random_tests TRACES` generates that number of traces of each of three kinds. The octets of nailed connections are
+//! compared with a delay line, and the octets of rooms with the executable definitions. Calls with tones and timers are
+//! compared with a reference model of calls. The traces are for 1 to 8 call processors, and their segments have any
+//! length. One long trace of each kind follows. Its one segment has enough events for threads.
 //!
-//! Up to four active and four spare meters are passed, and changed between segments. Their lines in the report, and
-//! their texts at the end, must be the texts of reference meters for the calls that the reference model saw end.
+//! The program passes up to four active and four spare meters, and traces change them between segments. Their lines in
+//! the report, and their summaries at the end, must be the text of reference meters for the calls that ended in the
+//! reference model.
 //!
-//! Each trace is run three times: all segments in threads by turns of one event, as the program decides, and on a
-//! strict fabric in threads that keep their turns. If the program decides, small segments must have the order of the
-//! file. No other worker may have an event within a turn that is kept, and on a strict fabric no path may move. Each
-//! report must have every event once, in a lawful order. The reference model processes the events in that order, from
-//! the start.
+//! Each trace is run three times: all segments in threads by turns of one event, as the program decides, and on the
+//! strict fabric in threads that keep their turns. If the program decides, small segments must have file order. No other
+//! worker may have an event within a kept turn, and on the strict fabric no path may move. Each report must have every
+//! event once, in a lawful order.
 //!
-//! The verifier must accept each report. It is also given the reference model's reports of calls in lawful orders that
-//! are drawn, unchanged and corrupted in ten ways. A plain program that processes the events in the order of the lines
-//! checks each verdict.
+//! The verifier must accept each report. It also reads reports of the reference model of calls in random lawful orders,
+//! unchanged and corrupted in ten ways. A reference model that processes the events in the order of the lines checks each
+//! verdict.
 //!
-//! The program names each trace whose report differs, and its status is then 1. The order that the threads take is not
-//! reproducible. Standard output therefore depends only on the traces and on file order. Standard error counts the
-//! traces whose events ran in another order. The status is 1 if there are none. The program is proved safe; what it
-//! compares is tested, not proved.
+//! The program prints the number of each trace with an incorrect report, and its status is then 1. The order of the
+//! threads is not reproducible. Standard output therefore depends only on the traces and on file order. Standard error
+//! counts the traces whose events ran in another order. The status is 1 if there are none. The program is proved safe.
+//! The comparisons are tested, not proved.
 #![tactic(auto)]
 
 mod changes;
@@ -52,17 +52,15 @@ use yardstick::Kind;
 
 const SEED: u64 = 1976;
 
-/// How many events a trace of calls has.
+/// The number of events of a trace of calls.
 const EVENTS: u32 = 250;
 
-/// Runs a trace in threads by turns of one event, as the program decides, and on a strict fabric in threads that keep
-/// their turns. It counts the trace if each report is the plain program's. Whether they are.
+/// Runs a trace in threads by turns of one event, as the program decides, and on the strict fabric in threads that keep
+/// their turns. Counts the trace if each report is the report of the reference model. Returns whether they all are.
 ///
-/// A long trace is never run by turns of one event: each is a hand-over between threads, which takes long on a machine
-/// that has other work.
+/// A long trace never runs by turns of one event. Each turn moves between threads, which takes long on a busy machine.
 ///
-/// No run leaves more than what is said of its order, so that there is nothing to drop where memory runs
-/// out in the next.
+/// A run returns only the properties of its order, so that no value is dropped if an allocation fails in the next run.
 fn run_each_way<S: Setting, R: Threads + Wait + Sync>(
     rt: &R,
     alloc: Global,
@@ -85,7 +83,7 @@ fn run_each_way<S: Setting, R: Threads + Wait + Sync>(
     Ok(true)
 }
 
-/// Counts a trace and runs it. Whether all reports were the wanted ones.
+/// Counts a trace and runs it. Returns whether all reports are correct.
 fn run_one<R: Threads + Wait + Sync>(
     rt: &R,
     alloc: Global,
@@ -97,8 +95,7 @@ fn run_one<R: Threads + Wait + Sync>(
     run_each_way(rt, alloc, &trial.script, &trial.lines, orders)
 }
 
-/// Runs n traces of a kind and prints what they came to. Whether all reports were the wanted
-/// ones.
+/// Runs the traces of a kind and prints their counts. Returns whether all reports are correct.
 fn run<R: Print + Eprint + Threads + Wait + Sync>(
     rt: &R,
     alloc: Global,
@@ -114,7 +111,7 @@ fn run<R: Print + Eprint + Threads + Wait + Sync>(
     Ok(orders.is_whole(traces.saturating_add(1)))
 }
 
-/// Runs n traces of a kind and a long one, and prints which of them have reports that are not the wanted ones.
+/// Runs the traces of a kind and a long one, and prints each trace with an incorrect report.
 fn run_all<R: Print + Threads + Wait + Sync>(
     rt: &R,
     alloc: Global,
@@ -138,7 +135,7 @@ fn run_all<R: Print + Threads + Wait + Sync>(
     Ok(())
 }
 
-/// Counts a trace of calls and runs it. Whether all reports were the plain program's.
+/// Counts a trace of calls and runs it. Returns whether all reports are correct.
 fn run_one_of_calls<R: Threads + Wait + Sync>(
     rt: &R,
     alloc: Global,
@@ -150,8 +147,8 @@ fn run_one_of_calls<R: Threads + Wait + Sync>(
     run_each_way(rt, alloc, &drawn.script, &drawn.setting, orders)
 }
 
-/// Runs n traces of calls and prints what they came to. Whether all reports were the
-/// plain program's, and each act, each cause of a refusal, each tone and each chain of moved paths came.
+/// Runs the traces of calls and prints their counts. Returns whether all reports are correct, and each effect of a
+/// message, each cause of a refusal, each tone and each chain of moved paths has occurred.
 fn run_calls<R: Print + Eprint + Threads + Wait + Sync>(
     rt: &R,
     alloc: Global,
@@ -166,8 +163,8 @@ fn run_calls<R: Print + Eprint + Threads + Wait + Sync>(
     Ok(orders.is_whole(traces.saturating_add(1)) && counts.is_whole() && verdicts.is_whole())
 }
 
-/// Runs n traces of calls and a long one, and prints which of them have reports that are not the plain program's. The
-/// verifier is given changed reports of the n.
+/// Runs the traces of calls and a long one, and prints each trace with an incorrect report. The verifier also reads
+/// changed reports of all but the long one.
 fn run_all_of_calls<R: Print + Threads + Wait + Sync>(
     rt: &R,
     alloc: Global,
@@ -192,7 +189,7 @@ fn run_all_of_calls<R: Print + Threads + Wait + Sync>(
     Ok(())
 }
 
-/// Prints what traces of calls came to.
+/// Prints the counts of the traces of calls.
 fn print_calls(rt: &impl Print, counts: &CallCounts, verdicts: &Verdicts) -> io::Result<()> {
     println!(rt; "calls: in file order {}", counts.courses)?;
     print_moves(rt, counts.moves)?;
@@ -212,7 +209,7 @@ fn print_counts(rt: &impl Print, name: &str, counts: Counts) -> io::Result<()> {
     )
 }
 
-/// Prints how many traces had the wanted reports.
+/// Prints the number of traces with correct reports.
 fn print_orders(
     rt: &(impl Print + Eprint),
     name: &str,
@@ -239,7 +236,7 @@ fn print_orders(
     print_changes(rt, name, changes)
 }
 
-/// Prints what the changes of meters found.
+/// Prints the counts of the changes of meters.
 fn print_changes(rt: &impl Print, name: &str, counts: ChangeCounts) -> io::Result<()> {
     let ChangeCounts {
         changes,
@@ -284,7 +281,7 @@ fn print_tones(rt: &impl Print, tones: Tones) -> io::Result<()> {
     )
 }
 
-/// The name of a kind, and of what the exchange is compared with.
+/// Returns the name of a kind and of its reference model.
 fn names_of(kind: Kind) -> (&'static str, &'static str) {
     match kind {
         Kind::Nails => ("nails", "delay line"),

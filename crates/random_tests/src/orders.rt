@@ -6,26 +6,26 @@ use std::cmp::{max, min};
 use test_exchange::PlainEvent;
 use test_traffic::{MOST_WORKERS, Post, Script, of_event};
 
-/// What is said of the order that a run took its events in, and of its changes of meters.
+/// The properties of the order of a run, and of its changes of meters.
 #[derive(Clone, Copy)]
 pub struct Taken {
-    /// Whether it is the order of the file.
+    /// Whether it is file order.
     pub is_file_order: bool,
-    /// Whether each segment of too few events for threads has its events in the order of the file.
+    /// Whether each segment with too few events for threads has its events in file order.
     pub keeps_file_order: bool,
-    /// Whether each call processor has its events of a segment in turns of [`MAX_TURN_EVENTS`] consecutive ones, the
-    /// last turn with the rest.
+    /// Whether each call processor has its events of a segment in turns of [`MAX_TURN_EVENTS`] consecutive ones. The
+    /// last turn has the remaining events.
     pub keeps_turns: bool,
-    /// How many such segments there are.
+    /// The number of segments with too few events for threads.
     pub alone: u32,
-    /// How many others there are.
+    /// The number of other segments.
     pub apart: u32,
-    /// What the changes of meters found.
+    /// The counts of the changes of meters.
     pub changes: ChangeCounts,
 }
 
 impl Taken {
-    /// What is said of a lawful order of these events, with these changes.
+    /// Returns the properties of a lawful order of these events, with these changes.
     pub fn of(
         alloc: Global,
         script: &Script,
@@ -47,8 +47,7 @@ impl Taken {
     }
 }
 
-/// The numbers of the events whose lines a report has, in its order. None where a line begins with no
-/// number.
+/// Returns the numbers of the events of a report, in its order. `None` if a line does not start with a number.
 pub fn order_of(alloc: Global, report: &str) -> Result<Option<Vec<u32>>, AllocError> {
     let mut order = Vec::new(alloc);
     for line in report.lines() {
@@ -60,13 +59,13 @@ pub fn order_of(alloc: Global, report: &str) -> Result<Option<Vec<u32>>, AllocEr
     Ok(Some(order))
 }
 
-/// The number that a line of a report begins with, and what is behind it.
+/// Returns the number of a report line and the text after it.
 pub fn numbered(line: &str) -> Option<(u32, &str)> {
     let (number, words) = line.split_once(' ')?;
     Some((number.parse::<u32>().ok()?, words))
 }
 
-// Whether all workers but the busiest of each segment have too few events for threads.
+// Returns for each segment whether all workers except the busiest have too few events for threads.
 fn few_beside(alloc: Global, posts: &[Post]) -> Result<Vec<bool>, AllocError> {
     let mut few = Vec::new(alloc);
     let mut loads = [0u32; MOST_WORKERS];
@@ -85,7 +84,7 @@ fn few_beside(alloc: Global, posts: &[Post]) -> Result<Vec<bool>, AllocError> {
     Ok(few)
 }
 
-// How many events all workers but the busiest have.
+// Returns the number of events of all workers except the busiest.
 fn beside(loads: &[u32]) -> u32 {
     let mut busiest = 0;
     let mut others: u32 = 0;
@@ -96,13 +95,13 @@ fn beside(loads: &[u32]) -> u32 {
     others
 }
 
-// Whether a lawful order has the events of each of these segments in the order of the file.
+// Returns whether a lawful order has the events of each of these segments in file order.
 fn keeps_file_order(posts: &[Post], few: &[bool], order: &[u32]) -> bool {
     order.iter().zip(order.iter().skip(1)).all(|(one, next)| one < next
         || !is_within(posts, few, *one, *next))
 }
 
-// Whether two events are of one of these segments.
+// Returns whether two events belong to one of these segments.
 fn is_within(posts: &[Post], few: &[bool], one: u32, next: u32) -> bool {
     let (Some(one), Some(next)) = (of_event(posts, one), of_event(posts, next)) else {
         return false;
@@ -110,7 +109,8 @@ fn is_within(posts: &[Post], few: &[bool], one: u32, next: u32) -> bool {
     one.segment == next.segment && few.get(one.segment as usize).map_or(false, |few| *few)
 }
 
-// Whether no other worker has an event within a turn of a call processor. Each turn of the frame worker has one event.
+// Returns whether no other worker has an event within a turn of a call processor. Each turn of the frame worker has one
+// event.
 fn keeps_turns(script: &Script, order: &[u32]) -> bool {
     let (posts, events) = (script.posts.as_slice(), script.events.as_slice());
     let mut segment = 0;
@@ -136,7 +136,7 @@ fn keeps_turns(script: &Script, order: &[u32]) -> bool {
     true
 }
 
-// Whether an order is the file's.
+// Returns whether an order is file order.
 fn is_file_order(order: &[u32]) -> bool {
     order
         .iter()

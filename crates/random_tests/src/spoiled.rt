@@ -1,36 +1,36 @@
-//! Changes of a report that mostly make it none.
+//! Changes of a report that mostly corrupt it.
 
 use std::alloc::{AllocError, Global};
 use test_traffic::Random;
 
-/// What is done to a report.
+/// A change of a report.
 #[derive(Clone, Copy, PartialEq, Eq)]
 pub enum Change {
-    /// Nothing.
+    /// No change.
     Nothing,
-    /// Two lines one after the other change places.
+    /// Two consecutive lines are exchanged.
     Exchanged,
-    /// A line is left out.
+    /// A line is missing.
     LeftOut,
-    /// A line is there twice.
+    /// A line is repeated.
     Doubled,
     /// A line ends in its middle.
     Cut,
-    /// A digit is another one.
+    /// A digit is changed.
     Digit,
     /// A hexadecimal digit is in lower case.
     LowerCase,
-    /// Two spaces are between two words.
+    /// There are two spaces between two words.
     Spaced,
-    /// A frame's line sends idle octets behind all others.
+    /// A frame has idle octets after all others.
     Idle,
-    /// The last line feed is left out.
+    /// The last line feed is missing.
     Unended,
-    /// The report is taken for one of the other fabric.
+    /// The report is verified for the other fabric.
     OtherFabric,
 }
 
-/// Each change, and what it is called.
+/// Each change with its name.
 pub const CHANGES: [(Change, &str); 11] = [
     (Change::Nothing, "as written"),
     (Change::Exchanged, "two lines exchanged"),
@@ -45,11 +45,10 @@ pub const CHANGES: [(Change, &str); 11] = [
     (Change::OtherFabric, "on the other fabric"),
 ];
 
-// Thirty idle octets of a line that few exchanges have.
+// 30 idle octets of a line that few exchanges have.
 const IDLE_PART: &str = " 31:D5D5D5D5D5D5D5D5D5D5D5D5D5D5D5D5D5D5D5D5D5D5D5D5D5D5D5D5D5D5";
 
-/// A report with these lines and a change of it somewhere. None where no line behind the place that was
-/// drawn allows the change.
+/// Returns a report of these lines with a change somewhere. `None` if no line after the drawn place allows the change.
 pub fn changed(
     alloc: Global,
     lines: &[String],
@@ -73,7 +72,7 @@ pub fn changed(
     }
 }
 
-// Lines as a text, each with its line feed.
+// Returns lines as one text, each with its line feed.
 fn text_of(alloc: Global, lines: &[String]) -> Result<String, AllocError> {
     let mut text = String::new(alloc);
     append(&mut text, lines)?;
@@ -91,7 +90,7 @@ fn append_line(text: &mut String, line: &str) -> Result<(), AllocError> {
     write!(text, "{line}\n")
 }
 
-// The lines, where n of them from one on give way to the ones at these places among the n.
+// Returns the lines with `count` of them from `at` on replaced by the lines at these places among them.
 fn moved(
     alloc: Global,
     lines: &[String],
@@ -115,7 +114,7 @@ fn moved(
     Ok(Some(text))
 }
 
-// The lines with the first one from a place on spelled anew that allows it.
+// Returns the lines with a change in the first line from `at` on that allows it.
 fn spelled_anew(
     alloc: Global,
     lines: &[String],
@@ -130,7 +129,7 @@ fn spelled_anew(
     Ok(None)
 }
 
-// The lines with another one in this place.
+// Returns the lines with another line in this place.
 fn replaced(
     alloc: Global,
     lines: &[String],
@@ -147,7 +146,7 @@ fn replaced(
     Ok(Some(text))
 }
 
-// A line that is spelled anew. None where it has nothing to be changed.
+// Returns a changed line. `None` if the line does not allow the change.
 fn anew(alloc: Global, line: &str, change: Change) -> Result<Option<String>, AllocError> {
     match change {
         Change::Cut => Ok(Some(String::from_str(alloc, half_of(line))?)),
@@ -163,13 +162,13 @@ fn anew(alloc: Global, line: &str, change: Change) -> Result<Option<String>, All
     }
 }
 
-// The first half of a line.
+// Returns the first half of a line.
 fn half_of(line: &str) -> &str {
     let half = line.len() / 2;
     line.get(..half).unwrap_or("")
 }
 
-// Another digit, where the character is one.
+// Returns another digit. `None` if the character is not a digit.
 fn next_digit(letter: char) -> Option<char> {
     match letter {
         '0'..='8' => char::from_u32((letter as u32).saturating_add(1)),
@@ -178,7 +177,7 @@ fn next_digit(letter: char) -> Option<char> {
     }
 }
 
-// A hexadecimal digit in lower case.
+// Returns a hexadecimal digit in lower case. `None` for another character.
 fn lower(letter: char) -> Option<char> {
     if letter.is_ascii_uppercase() {
         Some(letter.to_ascii_lowercase())
@@ -187,7 +186,7 @@ fn lower(letter: char) -> Option<char> {
     }
 }
 
-// What a change puts for a character, where it puts another.
+// Returns the character that replaces `letter`. `None` if the change does not apply to it.
 fn other_letter(change: Change, letter: char) -> Option<char> {
     if change == Change::LowerCase {
         lower(letter)
@@ -196,7 +195,7 @@ fn other_letter(change: Change, letter: char) -> Option<char> {
     }
 }
 
-// A line with the last character exchanged that may be. None where none may.
+// Returns a line whose last changeable character is changed. `None` if there is none.
 fn exchanged(alloc: Global, line: &str, change: Change) -> Result<Option<String>, AllocError> {
     let Some((at, letter)) = line
         .char_indices()

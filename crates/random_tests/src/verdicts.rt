@@ -1,5 +1,5 @@
-//! Reports that are given to the verifier of reports, as they were written and spoiled, beside a plain
-//! program that takes the events again.
+//! The verifier tested on the reports of a reference model, unchanged and corrupted. A reference model checks each
+//! verdict.
 
 use crate::check::{Plain, Setting};
 use crate::orders::numbered;
@@ -11,23 +11,23 @@ use std::thread::Threads;
 use test_exchange::PlainEvent;
 use test_traffic::{Post, Random, Script, of_event};
 
-// How many internal slots a fabric has: one where paths may have to move, and one where none ever does.
+// The number of internal slots of the fabric that may move live paths.
 const REARRANGED_SLOTS: u8 = 30;
 
 const STRICT_SLOTS: u8 = 59;
 
-// How many changes there are to one that is tried of a report.
+// One of this number of changes is tried on a report.
 const ONE_OF: u8 = 5;
 
-/// How many reports were found valid, and how many not, for each change of them.
+/// The number of valid and of other reports for each change.
 #[derive(Clone, Copy, Default)]
 pub struct Verdicts {
     found: [(u32, u32); 11],
 }
 
 impl Verdicts {
-    /// Verifies the report of a plain program in a lawful order, with some of the changes, and counts the
-    /// verdicts. Whether each is the plain program's own.
+    /// Verifies the report of the reference model in a lawful order, with some of the changes, and counts the verdicts.
+    /// Returns whether each is the verdict of the reference model.
     pub fn add<S: Setting, R: Threads + Sync>(
         &mut self,
         rt: &R,
@@ -53,8 +53,8 @@ impl Verdicts {
         Ok(true)
     }
 
-    /// Whether each report was valid as it was written, some were with two lines exchanged and some on the
-    /// other fabric, and each change made some that were not.
+    /// Returns whether each unchanged report was valid, some were valid with two lines exchanged and some on the other
+    /// fabric, and each change made some invalid.
     pub fn is_whole(&self) -> bool {
         CHANGES.iter().zip(self.found.iter()).all(|(entry, found)| match entry.0 {
             Change::Nothing => found.0 > 0 && found.1 == 0,
@@ -79,7 +79,7 @@ impl fmt::Display for Verdicts {
     }
 }
 
-// Verifies a report, and counts the verdict where it is the plain program's own. Whether it is.
+// Verifies a report, and counts the verdict if it is the verdict of the reference model. Returns whether it is.
 fn is_found<S: Setting, R: Threads + Sync>(
     rt: &R,
     alloc: Global,
@@ -102,7 +102,7 @@ fn is_found<S: Setting, R: Threads + Sync>(
     Ok(true)
 }
 
-/// Whether the verifier says of a report what is wanted.
+/// Returns whether the verifier returns the wanted verdict.
 pub fn is_verdict<R: Threads + Sync>(
     rt: &R,
     alloc: Global,
@@ -119,8 +119,8 @@ pub fn is_verdict<R: Threads + Sync>(
     verdict == Ok(wanted)
 }
 
-// The order of the file, in which events side by side changed places a few hundred times, where two workers
-// do them in one segment.
+// Returns file order with a few hundred exchanges of adjacent events. It exchanges two events only if two workers
+// process them in one segment.
 fn drawn_order(alloc: Global, posts: &[Post], random: &mut Random) -> Result<Vec<u32>, AllocError> {
     let mut order = Vec::new(alloc);
     for number in 1..=u32::try_from(posts.len()).unwrap_or(u32::MAX) {
@@ -148,7 +148,7 @@ fn set(order: &mut Vec<u32>, at: usize, number: u32) {
     }
 }
 
-// Whether two workers do these events in one segment.
+// Returns whether two workers process these events in one segment.
 fn are_free(posts: &[Post], one: u32, next: u32) -> bool {
     let (Some(one), Some(next)) = (of_event(posts, one), of_event(posts, next)) else {
         return false;
@@ -156,8 +156,8 @@ fn are_free(posts: &[Post], one: u32, next: u32) -> bool {
     one.segment == next.segment && one.worker != next.worker
 }
 
-// The lines of a plain program that takes the events in a lawful order that is drawn, with their numbers,
-// without line feeds.
+// Returns the lines of a reference model that processes the events in a random lawful order, with the numbers of the
+// events and without line feeds.
 fn drawn_lines<S: Setting>(
     alloc: Global,
     script: &Script,
@@ -176,7 +176,7 @@ fn drawn_lines<S: Setting>(
     numbered_lines(alloc, order.as_slice(), plain.text())
 }
 
-// Takes the events in an order.
+// Processes the events in this order.
 fn take_all<P: Plain>(
     alloc: Global,
     plain: &mut P,
@@ -191,7 +191,7 @@ fn take_all<P: Plain>(
     Ok(())
 }
 
-// The lines of a report with these numbers in place of its own.
+// Returns the lines of a report, renumbered with the numbers of `order`.
 fn numbered_lines(alloc: Global, order: &[u32], report: &str) -> Result<Vec<String>, AllocError> {
     let mut lines = Vec::new(alloc);
     for (number, line) in order.iter().zip(report.lines()) {
@@ -202,8 +202,7 @@ fn numbered_lines(alloc: Global, order: &[u32], report: &str) -> Result<Vec<Stri
     Ok(lines)
 }
 
-// What a plain program says that does the events again in the order of a report, from nothing: the report
-// is valid, or which line is the first that can't be, or is lacking.
+// Returns the verdict of the reference model. It processes the events in the order of the report, from the start.
 fn plain_verdict<P: Plain + Drop>(
     alloc: Global,
     script: &Script,
@@ -215,7 +214,7 @@ fn plain_verdict<P: Plain + Drop>(
     replayed(alloc, script, &mut plain, done.as_mut_slice(), report)
 }
 
-// The same for a program before its first event, where no event is marked as done.
+// The function [`plain_verdict`] for a reference model before its first event, with no event marked as processed.
 fn replayed<P: Plain>(
     alloc: Global,
     script: &Script,
@@ -241,7 +240,8 @@ fn replayed<P: Plain>(
     Ok(Verdict::Invalid(number.saturating_add(1)))
 }
 
-// Whether a line is of an event that may come next, and says what the program does, which takes it.
+// Returns whether a line belongs to an event that may come next, and is the line of the reference model, which
+// processes the event.
 fn is_next<P: Plain>(
     alloc: Global,
     plain: &mut P,
@@ -266,7 +266,7 @@ fn is_next<P: Plain>(
     Ok(line == wanted.as_str())
 }
 
-// The words of the line behind the first octets of a report, without its number.
+// Returns the text of the line after the first `before` octets of a report, without its number.
 fn words_behind(report: &str, before: usize) -> &str {
     let line = report.get(before..).unwrap_or("");
     match numbered(line.strip_suffix('\n').unwrap_or(line)) {
@@ -284,8 +284,8 @@ fn mark(done: &mut [bool], number: u32) {
     }
 }
 
-// Whether an event isn't done, and all are that have to come before it: the events of earlier segments, and
-// its worker's earlier ones in its own.
+// Returns whether an event has not been processed, and all events that must come before it have been: the events of
+// earlier segments, and the earlier events of its worker in its segment.
 fn may_come(posts: &[Post], done: &[bool], number: u32) -> bool {
     let Some(post) = of_event(posts, number) else {
         return false;
@@ -299,7 +299,7 @@ fn may_come(posts: &[Post], done: &[bool], number: u32) -> bool {
     })
 }
 
-// Whether an event has to come before another.
+// Returns whether an event must come before another.
 fn precedes(one: &Post, number: u32, other: &Post, later: u32) -> bool {
     one.segment < other.segment
         || (one.segment == other.segment && one.worker == other.worker && number < later)

@@ -5,27 +5,27 @@ use plain_model::Exchange;
 use std::alloc::{AllocError, Global};
 use test_exchange::{CallRecord, PlainEvent, append_octets};
 
-/// Which events a trace has, and what says the octets that are heard in it.
+/// The kinds of events of a trace, and the reference model of its octets.
 #[derive(Clone, Copy)]
 pub enum Kind {
-    /// Nails, frees and frames; a delay line.
+    /// Nailed connections, releases and frames, with a delay line.
     Nails,
-    /// Seats too; the definitions' own program.
+    /// Also seats, with the executable definitions.
     Rooms,
 }
 
-/// What a yardstick is set up with.
+/// The setting of a reference model.
 #[derive(Clone, Copy)]
 pub struct Lines {
-    /// Which events the trace has.
+    /// The kinds of events of the trace.
     pub kind: Kind,
-    /// How many external lines there are.
+    /// The number of external lines.
     pub external: u8,
-    /// How many bridge lines there are.
+    /// The number of bridge lines.
     pub bridges: u8,
 }
 
-/// Two slots that are connected, and the first frame that they are connected in.
+/// Two connected slots, and the first frame of their connection.
 #[derive(Clone, Copy)]
 struct Nail {
     one: Slot,
@@ -34,7 +34,7 @@ struct Nail {
 }
 
 impl Nail {
-    /// Whom a slot is connected with by this nail.
+    /// Returns the slot that this connection connects with `x`.
     fn partner(&self, x: Slot) -> Option<Slot> {
         if self.one == x {
             Some(self.other)
@@ -46,10 +46,9 @@ impl Nail {
     }
 }
 
-/// A plain reading of the events, which reports all but the numbers of moved paths; `_ _` means
-/// them.
+/// A reference model of the events. Its report has `_ _` instead of the numbers of moved paths.
 ///
-/// It lists who is connected with whom and since when, and who has a seat.
+/// It lists the connected slots with the first frame of each connection, and the slots with a seat.
 #[derive(Drop)]
 pub struct Yardstick {
     kind: Kind,
@@ -66,7 +65,7 @@ pub struct Yardstick {
 }
 
 impl Yardstick {
-    /// Before the first event of an exchange with these lines.
+    /// Returns the reference model before the first event.
     pub fn new(alloc: Global, lines: Lines) -> Result<Yardstick, AllocError> {
         let Lines {
             kind,
@@ -88,27 +87,27 @@ impl Yardstick {
         })
     }
 
-    /// How many external lines there are.
+    /// Returns the number of external lines.
     pub fn external(&self) -> u8 {
         self.external
     }
 
-    /// How many frames there were.
+    /// Returns the number of frames.
     pub fn frames(&self) -> u32 {
         self.plain.next_frame()
     }
 
-    /// How many events were refused.
+    /// Returns the number of refused events.
     pub fn refused(&self) -> u32 {
         self.refused
     }
 
-    /// How many octets other than the idle one were heard.
+    /// Returns the number of octets sent on slots, without idle octets.
     pub fn octets(&self) -> u32 {
         self.octets
     }
 
-    /// Takes one event, and adds its line to the report.
+    /// Processes one event, and adds its line to the report.
     pub fn step(&mut self, alloc: Global, event: &PlainEvent) -> Result<(), AllocError> {
         self.events = self.events.saturating_add(1);
         write!(self.report, "{} ", self.events)?;
@@ -116,14 +115,14 @@ impl Yardstick {
             PlainEvent::Nail(x, y) => self.nail(*x, *y)?,
             PlainEvent::Seat(x, room) => self.seat(*x, *room)?,
             PlainEvent::Free(x) => self.free(*x)?,
-            // None is drawn with this yardstick, and one that is no call's gets no answer.
+            // No trace of this reference model has a message. A message outside a call has no reply.
             PlainEvent::Message(..) => self.report.push_str("message")?,
             PlainEvent::Frame(input) => self.frame(alloc, input.as_slice())?,
         }
         self.report.push_str("\n")
     }
 
-    /// Whom a slot is connected with, and since which frame.
+    /// Returns the slot that is connected with `x`, and the first frame of the connection.
     fn nail_of(&self, x: Slot) -> Option<(Slot, u32)> {
         for nail in &self.nails {
             if let Some(other) = nail.partner(x) {
@@ -133,7 +132,7 @@ impl Yardstick {
         None
     }
 
-    /// Whether a slot is idle.
+    /// Returns whether a slot is idle.
     pub fn is_idle(&self, x: Slot) -> bool {
         self.nail_of(x).is_none() && !self.seats.contains(&x)
     }
@@ -175,8 +174,8 @@ impl Yardstick {
         self.report.push_str("freed")
     }
 
-    // A frame. The delay line is read before it takes in what arrives. Past the greatest number there is
-    // no frame, and nothing is added, which no report agrees with.
+    // Processes a frame. It reads the delay line before it stores the input. After the greatest number there is no
+    // frame, and nothing is added, which no report matches.
     fn frame(&mut self, alloc: Global, input: &[Option<[u8; 30]>]) -> Result<(), AllocError> {
         let frame = self.plain.next_frame();
         if frame == u32::MAX {
@@ -191,7 +190,7 @@ impl Yardstick {
         Ok(())
     }
 
-    // What a line sends, where it isn't idle.
+    // Appends the octets of a line, if they are not all idle.
     fn line(&mut self, frame: u32, line: u8) -> Result<(), AllocError> {
         let octets = self.sent(frame, line);
         let loud = octets.iter().filter(|octet| **octet != IDLE).count();
@@ -203,7 +202,7 @@ impl Yardstick {
         append_octets(&mut self.report, &octets)
     }
 
-    /// What a line sends in a frame.
+    /// Returns the octets that a line sends in a frame.
     fn sent(&self, frame: u32, line: u8) -> [u8; 30] {
         let mut octets = [IDLE; 30];
         for place in 0..PLACES {
@@ -212,7 +211,7 @@ impl Yardstick {
         octets
     }
 
-    /// What a slot hears in a frame.
+    /// Returns the octet that a slot receives in a frame.
     fn heard(&self, frame: u32, at: Slot) -> u8 {
         match self.kind {
             Kind::Nails => self.delayed(frame, at),
@@ -220,7 +219,8 @@ impl Yardstick {
         }
     }
 
-    /// What arrived two frames before on the other end of a nail that is two frames old.
+    /// Returns the octet that arrived two frames earlier on the other end of a connection that is at least two frames
+    /// old.
     fn delayed(&self, frame: u32, at: Slot) -> u8 {
         match self.nail_of(at) {
             Some((from, since)) if frame >= 2 && since <= frame - 2 => self.delay.back_two(from),
@@ -232,7 +232,7 @@ impl Yardstick {
 impl Setting for Lines {
     type Program = Yardstick;
 
-    // Its report has no number of moved paths, so that one yardstick is for both fabrics.
+    // The report has no numbers of moved paths, so that one reference model serves both fabrics.
     fn program(&self, alloc: Global, _strict: bool) -> Result<Yardstick, AllocError> {
         Yardstick::new(alloc, *self)
     }
@@ -247,7 +247,7 @@ impl Plain for Yardstick {
         self.report.as_str()
     }
 
-    // No call is drawn with this yardstick.
+    // No trace of this reference model has a call.
     fn records(&self) -> &[CallRecord] {
         &[]
     }
