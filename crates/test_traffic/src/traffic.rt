@@ -531,7 +531,7 @@ fn draw_circuit(random: &mut Random, exchange: &PlainExchange) -> PlainEvent {
     }
 }
 
-// Returns a slot that is mostly idle: the first idle one of 7, or the last of the 7.
+// Returns the first idle slot of 7 random ones, or the last if none is idle.
 fn draw_spare(random: &mut Random, exchange: &PlainExchange) -> Slot {
     let lines = exchange.external().max(1);
     for _ in 0..6 {
