@@ -45,7 +45,7 @@ follows told line =
     else if nat_lt (length told) most_lines then says line_limits (so_far told) line
     else Err reason.Limit
 
--- each line follows those before it, with the content in its place
+-- each line follows the lines before it, and has the content in its place
 abbrev pub EachFollows : List Said → List (List ℕ) → List Said → Type 0
 EachFollows before [] [] = Unit {0}
 EachFollows before [] (said ∷ told) = ⊥
@@ -54,7 +54,7 @@ EachFollows before (line ∷ others) (said ∷ told) = (follows before line ≡ 
 
 -- ---- the story of lines
 
--- the setting that the header, the numbers, the tones and the timers give, over a fabric of n internal slots
+-- the setting of the header, the numbers, the tones and the timers, over a fabric of n internal slots
 abbrev pub setting_said : ℕ → Sizes → List Said → Setting
 setting_said slots sizes told = record {
   dimensions = record { external = sizes.external; bridges = sizes.bridges; slots = slots };
@@ -67,8 +67,8 @@ setting_said slots sizes told = record {
 abbrev pub world_said : ℕ → Sizes → List Said → World
 world_said slots sizes told = let s = setting_said slots sizes told in world_after_all s (start s.dimensions) (events_in told)
 
--- the events and the changes of meters of these lines, from an exchange state on and after n events: for each event its
--- line, which has its number, and the records of the calls that ended with it
+-- the events and the changes of meters of these lines, from an exchange state and after n events: each event has its
+-- numbered line, and the records of the calls that ended with it
 abbrev pub steps_said : Played → Setting → World → ℕ → List Said → List Step
 steps_said played s w n [] = []
 steps_said played s w n (Happens e ∷ told) =
@@ -82,20 +82,20 @@ story_by plays slots None told = []
 story_by plays slots (Some sizes) told =
     let s = setting_said slots sizes told in steps_said (plays (table_of s.tones)) s (start s.dimensions) 0 told
 
--- the story of these lines: an event happens at each line that gives one, in the order of the lines
+-- the story of these lines: their events and changes of meters, in the order of the lines
 abbrev pub story_said : Plays → ℕ → List Said → List Step
 story_said plays slots told = story_by plays slots (sizes_in told) told
 
 -- ---- the facts about lines that were followed
 
--- the parts on which the story of lines depends: the output of an engine, the number of internal slots of the fabric,
--- and the meters before and after
+-- the parameters of the story of lines: the output of an engine, the number of internal slots of the fabric, and the
+-- meters before and after
 pub record Course : Type 1 where
   pub plays : Plays
   pub slots : ℕ
   pub meters : MeterStory
 
--- the parts of a story with these meters, by the definitions of their type
+-- the parameters of a story with these meters, by the definitions of their type
 abbrev pub course : {M : Type 0} → Plays → ℕ → (M → List CallRecord → Type 0) → (M → List CallRecord → List ℕ) → (old spare new new_spare : List M) → Course
 course plays slots stands text old spare new new_spare = record { plays = plays; slots = slots; meters = meter_story stands text old spare new new_spare }
 
@@ -137,7 +137,7 @@ pub record IsLineRefused (x : Course) (ls : List (List ℕ)) (said : List ℕ) :
   pub text : said ≡ x.meters.written (story_said x.plays x.slots told) ++ refusal (length ls) why
   pub meters : x.meters.left (story_said x.plays x.slots told)
 
--- no line is refused, and none is the header: the refusal names the line after the last
+-- no line is refused, and there is no header: the refusal is at the line after the last
 pub record IsEndRefused (x : Course) (ls : List (List ℕ)) (said : List ℕ) : Type 0 where
   pub told : List Said
   pub meets : EachFollows [] ls told
@@ -145,8 +145,8 @@ pub record IsEndRefused (x : Course) (ls : List (List ℕ)) (said : List ℕ) : 
   pub text : said ≡ refusal (length ls + 1) reason.Header
   pub meters : x.meters.left []
 
--- the further lines of an interrupted input give these steps: there is none, or its content could not be stored, or it
--- gives a step
+-- the steps of the lines that remain of an interrupted input: no line remains, or its content could not be stored, or
+-- its content has these steps
 pub data IsNext (x : Course) (told : List Said) : List (List ℕ) → List Step → Type 0 where
   No_line : IsNext x told [] []
   Unread : (line : List ℕ) → IsNext x told (line ∷ []) []
@@ -154,7 +154,7 @@ pub data IsNext (x : Course) (told : List Said) : List (List ℕ) → List Step 
       → story_said x.plays x.slots (told ++ said ∷ []) ≡ story_said x.plays x.slots told ++ others → IsNext x told (line ∷ []) others
 
 -- An allocation failed after these lines, or in the last of them. The text of the lines before it is due. The meters
--- are the result of their story, and recorded perhaps a prefix of the calls that ended in the last line.
+-- are the result of their story, and may have recorded a prefix of the calls that ended in the last line.
 pub record IsInterrupted (x : Course) (ls : List (List ℕ)) (said : List ℕ) : Type 0 where
   pub before : List (List ℕ)
   pub rest : List (List ℕ)
@@ -186,13 +186,13 @@ followed_status followed.ReadFailed = 3
 followed_status followed.WriteFailed = 4
 followed_status followed.OutOfMemory = 5
 
--- the parts that every ending has in common: the story's, the engine that is returned, and its absence
+-- the parameters that all endings share: the parameters of the story, the engine that is returned, and its absence
 pub record FollowParties : Type 1 where
   pub course : Course
   pub handed : Dimensions → World → Type 0
   pub no_engine : Type 0
 
--- the parties of a call, by the definitions of its engine and of its meters
+-- the parameters of a call, by the definitions of its engine and of its meters
 abbrev pub follow_parties : {M E : Type 0} → Plays → ℕ → (E → Dimensions) → Carrying E → Option E → (M → List CallRecord → Type 0) → (M → List CallRecord → List ℕ)
     → (old spare new new_spare : List M) → FollowParties
 follow_parties plays slots sizes carries engine stands text old spare new new_spare = record {

@@ -18,8 +18,8 @@ use Rattle.trace_text.specs.TraceLines.{SoFar, line_limits}
 use Rattle.line_follower.specs.Following.{Dues}
 use Rattle.exchange_top.specs.Following.{Course, EachFollows, IsEndRefused, IsInterrupted, IsLineRefused, IsWhole, course, setting_said, story_said, world_said}
 
--- what is known of lines that follow one another: the header has the sizes of an exchange, the numbers are routed to its
--- lines, and before the header there is no number, no event and no change
+-- the properties of lines that follow one another: the header has the sizes of an exchange, the numbers are routed to
+-- its lines, and before the header there is no number, no event and no change
 pub record IsSaid (k : SoFar) : Type 0 where
   pub some : (sizes : Sizes) → k.sizes ≡ Some sizes → 1 ≤ sizes.external
   pub few : (sizes : Sizes) → k.sizes ≡ Some sizes → sizes.external ≤ 32
@@ -40,8 +40,8 @@ abbrev pub IsDriven : {P E : Type 0} → Carrying E → (E → ℕ) → (E → D
 IsDriven carries frames sizes slots told None = events_in told ≡ []
 IsDriven carries frames sizes slots told (Some x) = (1 ≤ length (events_in told)) × IsAfter carries frames sizes slots told x
 
--- these lines were processed: exactly the text of their story is due, the meters are its result, and these lines give
--- the heading, the count of lines and the exchange
+-- these lines were processed: exactly the text of their story is due, the meters are its result, and the heading, the
+-- count of lines and the exchange are the result of the lines
 pub record HasHandled {P E : Type 0} (carries : Carrying E) (frames : E → ℕ) (sizes : E → Dimensions) (x : Course) (heading : SoFar) (count : ℕ)
     (exchange : Option (LoneExchange P E)) (ls : List (List ℕ)) (said : List ℕ) : Type 0 where
   pub told : List Said
@@ -53,7 +53,7 @@ pub record HasHandled {P E : Type 0} (carries : Carrying E) (frames : E → ℕ)
   pub counted : count ≡ length ls
   pub driven : IsDriven carries frames sizes x.slots told exchange
 
--- a further line was read, and what happens at it was not yet processed: the heading has its content
+-- a further line was read, and its effect is not processed yet: the heading has its content
 pub record HasRead {P E : Type 0} (carries : Carrying E) (frames : E → ℕ) (sizes : E → Dimensions) (x : Course) (heading : SoFar) (count : ℕ)
     (exchange : Option (LoneExchange P E)) (ls : List (List ℕ)) (line said : List ℕ) (hap : Happening) : Type 0 where
   pub before : SoFar
@@ -77,8 +77,8 @@ pub record HasFinished {P E : Type 0} (carries : Carrying E) (frames : E → ℕ
   pub whole : IsWhole x ls said
   pub engine : IsEngineAfter carries frames sizes x.slots ls exchange
 
--- the octets that are due for lines that an exchange follows, from the meters before the first line and the parts of the
--- exchange now
+-- the octets that are due for lines that an exchange follows, from the meters before the first line and the current
+-- parts of the exchange
 abbrev pub handler_dues : {M P E : Type 0} → (M → List CallRecord → Type 0) → (M → List CallRecord → List ℕ) → Carrying E → (E → ℕ) → (E → Dimensions)
     → Plays → ℕ → (old old_spare on spare : List M) → SoFar → ℕ → Option (LoneExchange P E) → Dues
 handler_dues stands text carries frames sizes plays slots old old_spare on spare heading count exchange = record {

@@ -20,7 +20,7 @@ use Rattle.exchange_top.specs.Following.{setting_said, world_said}
 use Rattle.exchange_top.specs.Handling.{IsDriven, IsSaid}
 use Rattle.exchange_top.specs.Telling.{AreTold}
 
--- the heading has the header, the numbers, the tones and the timers of these lines, and the exchange is theirs
+-- the heading has the header, the numbers, the tones and the timers of these lines, and the exchange is their result
 pub record IsHeard {P E : Type 0} (carries : Carrying E) (frames : E → ℕ) (sizes : E → Dimensions) (slots : ℕ) (told : List Said) (z : Sizes) (heading : SoFar)
     (exchange : Option (LoneExchange P E)) : Type 0 where
   pub header : sizes_in told ≡ Some z
@@ -49,7 +49,8 @@ pub record IsEventDue {P E : Type 0} (carries : Carrying E) (frames : E → ℕ)
 abbrev pub calls_at : ℕ → List Said → Sizes → Event → List CallRecord
 calls_at slots told z e = calls_kept (kept_of (reply (setting_said slots z told) (world_said slots z told) e))
 
--- it happened: its line was appended, the meters recorded its calls, and the exchange is in the state after it
+-- the event was processed: its line was appended, the meters recorded its calls, and the exchange is in the state after
+-- it
 pub record HasHappened {M P E : Type 0} (plays : Plays) (carries : Carrying E) (frames : E → ℕ) (sizes : E → Dimensions) (slots : ℕ)
     (stands : M → List CallRecord → Type 0) (text : M → List CallRecord → List ℕ) (told : List Said) (z : Sizes) (number : ℕ) (e : Event)
     (old new : List M) (before after : List ℕ) (exchange : Option (LoneExchange P E)) : Type 0 where

@@ -92,7 +92,7 @@ pub fn say_at(
     Ok(())
 }
 
-// Appends the texts of the first meters, up to `count` or to all of them, and returns the rest of the count.
+// Appends the summaries of the first meters, up to `count` or to all of them, and returns the rest of the count.
 fn say_first(
     count: usize,
     meters: &[Box<dyn Meter>],

@@ -7,8 +7,7 @@ use fabric_map::FabricMap;
 use std::alloc::{AllocError, Global};
 use strict_map::StrictMap;
 
-/// A map of paths that is made when the number of lines is known. All maps of one type have the same number of internal
-/// slots.
+/// A path map that is created for a number of lines. All maps of one type have the same number of internal slots.
 pub trait Fabric: PathMap + Sized + Drop {
     /// The number of internal slots.
     ghost slots: { ℕ };

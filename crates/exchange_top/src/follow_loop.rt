@@ -23,7 +23,7 @@ const MAX_LINE: usize = 65_535;
 // The octets of the buffer.
 const BUFFER_OCTETS: usize = 131_072;
 
-// A text of this length is written after the line that completed it.
+// The minimum length of a text that is written before the next line is processed.
 const FULL_TEXT: usize = 65_536;
 
 // Processes a line.

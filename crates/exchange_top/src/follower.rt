@@ -46,7 +46,7 @@ impl<'a, P: Fabric, C: Carrier, R: Threads + Sync> TraceFollower<'a, P, C, R> {
     ghost use Rattle.exchange_top.specs.Following.{IsEndRefused, IsInterrupted, IsLineRefused, course};
     ghost use Rattle.exchange_top.specs.Handling.{HasFinished, HasHandled, HasRead};
 
-    // Processes what happens at a line that was read, and counts the line.
+    // Processes the effect of a line, and counts the line.
     fn take(&mut self, happening: Happening, out: &mut Vec<u8>) -> Result<(), AllocError>
         requires read { (old old_spare : List _) × (ls : List (List ℕ)) × (line : List ℕ) × (said : List ℕ) × HasRead C.carries C.next C.sizes (course C.plays P.slots (λ m. stands m) (λ m. text m)
             old old_spare self.old.metering.on.items self.old.metering.spare.items) self.old.heading self.old.lines self.old.exchange ls line said happening }
@@ -88,11 +88,12 @@ impl<'a, P: Fabric, C: Carrier, R: Threads + Sync> TraceFollower<'a, P, C, R> {
         Ok(())
     }
 
-    /// Processes the next line, which is given without its line feed, and appends the octets that are due for it.
+    /// Processes the next line, given without its line feed, and appends the octets that are due for it.
     ///
     /// # Errors
     ///
-    /// [`Stop::Refused`] if the line is refused, and [`Stop::OutOfMemory`] if an allocation failed.
+    /// - [`Stop::Refused`] if the line is refused. Its refusal was appended.
+    /// - [`Stop::OutOfMemory`] if an allocation failed.
     pub fn handle(&mut self, line: &[u8], out: &mut Vec<u8>) -> Result<(), Stop>
         requires at { (old old_spare : List _) × (ls : List (List ℕ)) × (said : List ℕ)
             × HasHandled C.carries C.next C.sizes (course C.plays P.slots (λ m. stands m) (λ m. text m)
@@ -140,7 +141,8 @@ impl<'a, P: Fabric, C: Carrier, R: Threads + Sync> TraceFollower<'a, P, C, R> {
     ///
     /// # Errors
     ///
-    /// [`Stop::Refused`] if no line was the header, and [`Stop::OutOfMemory`] if an allocation failed.
+    /// - [`Stop::Refused`] if no line was the header. The refusal was appended.
+    /// - [`Stop::OutOfMemory`] if an allocation failed.
     pub fn finish(&mut self, out: &mut Vec<u8>) -> Result<(), Stop>
         requires at { (old old_spare : List _) × (ls : List (List ℕ)) × (said : List ℕ)
             × HasHandled C.carries C.next C.sizes (course C.plays P.slots (λ m. stands m) (λ m. text m)

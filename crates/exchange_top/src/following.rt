@@ -26,7 +26,7 @@ use std::thread::Threads;
 use strict_map::StrictMap;
 use trace_text::Heading;
 
-/// The ending of a call of [`follow`].
+/// The result of a call of [`follow`].
 #[derive(Drop)]
 pub struct Followed<C: Carrier> {
     /// 0: all lines were processed. 1: a line was refused, or there is no header. 3: a read failed. 4: a write failed.
@@ -36,7 +36,7 @@ pub struct Followed<C: Carrier> {
     pub engine: Option<C>,
 }
 
-// The ending of a call on one kind of fabric, and the engine that is returned.
+// The result of a call on one kind of fabric: its ending, and the engine that is returned.
 #[derive(Drop)]
 struct Ended<C: Carrier> {
     ending: Following,
@@ -137,11 +137,10 @@ pub fn follow<W: Wire, C: Carrier, R: Threads + Sync>(
     spare: &mut VecDeque<Box<dyn Meter>>,
 ) -> Followed<C>
     requires fresh { W.stands wire.old [] [] }
-    // The other side may rely on it at each read that exactly the text of the lines so far was written.
+    // At each read the other side may rely on the output: it is exactly the text of the lines so far.
     requires promise { (heard said : List ℕ) → IsAnswered C.plays (slots_of strict)
         (λ steps. steps_text (λ m. (⟦<dyn Meter as Meter>⟧ m.vtable).text m.value) steps (handed_in meters.old.items spare.old.items)) heard said → W.relies heard said }
-    // The ending of the call, with the facts for it: statuses 3 and 4 occur only after an error was counted, and no other
-    // status hides one.
+    // The ending of the call. Statuses 3 and 4 occur only after an error was counted, and no other status hides one.
     ensures ends { (ending : An_ending) × (result.status ≡ followed_status ending)
         × FollowsTo (follow_parties C.plays (slots_of strict) C.sizes C.carries result.engine (λ m. (⟦<dyn Meter as Meter>⟧ m.vtable).stands m.value) (λ m. (⟦<dyn Meter as Meter>⟧ m.vtable).text m.value)
         meters.old.items spare.old.items meters.new.items spare.new.items) (W.stands wire.new) ending
