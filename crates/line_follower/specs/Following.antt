@@ -7,12 +7,12 @@ use Rattle.line_follower.specs.declared.following.Following.TheVariants as ended
 
 -- ---- the relations of a handler
 
--- these lines were processed, and these octets are all that is due
+-- the octets that are due for these lines
 abbrev pub Due : Type 1
 Due = List (List ℕ) → List ℕ → Type 0
 
--- the five relations of a handler: all of these lines were processed; the last of them is refused; an allocation failed
--- in the last of them or after all; the input ends after them; it is refused because it ends there
+-- the five relations of a handler: all of these lines were processed; the last of them is refused; an allocation failed in the last of them or after
+-- all of them; the input ends after them; the end of the input after them is refused
 pub record Dues : Type 1 where
   pub answers : Due
   pub refuses : Due
@@ -37,8 +37,7 @@ dues answers refuses strands ends refuses_end first now = record {
 abbrev pub HasNoFeed : List ℕ → Type 0
 HasNoFeed octets = All (λ octet. octet ≢ 10) octets
 
--- Each line that was read to its line feed was processed, and all that is due was written. The other octets that were
--- read are less than a line.
+-- Each line with a line feed was processed, and everything that is due was written. The octets after the last line feed are less than a line.
 pub record IsSettled (answers : Due) (heard said : List ℕ) : Type 0 where
   pub whole : List ℕ
   pub rest : List ℕ
@@ -49,7 +48,7 @@ pub record IsSettled (answers : Due) (heard said : List ℕ) : Type 0 where
 
 -- ---- at the end
 
--- the maximum number of octets that are read and not processed
+-- the maximum number of octets that were read and not processed
 abbrev pub buffer_octets : ℕ
 buffer_octets = 131072
 
@@ -62,12 +61,12 @@ pub record AreFirst (heard : List ℕ) (front : List (List ℕ)) : Type 0 where
   pub are : front ≡ lines whole
   pub few : length rest ≤ buffer_octets
 
--- a line is refused, or the end of the input
+-- a line is refused, or the end of the input is
 pub data IsRefused (due : Dues) (heard said : List ℕ) : Type 0 where
   At_line : (front : List (List ℕ)) → AreFirst heard front → due.refuses front said → IsRefused due heard said
   At_end : due.refuses_end (lines heard) said → IsRefused due heard said
 
--- all octets that are due for an input, by the cause for which a call ends
+-- the octets that are due for an input, by the ending of the call
 abbrev pub IsDue : Following → Dues → List ℕ → List ℕ → Type 0
 IsDue ended.Completed due heard said = due.ends (lines heard) said
 IsDue ended.Refused due heard said = IsRefused due heard said
@@ -75,7 +74,7 @@ IsDue ended.ReadFailed due heard said = IsSettled due.answers heard said
 IsDue ended.WriteFailed due heard said = (front : List (List ℕ)) × AreFirst heard front × due.answers front said
 IsDue ended.OutOfMemory due heard said = (front : List (List ℕ)) × AreFirst heard front × due.strands front said
 
--- all that is due was written; if a write failed, a prefix of it was, and the call would have ended otherwise
+-- everything that is due was written; if a write failed, a prefix of the octets for some other ending
 abbrev pub HasFollowed : Following → Dues → List ℕ → List ℕ → Type 0
 HasFollowed ended.Completed due heard said = IsDue ended.Completed due heard said
 HasFollowed ended.Refused due heard said = IsDue ended.Refused due heard said

@@ -5,21 +5,21 @@ use Rattle.line_follower.specs.Following.{Due, Dues}
 use Rattle.line_follower.specs.declared.following.Following.{Following}
 use Rattle.line_follower.specs.declared.following.Following.TheVariants as ended
 
--- these lines of the input, of this number, were processed, and all that is due for them was written except this text
+-- these lines of the input were processed, `count` of them, and everything that is due for them was written except `text`
 pub record OwesText (stands : List ℕ → List ℕ → Type 0) (answers : Due) (heard : List ℕ) (done : List (List ℕ)) (text : List ℕ) (count : ℕ) : Type 0 where
   pub said : List ℕ
   pub stood : stands heard said
   pub due : answers done (said ++ text)
   pub counted : count ≡ length done
 
--- the same for all lines before these octets
+-- all lines before the octets `rest` were processed, and everything that is due for them was written except `text`
 pub record IsUnderway (stands : List ℕ → List ℕ → Type 0) (answers : Due) (heard rest text : List ℕ) (count : ℕ) : Type 0 where
   pub whole : List ℕ
   pub parts : heard ≡ whole ++ rest
   pub ended : AreEnded whole
   pub answered : OwesText stands answers heard (lines whole) text count
 
--- the octets that are due, if the line after some others ends a call
+-- the octets that are due if the line after these lines ends a call
 abbrev pub HasStopped : Following → Dues → List (List ℕ) → List ℕ → List ℕ → Type 0
 HasStopped ended.Completed due done line said = ⊥
 HasStopped ended.Refused due done line said = due.refuses (done ++ line ∷ []) said

@@ -7,7 +7,7 @@ use ex_io::Failed;
 use line_wire::Wire;
 use memchr::memchr;
 
-/// The first line that has a line feed, and the octets after it.
+/// Returns the octets before the first line feed, and the octets after it. `None` if there is no line feed.
 pub fn first_fed(bytes: &[u8]) -> Option<(&[u8], &[u8])>
     ensures { MatchOption result (HasNoFeed bytes.now)
         (λ cut. (bytes.now ≡ cut.0.now ++ 10 ∷ cut.1.now) × HasNoFeed cut.0.now) }
@@ -16,7 +16,7 @@ pub fn first_fed(bytes: &[u8]) -> Option<(&[u8], &[u8])>
     Some((&bytes[..end], &bytes[end + 1..]))
 }
 
-/// Writes all of the octets.
+/// Writes all octets.
 ///
 /// # Errors
 ///
@@ -61,11 +61,11 @@ pub fn flush<W: Wire>(wire: &mut W, text: &mut Vec<u8>) -> Result<(), Failed>
     written
 }
 
-/// Reads after the octets that the buffer holds. Returns the number of octets that were read.
+/// Reads after the first `held` octets of the buffer. Returns the number of octets read, 0 at the end of the input.
 ///
 /// # Errors
 ///
-/// `Failed` if the read failed.
+/// `Failed` if the read failed. Then no octet was read.
 pub fn read_after<W: Wire>(wire: &mut W, buffer: &mut [u8], held: usize) -> Result<usize, Failed>
     requires room { held < length buffer.old }
     requires settled { (heard : List ℕ) × (said : List ℕ) × W.stands wire.old heard said × W.relies heard said }
@@ -85,7 +85,7 @@ pub fn read_after<W: Wire>(wire: &mut W, buffer: &mut [u8], held: usize) -> Resu
     wire.read(&mut buffer[held..])
 }
 
-/// Moves the octets between two places to the start.
+/// Moves the octets from `start` to before `end` to the start of the buffer.
 pub fn move_to_front(buffer: &mut [u8], start: usize, end: usize)
     requires order { start ≤ end }
     requires within { end ≤ length buffer.old }

@@ -1,5 +1,5 @@
 //! The endings of a followed input.
-/// The cause for which a call of [`follow_lines`] ended.
+/// The cause for which a call ended that processes the lines of an input.
 #[derive(Clone, Copy, Debug, PartialEq, Eq)]
 pub enum Following {
     /// All lines were processed.

@@ -1,6 +1,6 @@
-//! The handler of lines.
+//! The result of a handler that stops.
 
-/// The cause for which a handler stops before the end of its input.
+/// The cause for which a handler of lines stops before the end of its input.
 #[derive(Clone, Copy, Debug, PartialEq, Eq)]
 pub enum Stop {
     /// The line, or the end of the input, is refused.

@@ -1,4 +1,10 @@
-//! The lines of a wire, each processed when it arrives: before each read, everything that is due was written.
+//! The lines of a wire, each processed when it arrives. This crate has the definitions of a follower and the parts of
+//! its loop.
+//!
+//! - [`write_all`] and [`flush`] write all of the given octets (`whole`). If a write fails, they have written a prefix
+//!   (`front`), and the error is counted (`cause`).
+//! - [`read_after`] requires that everything that the other side relies on has been written (`settled`).
+//! - The definition `HasFollowed` of `specs/Following.antt` has a case for each ending ([`Following`]).
 #![tactic(auto)]
 
 mod buffer;
