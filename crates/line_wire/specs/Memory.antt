@@ -1,9 +1,9 @@
--- A wire in memory, as its callers see it. Source: this project.
+-- A wire in memory as its callers see it. Source: this project.
 use Rattle.std.specs.Prelude.{◌≡◌, ℕ, List, [], ◌∷◌, ◌++◌, length, nat_lt, if◌then◌else◌}
 use Rattle.ex_io.specs.Memory.{Store, Supply}
 
--- all the octets that it gives, those that are left and those that were written, the maximum number of notes, and at each of the first reads
--- the number of octets that were written until then
+-- the input, the source of its remaining octets, the sink of the written octets, the maximum number of notes, and for each of the first reads the
+-- number of octets that were written until then
 pub record Tape : Type 0 where
   pub given : List ℕ
   pub source : Supply

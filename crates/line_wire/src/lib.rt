@@ -1,7 +1,8 @@
-//! Both directions of a connection, as one wire: its reader has written what is due before it waits for input.
+//! A wire: both directions of a connection, whose reader has written everything that is due before it waits for input.
 //!
-//! A [`Wire`] has both directions of a connection. A caller of `read` must show what the other side relies on
-//! (`settled`), so it has written everything that is due before it waits for more input.
+//! - `read` of a [`Wire`] requires the facts that the other side relies on (`settled`). Its caller has therefore
+//!   written everything that is due before it waits for more input.
+//! - Failed reads and failed writes are counted, each with its own count (`cause`, `steady`).
 //!
 //! [`StdWire`] is a wire over any source and sink, such as standard input and output. [`MemWire`] is a wire in memory
 //! for tests.

@@ -1,4 +1,4 @@
-//! A wire in memory, which fails at given calls and records when it is read.
+//! A wire in memory. It fails at given calls and records its reads.
 ghost use Rattle.std.specs.Prelude.{◌≡◌, ◌↔◌, ◌<◌, ◌≤◌, ℕ, List, [], ◌++◌, length, take, drop, ⊤, IfOk, OnErr, IsErr, vec_len};
 ghost use Rattle.std.specs.Vec.{vec_capacity};
 ghost use Rattle.ex_io.specs.Memory.{ReadFails, WriteFails, after_failed_read, after_failed_write, after_read, after_write, read_len, write_len};
@@ -9,8 +9,7 @@ use ex_io::{Failed, MemSink, MemSource, Sink, Source};
 use std::alloc::{AllocError, Global};
 use std::marker::Model;
 
-/// A wire that holds its input and its output. At each of its first reads, it records the number of octets written
-/// until then.
+/// A wire in memory. At each of its first reads, it records the number of octets written until then.
 #[derive(Debug, Drop)]
 pub struct MemWire {
     given: Vec<u8>,
@@ -35,8 +34,8 @@ impl Model for MemWire {
 }
 
 impl MemWire {
-    /// A wire with this input, in pieces of at most `piece` octets, and this output. The reads in `fails`, counted
-    /// from 1, fail. It records the first `room` reads.
+    /// Returns a wire with this input, in pieces of at most `piece` octets, and this output. The reads in `fails`,
+    /// counted from 1, fail. It records the first `room` reads.
     ///
     /// # Errors
     ///
@@ -72,14 +71,14 @@ impl MemWire {
         })
     }
 
-    /// The octets written so far.
+    /// Returns the octets written so far.
     pub fn bytes(&self) -> &[u8]
         ensures { result.now ≡ self.now.sink.written }
     {
         self.sink.bytes()
     }
 
-    /// For each of the first reads, the number of octets that were written before it.
+    /// Returns the number of octets written before each of the first reads.
     pub fn notes(&self) -> &[usize]
         ensures { result.now ≡ self.now.notes }
     {

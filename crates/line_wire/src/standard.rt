@@ -1,4 +1,4 @@
-//! A wire over a source and a sink. No clause states which octets were read and written.
+//! A wire over a source and a sink. No clause states the octets that were read and written.
 ghost use Rattle.std.specs.Prelude.{◌≡◌, ◌<◌, ◌≤◌, ℕ, List, length, take, ⊤, IfOk, OnOk, OnErr};
 ghost use Rattle.std.specs.Io.KnownBytes.{Appends, Consumes, Keeps};
 ghost use Rattle.ex_io.specs.Ends.{Rose};
@@ -6,7 +6,7 @@ ghost use Rattle.ex_io.specs.Ends.{Rose};
 use crate::wire::Wire;
 use ex_io::{Failed, Sink, Source};
 
-/// A source and a sink as one wire: each read is a read of the source, and each write is a write of the sink.
+/// A wire over a source and a sink. Each read is a read of the source, and each write is a write of the sink.
 #[derive(Debug, Drop)]
 pub struct StdWire<S, K> {
     /// The source of the input.
@@ -16,7 +16,7 @@ pub struct StdWire<S, K> {
 }
 
 impl<S: Source, K: Sink> StdWire<S, K> {
-    /// A wire over both.
+    /// Returns a wire over `source` and `sink`.
     pub fn new(source: S, sink: K) -> StdWire<S, K>
         ensures source { result.source ≡ source }
         ensures sink { result.sink ≡ sink }

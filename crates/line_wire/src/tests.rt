@@ -1,4 +1,4 @@
-// Wires that are read and written in turn.
+// Alternate reads and writes of a wire.
 ghost use Rattle.std.specs.Prelude.{◌≤◌};
 
 use crate::memory::MemWire;
@@ -10,8 +10,8 @@ use std::test::Fail;
 
 const TEXT: &[u8] = b"one\ntwo\n\nfour";
 
-// Returns whether a wire that gives at most `piece` octets in a read has its own input as its output, if all octets of
-// a read are written before the next read, and whether each note is the number of octets written by then.
+// Returns whether the output of a wire equals its input, if all octets of a read are written before the next read, and
+// whether each note is the number of octets written by then. One read returns at most `piece` octets.
 fn echoes(alloc: Global, piece: usize) -> Result<bool, AllocError>
     requires { 1 ≤ piece }
 {
@@ -41,8 +41,8 @@ fn a_wire_records_the_octets_written_before_each_read(rt: HostRuntime) -> Result
     Ok(())
 }
 
-// Returns whether a wire of pieces of 5 octets, whose reads and writes with these numbers fail, is read with these
-// results, and whether all octets of each read are written by the second attempt.
+// Returns whether the reads of a wire have the results in `answers`, and whether all octets of each read are written at
+// the second attempt. One read returns at most 5 octets. The reads and writes with the given numbers fail.
 fn recovers(
     alloc: Global,
     reads: &[u32],

@@ -1,18 +1,18 @@
-//! Both directions of a connection.
+//! The trait of a wire.
 ghost use Rattle.std.specs.Prelude.{◌≡◌, ◌<◌, ◌≤◌, ◌++◌, ℕ, List, length, take, IfOk, OnOk, OnErr};
 ghost use Rattle.ex_io.specs.Ends.{Rose};
 
 use ex_io::Failed;
 
-/// Both directions of a connection: what the other side sent, and what was written to it.
+/// Both directions of a connection: the octets from the other side, and the octets written to it.
 ///
-/// It counts its failed reads and its failed writes. A count that is stored as a `u64` stops at the last value of
-/// that type.
+/// It counts its failed reads and its failed writes. A count stored as a `u64` stops at the greatest value of that
+/// type.
 pub trait Wire {
-    /// These octets may be all that was read so far, and these all that was written.
+    /// The given octets may be all octets read so far, and all octets written so far.
     ghost stands: { Self → List ℕ → List ℕ → Type 0 };
 
-    /// What the other side relies on at each read, by the octets read and written until then.
+    /// The fact that the other side relies on at each read, about the octets read and written until then.
     ghost relies: { List ℕ → List ℕ → Type 0 };
 
     /// The number of failed reads.
@@ -21,8 +21,8 @@ pub trait Wire {
     /// The number of failed writes.
     ghost write_faults: { Self → ℕ };
 
-    /// Puts the next octets at the start of `buf` and returns their number: at the end of the input, 0. It may wait
-    /// for them, so the other side must have been sent everything that it relies on (`settled`).
+    /// Copies the next octets to the start of `buf` and returns their number, which is 0 at the end of the input. It
+    /// may wait for them, so everything that the other side relies on must have been written (`settled`).
     ///
     /// # Errors
     ///
@@ -41,7 +41,7 @@ pub trait Wire {
         ensures cause { OnErr result (Rose (read_faults self.old) (read_faults self.new)) }
         ensures writes { write_faults self.new ≡ write_faults self.old };
 
-    /// Writes a prefix of `bytes` and returns its length: at least 1, unless there are no octets.
+    /// Writes a prefix of `bytes` and returns its length. The length is at least 1 if `bytes` is not empty.
     ///
     /// # Errors
     ///
