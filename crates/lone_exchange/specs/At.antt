@@ -1,4 +1,4 @@
--- An exchange that one caller drives, and the world that it is in. Source: this project.
+-- An exchange that one caller drives, and its exchange state. Source: this project.
 use Rattle.std.specs.Prelude.{◌≡◌, ℕ, ◌≤◌, ◌++◌, List, [], length, All}
 use Rattle.circuit_model.specs.declared.circuit.Circuit.{Circuit}
 use Rattle.circuit_model.specs.Dimensions.{Dimensions}
@@ -27,22 +27,22 @@ use Rattle.exchange_core.specs.Working.{IsToolFor}
 use Rattle.report_text.specs.RunReport.{event_line}
 use Rattle.lone_exchange.specs.declared.exchange.LoneExchange.{LoneExchange}
 
--- which frames an engine of some type carries: their inputs, circuits and conference ports
+-- the frames that an engine of some type carries: their inputs, circuits and conference ports
 abbrev pub Carrying : Type 0 → Type 1
 Carrying E = E → List Input → List (List Circuit) → List Ports → Type 0
 
--- the tool of every frame, whatever arrives in it: a control memory of this size
+-- the tool of every frame, for any input: a control memory of this size
 abbrev pub IsFrameTool : Dimensions → Tool → Type 0
 IsFrameTool d tool = IsToolFor d (Frame []) tool
 
--- the world comes about by events that fit the exchange, from its first world on
+-- the exchange state after some events that fit the exchange, from its initial state
 pub record ComesAbout (s : Setting) (w : World) : Type 0 where
   pub events : List Event
   pub fit : All (Fits s.dimensions.external) events
   pub after : w ≡ world_after_all s (start s.dimensions) events
 
--- the exchange is in this world of this setting: the map and the legs are the world's, the engine carries its frames and the next frame is its
--- next, and the engine, the control memory and the octets are of the exchange's size
+-- the exchange is in this state of this setting: it has the path map and the legs of the state, the engine carries the frames of the state and has
+-- its next frame, and the engine, the control memory and the octets have the size of the exchange
 pub record IsAt {P E : Type 0} (carries : Carrying E) (frames : E → ℕ) (sizes : E → Dimensions) (x : LoneExchange P E) (s : Setting) (w : World) : Type 0 where
   pub few : s.dimensions.external ≤ 32
   pub work : IsAtWork s x.control.map x.control.legs w
@@ -58,18 +58,18 @@ pub record IsAt {P E : Type 0} (carries : Carrying E) (frames : E → ℕ) (size
 abbrev pub size : ℕ → ℕ → ℕ → Dimensions
 size external bridges slots = record { external = external; bridges = bridges; slots = slots }
 
--- the map and the legs hold the first world of an exchange of this size
+-- the path map and the legs of the initial state of an exchange of this size
 abbrev pub HoldsNothing : ℕ → ℕ → ℕ → Connections → Legs → Type 0
 HoldsNothing external bridges slots map legs = let d = size external bridges slots in Holds d map legs (start d)
 
--- the engine has carried no frame, and the control memory is one of its size
+-- the engine has carried no frame, and the control memory has its size
 pub record AreUnused {E : Type 0} (carries : Carrying E) (frames : E → ℕ) (sizes : E → Dimensions) (d : Dimensions) (engine : E) (tool : Tool) : Type 0 where
   pub carried : carries engine [] [] []
   pub number : frames engine ≡ 0
   pub sized : sizes engine ≡ d
   pub image : IsFrameTool d tool
 
--- the exchange is in the first world of each setting of this size
+-- the exchange is in the initial state of each setting of this size
 abbrev pub StartsAt : {P E : Type 0} → Carrying E → (E → ℕ) → (E → Dimensions) → ℕ → ℕ → ℕ → LoneExchange P E → Type 0
 StartsAt carries frames sizes external bridges slots x =
     (s : Setting) → s.dimensions ≡ size external bridges slots → IsPlanned s → IsAt carries frames sizes x s (start s.dimensions)
@@ -82,22 +82,22 @@ pub record IsGiven (plan : List Number) (tones : Tones) (timers : Timers) (s : S
   pub tones_are : s.tones ≡ tones
   pub timers_are : s.timers ≡ timers
 
--- the exchange is in some world of some such setting
+-- the exchange is in some state of some such setting
 abbrev pub IsSomewhere : {P E : Type 0} → Carrying E → (E → ℕ) → (E → Dimensions) → List Number → Tones → Timers → LoneExchange P E → Type 0
 IsSomewhere carries frames sizes plan tones timers x = (s : Setting) × (w : World) × IsGiven plan tones timers s × IsAt carries frames sizes x s w
 
--- what is said of each such setting and each such world
+-- a property of each such setting and each such state
 abbrev pub EachAt : {P E : Type 0} → Carrying E → (E → ℕ) → (E → Dimensions) → List Number → Tones → Timers → LoneExchange P E
     → (Setting → World → Type 0) → Type 0
 EachAt carries frames sizes plan tones timers x Says =
     (s : Setting) (w : World) → IsGiven plan tones timers s → IsAt carries frames sizes x s w → Says s w
 
--- in each of them, the event takes the exchange x to the next world, as y
+-- in each of them, the event changes the exchange x to y, which is in the next state
 abbrev pub Passes : {P E : Type 0} → Carrying E → (E → ℕ) → (E → Dimensions) → List Number → Tones → Timers → Event → (x y : LoneExchange P E) → Type 0
 Passes carries frames sizes plan tones timers e x y =
     EachAt carries frames sizes plan tones timers x (λ s w. IsAt carries frames sizes y s (next s w e))
 
--- the response and the outbox are the reply of the event in this world
+-- the response and the outbox are the reply of the event in this state
 abbrev pub HasReplied : {P E : Type 0} → Setting → World → Event → Response → LoneExchange P E → Type 0
 HasReplied s w e response y = reply_of response y.desk.out ≡ reply s w e
 
@@ -105,12 +105,12 @@ abbrev pub Replies : {P E : Type 0} → Carrying E → (E → ℕ) → (E → Di
 Replies carries frames sizes plan tones timers e x response y =
     EachAt carries frames sizes plan tones timers x (λ s w. HasReplied s w e response y)
 
--- in the frame that begins in this world with this input, the octets are those that the engine plays, for each external line
+-- the octets of each external line are the output of the engine, in the frame that starts in this state with this input
 pub record ArePlayed (plays : Plays) (s : Setting) (w : World) (input : Input) (octets : List (List ℕ)) : Type 0 where
   pub lines : length octets ≡ s.dimensions.external
   pub played : PlaysOut s.dimensions.external (plays (table_of s.tones) (pass w input).inputs (pass w input).held w.holding.next) octets
 
--- if the event is a frame, the octets are those that the engine plays in it
+-- if the event is a frame, the octets are the output of the engine in it
 abbrev pub HasPlayed : {P E : Type 0} → Plays → Setting → World → Event → LoneExchange P E → Type 0
 HasPlayed plays s w e y = (input : Input) → e ≡ Frame input → ArePlayed plays s w input y.octets.items
 
@@ -118,6 +118,6 @@ abbrev pub PlaysDue : {P E : Type 0} → Carrying E → (E → ℕ) → (E → D
 PlaysDue carries frames sizes plays plan tones timers e x y =
     EachAt carries frames sizes plan tones timers x (λ s w. HasPlayed plays s w e y)
 
--- the text has the line of the event at its end
+-- the text is extended by the line of the event
 abbrev pub Appends : Plays → Setting → World → Event → ℕ → (text longer : List ℕ) → Type 0
 Appends plays s w e number text longer = longer ≡ text ++ event_line (plays (table_of s.tones)) s w number e

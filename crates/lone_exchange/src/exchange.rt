@@ -1,4 +1,4 @@
-//! One event at a time.
+//! An exchange that processes one event at a time.
 ghost use Rattle.std.specs.Prelude.{◌≡◌, ◌+◌, ◌<◌, ◌≤◌, ◌++◌, ℕ, IfOk, OnOk, OnErr};
 ghost use Rattle.circuit_model.specs.FrameInput.{Input as An_input};
 ghost use Rattle.exchange_core.specs.Beginnings.{IsUnused};
@@ -23,23 +23,24 @@ use std::mem;
 use std::thread::Threads;
 use tone_rules::Tones;
 
-/// An exchange that one caller drives. The definition `IsAt` states which world of which setting it is in.
+/// An exchange that one caller drives. The definition `IsAt` states its exchange state.
 ///
-/// The caller may read the fields between two events. What it writes there ends the relation to a world.
+/// The caller may read the fields between two events. A write to a field ends the relation to an exchange state.
 #[derive(Drop)]
 pub struct LoneExchange<P: PathMap, C: Carrier> {
     /// The circuits with their paths and conference ports, and the legs of the calls.
     pub control: CallControl<P>,
     /// The engine, which carries the frames.
     pub engine: C,
-    /// The control memory of the next frame, and what the last event sent and recorded.
+    /// The control memory of the next frame, and the messages and records of the last event.
     pub desk: Desk,
-    /// The octets that each external line was sent in the last frame.
+    /// The octets of each external line in the last frame.
     pub octets: Vec<[u8; 30]>,
 }
 
 impl<P: PathMap + Drop, C: Carrier> LoneExchange<P, C> {
-    /// An exchange before its first event, with these numbers of external and bridge lines, over a map without paths.
+    /// Returns an exchange before its first event, with these numbers of external and bridge lines, over an empty path
+    /// map.
     ///
     /// # Errors
     ///
@@ -70,8 +71,8 @@ impl<P: PathMap + Drop, C: Carrier> LoneExchange<P, C> {
 }
 
 impl<P: PathMap, C: Carrier> LoneExchange<P, C> {
-    /// Processes one event, with the number plan, the tones and the timers of the setting. What the event sends and
-    /// records is then in the outbox of the desk, instead of its former content.
+    /// Processes one event, with the number plan, the tones and the timers of the setting. The messages and records of
+    /// the event replace the content of the outbox of the desk.
     pub fn happen<R: Threads + Sync>(
         &mut self,
         rt: &R,
@@ -154,8 +155,8 @@ impl<P: PathMap, C: Carrier> LoneExchange<P, C> {
         response
     }
 
-    /// Appends the line of the event that [`happen`](LoneExchange::happen) processed last, with this number and this
-    /// response, to a report.
+    /// Appends the line of the last event of [`happen`](LoneExchange::happen), with this number and this response, to a
+    /// report.
     ///
     /// # Errors
     ///

@@ -18,7 +18,7 @@ use frame_engine::Carrier;
 use leg_table::LegTable;
 use std::alloc::{AllocError, Global};
 
-/// No circuit and no leg.
+/// Returns the circuits and legs of an exchange before its first event.
 pub(crate) fn lines_of<P: PathMap + Drop>(
     alloc: Global,
     external: u8,
@@ -38,7 +38,7 @@ pub(crate) fn lines_of<P: PathMap + Drop>(
     })
 }
 
-/// An engine that has carried no frame, the control memory of the first frame, and the buffer for its octets.
+/// Returns an engine before its first frame, the control memory of the first frame, and the buffer for its octets.
 pub(crate) fn frame_parts<C: Carrier>(
     alloc: Global,
     external: u8,
@@ -55,7 +55,7 @@ pub(crate) fn frame_parts<C: Carrier>(
     Ok((C::new(alloc, external, bridges, slots)?, tool, octets))
 }
 
-// The control memory of the first frame, and the buffer for its octets.
+// Returns the control memory of the first frame, and the buffer for its octets.
 fn frame_buffers(
     alloc: Global,
     external: u8,
