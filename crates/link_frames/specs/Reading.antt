@@ -14,7 +14,7 @@ IsNumbered (control.Information poll ns nr information) = nr < 128
 IsNumbered (control.Supervisory kind pf nr) = nr < 128
 IsNumbered _ = Unit {0}
 
--- whether the sender of an address octet sends a command; none for another SAPI, or a wrong EA bit
+-- an address octet of the sender belongs to a command; none for another SAPI or a wrong EA bit
 abbrev pub command_of : Sender → ℕ → Option Bool
 command_of sender octet =
     if octet == address_octet sender true then Some true
@@ -41,7 +41,7 @@ abbrev pub supervisory_with : Option Supervisory → ℕ → Control
 supervisory_with None last = control.Invalid
 supervisory_with (Some kind) last = control.Supervisory kind (last_bit last) (receive_number last)
 
--- an S frame (3.4.2): two octets of control field, and no information field
+-- an S frame (3.4.2): two octets of control field and no information field
 abbrev pub supervisory : ℕ → List ℕ → Control
 supervisory first (last ∷ []) = supervisory_with (kind_of first) last
 supervisory first _ = control.Invalid
@@ -69,7 +69,7 @@ any_unnumbered command first rest =
     else if modifier first == frmr && not command then control.Frmr
     else without_information command first rest
 
--- the control field and the octets after it: the last two bits of its first octet give the format (table 4)
+-- the control field and the octets after it: the last two bits of its first octet determine the format (table 4)
 abbrev pub control_of : Bool → ℕ → List ℕ → Control
 control_of command first rest =
     if first % 2 == 0 then numbered_information command first rest
@@ -83,8 +83,7 @@ frame_with (Some command) first rest = Some record { command = command; control 
 abbrev pub frame_of : Sender → ℕ → ℕ → ℕ → List ℕ → Option Frame
 frame_of sender address tei first rest = if tei == tei_octet then frame_with (command_of sender address) first rest else None
 
--- the frame that these octets of this sender are; none if they are discarded (2.9): fewer than three octets, or another
--- address
+-- the frame of these octets of the sender; none if they are discarded (2.9): fewer than three octets, or another address
 abbrev pub reading : Sender → List ℕ → Option Frame
 reading sender (address ∷ tei ∷ first ∷ rest) = frame_of sender address tei first rest
 reading sender _ = None

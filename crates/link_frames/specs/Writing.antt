@@ -20,7 +20,7 @@ abbrev pub information_in : Control → List ℕ
 information_in (control.Information poll ns nr information) = information
 information_in _ = []
 
--- the control field and the information field; this exchange sends no other frame
+-- the control field and the information field of the frames that this exchange sends
 abbrev pub fields_of : Control → List ℕ
 fields_of (control.Information poll ns nr information) = (2 * ns) ∷ (2 * nr + bit poll) ∷ information
 fields_of (control.Supervisory kind pf nr) = supervisory_octet kind ∷ (2 * nr + bit pf) ∷ []

@@ -74,8 +74,8 @@ pub enum Control<'a> {
     Ui,
     /// XID, exchange identification (3.6.12). Its information field is not read.
     Xid,
-    /// A frame with the frame rejection condition (5.8.5): an undefined control field, a frame of a wrong length, a
-    /// command as a response or the reverse.
+    /// A frame with the frame rejection condition (5.8.5): an undefined control field, a wrong length, a command sent
+    /// as a response, or a response sent as a command.
     Invalid,
 }
 

@@ -2,7 +2,7 @@
 
 use std::marker::Model;
 
-/// The information field of an I frame (Q.921, 2.5). Contracts see the list of its octets.
+/// The information field of an I frame (Q.921, 2.5). A contract views it as the list of its octets.
 #[derive(Clone, Debug, Drop)]
 pub struct Information<'a> {
     octets: &'a [u8],
@@ -19,7 +19,7 @@ impl<'a> Model for Information<'a> {
 impl<'a> Information<'a> {
     ghost use Rattle.std.specs.Prelude.{◌≡◌};
 
-    /// Returns these octets as an information field, without copying them.
+    /// Returns an information field of these octets, without a copy.
     pub fn of(octets: &'a [u8]) -> Information<'a>
         ensures { result ≡ octets.entry.now }
     {

@@ -1,12 +1,14 @@
-//! Reads and writes the frames of a data link: ITU-T Q.921 (09/97), sections 2 and 3.
+//! The codec of the frames of a data link: ITU-T Q.921 (09/97), sections 2 and 3.
 //!
 //! The link has SAPI 0, TEI 0 and modulo 128. The flags and the frame check sequence are not part of the octets.
 //!
-//! - [`read`] gives each string of octets one reading (`reading`): a frame, or `None` if the octets are discarded.
-//! - [`write`] encodes a frame, and reading the octets gives the frame again (`read_back`).
-//! - Both hold for either side ([`law_of_reading`]).
+//! - [`read`] returns the one reading of a string of octets: a frame, or `None` if the octets are discarded
+//!   (`computed`). The sequence numbers of a frame are below 128 (`numbered`).
+//! - [`write`] returns the octets of a frame (`encoded`), at most 116 (`fits`). Reading them returns the frame
+//!   (`read_back`).
+//! - For either side, reading the octets of a frame returns the frame ([`law_of_reading`]).
 //!
-//! Nothing here allocates.
+//! No function allocates.
 #![tactic(auto)]
 
 mod codes;

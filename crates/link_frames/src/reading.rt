@@ -10,8 +10,8 @@ use crate::information::Information;
 // N201: the maximum number of octets of an information field (Q.921, 5.9.3).
 const LONGEST_INFORMATION: usize = 260;
 
-/// Reads the frame that the octets from this sender are. `None` if they are discarded (Q.921, 2.9): fewer than three
-/// octets, another SAPI or TEI, or a wrong EA bit.
+/// Returns the frame of these octets from `sender`. `None` if they are discarded (Q.921, 2.9): fewer than three octets,
+/// another SAPI or TEI, or a wrong EA bit.
 pub fn read(sender: Sender, octets: &[u8]) -> Option<Frame<'_>>
     ensures computed { result ≡ spec.reading sender octets.now }
     ensures numbered { IfSome result (λ f. spec.IsNumbered f.control) }
@@ -28,7 +28,7 @@ pub fn read(sender: Sender, octets: &[u8]) -> Option<Frame<'_>>
     }
 }
 
-// Returns whether the sender of this address octet sends a command.
+// Returns whether an address octet of `sender` belongs to a command. `None` for another SAPI or a wrong EA bit.
 fn command_of(sender: Sender, address: u8) -> Option<bool>
     ensures { result ≡ spec.command_of sender address }
 {
@@ -41,7 +41,7 @@ fn command_of(sender: Sender, address: u8) -> Option<bool>
     }
 }
 
-// Reads the control field. The last two bits of its first octet give the format.
+// Returns the control field. The last two bits of its first octet determine the format.
 fn control_of(command: bool, first: u8, rest: &[u8]) -> Control<'_>
     ensures computed { result ≡ spec.control_of command first rest.now }
     ensures numbered { spec.IsNumbered result }

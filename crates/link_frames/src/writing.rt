@@ -16,7 +16,7 @@ pub const LONGEST_MESSAGE: usize = 112;
 /// The maximum number of octets of a written frame.
 pub const LONGEST_FRAME: usize = 116;
 
-/// The octets of a written frame. Contracts see their list.
+/// The octets of a written frame. A contract views them as a list.
 #[derive(Clone, Debug, Default, Drop)]
 pub struct FrameOctets {
     octets: ArrayVec<u8, LONGEST_FRAME>,
@@ -31,7 +31,7 @@ impl Model for FrameOctets {
 }
 
 impl FrameOctets {
-    /// Returns the octets in the order in which they are sent.
+    /// Returns the octets in the order of transmission.
     pub fn as_slice(&self) -> &[u8]
         ensures { result.now ≡ self.now }
     {
@@ -39,8 +39,8 @@ impl FrameOctets {
     }
 }
 
-/// Encodes a frame from this sender. It is an I frame with a message of at most 112 octets, an S frame, SABME, DISC, UA
-/// or DM. An I frame, SABME and DISC are commands, UA and DM are responses.
+/// Returns the octets of a frame from `sender`: an I frame with a message of at most 112 octets, an S frame, SABME,
+/// DISC, UA or DM. I frames, SABME and DISC are commands. UA and DM are responses.
 pub fn write(sender: Sender, frame: &Frame) -> FrameOctets
     requires writable { IsWritable frame.now.command frame.now.control }
     requires room { length (information_in frame.now.control) ≤ 112 }
