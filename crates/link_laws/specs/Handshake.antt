@@ -1,16 +1,15 @@
--- The establishment and re-establishment of a data link, over wires that lose frames and keep their order (ITU-T Q.921
--- (09/97), 5.5.1 and 5.7). Each time a side sets its variables to 0, a new numbering of its I frames begins.
+-- The establishment and re-establishment of a data link, over wires that lose frames and preserve their order (ITU-T Q.921 (09/97), 5.5.1 and 5.7).
+-- Each time a side sets its variables to 0, a new numbering of its I frames begins.
 use Rattle.std.specs.Prelude.{◌≡◌, ℕ, suc, ◌+◌, ◌==◌, Bool, List, [], ◌∷◌, ◌++◌, if◌then◌else◌}
 
--- a frame: SABME, with the numbering that it begins; UA, with the numbering of the frames after it; an I or S frame, with
--- the numberings of its N(S) and of its N(R)
+-- a frame: SABME, with the numbering that starts with it; UA, with the numbering of the frames after it; an I or S frame, with the numberings of its
+-- N(S) and of its N(R)
 pub data Signal : Type 0 where
   Sabme : ℕ → Signal
   Ua : ℕ → Signal
   Numbered : ℕ → ℕ → Signal
 
--- a side: no link; SABME sent and not answered; or a link, with the numbering of the frames that it sends and of those that
--- it takes
+-- a side: no link; SABME sent without a UA; or a link, with the numberings of the frames that it sends and that it accepts
 pub data Side : Type 0 where
   Off : ℕ → Side
   Calling : ℕ → Side
@@ -28,7 +27,7 @@ start = record { first = Off 0; second = Off 0; there = []; back = [] }
 abbrev pub mirror : Pair → Pair
 mirror w = record { first = w.second; second = w.first; there = w.back; back = w.there }
 
--- an act of the first side, or the end of the oldest frame on the wire to the other side
+-- an act of the first side, or the arrival or loss of the oldest frame on the wire to the other side
 pub data Happening : Type 0 where
   Call : Happening
   Expire : Happening
@@ -53,7 +52,7 @@ uas (Sabme n ∷ ts) = uas ts
 uas (Ua n ∷ ts) = suc (uas ts)
 uas (Numbered n k ∷ ts) = uas ts
 
--- neither a SABME nor its UA is on the wire: T200 is longer than the way there and back
+-- neither a SABME nor its UA is on the wire, because T200 is longer than the round trip
 abbrev pub is_over : Pair → Bool
 is_over w = sabmes w.there + uas w.back == 0
 
@@ -74,7 +73,7 @@ abbrev pub sends : Pair → Side → Pair
 sends w (On g t) = record { first = On g t; second = w.second; there = w.there ++ Numbered g t ∷ []; back = w.back }
 sends w other = w
 
--- SABME is answered by UA; a side that is not calling begins a new numbering
+-- a SABME is acknowledged by UA; a side that is not calling starts a new numbering
 abbrev pub sabme_comes : Pair → ℕ → List Signal → Side → Pair
 sabme_comes w n rest (Off g) = record { first = w.first; second = On (g + 1) n; there = rest; back = w.back ++ Ua (g + 1) ∷ [] }
 sabme_comes w n rest (On g t) = record { first = w.first; second = On (g + 1) n; there = rest; back = w.back ++ Ua (g + 1) ∷ [] }
@@ -110,7 +109,7 @@ abbrev pub run : List Event → Pair → Pair
 run [] w = w
 run (e ∷ es) w = run es (next w e)
 
--- the oldest frame on the wire to the second side, if it is numbered and that side has a link, has its numberings
+-- the oldest frame on the wire to the second side, if it is an I or S frame and that side has a link, has the numberings of that side
 abbrev pub IsAgreed : Pair → Type 0
 IsAgreed p =
     (mine theirs number acknowledged : ℕ) (rest : List Signal) → p.second ≡ On mine theirs → p.there ≡ Numbered number acknowledged ∷ rest

@@ -1,11 +1,10 @@
--- The window of a data link: one direction between two establishments, over a wire that loses and delays frames and keeps
--- their order (ITU-T Q.921 (09/97), 5.6).
+-- The window of a data link: one direction between two establishments, over a wire that loses and delays frames and preserves their order (ITU-T
+-- Q.921 (09/97), 5.6).
 use Rattle.std.specs.Prelude.{◌≡◌, ℕ, ◌+◌, ◌-◌, ◌%◌, ◌==◌, ◌&&◌, nat_lt, nat_le, Bool, List, [], ◌∷◌, ◌++◌, length, take, slice_index, if◌then◌else◌, max}
 
--- the messages of layer 3; the number of them that are acknowledged, V(A) without modulo; the number of those after them
--- that are sent; the end of all that was ever sent; the messages that arrived; the I frames on the wire, oldest first,
--- each as the number of messages before it; and the acknowledgements on the wire, each as the number of messages that it
--- acknowledges
+-- one direction: the submitted messages of layer 3; the number of acknowledged messages, V(A) without modulo; the number of sent messages after them;
+-- the greatest number of messages ever sent; the messages that arrived; the I frames on the wire, oldest first, each as the number of messages before
+-- it; and the acknowledgements on the wire, each as the number of messages that it acknowledges
 pub record Direction : Type 0 where
   pub submitted : List ℕ
   pub acknowledged : ℕ
@@ -30,7 +29,7 @@ pub data Event : Type 0 where
   Acknowledge : Event
   Miss : Event
 
--- the window is open, and a message waits
+-- the window is open, and a message is waiting
 abbrev pub may_send : Direction → Bool
 may_send w = nat_lt w.sent 7 && nat_lt (w.acknowledged + w.sent) (length w.submitted)
 
@@ -45,7 +44,7 @@ with_next w = record {
   replies = w.replies;
 }
 
--- an I frame arrives: N(S) is its number modulo 128, and its message is taken if N(S) is V(R)
+-- an I frame arrives: N(S) is its number modulo 128, and its message is accepted if N(S) is V(R)
 abbrev pub takes : Direction → ℕ → List ℕ → Direction
 takes w c rest = record { submitted = w.submitted; acknowledged = w.acknowledged; sent = w.sent; reached = w.reached; delivered = w.delivered ++ slice_index w.submitted c ∷ []; underway = rest; replies = w.replies }
 
@@ -67,7 +66,7 @@ beyond acknowledged told = (told % 128 + 128 - acknowledged % 128) % 128
 abbrev pub moved : Direction → ℕ → List ℕ → Direction
 moved w d rest = record { submitted = w.submitted; acknowledged = w.acknowledged + d; sent = w.sent - d; reached = w.reached; delivered = w.delivered; underway = w.underway; replies = rest }
 
--- N(R) is taken if it is valid (5.6.3.2)
+-- N(R) is accepted if it is valid (5.6.3.2)
 abbrev pub takes_acknowledgement : Direction → List ℕ → Direction
 takes_acknowledgement w [] = w
 takes_acknowledgement w (a ∷ rest) = if nat_le (beyond w.acknowledged a) w.sent then moved w (beyond w.acknowledged a) rest else moved w 0 rest
