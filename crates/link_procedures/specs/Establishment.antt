@@ -7,7 +7,7 @@ use Rattle.link_procedures.specs.declared.state.Indication.TheVariants as indica
 use Rattle.link_procedures.specs.Links.{SendQueue, DataLink, Step, step, emptied, renumbered, longest_queue, is_up, is_awaiting, t200, t203}
 use Rattle.link_procedures.specs.Sending.{command, sends, flushes}
 
--- the result of a received frame or an expiry: the link, the frames sent, and what layer 3 is informed of
+-- the result of a received frame or an expiry: the link, the frames sent, and the indication to layer 3
 pub record Outcome : Type 0 where
   pub link : DataLink
   pub out : List (List ℕ)
@@ -30,7 +30,7 @@ awaiting asked at l = record (cleared l) { state = state.AwaitingEstablishment; 
 unfoldable pub establishes : Bool → ℕ → Step → Step
 establishes asked at s = step (awaiting asked at s.link) (sends (command (control.Sabme true)) s).out
 
--- multiple frame operation begins: all variables are 0, and T203 starts
+-- multiple frame operation starts: all variables are 0, and T203 starts
 unfoldable pub established : ℕ → DataLink → DataLink
 established at l = record (cleared l) { state = state.MultipleFrameEstablished; asked = false; queue = renumbered l.queue; received = 0; timer = t203 at }
 
@@ -52,7 +52,7 @@ begins is_new at s = record { link = begun is_new at s.link; out = s.out; indica
 abbrev pub is_uncertain : SendQueue → Bool
 is_uncertain q = nat_lt 0 q.sent
 
--- the link is released, and begins again after T200
+-- the link is released, and starts again after T200
 unfoldable pub released : ℕ → DataLink → DataLink
 released at l = record (lost l) { state = state.TeiAssigned; asked = true; timer = t200 at }
 
@@ -73,7 +73,7 @@ overflows at s =
 unfoldable pub queued : List ℕ → SendQueue → SendQueue
 queued message q = record { waiting = q.waiting ++ message ∷ []; sent = q.sent; acknowledged = q.acknowledged }
 
--- a message waits, and is sent if the window is open; it is lost if the link is not up
+-- a message is queued, and sent if the window is open; it is lost if the link is not up
 unfoldable pub submitted : List ℕ → ℕ → Step → Step
 submitted message at s =
     if not (is_up s.link) then s

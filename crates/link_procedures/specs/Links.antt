@@ -5,7 +5,7 @@ use Rattle.link_procedures.specs.declared.state.State.TheVariants as state
 use Rattle.link_procedures.specs.declared.state.Timer.{Timer}
 use Rattle.link_procedures.specs.declared.state.Running.TheVariants.{T200, T203}
 
--- the I queue: the messages that are not acknowledged, in order; how many of them are sent; and V(A)
+-- the I queue: the messages that are not acknowledged, in order; the number of sent messages among them; and V(A)
 pub record SendQueue : Type 0 where
   pub waiting : List (List ℕ)
   pub sent : ℕ
@@ -24,7 +24,7 @@ pub record DataLink : Type 0 where
   pub rejecting : Bool
   -- acknowledge pending
   pub pending : Bool
-  -- messages are lost, and layer 3 is not informed yet
+  -- messages are lost, and layer 3 has not been informed
   pub owed : Bool
   -- the retransmission counter, RC
   pub retries : ℕ
@@ -36,7 +36,7 @@ pub record DataLink : Type 0 where
 abbrev pub window : ℕ
 window = 7
 
--- the maximum number of messages that wait
+-- the maximum number of messages that are not acknowledged
 abbrev pub longest_queue : ℕ
 longest_queue = 64
 
@@ -44,7 +44,7 @@ longest_queue = 64
 unfoldable pub next_number : SendQueue → ℕ
 next_number q = (q.acknowledged + q.sent) % 128
 
--- how many messages N(R) acknowledges
+-- the number of messages that N(R) acknowledges
 unfoldable pub distance : SendQueue → ℕ → ℕ
 distance q nr = (nr + 128 - q.acknowledged) % 128
 
@@ -91,7 +91,7 @@ is_recovering _ = false
 unfoldable pub is_multiple_frame : State → Bool
 is_multiple_frame s = is_established s || is_recovering s
 
--- messages of layer 3 are taken: in states 7 and 8, and in 5 while the link re-establishes itself
+-- the link accepts messages of layer 3: in states 7 and 8, and in 5 while the link re-establishes itself
 unfoldable pub is_up : DataLink → Bool
 is_up l = is_multiple_frame l.state || (is_awaiting l.state && not l.asked)
 

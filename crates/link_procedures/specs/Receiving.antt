@@ -60,7 +60,7 @@ on_rejection _ at s = s
 
 -- ---- RR, RNR and REJ
 
--- all is acknowledged: T203 starts; V(A) has moved: T200 starts again (5.6.3.2)
+-- if all is acknowledged, T203 starts; otherwise, if V(A) has moved, T200 restarts (5.6.3.2)
 unfoldable pub retimed : Bool → ℕ → DataLink → DataLink
 retimed moved at l =
     if l.queue.sent == 0 then record l { timer = t203 at }
@@ -110,7 +110,7 @@ on_valid command kind pf nr at s =
     if is_valid s.link.queue nr then step (supervisory_applied command kind pf nr at s.link) s.out
     else establishes false at s
 
--- an enquiry is answered
+-- an enquiry has an RR response
 unfoldable pub answers_enquiry : Bool → Step → Step
 answers_enquiry is_enquiry s = if is_enquiry then acknowledges true s else s
 

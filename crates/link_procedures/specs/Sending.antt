@@ -67,13 +67,13 @@ abbrev pub sends_waiting : ℕ → ℕ → Step → Step
 sends_waiting zero at s = s
 sends_waiting (suc n) at s = sends_waiting n at (sends_next at s)
 
--- all I frames that the window lets pass
+-- all I frames that the window permits
 unfoldable pub flushes : ℕ → Step → Step
 flushes at s = sends_waiting 7 at s
 
 -- ---- the end of a step
 
--- a received I frame is acknowledged by RR unless an I frame did so (5.6.2.2)
+-- a received I frame is acknowledged by RR, unless an I frame carried the acknowledgement (5.6.2.2)
 unfoldable pub acknowledges_pending : Step → Step
 acknowledges_pending s =
     if s.link.pending && is_multiple_frame s.link.state then acknowledges false s

@@ -23,7 +23,7 @@ frames_to timers T203 = timers.t203
 unfoldable pub is_due : Timers → ℕ → Timer → Bool
 is_due timers at timer = nat_le (timer.since + frames_to timers timer.running) at
 
--- SABME again (5.5.1.3)
+-- SABME is retransmitted (5.5.1.3)
 abbrev pub calling_again : ℕ → DataLink → DataLink
 calling_again at l = record l { retries = l.retries + 1; timer = t200 at }
 
@@ -37,12 +37,12 @@ enquiring retries at l = record l { state = state.TimerRecovery; retries = retri
 unfoldable pub enquires_at : ℕ → ℕ → Step → Step
 enquires_at retries at s = step (enquiring retries at (enquires s).link) (enquires s).out
 
--- T203 expires while all is quiet (5.10); T200 counts as the first retransmission
+-- the retransmission counter after an expiry in state 7: T200 counts as the first retransmission, T203 does not (5.10)
 abbrev pub first_retries : Running → ℕ
 first_retries T200 = 1
 first_retries T203 = 0
 
--- SABME again, or the link is released after N200 retransmissions
+-- SABME is retransmitted, or the link is released after N200 retransmissions
 unfoldable pub calls_or_releases : ℕ → Step → Outcome
 calls_or_releases at s = if s.link.retries == most_retries then releases at s else quietly (calls_again at s)
 

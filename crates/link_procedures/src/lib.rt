@@ -1,12 +1,15 @@
 //! The procedures of a data link at the network side of an interface: ITU-T Q.921 (09/97), section 5.
 //!
-//! A [`Link`] has one of four states, T200 or T203, and at most 64 messages that wait. A step of it is one
-//! [`received`](Link::received) frame, any number of [`submitted`](Link::submitted) messages, and its
-//! [end](Link::finished); or a [turn](Link::turned) in its place. The frames that it sends are in an [`Outbox`].
+//! A [`Link`] has one of four states, a running timer (T200 or T203), and at most 64 messages that are not
+//! acknowledged. A step of it is one [`received`](Link::received) frame, any number of [`submitted`](Link::submitted)
+//! messages, and its [end](Link::finished). Another step is a [turn](Link::turned), in which the timer can expire. The
+//! frames that it sends are in an [`Outbox`].
 //!
-//! The definitions in `specs/` are the rules, by cases like the SDL diagrams of annex B.
+//! - The link after each call is the link of the definition in `specs/` (`link`), and so are the frames (`out`) and the
+//!   indication to layer 3 (`indication`). The definitions have the cases of the SDL diagrams of annex B.
+//! - Each call requires capacity in the outbox for the frames that it can send.
 //!
-//! Nothing here allocates.
+//! No function allocates.
 #![tactic(auto)]
 
 mod link;

@@ -9,7 +9,7 @@ use crate::state::{Running, State, Timer};
 use link_frames::{Control, Frame};
 use std::marker::Model;
 
-/// A data link. Contracts see the record of its variables.
+/// A data link. A contract views it as the record of its variables.
 #[derive(Drop)]
 pub struct Link {
     pub(crate) state: State,
@@ -36,7 +36,7 @@ impl Model for Link {
 }
 
 impl Link {
-    /// Returns a link in state 4, which calls T200 after this frame of the exchange.
+    /// Returns a link in state 4 that starts T200 in this frame of the exchange.
     pub fn new(at: u32) -> Link
         ensures { result ≡ initial at }
     {
@@ -64,7 +64,7 @@ impl Link {
         self.state
     }
 
-    /// Returns whether messages of layer 3 are taken.
+    /// Returns whether the link accepts messages of layer 3.
     #[tactic(auto, unfolding(crate::specs::Links::is_up, crate::specs::Links::is_multiple_frame, crate::specs::Links::is_established, crate::specs::Links::is_recovering, crate::specs::Links::is_awaiting))]
     pub fn is_up(&self) -> bool
         ensures { result ≡ is_up self.now }
@@ -104,7 +104,7 @@ impl Link {
         self.pending = false;
     }
 
-    // Sends SABME, and waits for UA.
+    // Sends SABME and waits for UA.
     #[tactic(auto, unfolding(crate::specs::Establishment::establishes))]
     pub(crate) fn establish(&mut self, asked: bool, at: u32, out: &mut Outbox)
         requires { length out.old + 1 ≤ 80 }
@@ -136,7 +136,7 @@ impl Link {
         self.start_t203(at);
     }
 
-    // Discards the messages, of which layer 3 is informed with the result of the step.
+    // Discards the messages. The result of the step informs layer 3.
     #[tactic(auto, unfolding(crate::specs::Establishment::lost))]
     pub(crate) fn lose(&mut self)
         ensures { self.new ≡ lost self.old }
@@ -145,7 +145,7 @@ impl Link {
         self.owed = false;
     }
 
-    // Releases the link, of which layer 3 is informed with the result of the step.
+    // Releases the link. The result of the step informs layer 3.
     #[tactic(auto, unfolding(crate::specs::Establishment::released))]
     pub(crate) fn release(&mut self, at: u32)
         ensures { self.new ≡ released at self.old }

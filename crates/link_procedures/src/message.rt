@@ -5,7 +5,7 @@ use arrayvec::ArrayVec;
 use link_frames::LONGEST_MESSAGE;
 use std::marker::Model;
 
-/// The octets of a message of layer 3, at most 112. Contracts see their list.
+/// The octets of a message of layer 3, at most 112. A contract views them as a list.
 #[derive(Clone, Debug, Default, Drop)]
 pub struct Message {
     octets: ArrayVec<u8, LONGEST_MESSAGE>,
@@ -20,7 +20,7 @@ impl Model for Message {
 }
 
 impl Message {
-    /// Copies these octets.
+    /// Returns a message with a copy of these octets.
     pub fn of(octets: &[u8]) -> Message
         requires { length octets.now ≤ 112 }
         ensures { result ≡ octets.now }

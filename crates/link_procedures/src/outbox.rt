@@ -10,7 +10,7 @@ use std::marker::Model;
 /// The maximum number of frames in an outbox. Source: this project.
 pub const MOST_FRAMES: usize = 80;
 
-/// The octets of the frames that were sent, in order. Contracts see their list.
+/// The octets of the frames that were sent, in order. A contract views them as a list of lists.
 #[derive(Drop)]
 pub struct Outbox {
     frames: ArrayVec<FrameOctets, MOST_FRAMES>,
@@ -34,7 +34,7 @@ impl Outbox {
         }
     }
 
-    /// Makes the outbox empty.
+    /// Removes all frames.
     pub fn clear(&mut self)
         ensures { self.new ≡ [] }
     {
@@ -52,7 +52,7 @@ impl Outbox {
         self.frames.push(write(Sender::Network, frame));
     }
 
-    /// Returns the frames in the order in which they are sent.
+    /// Returns the frames in the order of transmission.
     pub fn as_slice(&self) -> &[FrameOctets]
         ensures { result.now ≡ self.now }
     {

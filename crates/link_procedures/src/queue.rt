@@ -8,7 +8,7 @@ use crate::message::Message;
 use arrayvec::ArrayVec;
 use std::marker::Model;
 
-/// The maximum number of messages that wait. Source: this project.
+/// The maximum number of messages that are not acknowledged. Source: this project.
 pub const LONGEST_QUEUE: usize = 64;
 
 // k: the maximum number of sent I frames that are not acknowledged (Q.921, 5.9.5).
@@ -45,7 +45,7 @@ impl Queue {
         }
     }
 
-    /// Returns whether no further message can wait.
+    /// Returns whether the queue has its maximum number of messages.
     pub fn is_full(&self) -> bool
         ensures { result ≡ nat_le 64 (length self.now.waiting) }
     {
@@ -89,7 +89,7 @@ impl Queue {
         self.acknowledged = receive;
     }
 
-    /// Counts no message as sent: V(S) becomes V(A).
+    /// Marks all messages as not sent: V(S) becomes V(A).
     #[tactic(auto, unfolding(crate::specs::Links::returned))]
     pub fn go_back(&mut self)
         ensures { self.new ≡ returned self.old }
@@ -106,7 +106,7 @@ impl Queue {
         self.sent = 0;
     }
 
-    /// Numbers the messages that wait from 0 on: V(S) and V(A) become 0.
+    /// Renumbers the messages from 0: V(S) and V(A) become 0.
     #[tactic(auto, unfolding(crate::specs::Links::renumbered))]
     pub fn renumber(&mut self)
         ensures { self.new ≡ renumbered self.old }
@@ -124,7 +124,7 @@ impl Queue {
         self.waiting.push(message);
     }
 
-    /// Returns whether a message waits and the window is open.
+    /// Returns whether a message is waiting and the window is open.
     #[tactic(auto, unfolding(crate::specs::Links::may_send))]
     pub fn may_send(&self) -> bool
         ensures { result ≡ may_send self.now }

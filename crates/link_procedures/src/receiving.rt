@@ -11,7 +11,7 @@ use crate::state::{Indication, State};
 use link_frames::{Control, Frame, Supervisory};
 
 impl Link {
-    /// Takes a frame of the peer, and returns what layer 3 is informed of. After [`Indication::Data`] the information
+    /// Processes a frame of the peer, and returns the indication to layer 3. After [`Indication::Data`] the information
     /// field of the frame is the next message.
     #[tactic(auto, unfolding(crate::specs::Receiving::on_control))]
     pub fn received(&mut self, frame: &Frame, at: u32, out: &mut Outbox) -> Option<Indication>

@@ -1,4 +1,4 @@
-//! The states of a data link, its timers, and what layer 3 is informed of.
+//! The states of a data link, its timers, and its indications to layer 3.
 
 /// The state of a link (Q.921, annex B). States 1 to 3 belong to TEI assignment. State 6, awaiting release, follows a
 /// request of layer 3, which this exchange does not make.
@@ -51,10 +51,10 @@ impl State {
     }
 }
 
-/// The timer that runs: exactly one of these does.
+/// The running timer. Exactly one timer runs.
 #[derive(Clone, Copy, Debug, PartialEq, Eq)]
 pub enum Running {
-    /// T200: the time for the answer to a command (5.9.1), or to the next attempt in state 4.
+    /// T200: the time for the response to a command (5.9.1), or until the next attempt in state 4.
     T200,
     /// T203: the time without frames (5.9.8).
     T203,
@@ -78,7 +78,7 @@ pub struct Timers {
     pub t203: u32,
 }
 
-/// What layer 3 is informed of.
+/// An indication to layer 3.
 #[derive(Clone, Copy, Debug, PartialEq, Eq)]
 pub enum Indication {
     /// DL-DATA indication: the information field of the received frame is the next message.

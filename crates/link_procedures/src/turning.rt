@@ -1,4 +1,4 @@
-//! The turn of a link: its expired timer, and a loss of which layer 3 is not informed yet.
+//! The turn of a link: its expired timer, and a loss of which layer 3 has not been informed.
 ghost use Rattle.std.specs.Prelude.{◌≡◌, ◌+◌, ◌≤◌, length};
 ghost use Rattle.link_procedures.specs.Links.{step};
 ghost use Rattle.link_procedures.specs.Timing as spec;
@@ -12,8 +12,8 @@ use link_frames::{Control, Frame};
 const MOST_RETRIES: u8 = 3;
 
 impl Link {
-    /// Takes the link's turn in a frame of the exchange, and returns what layer 3 is informed of: a loss, or the result
-    /// of the timer, if it has expired.
+    /// Processes the turn of the link in a frame of the exchange, and returns the indication to layer 3: a loss, or the
+    /// result of the timer, if it has expired.
     #[tactic(auto, unfolding(crate::specs::Timing::turned))]
     pub fn turned(&mut self, timers: &Timers, at: u32, out: &mut Outbox) -> Option<Indication>
         requires { length out.old + 1 ≤ 80 }
@@ -71,7 +71,7 @@ impl Link {
         }
     }
 
-    // Sends SABME again, or gives up.
+    // Retransmits SABME, or releases the link.
     #[tactic(auto, unfolding(crate::specs::Timing::calls_or_releases))]
     fn call_again(&mut self, at: u32, out: &mut Outbox) -> Option<Indication>
         requires { length out.old + 1 ≤ 80 }
@@ -109,7 +109,7 @@ impl Link {
     }
 }
 
-// Returns the number of frames that the timer runs.
+// Returns the duration of the timer in frames.
 fn frames_to(timers: &Timers, running: Running) -> u32
     ensures { result ≡ spec.frames_to timers.now running }
 {
