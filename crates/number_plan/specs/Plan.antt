@@ -35,7 +35,7 @@ side_by_side (d ∷ digits) (e ∷ others) = ordering_then (nat_cmp d e) (side_b
 abbrev pub precedes : Number → Number → Bool
 precedes m n = is_lt (side_by_side m.digits n.digits)
 
--- each number comes before all those that follow
+-- each number is lower than all numbers after it
 abbrev pub in_order : List Number → Bool
 in_order [] = true
 in_order (n ∷ ns) = list_all (precedes n) ns && in_order ns
@@ -64,7 +64,7 @@ found_at (target.Line line) = answer.Line line
 found_at (target.Room room) = answer.Room room
 found_at (target.Lines lines) = answer.Lines lines
 
--- the target of the number that begins the digits, More if a number begins with them, and otherwise Nothing
+-- the target of the number that begins the digits, `More` if a number begins with them, and otherwise `Nothing`
 abbrev pub found_for : List Number → List ℕ → Found
 found_for [] digits = answer.Nothing
 found_for (n ∷ ns) digits = if begins n.digits digits then found_at n.target else if begins digits n.digits then answer.More else found_for ns digits

@@ -10,7 +10,7 @@ pub record IsBesideAt (plan : List Number) (digits : List ℕ) (place : ℕ) : T
   pub in_range : place < length plan
   pub beside : HoldsAt (λ n. side_by_side n.digits digits ≡ Equal) plan place
 
--- the numbers before this place are lower than the digits, and those from it on are higher
+-- the numbers before this place are lower than the digits, and the numbers from it on are higher
 pub record IsPlaceFor (plan : List Number) (digits : List ℕ) (place : ℕ) : Type 0 where
   pub in_range : place ≤ length plan
   pub before : AllWithin (λ n. side_by_side n.digits digits ≡ Less) plan 0 place

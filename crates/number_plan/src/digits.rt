@@ -7,8 +7,8 @@ use std::marker::Model;
 /// The maximum number of digits of a number. Source: this project.
 pub const LONGEST_NUMBER: usize = 20;
 
-/// The digits of a number, as IA5 characters (ITU-T Q.931, 4.5.8), the form of a called party number and of a trace.
-/// Contracts see their list.
+/// The digits of a number, as IA5 characters (ITU-T Q.931, 4.5.8), the form of a called party number and of a trace. A
+/// contract views them as a list.
 #[derive(Debug, Drop)]
 pub struct Digits {
     octets: ArrayVec<u8, LONGEST_NUMBER>,
@@ -25,7 +25,7 @@ impl Model for Digits {
 impl Digits {
     ghost use Rattle.std.specs.Prelude.{◌≡◌, ◌≤◌, length};
 
-    /// Copies these digits.
+    /// Returns a copy of these digits.
     pub fn of(digits: &[u8]) -> Digits
         requires { length digits.now ≤ 20 }
         ensures { result ≡ digits.now }
@@ -63,8 +63,8 @@ fn are_decimal(digits: &[u8]) -> bool
     digits.iter().all(|digit| digit.is_ascii_digit())
 }
 
-// Compares two strings of digits by the first place in which they differ. The result is `Equal` if one begins the
-// other.
+// Compares two strings of digits by the first place in which they differ. The result is `Equal` if one is a prefix of
+// the other.
 pub(crate) fn side_by_side(one: &[u8], other: &[u8]) -> Ordering
     ensures { result ≡ side_by_side one.now other.now }
 {

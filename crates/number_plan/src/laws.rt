@@ -1,4 +1,4 @@
-// Theorems on the definitions only: these functions do nothing, and their contracts are the theorems.
+// Theorems on the definitions.
 ghost use Rattle.std.specs.Prelude.{◌≡◌, ◌↔◌, ◌⊎◌, ℕ, Bool, true, false, List};
 ghost use Rattle.number_plan.specs.declared.plan.Number.{Number};
 ghost use Rattle.number_plan.specs.declared.target.Target.{Target};

@@ -5,7 +5,7 @@ use std::marker::Model;
 /// The maximum number of lines of a list. Source: this project.
 pub const MAX_LINES: usize = 32;
 
-/// A list of up to 32 lines, in the order in which a hunt tries them. Contracts see the list.
+/// A list of up to 32 lines, in the order in which a hunt tries them. A contract views it as the list.
 #[derive(Clone, Copy, Debug, PartialEq, Eq)]
 pub struct LineList {
     lines: [u8; MAX_LINES],
@@ -37,7 +37,7 @@ impl LineList {
     ghost use Rattle.std.specs.Prelude.{◌≡◌, ◌==◌, ◌<◌, ◌≤◌, ◌++◌, ◌∷◌, [], length};
     ghost use Rattle.number_plan.specs.Plan.{is_listed};
 
-    /// Returns a list without lines.
+    /// Returns an empty list.
     pub fn new() -> LineList
         ensures { result ≡ [] }
     {

@@ -44,7 +44,7 @@ impl From<AllocError> for PlanFault {
     }
 }
 
-/// A number plan. Contracts see the list of its numbers, in the order of their digits.
+/// A number plan. A contract views it as the list of its numbers, in the order of their digits.
 #[derive(Debug, Drop)]
 pub struct Plan {
     numbers: Vec<Number>,
@@ -67,7 +67,7 @@ impl Plan {
     ghost use Rattle.number_plan.specs.Plan.{side_by_side, in_order, with_number, found_for, is_number_taken, is_number, AreApart, LeadsTo, IsUnfinishedNumber, IsUnknown};
     ghost use Rattle.number_plan.specs.Search.{IsBesideAt, IsPlaceFor};
 
-    /// Returns a plan without numbers.
+    /// Returns an empty plan.
     pub fn new(alloc: Global) -> Plan
         ensures { result ≡ [] }
     {
@@ -103,7 +103,7 @@ impl Plan {
         }
     }
 
-    /// Returns the target of the digits.
+    /// Returns the target of the digits, `More` if they are a proper prefix of a number, or `Nothing`.
     pub fn look(&self, digits: &[u8]) -> Found
         ensures found { result ≡ found_for self.now digits.now }
         ensures line { (l : ℕ) → (result ≡ Found.Line l) ↔ LeadsTo self.now digits.now (Target.Line l) }
@@ -133,8 +133,8 @@ impl Plan {
         }
     }
 
-    // Returns the place of a number that begins the digits or begins with them, or otherwise the place of the digits as
-    // an error.
+    // Returns the place of a number that is a prefix of the digits or has them as a prefix. The error is the place for
+    // the digits if there is no such number.
     fn search(&self, digits: &[u8]) -> Result<usize, usize>
         ensures beside { IfOk result (IsBesideAt self.now digits.now) }
         ensures taken { IfOk result (λ _. IsTrue (is_number_taken self.now digits.now)) }
