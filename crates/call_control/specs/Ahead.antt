@@ -25,14 +25,14 @@ message_ahead known octets = record { flag = known.flag; reference = known.refer
 abbrev pub is_message : List ℕ → Bool
 is_message octets = is_ok (reading octets)
 
--- the octets are that message, and its number is the one that it dials
+-- the octets are the parsed message, and its number is the dialled number
 pub record IsReadAhead (plan : List Number) (octets : List ℕ) (known : ReadAhead) : Type 0 where
   pub long : 5 ≤ length octets
   pub bounded : known.reference < 2 ^ 15
   pub read : reading octets ≡ Ok (message_ahead known octets)
   pub dials : IfSome known.number (IsDialled plan (message_ahead known octets))
 
--- the octets are that message, and it has a number, which is the one that it dials, if and only if it requests a call
+-- the octets are the parsed message, and it has a number, the dialled one, if and only if it requests a call
 pub record IsIncoming (plan : List Number) (octets : List ℕ) (incoming : Incoming) : Type 0 where
   pub bounded : incoming.message.reference < 2 ^ 15
   pub read : reading octets ≡ Ok incoming.message

@@ -26,7 +26,7 @@ use Rattle.call_profile.specs.Permitted.{CanSeat}
 use Rattle.call_control.specs.Standing.{Holds}
 use Rattle.call_profile.specs.World.{World, is_full}
 
--- each called line is one of n
+-- each called line is one of the `external` lines
 abbrev pub IsReached : ℕ → Found → Type 0
 IsReached external (Line line) = line < external
 IsReached external (Lines lines) = list_all (line_exists external) lines ≡ true
@@ -51,7 +51,7 @@ called_side d w x (Room room) = if is_full d w then Err switching_equipment_cong
 called_side d w x More = Ok side.More
 called_side d w x Nothing = Err unallocated_number
 
--- the slot of a called side is on one of n lines
+-- the slot of a called side is on one of the `external` lines
 abbrev pub IsWithin : ℕ → CalledSide → Type 0
 IsWithin external (side.Line y) = IsExternal external y
 IsWithin external (side.Room room) = Unit {0}

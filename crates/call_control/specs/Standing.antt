@@ -42,25 +42,25 @@ pub record Makes (d : Dimensions) (map : Connections) (legs : Legs) (sends : Lis
 abbrev pub HasMade : Setting → Connections → Legs → Outbox → Making → Type 0
 HasMade s map legs out m = Makes s.dimensions map legs out.sends out.moved m
 
--- these operations turn map, legs and outbox into those, for every exchange state during an event that they hold
+-- these operations change map, legs and outbox to the later ones, for every exchange state during an event that they hold
 abbrev pub Performs : List Operation → Connections → Legs → Outbox → Connections → Legs → Outbox → Type 0
 Performs operations map legs out map' legs' out' =
     (d : Dimensions) (m : Making) → Makes d map legs out.sends out.moved m
     → Makes d map' legs' out'.sends out'.moved (making_after_all d m operations)
 
--- the operations that the legs of that state decide turn map, legs and outbox into those
+-- the operations that the legs of that state decide change map, legs and outbox to the later ones
 abbrev pub PerformsBy : (Legs → List Operation) → Connections → Legs → Outbox → Connections → Legs → Outbox → Type 0
 PerformsBy operations map legs out map' legs' out' =
     (d : Dimensions) (m : Making) → Makes d map legs out.sends out.moved m
     → Makes d map' legs' out'.sends out'.moved (making_after_all d m (operations m.world.legs))
 
--- the expiry of the timer of the leg at a slot, with these tones and timers, turns map, legs and outbox into those
+-- the expiry of the timer of the leg at a slot, with these tones and timers, changes map, legs and outbox to the later ones
 abbrev pub Expires : Tones → Timers → ℕ → Slot → Connections → Legs → Outbox → Connections → Legs → Outbox → Type 0
 Expires tones timers frame x map legs out map' legs' out' =
     (s : Setting) (m : Making) → s.tones ≡ tones → s.timers ≡ timers → Makes s.dimensions map legs out.sends out.moved m
     → Makes s.dimensions map' legs' out'.sends out'.moved (making_after_all s.dimensions m (expire_slot s frame m.world.legs x))
 
--- these operations turn map and legs into those, without a message or a move
+-- these operations change map and legs to the later ones, without a message or a move
 abbrev pub PerformsQuietly : List Operation → Connections → Legs → Connections → Legs → Type 0
 PerformsQuietly operations map legs map' legs' =
     (d : Dimensions) (m : Making) → Makes d map legs m.sends m.moves m

@@ -33,8 +33,8 @@ use tone_rules::Tones;
 const MOST_CALLED: usize = 21;
 
 impl<P: PathMap> CallControl<P> {
-    /// Adds further digits to the number of a caller in overlap sending. Its leg waits on, or its call is accepted. If
-    /// a check fails, the leg is cleared with the cause of that check.
+    /// Adds further digits to the number of a caller in overlap sending. Its leg waits for more, or its call is
+    /// accepted. If a check fails, the leg is cleared with the cause of that check.
     pub(crate) fn on_digits(
         &mut self,
         out: &mut Outbox,

@@ -16,8 +16,8 @@ use exchange_events::CallRecord;
 use q931_codec::states::ACTIVE;
 
 impl<P: PathMap> CallControl<P> {
-    /// Makes the record of a leg's call if this act on the leg begins to clear it. It is made before the act, because
-    /// the act releases the circuit that shows the first frame of the conversation.
+    /// Returns the record of a leg's call if this act on the leg begins to clear it. The caller calls it before the
+    /// act, because the act releases the circuit that shows the first frame of the conversation.
     pub(crate) fn record_of_act(
         &self,
         held: Held,
@@ -32,7 +32,7 @@ impl<P: PathMap> CallControl<P> {
         self.record_ended(held, peer, cause_of_act(act)?)
     }
 
-    /// Makes the record of a leg's call, if its clearing has not begun.
+    /// Returns the record of a leg's call, if its clearing has not begun.
     pub(crate) fn record_ended(
         &self,
         held: Held,
@@ -50,7 +50,7 @@ impl<P: PathMap> CallControl<P> {
         }
     }
 
-    // Makes the record of a call from its caller's leg, if its clearing has not begun.
+    // Returns the record of a call from its caller's leg, if its clearing has not begun.
     fn record_calling(&self, caller: Held, cause: u8) -> Option<CallRecord>
         requires external { IsExternal self.now.map.external caller.slot }
         ensures { (d : Dimensions) (w : World) → Holds d self.now.map self.now.legs w → result ≡ record_calling w cause caller }

@@ -165,7 +165,7 @@ impl<P: PathMap> CallControl<P> {
         record_also(&mut out.records, call);
     }
 
-    // Clears both legs of a call whose called user neither alerts nor answers, and the caller with this cause.
+    // Clears the called leg with cause 102, recovery on timer expiry, and the caller with `cause`.
     fn clear_both(
         &mut self,
         out: &mut Outbox,

@@ -242,7 +242,8 @@ fn slot_of(line: u8, channel: u8) -> Option<Slot>
     Some(Slot { line, place })
 }
 
-// Returns the cause of the first check of its elements that a SETUP fails, if all that it dials are digits or not.
+// Returns the cause of the first check that the elements of a SETUP fail. `is_readable` states whether the dialled
+// number has only digits.
 fn element_cause(message: &Message, is_readable: bool) -> Option<u8>
     requires { is_readable ≡ is_some (digits_in message.now) }
     ensures { result ≡ first_cause (element_checks message.now) }
