@@ -34,7 +34,7 @@ restart_leg tones r legs (Some h) = remove_leg h ++ with_peer (peer_of legs h.le
 abbrev pub restart_slot : Tones → Restart → Legs → Slot → List Operation
 restart_slot tones r legs x = if is_restarted r x.place then restart_leg tones r legs (held_at legs x) else []
 
--- ---- the slots of the line, one after another
+-- ---- the slots of the line, in sequence
 
 -- the outcome of a message so far: the exchange state with its messages, and the calls that were recorded
 pub record MessageOutcome : Type 0 where

@@ -1,4 +1,4 @@
-//! Lines in one text, one after another.
+//! Lines in one text, in sequence.
 ghost use Rattle.std.specs.Prelude.{◌≡◌, ◌+◌, ◌-◌, ◌<◌, ◌≤◌, ◌++◌, ◌∷◌, ◌^◌, [], All, OnOk, OnErr, length, take, drop};
 ghost use Rattle.exchange_events.specs.Kept.{kept_of};
 ghost use Rattle.exchange_events.specs.Responses.{reply_of};
@@ -43,7 +43,7 @@ const NONE: Extent = Extent {
     records: 0,
 };
 
-/// The text of lines, their records of calls and their marks, each one after another.
+/// The text of lines, their records of calls and their marks, each in sequence.
 #[derive(Drop)]
 pub struct Buffers {
     /// The text of the lines.

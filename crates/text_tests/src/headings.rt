@@ -40,7 +40,7 @@ const TRACES: [&[&str]; 3] = [
     &["exchange 1 32 2 8", "sync", "", "# no event"],
 ];
 
-// What happened by the lines so far.
+// The events, segment ends and changes of the lines so far.
 #[derive(Drop)]
 struct Follower {
     heading: Heading,
@@ -85,7 +85,7 @@ impl Follower {
     }
 }
 
-// What happens by these lines, with the last segment ended.
+// Returns the effects of these lines. The last segment is ended.
 fn followed(alloc: Global, lines: &[&str]) -> Result<Follower, Fail> {
     let mut follower = Follower::new(alloc);
     for line in lines {

@@ -1,4 +1,4 @@
-//! Worked traces of `examples/` whose events one caller processes, one after another, through a lone exchange. Each line
+//! Worked traces of `examples/` whose events one caller processes in sequence through a lone exchange. Each line
 //! must be the line of the program's report.
 //!
 //! The verifier processes the events so, and compares line by line. No contract states that it ever finds a report valid,
