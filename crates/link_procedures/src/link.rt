@@ -136,7 +136,7 @@ impl Link {
         self.start_t203(at);
     }
 
-    // Discards the messages. The result of the step informs layer 3.
+    // Discards the messages, of which layer 3 is informed with the result of the step.
     #[tactic(auto, unfolding(crate::specs::Establishment::lost))]
     pub(crate) fn lose(&mut self)
         ensures { self.new ≡ lost self.old }

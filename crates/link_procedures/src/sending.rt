@@ -12,10 +12,9 @@ use crate::state::Running;
 use link_frames::{Control, Frame, Information, Supervisory};
 
 impl Link {
-    /// Accepts a message of layer 3, of at most 112 octets. The queue stores it until it is acknowledged, and sends it
-    /// if the window is open. If the link is not up, the message is lost. If the queue has 64 messages, all of them are
-    /// lost, and the link re-establishes itself. The next turn of the link, or an earlier step, informs layer 3 of that
-    /// loss.
+    /// Takes a message of layer 3, of at most 112 octets. It waits for its acknowledgement, and is sent if the window is
+    /// open. It is lost if the link is not up. If 64 messages wait, all of them are lost, and the link re-establishes
+    /// itself. Layer 3 is informed of such a loss in the link's next turn, or before.
     #[tactic(auto, unfolding(crate::specs::Establishment::submitted))]
     pub fn submitted(&mut self, octets: &[u8], at: u32, out: &mut Outbox)
         requires short { length octets.now ≤ 112 }
@@ -62,7 +61,7 @@ impl Link {
         }
     }
 
-    // Discards all messages. A later step informs layer 3.
+    // Discards all messages, of which layer 3 will be informed.
     #[tactic(auto, unfolding(crate::specs::Establishment::overflows))]
     fn overflow(&mut self, at: u32, out: &mut Outbox)
         requires { length out.old + 1 ≤ 80 }

@@ -1,4 +1,4 @@
-//! The turn of a link: its expired timer, and a loss of which layer 3 has not been informed.
+//! The turn of a link: its expired timer, and a loss of which layer 3 is not informed yet.
 ghost use Rattle.std.specs.Prelude.{◌≡◌, ◌+◌, ◌≤◌, length};
 ghost use Rattle.link_procedures.specs.Links.{step};
 ghost use Rattle.link_procedures.specs.Timing as spec;
