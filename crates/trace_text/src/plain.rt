@@ -75,7 +75,7 @@ fn plain_part<'a>(given: &mut [Option<[u8; 30]>], rest: &'a [u8]) -> Option<&'a 
     Some(others)
 }
 
-/// Returns the frame of a line in the common form. `None` for any other line.
+/// The frame that the words of a line give, where the line is written as most are.
 pub(crate) fn plain_frame(
     alloc: Global,
     external: u8,
