@@ -10,7 +10,7 @@ use std::test::Fail;
 
 const TEXT: &[u8] = b"one\ntwo\n\nfour";
 
-// Returns whether the output of a wire equals its input, if all octets of a read are written before the next read, and
+// Writes all octets of each read before the next read. Returns whether the output of the wire equals its input, and
 // whether each note is the number of octets written by then. One read returns at most `piece` octets.
 fn echoes(alloc: Global, piece: usize) -> Result<bool, AllocError>
     requires { 1 ≤ piece }

@@ -20,8 +20,8 @@ pub fn in_order()
     ensures window { (events : List Event) → length (after events).delivered ≤ (after events).acknowledged + 7 }
 {}
 
-/// For every loss, an I or S frame that arrives at a side with a link has the numbering that the side expects, and its
-/// N(R) has the numbering of the side's own frames.
+/// An I or S frame that arrives at a side with a link has the numbering that the side expects, for every loss. Its N(R)
+/// has the numbering of the side's own frames.
 pub fn numberings_agree()
     ensures { (events : List handshake.Event) → handshake.IsAgreed (handshake.run events handshake.start) }
 {}

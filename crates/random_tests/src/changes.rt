@@ -18,8 +18,8 @@ pub struct Changing {
     pub spare: u32,
 }
 
-/// The number of changes in all traces, of changes without an active meter, without a spare one and without either, and
-/// of meters that a trace adds and removes.
+/// The number of changes in all traces. The number of changes with only spare meters, with only active ones and without
+/// either. The number of meters that a trace adds and removes.
 #[derive(Clone, Copy, Default)]
 pub struct ChangeCounts {
     pub changes: u32,

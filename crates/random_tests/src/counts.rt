@@ -40,8 +40,8 @@ impl Orders {
         self.changes.add(decided.changes);
     }
 
-    /// Returns whether all `traces` traces were counted, threads took another order than file order in some, the
-    /// program processed segments in both ways, and meters changed in each case.
+    /// Returns whether all `traces` traces were counted and each case occurred: threads took another order than file
+    /// order, the program processed segments in both ways, and meters changed in each case.
     pub fn is_whole(&self, traces: u32) -> bool {
         self.traces == traces
             && self.others > 0
@@ -67,8 +67,8 @@ impl Counts {
     }
 }
 
-/// The number of moved paths in file order, of traces with moved paths, of moves by each chain, and of traces in which
-/// one path moved more paths than there are other lines.
+/// The number of moved paths in file order, of traces with moved paths, and of moves by each chain. The number of traces
+/// in which one path moved more paths than there are other lines.
 #[derive(Clone, Copy, Default)]
 pub struct Moves {
     pub paths: u32,

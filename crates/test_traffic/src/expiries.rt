@@ -3,8 +3,8 @@
 use std::fmt;
 use test_exchange::{Expired, Expiry};
 
-/// The number of expiries of each kind, at other places than the first, after another expiry in the same frame, and at
-/// an alerted user whose caller had ringing tone or silence.
+/// The number of expiries of each kind, at other places than the first, and after another expiry in the same frame. The
+/// number of expiries at an alerted user whose caller had ringing tone, and whose caller had silence.
 #[derive(Clone, Copy)]
 pub struct Expiries {
     // In the order of `EACH`.

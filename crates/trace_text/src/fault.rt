@@ -10,9 +10,9 @@ use std::alloc::{AllocError, AllocFailed};
 pub enum Reason {
     /// The first line that is neither blank nor a comment is not a header, or there is no such line.
     Header,
-    /// A line has an octet that is not printable, an unknown first field, or a wrong number of fields. Or a number, a
-    /// tone or a timer comes after an event, a number routes to something other than `line`, `lines` or `room`, or a
-    /// tone or timer is unknown or repeated.
+    /// A line has an octet that is not printable, an unknown first field, or a wrong number of fields. A number, a tone
+    /// or a timer comes after an event. A number has a target other than `line`, `lines` and `room`. A tone or a timer
+    /// is unknown or repeated.
     Word,
     /// A field is not a line or slot of the exchange, a frame or a list has a line twice, or a slot is nailed to
     /// itself.
