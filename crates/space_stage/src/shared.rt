@@ -9,6 +9,7 @@ ghost use Rattle.space_stage.specs.Crossing.{AreCrossed, IsCrossedPart, IsCrosse
 use crate::crossbar::{cross, cross_part};
 use control_memory::Image;
 use frame_buffer::{Crossed, Highway, LEAST_HALF};
+use std::ops::Range;
 use std::thread::{Threads, join_mut};
 
 /// Crosses one frame as `cross` does, by halves of the lines: they are halved `levels` times, and the halves joined. A
@@ -52,31 +53,29 @@ pub fn cross_by_halves<R: Threads + Sync>(
     ensures size { SameHighwaySize crossed.old crossed.new }
     ensures octets { IsCrossed image.now highway.now crossed.new }
 {
-    let slots = crossed.slots();
-    let end = highway.lines();
+    let lines = 0..highway.lines();
     let part = crossed.parts();
-    cross_halves(rt, highway, image, slots, 0, end, part, levels, least);
+    cross_halves(rt, highway, image, lines, part, levels, least);
 }
 
-// Crosses to the lines from `first` up to `end`, by halves if they have at least n octets.
+// Crosses to these lines, by halves if they have at least n octets.
 fn cross_halves<R: Threads + Sync>(
     rt: &R,
     highway: &Highway,
     image: &Image,
-    slots: u8,
-    first: u8,
-    end: u8,
+    lines: Range<u8>,
     part: &mut [u8],
     levels: u8,
     least: usize,
 )
     requires lines { highway.now.lines ≡ lines_of image.now }
-    requires highway { highway.now.slots ≡ slots }
-    requires image { image.now.slots ≡ slots }
-    requires part { AreRows (lines_of image.now) slots first end (length part.old) }
+    requires slots { highway.now.slots ≡ image.now.slots }
+    requires part { AreRows (lines_of image.now) image.now.slots lines.start lines.end (length part.old) }
     ensures size { length part.new ≡ length part.old }
-    ensures octets { IsCrossedPart image.now highway.now first part.new }
+    ensures octets { IsCrossedPart image.now highway.now lines.start part.new }
 {
+    let (first, end) = (lines.start, lines.end);
+    let slots = highway.slots();
     let half = (end - first) / 2;
     let cut = usize::from(half) * usize::from(slots);
     if levels == 0 || cut < least {
@@ -91,18 +90,16 @@ fn cross_halves<R: Threads + Sync>(
         &mut ||
             requires threads { IsSync R.row }
             requires lines { highway.now.lines ≡ lines_of image.now }
-            requires highway { highway.now.slots ≡ slots }
-            requires image { image.now.slots ≡ slots }
-            requires part { AreRows (lines_of image.now) slots first middle (length front.now) }
+            requires slots { highway.now.slots ≡ image.now.slots }
+            requires part { AreRows (lines_of image.now) image.now.slots first middle (length front.now) }
             ensures { AreCrossed image.entry.now highway.entry.now first (length front.entry.now) front.exit.now }
-        { cross_halves(rt, highway, image, slots, first, middle, front, next, least) },
+        { cross_halves(rt, highway, image, first..middle, front, next, least) },
         &mut ||
             requires threads { IsSync R.row }
             requires lines { highway.now.lines ≡ lines_of image.now }
-            requires highway { highway.now.slots ≡ slots }
-            requires image { image.now.slots ≡ slots }
-            requires part { AreRows (lines_of image.now) slots middle end (length back.now) }
+            requires slots { highway.now.slots ≡ image.now.slots }
+            requires part { AreRows (lines_of image.now) image.now.slots middle end (length back.now) }
             ensures { AreCrossed image.entry.now highway.entry.now middle (length back.entry.now) back.exit.now }
-        { cross_halves(rt, highway, image, slots, middle, end, back, next, least) },
+        { cross_halves(rt, highway, image, middle..end, back, next, least) },
     );
 }

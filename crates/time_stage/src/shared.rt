@@ -10,6 +10,7 @@ use crate::interchange::{incoming, outgoing, read_part, send_part};
 use circuit_model::PLACES;
 use control_memory::Image;
 use frame_buffer::{Crossed, FrameBuffer, Highway, LEAST_HALF};
+use std::ops::Range;
 use std::thread::{Threads, join_mut};
 
 /// Performs the incoming time stage of one frame, by halves of the lines: they are halved `levels` times, and the
@@ -54,30 +55,28 @@ pub fn incoming_by_halves<R: Threads + Sync>(
     ensures size { SameHighwaySize highway.old highway.new }
     ensures octets { IsSent image.now buffer.now highway.new }
 {
-    let slots = highway.slots();
-    let end = highway.lines();
+    let lines = 0..highway.lines();
     let part = highway.parts();
-    send_halves(rt, buffer, image, slots, 0, end, part, levels, least);
+    send_halves(rt, buffer, image, lines, part, levels, least);
 }
 
-// Writes the octets that the lines from `first` up to `end` send, by halves if they have at least n octets.
+// Writes the octets that these lines send, by halves if they have at least n octets.
 fn send_halves<R: Threads + Sync>(
     rt: &R,
     buffer: &FrameBuffer,
     image: &Image,
-    slots: u8,
-    first: u8,
-    end: u8,
+    lines: Range<u8>,
     part: &mut [u8],
     levels: u8,
     least: usize,
 )
     requires buffer { buffer.now.lines ≡ lines_of image.now }
-    requires slots { image.now.slots ≡ slots }
-    requires part { AreRows (lines_of image.now) slots first end (length part.old) }
+    requires part { AreRows (lines_of image.now) image.now.slots lines.start lines.end (length part.old) }
     ensures size { length part.new ≡ length part.old }
-    ensures octets { RowsHold slots (sends image.now buffer.now) first part.new }
+    ensures octets { RowsHold image.now.slots (sends image.now buffer.now) lines.start part.new }
 {
+    let (first, end) = (lines.start, lines.end);
+    let slots = image.slots();
     let half = (end - first) / 2;
     let cut = usize::from(half) * usize::from(slots);
     if levels == 0 || cut < least {
@@ -92,17 +91,15 @@ fn send_halves<R: Threads + Sync>(
         &mut ||
             requires threads { IsSync R.row }
             requires buffer { buffer.now.lines ≡ lines_of image.now }
-            requires slots { image.now.slots ≡ slots }
-            requires part { AreRows (lines_of image.now) slots first middle (length front.now) }
-            ensures { AreSent slots image.entry.now buffer.entry.now first (length front.entry.now) front.exit.now }
-        { send_halves(rt, buffer, image, slots, first, middle, front, next, least) },
+            requires part { AreRows (lines_of image.now) image.now.slots first middle (length front.now) }
+            ensures { AreSent image.entry.now.slots image.entry.now buffer.entry.now first (length front.entry.now) front.exit.now }
+        { send_halves(rt, buffer, image, first..middle, front, next, least) },
         &mut ||
             requires threads { IsSync R.row }
             requires buffer { buffer.now.lines ≡ lines_of image.now }
-            requires slots { image.now.slots ≡ slots }
-            requires part { AreRows (lines_of image.now) slots middle end (length back.now) }
-            ensures { AreSent slots image.entry.now buffer.entry.now middle (length back.entry.now) back.exit.now }
-        { send_halves(rt, buffer, image, slots, middle, end, back, next, least) },
+            requires part { AreRows (lines_of image.now) image.now.slots middle end (length back.now) }
+            ensures { AreSent image.entry.now.slots image.entry.now buffer.entry.now middle (length back.entry.now) back.exit.now }
+        { send_halves(rt, buffer, image, middle..end, back, next, least) },
     );
 }
 
@@ -150,27 +147,27 @@ pub fn outgoing_by_halves<R: Threads + Sync>(
     ensures octets { IsRead table.now crossed.now out.new }
     ensures readable { out.new.readable ≡ out.old.readable }
 {
-    let end = out.lines();
-    read_halves(rt, crossed, table, 0, end, out.filled(), levels, least);
+    let lines = 0..out.lines();
+    read_halves(rt, crossed, table, lines, out.filled(), levels, least);
 }
 
-// Writes the octets that the lines from `first` up to `end` read, by halves if they have at least n octets.
+// Writes the octets that these lines read, by halves if they have at least n octets.
 fn read_halves<R: Threads + Sync>(
     rt: &R,
     crossed: &Crossed,
     table: &Image,
-    first: u8,
-    end: u8,
+    lines: Range<u8>,
     part: &mut [u8],
     levels: u8,
     least: usize,
 )
     requires crossed { crossed.now.lines ≡ lines_of table.now }
     requires slots { crossed.now.slots ≡ table.now.slots }
-    requires part { AreRows (lines_of table.now) 30 first end (length part.old) }
+    requires part { AreRows (lines_of table.now) 30 lines.start lines.end (length part.old) }
     ensures size { length part.new ≡ length part.old }
-    ensures octets { RowsHold 30 (reads table.now crossed.now) first part.new }
+    ensures octets { RowsHold 30 (reads table.now crossed.now) lines.start part.new }
 {
+    let (first, end) = (lines.start, lines.end);
     let half = (end - first) / 2;
     let cut = usize::from(half) * usize::from(PLACES);
     if levels == 0 || cut < least {
@@ -188,13 +185,13 @@ fn read_halves<R: Threads + Sync>(
             requires slots { crossed.now.slots ≡ table.now.slots }
             requires part { AreRows (lines_of table.now) 30 first middle (length front.now) }
             ensures { AreRead table.entry.now crossed.entry.now first (length front.entry.now) front.exit.now }
-        { read_halves(rt, crossed, table, first, middle, front, next, least) },
+        { read_halves(rt, crossed, table, first..middle, front, next, least) },
         &mut ||
             requires threads { IsSync R.row }
             requires crossed { crossed.now.lines ≡ lines_of table.now }
             requires slots { crossed.now.slots ≡ table.now.slots }
             requires part { AreRows (lines_of table.now) 30 middle end (length back.now) }
             ensures { AreRead table.entry.now crossed.entry.now middle (length back.entry.now) back.exit.now }
-        { read_halves(rt, crossed, table, middle, end, back, next, least) },
+        { read_halves(rt, crossed, table, middle..end, back, next, least) },
     );
 }

@@ -8,9 +8,9 @@ use Rattle.space_stage.proofs.shared.+cross_halves+fn-cross_halves-join_mut+arg2
 pub join_mut-requires-after_bounds : goal.join_mut-requires-after_bounds
 join_mut-requires-after_bounds g t c κs within =
     let lines = lines_of c.args.image.now in
-    let slots = c.args.slots in
-    let first = c.args.first in
-    let end = c.args.end in
+    let slots = c.args.image.now.slots in
+    let first = c.args.lines.start in
+    let end = c.args.lines.end in
     let whole = length c.args.part.now in
     let size = length c.split_at_mut-front.result.0.now in
     let rest = length c.split_at_mut-front.result.1.now in
@@ -24,8 +24,8 @@ pub returns-clause-octets : goal.returns-clause-octets
 returns-clause-octets g t c =
     let m = c.args.image.now in
     let highway = c.args.highway.now in
-    let first = c.args.first in
-    let half = (c.args.end - first) / 2 in
+    let first = c.args.lines.start in
+    let half = (c.args.lines.end - first) / 2 in
     let size = length c.split_at_mut-front.result.0.now in
     let rest = length c.split_at_mut-front.result.1.now in
     let low : AreCrossed m highway first size c.front-1.given.0 = search rules in
