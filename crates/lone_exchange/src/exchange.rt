@@ -4,8 +4,10 @@ ghost use Rattle.circuit_model.specs.FrameInput.{Input as An_input};
 ghost use Rattle.exchange_core.specs.Beginnings.{IsUnused};
 ghost use Rattle.exchange_events.specs.declared.trace.Event.{Event as An_event};
 ghost use Rattle.exchange_events.specs.declared.trace.Event.TheVariants.{Frame};
+ghost use Rattle.exchange_events.specs.Responses.{reply_of};
 ghost use Rattle.exchange_events.specs.Sizes.{Setting};
 ghost use Rattle.exchange_events.specs.Sound.{Fits};
+ghost use Rattle.call_profile.specs.Step.{MovesAtMost};
 ghost use Rattle.call_profile.specs.World.{World};
 ghost use Rattle.lone_exchange.specs.At.{Appends, HasReplied, HasPlayed, IsSomewhere, Passes, PlaysDue, Replies, StartsAt};
 
@@ -86,6 +88,8 @@ impl<P: PathMap, C: Carrier> LoneExchange<P, C> {
         ensures world { Passes C.carries C.next C.sizes plan.now tones.now timers.now event.now self.old self.new }
         ensures reply { Replies C.carries C.next C.sizes plan.now tones.now timers.now
             event.now self.old result self.new }
+        ensures few { MovesAtMost self.old.control.map.bound (reply_of result self.new.desk.out) }
+        ensures bound { self.new.control.map.bound ≡ self.old.control.map.bound }
         ensures played { PlaysDue C.carries C.next C.sizes C.plays plan.now tones.now timers.now
             event.now self.old self.new }
     {
@@ -115,6 +119,8 @@ impl<P: PathMap, C: Carrier> LoneExchange<P, C> {
         ensures world { Passes C.carries C.next C.sizes plan.now tones.now timers.now event.now self.old self.new }
         ensures reply { Replies C.carries C.next C.sizes plan.now tones.now timers.now
             event.now self.old result self.new }
+        ensures few { MovesAtMost self.old.control.map.bound (reply_of result self.new.desk.out) }
+        ensures bound { self.new.control.map.bound ≡ self.old.control.map.bound }
         ensures played { PlaysDue C.carries C.next C.sizes C.plays plan.now tones.now timers.now
             event.now self.old self.new }
     {
@@ -142,6 +148,8 @@ impl<P: PathMap, C: Carrier> LoneExchange<P, C> {
         ensures world { Passes C.carries C.next C.sizes plan.now tones.now timers.now event.now self.old self.new }
         ensures reply { Replies C.carries C.next C.sizes plan.now tones.now timers.now
             event.now self.old result self.new }
+        ensures few { MovesAtMost self.old.control.map.bound (reply_of result self.new.desk.out) }
+        ensures bound { self.new.control.map.bound ≡ self.old.control.map.bound }
     {
         let external = self.octets.len() as u8;
         self.desk.out.clear();

@@ -14,9 +14,8 @@ fn adds(plan: &mut Plan, digits: &[u8], line: u8) -> bool {
     if !is_number(digits) {
         return false;
     }
-    let target = Target::Line(line);
-    plan.add(digits, target).is_ok()
-        || (plan.look(digits) == Found::Nothing && plan.add(digits, target).is_ok())
+    plan.add(digits, Target::Line(line)).is_ok()
+        || (plan.look(digits) == Found::Nothing && plan.add(digits, Target::Line(line)).is_ok())
 }
 
 #[test]
