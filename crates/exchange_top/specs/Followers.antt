@@ -89,134 +89,129 @@ module _ {P E : Type 0} (c : CarrierKind E) (f : FabricKind P) where
 
 -- ---- the lines of a call
 
-module _ {V : Type 0} {F : V → Type 0} {P E R : Type 0} (m : (v : V) → MeterKind (F v)) (c : CarrierKind E) (f : FabricKind P) where
-  abbrev pub Boxed : Type 0
-  Boxed = DynBox V Global F
-
-  abbrev pub Follower : Type 0
-  Follower = TraceFollower P E R V F
-
-  abbrev pub meter_stands : Boxed → List CallRecord → Type 0
+module _ {V : Type 0} {F : V → Type 0} (m : (v : V) → MeterKind (F v)) where
+  abbrev pub meter_stands : DynBox V Global F → List CallRecord → Type 0
   meter_stands b = (m b.vtable).stands b.value
 
-  abbrev pub meter_text : Boxed → List CallRecord → List ℕ
+  abbrev pub meter_text : DynBox V Global F → List CallRecord → List ℕ
   meter_text b = (m b.vtable).text b.value
 
+module _ {V : Type 0} {F : V → Type 0} {P E R : Type 0} (m : (v : V) → MeterKind (F v)) (c : CarrierKind E) (f : FabricKind P) where
   -- the course and the octets due of the lines that this follower processed, if these were the meters before the first
-  abbrev pub course_from : (old old_spare : List Boxed) → Follower → Course
-  course_from old old_spare x = course c.plays f.slots f.moves meter_stands meter_text old old_spare x.metering.on.items x.metering.spare.items
+  abbrev pub course_from : (old old_spare : List (DynBox V Global F)) → TraceFollower P E R V F → Course
+  course_from old old_spare x = course c.plays f.slots f.moves (meter_stands m) (meter_text m) old old_spare x.metering.on.items x.metering.spare.items
 
-  abbrev pub dues_from : (old old_spare : List Boxed) → Follower → Dues
+  abbrev pub dues_from : (old old_spare : List (DynBox V Global F)) → TraceFollower P E R V F → Dues
   dues_from old old_spare x =
-      handler_dues meter_stands meter_text c.carries c.next c.sizes c.plays f.slots f.moves old old_spare x.metering.on.items x.metering.spare.items x.heading x.lines x.exchange
+      handler_dues (meter_stands m) (meter_text m) c.carries c.next c.sizes c.plays f.slots f.moves old old_spare x.metering.on.items x.metering.spare.items x.heading x.lines x.exchange
 
   -- ---- one line
 
   -- the follower processed some lines
-  abbrev pub IsFollowing : Follower → Type 0
-  IsFollowing x = (old old_spare : List Boxed) × (ls : List (List ℕ)) × (said : List ℕ) × (dues_from old old_spare x).answers ls said
+  abbrev pub IsFollowing : TraceFollower P E R V F → Type 0
+  IsFollowing x = (old old_spare : List (DynBox V Global F)) × (ls : List (List ℕ)) × (said : List ℕ) × (dues_from old old_spare x).answers ls said
 
   -- it processed some lines and read a further one, at which this happens
-  abbrev pub HasReadFrom : (old old_spare : List Boxed) → Follower → List (List ℕ) → List ℕ → List ℕ → Happening → Type 0
+  abbrev pub HasReadFrom : (old old_spare : List (DynBox V Global F)) → TraceFollower P E R V F → List (List ℕ) → List ℕ → List ℕ → Happening → Type 0
   HasReadFrom old old_spare x ls line said hap = HasRead c.carries c.next c.sizes (course_from old old_spare x) x.heading x.lines x.exchange ls line said hap
 
-  abbrev pub IsAtLine : Follower → Happening → Type 0
-  IsAtLine x hap = (old old_spare : List Boxed) × (ls : List (List ℕ)) × (line : List ℕ) × (said : List ℕ) × HasReadFrom old old_spare x ls line said hap
+  abbrev pub IsAtLine : TraceFollower P E R V F → Happening → Type 0
+  IsAtLine x hap = (old old_spare : List (DynBox V Global F)) × (ls : List (List ℕ)) × (line : List ℕ) × (said : List ℕ) × HasReadFrom old old_spare x ls line said hap
 
   -- processing this line takes the follower from x to y, and the octets due from t to u
-  abbrev pub TakesLine : (x y : Follower) → Happening → (t u : Vec ℕ Global) → Type 0
-  TakesLine x y hap t u = (old old_spare : List Boxed) (ls : List (List ℕ)) (line front : List ℕ) → HasReadFrom old old_spare x ls line (front ++ t.items) hap
+  abbrev pub TakesLine : (x y : TraceFollower P E R V F) → Happening → (t u : Vec ℕ Global) → Type 0
+  TakesLine x y hap t u = (old old_spare : List (DynBox V Global F)) (ls : List (List ℕ)) (line front : List ℕ) → HasReadFrom old old_spare x ls line (front ++ t.items) hap
       → (dues_from old old_spare y).answers (ls ++ line ∷ []) (front ++ u.items)
 
   -- an allocation failed in it
-  abbrev pub StrandsIn : (x y : Follower) → Happening → (t u : Vec ℕ Global) → Type 0
-  StrandsIn x y hap t u = (old old_spare : List Boxed) (ls : List (List ℕ)) (line front : List ℕ) → HasReadFrom old old_spare x ls line (front ++ t.items) hap
+  abbrev pub StrandsIn : (x y : TraceFollower P E R V F) → Happening → (t u : Vec ℕ Global) → Type 0
+  StrandsIn x y hap t u = (old old_spare : List (DynBox V Global F)) (ls : List (List ℕ)) (line front : List ℕ) → HasReadFrom old old_spare x ls line (front ++ t.items) hap
       → IsInterrupted (course_from old old_spare y) (ls ++ line ∷ []) (front ++ u.items)
 
   -- the same before the line is read; the line is refused; an allocation failed in it
-  abbrev pub HandlesLine : (x y : Follower) (line : List ℕ) → (t u : Vec ℕ Global) → Type 0
-  HandlesLine x y line t u = (old old_spare : List Boxed) (ls : List (List ℕ)) (front : List ℕ) → (dues_from old old_spare x).answers ls (front ++ t.items)
+  abbrev pub HandlesLine : (x y : TraceFollower P E R V F) (line : List ℕ) → (t u : Vec ℕ Global) → Type 0
+  HandlesLine x y line t u = (old old_spare : List (DynBox V Global F)) (ls : List (List ℕ)) (front : List ℕ) → (dues_from old old_spare x).answers ls (front ++ t.items)
       → (dues_from old old_spare y).answers (ls ++ line ∷ []) (front ++ u.items)
 
-  abbrev pub RefusesLine : (x y : Follower) (line : List ℕ) → (t u : Vec ℕ Global) → Type 0
-  RefusesLine x y line t u = (old old_spare : List Boxed) (ls : List (List ℕ)) (front : List ℕ) → (dues_from old old_spare x).answers ls (front ++ t.items)
+  abbrev pub RefusesLine : (x y : TraceFollower P E R V F) (line : List ℕ) → (t u : Vec ℕ Global) → Type 0
+  RefusesLine x y line t u = (old old_spare : List (DynBox V Global F)) (ls : List (List ℕ)) (front : List ℕ) → (dues_from old old_spare x).answers ls (front ++ t.items)
       → (dues_from old old_spare y).refuses (ls ++ line ∷ []) (front ++ u.items)
 
-  abbrev pub StrandsAt : (x y : Follower) (line : List ℕ) → (t u : Vec ℕ Global) → Type 0
-  StrandsAt x y line t u = (old old_spare : List Boxed) (ls : List (List ℕ)) (front : List ℕ) → (dues_from old old_spare x).answers ls (front ++ t.items)
+  abbrev pub StrandsAt : (x y : TraceFollower P E R V F) (line : List ℕ) → (t u : Vec ℕ Global) → Type 0
+  StrandsAt x y line t u = (old old_spare : List (DynBox V Global F)) (ls : List (List ℕ)) (front : List ℕ) → (dues_from old old_spare x).answers ls (front ++ t.items)
       → (dues_from old old_spare y).strands (ls ++ line ∷ []) (front ++ u.items)
 
   -- the input ends after all lines; it is refused because it ends; an allocation failed at its end
-  abbrev pub FinishesLines : (x y : Follower) (t u : Vec ℕ Global) → Type 0
-  FinishesLines x y t u = (old old_spare : List Boxed) (ls : List (List ℕ)) (front : List ℕ) → (dues_from old old_spare x).answers ls (front ++ t.items)
+  abbrev pub FinishesLines : (x y : TraceFollower P E R V F) (t u : Vec ℕ Global) → Type 0
+  FinishesLines x y t u = (old old_spare : List (DynBox V Global F)) (ls : List (List ℕ)) (front : List ℕ) → (dues_from old old_spare x).answers ls (front ++ t.items)
       → (dues_from old old_spare y).ends ls (front ++ u.items)
 
-  abbrev pub RefusesEnd : (x y : Follower) (t u : Vec ℕ Global) → Type 0
-  RefusesEnd x y t u = (old old_spare : List Boxed) (ls : List (List ℕ)) (front : List ℕ) → (dues_from old old_spare x).answers ls (front ++ t.items)
+  abbrev pub RefusesEnd : (x y : TraceFollower P E R V F) (t u : Vec ℕ Global) → Type 0
+  RefusesEnd x y t u = (old old_spare : List (DynBox V Global F)) (ls : List (List ℕ)) (front : List ℕ) → (dues_from old old_spare x).answers ls (front ++ t.items)
       → (dues_from old old_spare y).refuses_end ls (front ++ u.items)
 
-  abbrev pub StrandsEnd : (x y : Follower) (t u : Vec ℕ Global) → Type 0
-  StrandsEnd x y t u = (old old_spare : List Boxed) (ls : List (List ℕ)) (front : List ℕ) → (dues_from old old_spare x).answers ls (front ++ t.items)
+  abbrev pub StrandsEnd : (x y : TraceFollower P E R V F) (t u : Vec ℕ Global) → Type 0
+  StrandsEnd x y t u = (old old_spare : List (DynBox V Global F)) (ls : List (List ℕ)) (front : List ℕ) → (dues_from old old_spare x).answers ls (front ++ t.items)
       → (dues_from old old_spare y).strands ls (front ++ u.items)
 
   -- ---- the lines of a wire, of which `before` and `after` state the octets read and written
 
   -- the follower processed some lines, and the text is the end of the octets that are due
-  abbrev pub IsPending : Follower → Vec ℕ Global → Type 0
-  IsPending x t = (old old_spare : List Boxed) × (done : List (List ℕ)) × (front : List ℕ) × (dues_from old old_spare x).answers done (front ++ t.items)
+  abbrev pub IsPending : TraceFollower P E R V F → Vec ℕ Global → Type 0
+  IsPending x t = (old old_spare : List (DynBox V Global F)) × (done : List (List ℕ)) × (front : List ℕ) × (dues_from old old_spare x).answers done (front ++ t.items)
 
   -- the line ends the call
-  abbrev pub StopsLine : Following → (x y : Follower) (line : List ℕ) → (t u : Vec ℕ Global) → Type 0
-  StopsLine why x y line t u = (old old_spare : List Boxed) (done : List (List ℕ)) (front : List ℕ) → (dues_from old old_spare x).answers done (front ++ t.items)
+  abbrev pub StopsLine : Following → (x y : TraceFollower P E R V F) (line : List ℕ) → (t u : Vec ℕ Global) → Type 0
+  StopsLine why x y line t u = (old old_spare : List (DynBox V Global F)) (done : List (List ℕ)) (front : List ℕ) → (dues_from old old_spare x).answers done (front ++ t.items)
       → HasStopped why (dues_from old old_spare y) done line (front ++ u.items)
 
   -- all octets that are due for some lines were written, except the text
-  abbrev pub OwesFrom : (stood : List ℕ → List ℕ → Type 0) (old old_spare : List Boxed) → Follower → List ℕ → List (List ℕ) → Vec ℕ Global → Type 0
+  abbrev pub OwesFrom : (stood : List ℕ → List ℕ → Type 0) (old old_spare : List (DynBox V Global F)) → TraceFollower P E R V F → List ℕ → List (List ℕ) → Vec ℕ Global → Type 0
   OwesFrom stood old old_spare x heard done t = OwesText stood (dues_from old old_spare x).answers heard done t.items x.lines
 
-  abbrev pub IsOwing : (stood : List ℕ → List ℕ → Type 0) → Follower → Vec ℕ Global → Type 0
-  IsOwing stood x t = (old old_spare : List Boxed) × (heard : List ℕ) × (done : List (List ℕ)) × OwesFrom stood old old_spare x heard done t
+  abbrev pub IsOwing : (stood : List ℕ → List ℕ → Type 0) → TraceFollower P E R V F → Vec ℕ Global → Type 0
+  IsOwing stood x t = (old old_spare : List (DynBox V Global F)) × (heard : List ℕ) × (done : List (List ℕ)) × OwesFrom stood old old_spare x heard done t
 
-  abbrev pub OwesLine : (before after : List ℕ → List ℕ → Type 0) (x y : Follower) (line : List ℕ) → (t u : Vec ℕ Global) → Type 0
-  OwesLine before after x y line t u = (old old_spare : List Boxed) (heard : List ℕ) (done : List (List ℕ)) → OwesFrom before old old_spare x heard done t
+  abbrev pub OwesLine : (before after : List ℕ → List ℕ → Type 0) (x y : TraceFollower P E R V F) (line : List ℕ) → (t u : Vec ℕ Global) → Type 0
+  OwesLine before after x y line t u = (old old_spare : List (DynBox V Global F)) (heard : List ℕ) (done : List (List ℕ)) → OwesFrom before old old_spare x heard done t
       → OwesFrom after old old_spare y heard (done ++ line ∷ []) u
 
-  abbrev pub StopsOwing : Following → (before after : List ℕ → List ℕ → Type 0) (x y : Follower) (line : List ℕ) → (t u : Vec ℕ Global) → Type 0
-  StopsOwing why before after x y line t u = (old old_spare : List Boxed) (heard : List ℕ) (done : List (List ℕ)) → OwesFrom before old old_spare x heard done t
+  abbrev pub StopsOwing : Following → (before after : List ℕ → List ℕ → Type 0) (x y : TraceFollower P E R V F) (line : List ℕ) → (t u : Vec ℕ Global) → Type 0
+  StopsOwing why before after x y line t u = (old old_spare : List (DynBox V Global F)) (heard : List ℕ) (done : List (List ℕ)) → OwesFrom before old old_spare x heard done t
       → (said : List ℕ) × after heard said × HasStopped why (dues_from old old_spare y) done line (said ++ u.items)
 
   -- the same for all lines before the octets `rest`
-  abbrev pub IsUnderFrom : (stood : List ℕ → List ℕ → Type 0) (old old_spare : List Boxed) → Follower → (heard rest : List ℕ) → Vec ℕ Global → Type 0
+  abbrev pub IsUnderFrom : (stood : List ℕ → List ℕ → Type 0) (old old_spare : List (DynBox V Global F)) → TraceFollower P E R V F → (heard rest : List ℕ) → Vec ℕ Global → Type 0
   IsUnderFrom stood old old_spare x heard rest t = IsUnderway stood (dues_from old old_spare x).answers heard rest t.items x.lines
 
-  abbrev pub IsUnder : (stood : List ℕ → List ℕ → Type 0) → Follower → (rest : List ℕ) → Vec ℕ Global → Type 0
-  IsUnder stood x rest t = (old old_spare : List Boxed) × (heard : List ℕ) × IsUnderFrom stood old old_spare x heard rest t
+  abbrev pub IsUnder : (stood : List ℕ → List ℕ → Type 0) → TraceFollower P E R V F → (rest : List ℕ) → Vec ℕ Global → Type 0
+  IsUnder stood x rest t = (old old_spare : List (DynBox V Global F)) × (heard : List ℕ) × IsUnderFrom stood old old_spare x heard rest t
 
-  abbrev pub GoesOn : (before after : List ℕ → List ℕ → Type 0) (x y : Follower) (rest left : List ℕ) → (t u : Vec ℕ Global) → Type 0
-  GoesOn before after x y rest left t u = (old old_spare : List Boxed) (heard : List ℕ) → IsUnderFrom before old old_spare x heard rest t
+  abbrev pub GoesOn : (before after : List ℕ → List ℕ → Type 0) (x y : TraceFollower P E R V F) (rest left : List ℕ) → (t u : Vec ℕ Global) → Type 0
+  GoesOn before after x y rest left t u = (old old_spare : List (DynBox V Global F)) (heard : List ℕ) → IsUnderFrom before old old_spare x heard rest t
       → IsUnderFrom after old old_spare y heard left u
 
   -- all lines of the input were processed
-  abbrev pub GoesToEnd : (before after : List ℕ → List ℕ → Type 0) (x y : Follower) (rest : List ℕ) → (t u : Vec ℕ Global) → Type 0
-  GoesToEnd before after x y rest t u = (old old_spare : List Boxed) (heard : List ℕ) → IsUnderFrom before old old_spare x heard rest t
+  abbrev pub GoesToEnd : (before after : List ℕ → List ℕ → Type 0) (x y : TraceFollower P E R V F) (rest : List ℕ) → (t u : Vec ℕ Global) → Type 0
+  GoesToEnd before after x y rest t u = (old old_spare : List (DynBox V Global F)) (heard : List ℕ) → IsUnderFrom before old old_spare x heard rest t
       → OwesFrom after old old_spare y heard (lines_of heard) u
 
   -- the call ends
-  abbrev pub EndsIn : Following → (before after : List ℕ → List ℕ → Type 0) (x y : Follower) (rest : List ℕ) → (t u : Vec ℕ Global) → Type 0
-  EndsIn why before after x y rest t u = (old old_spare : List Boxed) (heard : List ℕ) → IsUnderFrom before old old_spare x heard rest t
+  abbrev pub EndsIn : Following → (before after : List ℕ → List ℕ → Type 0) (x y : TraceFollower P E R V F) (rest : List ℕ) → (t u : Vec ℕ Global) → Type 0
+  EndsIn why before after x y rest t u = (old old_spare : List (DynBox V Global F)) (heard : List ℕ) → IsUnderFrom before old old_spare x heard rest t
       → (said : List ℕ) × after heard said × HasFollowed why (dues_from old old_spare y) heard (said ++ u.items)
 
   -- ---- the call
 
   -- the follower processed no line
-  abbrev pub IsUnread : Follower → Type 0
+  abbrev pub IsUnread : TraceFollower P E R V F → Type 0
   IsUnread x = (dues_from x.metering.on.items x.metering.spare.items x).answers [] []
 
   -- the call ended for this cause, and the text is still to be written
-  abbrev pub EndsWith : Following → (after : List ℕ → List ℕ → Type 0) (x y : Follower) → Vec ℕ Global → Type 0
+  abbrev pub EndsWith : Following → (after : List ℕ → List ℕ → Type 0) (x y : TraceFollower P E R V F) → Vec ℕ Global → Type 0
   EndsWith why after x y t = (heard : List ℕ) × (said : List ℕ) × after heard said
       × HasFollowed why (dues_from x.metering.on.items x.metering.spare.items y) heard (said ++ t.items)
 
   -- the call ended for this cause
-  abbrev pub Ends : Following → (after : List ℕ → List ℕ → Type 0) (x y : Follower) → Type 0
+  abbrev pub Ends : Following → (after : List ℕ → List ℕ → Type 0) (x y : TraceFollower P E R V F) → Type 0
   Ends why after x y = (heard : List ℕ) × (said : List ℕ) × after heard said × HasFollowed why (dues_from x.metering.on.items x.metering.spare.items y) heard said
