@@ -44,7 +44,7 @@ events_long trace (n ∷ order) known =
     let e = event_there trace n (All-head (IsEvent trace) n order known) in
     ap suc (events_long trace order (All-tail (IsEvent trace) n order known)) ∙ sym (ap (λ (o : Option Event). length (cons_option o (events_of trace.events order))) e.1)
 
-run-append : (s : Setting) (w : World) (es fs : List Event) → run s w (es ++ fs) ≡ run s w es ++ run s (world_after_all s w es) fs
+pub run-append : (s : Setting) (w : World) (es fs : List Event) → run s w (es ++ fs) ≡ run s w es ++ run s (world_after_all s w es) fs
 run-append s w [] fs = refl
 run-append s w (e ∷ es) fs = ap (λ (l : List Reply). reply s w e ∷ l) (run-append s (next s w e) es fs)
 

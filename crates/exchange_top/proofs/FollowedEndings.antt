@@ -48,11 +48,11 @@ module _ (first other : Dues) (too : IsToo first other) where
 -- ---- a handler of a trace
 
 module _ {M P E : Type 0} (stands : M → List CallRecord → Type 0) (text : M → List CallRecord → List ℕ) (carries : Carrying E) (frames : E → ℕ) (sizes : E → Dimensions)
-    (plays : Plays) (slots : ℕ) (old old_spare on spare : List M) (heading : SoFar) (count : ℕ) (exchange : Option (LoneExchange P E)) where
+    (plays : Plays) (slots : ℕ) (moves : ℕ → ℕ) (old old_spare on spare : List M) (heading : SoFar) (count : ℕ) (exchange : Option (LoneExchange P E)) where
   abbrev mine : Dues
-  mine = handler_dues stands text carries frames sizes plays slots old old_spare on spare heading count exchange
+  mine = handler_dues stands text carries frames sizes plays slots moves old old_spare on spare heading count exchange
 
-  handler_too : IsToo mine (dues_of (course plays slots stands text old old_spare on spare))
+  handler_too : IsToo mine (dues_of (course plays slots moves stands text old old_spare on spare))
   handler_too = record {
     answers = λ ls said h. record { told = h.told; meets = h.meets; text = h.text; meters = h.meters };
     refuses = λ ls said due. due;
@@ -61,14 +61,14 @@ module _ {M P E : Type 0} (stands : M → List CallRecord → Type 0) (text : M 
     refuses_end = λ ls said due. due;
   }
 
-  pub answered : (heard said : List ℕ) → IsSettled (HasHandled carries frames sizes (course plays slots stands text old old_spare on spare) heading count exchange) heard said
+  pub answered : (heard said : List ℕ) → IsSettled (HasHandled carries frames sizes (course plays slots moves stands text old old_spare on spare) heading count exchange) heard said
       → IsAnswered plays slots (λ steps. steps_text text steps (handed_in old old_spare)) heard said
   answered heard said settled =
-      settled_too (HasHandled carries frames sizes (course plays slots stands text old old_spare on spare) heading count exchange) (AreAnswered plays slots (λ steps. steps_text text steps (handed_in old old_spare)))
+      settled_too (HasHandled carries frames sizes (course plays slots moves stands text old old_spare on spare) heading count exchange) (AreAnswered plays slots (λ steps. steps_text text steps (handed_in old old_spare)))
       (λ ls s h. record { told = h.told; meets = h.meets; text = h.text }) heard said settled
 
-  engine_after : (ls : List (List ℕ)) → IsEngineAfter carries frames sizes slots ls exchange
-      → IsEngineOf (follow_parties plays slots sizes carries (option_map (λ (x : LoneExchange P E). x.engine) exchange) stands text old old_spare on spare) ls
+  engine_after : (ls : List (List ℕ)) → IsEngineAfter carries frames sizes slots moves ls exchange
+      → IsEngineOf (follow_parties plays slots moves sizes carries (option_map (λ (x : LoneExchange P E). x.engine) exchange) stands text old old_spare on spare) ls
   engine_after ls a = record {
     told = a.told;
     meets = a.meets;
@@ -79,7 +79,7 @@ module _ {M P E : Type 0} (stands : M → List CallRecord → Type 0) (text : M 
   }
 
   returned : (ending : Following) (heard said : List ℕ) → HasFollowed ending mine heard said
-      → HasReturned (follow_parties plays slots sizes carries (engine_returned ending (option_map (λ (x : LoneExchange P E). x.engine) exchange)) stands text old old_spare on spare) ending heard
+      → HasReturned (follow_parties plays slots moves sizes carries (engine_returned ending (option_map (λ (x : LoneExchange P E). x.engine) exchange)) stands text old old_spare on spare) ending heard
   returned ended.Completed heard said due = engine_after _ due.engine
   returned ended.Refused heard said due = refl
   returned ended.ReadFailed heard said due = refl
@@ -87,11 +87,11 @@ module _ {M P E : Type 0} (stands : M → List CallRecord → Type 0) (text : M 
   returned ended.OutOfMemory heard said due = refl
 
   pub follows_to : (stood : List ℕ → List ℕ → Type 0) (ending : Following) (heard said : List ℕ) → stood heard said → HasFollowed ending mine heard said
-      → FollowsTo (follow_parties plays slots sizes carries (engine_returned ending (option_map (λ (x : LoneExchange P E). x.engine) exchange)) stands text old old_spare on spare) stood ending
+      → FollowsTo (follow_parties plays slots moves sizes carries (engine_returned ending (option_map (λ (x : LoneExchange P E). x.engine) exchange)) stands text old old_spare on spare) stood ending
   follows_to stood ending heard said stands_so due = record {
     heard = heard;
     said = said;
     stood = stands_so;
-    due = followed_too mine (dues_of (course plays slots stands text old old_spare on spare)) handler_too ending heard said due;
+    due = followed_too mine (dues_of (course plays slots moves stands text old old_spare on spare)) handler_too ending heard said due;
     engine = returned ending heard said due;
   }

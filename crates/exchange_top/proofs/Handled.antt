@@ -27,7 +27,7 @@ use Rattle.trace_text.specs.TraceLines.{SoFar, line_limits, says}
 use Rattle.trace_text.proofs.TraceHolds.{events_more, push, step}
 use Rattle.lone_exchange.specs.declared.exchange.LoneExchange.{LoneExchange}
 use Rattle.lone_exchange.specs.At.{Carrying, IsAt}
-use Rattle.exchange_top.specs.Following.{IsInterrupted, IsLineRefused, No_line, Read, Unread, course, follows, setting_said, story_said, world_said}
+use Rattle.exchange_top.specs.Following.{IsInterrupted, IsLineRefused, MovesFewIn, No_line, Read, Unread, course, follows, setting_said, story_said, world_said}
 use Rattle.exchange_top.specs.Handling.{HasHandled, IsAfter, IsDriven, IsSaid}
 use Rattle.exchange_top.specs.Refusals.{refusal}
 use Rattle.exchange_top.specs.Telling.{AreTold, AreToldFront}
@@ -43,12 +43,16 @@ use Rattle.exchange_top.proofs.Tellings.{beyond_none, both_beyond}
 same_events : (told : List Said) (said : Said) → event_said said ≡ None → events_in (told ++ said ∷ []) ≡ events_in told
 same_events told said none = events_more told said ∙ ap (λ (o : Option Event). step push (events_in told) o) none
 
+-- few live paths are moved in the same events in the same setting
+pub few_same : (moves : ℕ → ℕ) (s t : Setting) (es fs : List Event) → s ≡ t → es ≡ fs → MovesFewIn moves s es → MovesFewIn moves t fs
+few_same moves s t es fs settings events few = subst (MovesFewIn moves t) events (subst (λ (v : Setting). MovesFewIn moves v es) settings few)
+
 -- the setting that a line leaves unchanged
-module _ {P E : Type 0} (carries : Carrying E) (frames : E → ℕ) (sizes : E → Dimensions) (slots : ℕ) (told : List Said) (said : Said)
+module _ {P E : Type 0} (carries : Carrying E) (frames : E → ℕ) (sizes : E → Dimensions) (slots : ℕ) (moves : ℕ → ℕ) (told : List Said) (said : Said)
     (more : with_said (so_far told) said ≡ so_far (told ++ said ∷ [])) where
   stays_at : event_said said ≡ None → ((z : Sizes) → sizes_in told ≡ Some z → (with_said (so_far told) said).sizes ≡ Some z)
       → ((z : Sizes) → setting_by slots z (with_said (so_far told) said) ≡ setting_said slots z told)
-      → (x : Option (LoneExchange P E)) → IsDriven carries frames sizes slots told x → IsDriven carries frames sizes slots (told ++ said ∷ []) x
+      → (x : Option (LoneExchange P E)) → IsDriven carries frames sizes slots moves told x → IsDriven carries frames sizes slots moves (told ++ said ∷ []) x
   stays_at none still same None driven = same_events told said none ∙ driven
   stays_at none still same (Some x) driven =
       let all = told ++ said ∷ [] in
@@ -62,40 +66,42 @@ module _ {P E : Type 0} (carries : Carrying E) (frames : E → ℕ) (sizes : E �
           given = ap (λ (k : SoFar). k.sizes) (sym more) ∙ still z at.given;
           at = subst (λ (s : Setting). IsAt carries frames sizes x s (world_said slots z all)) (sym setting)
               (subst (λ (w : World). IsAt carries frames sizes x (setting_said slots z told) w) (sym world) at.at);
+          bound = at.bound;
+          few = few_same moves (setting_said slots z told) (setting_said slots z all) (events_in told) (events_in all) (sym setting) (sym (same_events told said none)) at.few;
         },
       )
 
   comes_at : ((z : Sizes) → sizes_in told ≡ Some z → length (events_in told) ≡ 0) → event_said said ≡ None
-      → (x : Option (LoneExchange P E)) → IsDriven carries frames sizes slots told x → IsDriven carries frames sizes slots (told ++ said ∷ []) x
+      → (x : Option (LoneExchange P E)) → IsDriven carries frames sizes slots moves told x → IsDriven carries frames sizes slots moves (told ++ said ∷ []) x
   comes_at early none None driven = same_events told said none ∙ driven
   comes_at early none (Some x) driven = let few = early driven.1.header driven.1.given in let some = driven.0 in absurd (omega (arith, few, some))
 
 -- what happens at a line that gives no event
-module _ {P E : Type 0} (carries : Carrying E) (frames : E → ℕ) (sizes : E → Dimensions) (slots : ℕ) (told : List Said) where
+module _ {P E : Type 0} (carries : Carrying E) (frames : E → ℕ) (sizes : E → Dimensions) (slots : ℕ) (moves : ℕ → ℕ) (told : List Said) where
   pub driven_more : (said : Said) → with_said (so_far told) said ≡ so_far (told ++ said ∷ []) → IsPlaced (so_far told) said → event_said said ≡ None
-      → (x : Option (LoneExchange P E)) → IsDriven carries frames sizes slots told x → IsDriven carries frames sizes slots (told ++ said ∷ []) x
-  driven_more Nothing more placed none = stays_at carries frames sizes slots told Nothing more none (λ z known. known) (λ z. refl)
-  driven_more Sync more placed none = stays_at carries frames sizes slots told Sync more none (λ z known. known) (λ z. refl)
-  driven_more Change more placed none = stays_at carries frames sizes slots told Change more none (λ z known. known) (λ z. refl)
+      → (x : Option (LoneExchange P E)) → IsDriven carries frames sizes slots moves told x → IsDriven carries frames sizes slots moves (told ++ said ∷ []) x
+  driven_more Nothing more placed none = stays_at carries frames sizes slots moves told Nothing more none (λ z known. known) (λ z. refl)
+  driven_more Sync more placed none = stays_at carries frames sizes slots moves told Sync more none (λ z known. known) (λ z. refl)
+  driven_more Change more placed none = stays_at carries frames sizes slots moves told Change more none (λ z known. known) (λ z. refl)
   driven_more (Happens e) more placed none = absurd (grind (arith, none))
-  driven_more (Header h) more placed none = comes_at carries frames sizes slots told (Header h) more (λ z known. let both : None ≡ Some z = sym placed ∙ known in absurd (grind (arith, both))) none
-  driven_more (Numbered n) more placed none = comes_at carries frames sizes slots told (Numbered n) more (λ z known. placed) none
-  driven_more (Toned given) more placed none = comes_at carries frames sizes slots told (Toned given) more (λ z known. placed) none
-  driven_more (Timed given) more placed none = comes_at carries frames sizes slots told (Timed given) more (λ z known. placed) none
+  driven_more (Header h) more placed none = comes_at carries frames sizes slots moves told (Header h) more (λ z known. let both : None ≡ Some z = sym placed ∙ known in absurd (grind (arith, both))) none
+  driven_more (Numbered n) more placed none = comes_at carries frames sizes slots moves told (Numbered n) more (λ z known. placed) none
+  driven_more (Toned given) more placed none = comes_at carries frames sizes slots moves told (Toned given) more (λ z known. placed) none
+  driven_more (Timed given) more placed none = comes_at carries frames sizes slots moves told (Timed given) more (λ z known. placed) none
 
 -- ---- one more line
 
 module _ {M P E : Type 0} (stands : M → List CallRecord → Type 0) (text : M → List CallRecord → List ℕ) (carries : Carrying E) (frames : E → ℕ) (sizes : E → Dimensions)
-    (plays : Plays) (slots : ℕ) (old old_spare : List M) where
+    (plays : Plays) (slots : ℕ) (moves : ℕ → ℕ) (old old_spare : List M) where
   abbrev pub Handled : List M → List M → SoFar → ℕ → Option (LoneExchange P E) → List (List ℕ) → List ℕ → Type 0
-  Handled on spare heading count exchange ls said = HasHandled carries frames sizes (course plays slots stands text old old_spare on spare) heading count exchange ls said
+  Handled on spare heading count exchange ls said = HasHandled carries frames sizes (course plays slots moves stands text old old_spare on spare) heading count exchange ls said
 
   pub handled_none : Handled old old_spare (so_far []) 0 None [] []
   handled_none = record { told = []; meets = tt; text = refl; meters = metered-first stands text old old_spare; known = refl; sound = said_none; counted = refl; driven = refl }
 
   refused_here : (on spare : List M) (before : SoFar) (count : ℕ) (exchange : Option (LoneExchange P E)) (ls : List (List ℕ)) (said line : List ℕ) (h : Handled on spare before count exchange ls said)
       (why : Reason) (all : List ℕ) → follows h.told line ≡ Err why → all ≡ said ++ refusal (count + 1) why
-      → IsLineRefused (course plays slots stands text old old_spare on spare) (ls ++ line ∷ []) all
+      → IsLineRefused (course plays slots moves stands text old old_spare on spare) (ls ++ line ∷ []) all
   refused_here on spare before count exchange ls said line h why all fails is = record {
     before = ls;
     line = line;
@@ -141,7 +147,7 @@ module _ {M P E : Type 0} (stands : M → List CallRecord → Type 0) (text : M 
       pub handled_more : (on' spare' : List M) (exchange' : Option (LoneExchange P E)) (said' : List ℕ)
           → AreMetered stands text (after_steps dues (after_steps (story_said plays slots h.told) (handed_in old old_spare))) on' spare'
           → said' ≡ said ++ steps_text text dues (after_steps (story_said plays slots h.told) (handed_in old old_spare))
-          → IsDriven carries frames sizes slots all exchange' → Handled on' spare' after (count + 1) exchange' (ls ++ line ∷ []) said'
+          → IsDriven carries frames sizes slots moves all exchange' → Handled on' spare' after (count + 1) exchange' (ls ++ line ∷ []) said'
       handled_more on' spare' exchange' said' metered added driven =
           let story = story_said plays slots h.told in
           record {
@@ -159,7 +165,7 @@ module _ {M P E : Type 0} (stands : M → List CallRecord → Type 0) (text : M 
 
       -- an allocation failed in it, and meters recorded a prefix of its calls
       pub interrupted_more : (on' : List M) → AreToldFront stands text on on' (records_of dues)
-          → IsInterrupted (course plays slots stands text old old_spare on' spare) (ls ++ line ∷ []) said
+          → IsInterrupted (course plays slots moves stands text old old_spare on' spare) (ls ++ line ∷ []) said
       interrupted_more on' front = record {
         before = ls;
         rest = line ∷ [];
@@ -174,13 +180,13 @@ module _ {M P E : Type 0} (stands : M → List CallRecord → Type 0) (text : M 
 
     -- it is refused, by a check
     pub refused_more : (why : Reason) (all : List ℕ) → says line_limits before line ≡ Err why → all ≡ said ++ refusal (count + 1) why
-        → IsLineRefused (course plays slots stands text old old_spare on spare) (ls ++ line ∷ []) all
+        → IsLineRefused (course plays slots moves stands text old old_spare on spare) (ls ++ line ∷ []) all
     refused_more why all fails is = refused_here on spare before count exchange ls said line h why all (follows_here ∙ fails) is
 
   module _ (on spare : List M) (before : SoFar) (count : ℕ) (exchange : Option (LoneExchange P E)) (ls : List (List ℕ)) (said line : List ℕ) (h : Handled on spare before count exchange ls said) where
     -- it is too long, or there are too many lines before it
     pub refused_long : (all : List ℕ) → (65535 < length line) ⊎ (4294967294 ≤ count) → all ≡ said ++ refusal (count + 1) reason.Limit
-        → IsLineRefused (course plays slots stands text old old_spare on spare) (ls ++ line ∷ []) all
+        → IsLineRefused (course plays slots moves stands text old old_spare on spare) (ls ++ line ∷ []) all
     refused_long all (inl long) is = refused_here on spare before count exchange ls said line h reason.Limit all (follows_long h.told line long) is
     refused_long all (inr many) is =
         let same = each_length [] h.told ls h.meets in
@@ -188,7 +194,7 @@ module _ {M P E : Type 0} (stands : M → List CallRecord → Type 0) (text : M 
         refused_here on spare before count exchange ls said line h reason.Limit all (follows_many h.told line (omega (arith, same, counted, many))) is
 
     -- an allocation failed before it was read
-    pub interrupted_here : IsInterrupted (course plays slots stands text old old_spare on spare) (ls ++ line ∷ []) said
+    pub interrupted_here : IsInterrupted (course plays slots moves stands text old old_spare on spare) (ls ++ line ∷ []) said
     interrupted_here = record {
       before = ls;
       rest = line ∷ [];
@@ -202,7 +208,7 @@ module _ {M P E : Type 0} (stands : M → List CallRecord → Type 0) (text : M 
     }
 
     -- or at the end
-    pub interrupted_last : IsInterrupted (course plays slots stands text old old_spare on spare) ls said
+    pub interrupted_last : IsInterrupted (course plays slots moves stands text old old_spare on spare) ls said
     interrupted_last = record {
       before = ls;
       rest = [];

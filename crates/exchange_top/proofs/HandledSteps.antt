@@ -30,14 +30,14 @@ use Rattle.trace_text.proofs.SoundLemmas.{IsFine}
 use Rattle.trace_text.proofs.TraceHolds.{events_more}
 use Rattle.lone_exchange.specs.declared.exchange.LoneExchange.{LoneExchange}
 use Rattle.lone_exchange.specs.At.{Carrying, IsAt}
-use Rattle.exchange_top.specs.Following.{IsEndRefused, IsInterrupted, IsLineRefused, course, setting_said, story_by, story_said, world_said}
+use Rattle.exchange_top.specs.Following.{IsEndRefused, IsInterrupted, IsLineRefused, MovesFewIn, course, setting_said, story_by, story_said, world_said}
 use Rattle.exchange_top.specs.Handling.{HasFinished, HasRead, IsDriven}
 use Rattle.exchange_top.specs.Stepping.{HasHappened, IsEventDue, IsHeard, IsRunning, calls_at}
 use Rattle.exchange_top.specs.Refusals.{refusal}
 use Rattle.exchange_top.specs.Telling.{AreTold, AreToldFront}
 use Rattle.exchange_top.proofs.FollowedLines.{each_few, each_length}
 use Rattle.exchange_top.proofs.FollowedSteps.{due_by, setting_by}
-use Rattle.exchange_top.proofs.Handled.{Handled, driven_more, handled_more, interrupted_more, line_is, more, refused_long, refused_more}
+use Rattle.exchange_top.proofs.Handled.{Handled, driven_more, few_same, handled_more, interrupted_more, line_is, more, refused_long, refused_more}
 use Rattle.exchange_top.proofs.PlacedLines.{IsKnown, IsPlaced}
 
 pub events_few : (told : List Said) → length (events_in told) ≤ length told
@@ -105,9 +105,9 @@ is_event Change e same = absurd (grind (arith, same))
 -- ---- a line of each kind
 
 module _ {M P E : Type 0} (stands : M → List CallRecord → Type 0) (text : M → List CallRecord → List ℕ) (carries : Carrying E) (frames : E → ℕ) (sizes : E → Dimensions)
-    (plays : Plays) (slots : ℕ) (old old_spare : List M) where
+    (plays : Plays) (slots : ℕ) (moves : ℕ → ℕ) (old old_spare : List M) where
   abbrev pub HandledBy : List M → List M → SoFar → ℕ → Option (LoneExchange P E) → List (List ℕ) → List ℕ → Type 0
-  HandledBy on spare heading count exchange ls said = Handled stands text carries frames sizes plays slots old old_spare on spare heading count exchange ls said
+  HandledBy on spare heading count exchange ls said = Handled stands text carries frames sizes plays slots moves old old_spare on spare heading count exchange ls said
 
   module _ (on spare : List M) (before after : SoFar) (count : ℕ) (exchange : Option (LoneExchange P E)) (ls : List (List ℕ)) (front t line : List ℕ)
       (h : HandledBy on spare before count exchange ls (front ++ t)) (short : length line ≤ 65535) (few : count < 4294967294) (hap : Happening) (r : IsLineRead line_limits before line hap after) where
@@ -115,23 +115,23 @@ module _ {M P E : Type 0} (stands : M → List CallRecord → Type 0) (text : M 
     now = after_steps (story_said plays slots h.told) (handed_in old old_spare)
 
     abbrev pub more_is : with_said (so_far h.told) r.said ≡ so_far (h.told ++ r.said ∷ [])
-    more_is = more stands text carries frames sizes plays slots old old_spare on spare before after count exchange ls (front ++ t) line h short few hap r
+    more_is = more stands text carries frames sizes plays slots moves old old_spare on spare before after count exchange ls (front ++ t) line h short few hap r
 
     abbrev pub checked : IsPlaced (so_far h.told) r.said
-    checked = (line_is stands text carries frames sizes plays slots old old_spare on spare before after count exchange ls (front ++ t) line h short few hap r).placed
+    checked = (line_is stands text carries frames sizes plays slots moves old old_spare on spare before after count exchange ls (front ++ t) line h short few hap r).placed
 
     abbrev pub fine : IsFine (so_far h.told) r.said
-    fine = (line_is stands text carries frames sizes plays slots old old_spare on spare before after count exchange ls (front ++ t) line h short few hap r).fine
+    fine = (line_is stands text carries frames sizes plays slots moves old old_spare on spare before after count exchange ls (front ++ t) line h short few hap r).fine
 
     -- neither an event nor a change
     pub handled_quiet : IsQuiet hap → HandledBy on spare after (count + 1) exchange (ls ++ line ∷ []) (front ++ t)
     handled_quiet quiet =
         let still : IsQuiet (happening_of r.said) = subst IsQuiet r.happens quiet in
         let none : due_by plays slots h.told (sizes_in h.told) r.said ≡ [] = quiet_dues plays slots h.told (sizes_in h.told) r.said still in
-        handled_more stands text carries frames sizes plays slots old old_spare on spare before after count exchange ls (front ++ t) line h short few hap r on spare exchange (front ++ t)
+        handled_more stands text carries frames sizes plays slots moves old old_spare on spare before after count exchange ls (front ++ t) line h short few hap r on spare exchange (front ++ t)
         (subst (λ (steps : List Step). AreMetered stands text (after_steps steps now) on spare) (sym none) h.meters)
         (sym (append-nil (front ++ t)) ∙ ap (λ (steps : List Step). (front ++ t) ++ steps_text text steps now) (sym none))
-        (driven_more carries frames sizes slots h.told r.said more_is checked (quiet_event r.said still) exchange h.driven)
+        (driven_more carries frames sizes slots moves h.told r.said more_is checked (quiet_event r.said still) exchange h.driven)
 
     -- a change of meters
     pub handled_change : hap ≡ happening.Change → (on' spare' : List M) (t' : List ℕ) → AreChangedBy stands text 1 on spare t on' spare' t'
@@ -140,11 +140,11 @@ module _ {M P E : Type 0} (stands : M → List CallRecord → Type 0) (text : M 
         let change : r.said ≡ Change = is_change r.said (sym is ∙ r.happens) in
         let known : IsKnown (so_far h.told) = subst (IsPlaced (so_far h.told)) change checked in
         let one : due_by plays slots h.told (sizes_in h.told) r.said ≡ Meters_changed ∷ [] = λ i. due_by plays slots h.told (known.1 i) (change i) in
-        handled_more stands text carries frames sizes plays slots old old_spare on spare before after count exchange ls (front ++ t) line h short few hap r on' spare' exchange (front ++ t')
+        handled_more stands text carries frames sizes plays slots moves old old_spare on spare before after count exchange ls (front ++ t) line h short few hap r on' spare' exchange (front ++ t')
         (subst (λ (steps : List Step). AreMetered stands text (after_steps steps now) on' spare') (sym one) (changed.left now h.meters))
         (ap (λ (l : List ℕ). front ++ l) (changed.said_is now h.meters)
         ∙ (sym (append_assoc front t (steps_text text (Meters_changed ∷ []) now)) ∙ ap (λ (steps : List Step). (front ++ t) ++ steps_text text steps now) (sym one)))
-        (driven_more carries frames sizes slots h.told r.said more_is checked (ap event_said change) exchange h.driven)
+        (driven_more carries frames sizes slots moves h.told r.said more_is checked (ap event_said change) exchange h.driven)
 
     -- an event
     module _ (e : Event) (is : hap ≡ happening.Event e) where
@@ -168,7 +168,7 @@ module _ {M P E : Type 0} (stands : M → List CallRecord → Type 0) (text : M 
           subst (λ (z : Sizes). Fits z.external e) same given.2
 
       -- it can happen
-      pub event_due : IsEventDue carries frames sizes slots h.told header after exchange e
+      pub event_due : IsEventDue carries frames sizes slots moves h.told header after exchange e
       event_due = record {
         heard = record {
           header = known_here.1;
@@ -197,8 +197,9 @@ module _ {M P E : Type 0} (stands : M → List CallRecord → Type 0) (text : M 
 
       -- the exchange after it
       after_event : (y : LoneExchange P E) → IsAt carries frames sizes y (setting_said slots header h.told) (next (setting_said slots header h.told) (world_said slots header h.told) e)
-          → IsDriven carries frames sizes slots (h.told ++ r.said ∷ []) (Some y)
-      after_event y at =
+          → y.control.map.bound ≡ moves (header.external + header.bridges) → MovesFewIn moves (setting_said slots header h.told) (events_in h.told ++ e ∷ [])
+          → IsDriven carries frames sizes slots moves (h.told ++ r.said ∷ []) (Some y)
+      after_event y at bound few =
           let all = h.told ++ r.said ∷ [] in
           let s = setting_said slots header h.told in
           let grown : events_in all ≡ events_in h.told ++ e ∷ [] = (λ i. events_in (h.told ++ event_is i ∷ [])) ∙ events_more h.told (Happens e) in
@@ -212,26 +213,28 @@ module _ {M P E : Type 0} (stands : M → List CallRecord → Type 0) (text : M 
               given = ap (λ (k : SoFar). k.sizes) (sym more_is) ∙ (ap (λ (v : Said). (with_said (so_far h.told) v).sizes) event_is ∙ known_here.1);
               at = subst (λ (v : Setting). IsAt carries frames sizes y v (world_said slots header all)) (sym setting)
                   (subst (λ (w : World). IsAt carries frames sizes y s w) (sym world) at);
+              bound = bound;
+              few = few_same moves s (setting_said slots header all) (events_in h.told ++ e ∷ []) (events_in all) (sym setting) (sym grown) few;
             },
           )
 
       pub handled_event : (on' : List M) (t' : List ℕ) (exchange' : Option (LoneExchange P E))
-          → HasHappened plays carries frames sizes slots stands text h.told header after.events e on on' t t' exchange'
+          → HasHappened plays carries frames sizes slots moves stands text h.told header after.events e on on' t t' exchange'
           → HandledBy on' spare after (count + 1) exchange' (ls ++ line ∷ []) (front ++ t')
       handled_event on' t' exchange' done =
           let step = Event_done (event_line (plays (table_of (setting_said slots header h.told).tones)) (setting_said slots header h.told) (world_said slots header h.told) after.events e) (calls_at slots h.told header e) in
-          handled_more stands text carries frames sizes plays slots old old_spare on spare before after count exchange ls (front ++ t) line h short few hap r on' spare exchange' (front ++ t')
+          handled_more stands text carries frames sizes plays slots moves old old_spare on spare before after count exchange ls (front ++ t) line h short few hap r on' spare exchange' (front ++ t')
           (subst (λ (steps : List Step). AreMetered stands text (after_steps steps now) on' spare) (sym one)
           (metered-events stands text (step ∷ []) tt now on on' spare h.meters (subst (λ (calls : List CallRecord). AreTold stands text on on' calls) (sym (append-nil (calls_at slots h.told header e))) done.noted)))
           (ap (λ (l : List ℕ). front ++ l) (done.line ∙ ap (λ (l : List ℕ). t ++ l) (sym (append-nil (event_line (plays (table_of (setting_said slots header h.told).tones)) (setting_said slots header h.told) (world_said slots header h.told) after.events e))))
           ∙ (sym (append_assoc front t (steps_text text (step ∷ []) now)) ∙ ap (λ (steps : List Step). (front ++ t) ++ steps_text text steps now) (sym one)))
-          (subst (λ (x : Option (LoneExchange P E)). IsDriven carries frames sizes slots (h.told ++ r.said ∷ []) x) (sym done.is) (after_event done.driver done.at))
+          (subst (λ (x : Option (LoneExchange P E)). IsDriven carries frames sizes slots moves (h.told ++ r.said ∷ []) x) (sym done.is) (after_event done.driver done.at done.bound done.few))
 
       -- an allocation failed in it
       pub interrupted_event : (on' : List M) → AreToldFront stands text on on' (calls_at slots h.told header e)
-          → IsInterrupted (course plays slots stands text old old_spare on' spare) (ls ++ line ∷ []) (front ++ t)
+          → IsInterrupted (course plays slots moves stands text old old_spare on' spare) (ls ++ line ∷ []) (front ++ t)
       interrupted_event on' told_front =
-          interrupted_more stands text carries frames sizes plays slots old old_spare on spare before after count exchange ls (front ++ t) line h short few hap r on'
+          interrupted_more stands text carries frames sizes plays slots moves old old_spare on spare before after count exchange ls (front ++ t) line h short few hap r on'
           (subst (λ (calls : List CallRecord). AreToldFront stands text on on' calls) (sym same_records) told_front)
 
   -- ---- the end of the input
@@ -239,7 +242,7 @@ module _ {M P E : Type 0} (stands : M → List CallRecord → Type 0) (text : M 
   module _ (on spare : List M) (heading : SoFar) (count : ℕ) (exchange : Option (LoneExchange P E)) (ls : List (List ℕ)) (front t : List ℕ)
       (h : HandledBy on spare heading count exchange ls (front ++ t)) where
     -- the exchange of these lines, which is made at the end if no event made it
-    pub finish_heard : (z : Sizes) → heading.sizes ≡ Some z → IsHeard carries frames sizes slots h.told z heading exchange
+    pub finish_heard : (z : Sizes) → heading.sizes ≡ Some z → IsHeard carries frames sizes slots moves h.told z heading exchange
     finish_heard z known = record {
       header = ap (λ (k : SoFar). k.sizes) (sym h.known) ∙ known;
       sized = known;
@@ -250,18 +253,18 @@ module _ {M P E : Type 0} (stands : M → List CallRecord → Type 0) (text : M 
       driven = h.driven;
     }
 
-    pub finished : (z : Sizes) → heading.sizes ≡ Some z → (exchange' : Option (LoneExchange P E)) → IsRunning carries frames sizes slots h.told z exchange'
-        → HasFinished carries frames sizes (course plays slots stands text old old_spare on spare) exchange' ls (front ++ t)
+    pub finished : (z : Sizes) → heading.sizes ≡ Some z → (exchange' : Option (LoneExchange P E)) → IsRunning carries frames sizes slots moves h.told z exchange'
+        → HasFinished carries frames sizes (course plays slots moves stands text old old_spare on spare) exchange' ls (front ++ t)
     finished z known exchange' running =
         let header : sizes_in h.told ≡ Some z = ap (λ (k : SoFar). k.sizes) (sym h.known) ∙ known in
         record {
-          whole = record { told = h.told; meets = h.meets; sizes = z; header = header; text = h.text; meters = h.meters };
-          engine = record { told = h.told; meets = h.meets; driver = running.driver; is = running.is; after = record { header = z; given = header; at = running.at } };
+          whole = record { told = h.told; meets = h.meets; sizes = z; header = header; few = running.few; text = h.text; meters = h.meters };
+          engine = record { told = h.told; meets = h.meets; driver = running.driver; is = running.is; after = record { header = z; given = header; at = running.at; bound = running.bound; few = running.few } };
         }
 
     -- no header is among them
     pub end_refused : heading.sizes ≡ None → (t' : List ℕ) → t' ≡ t ++ refusal (count + 1) reason.Header
-        → IsEndRefused (course plays slots stands text old old_spare on spare) ls (front ++ t')
+        → IsEndRefused (course plays slots moves stands text old old_spare on spare) ls (front ++ t')
     end_refused unknown t' is =
         let none : sizes_in h.told ≡ None = ap (λ (k : SoFar). k.sizes) (sym h.known) ∙ unknown in
         let story : story_said plays slots h.told ≡ [] = ap (λ (o : Option Sizes). story_by plays slots o h.told) none in
@@ -289,20 +292,20 @@ module _ {M P E : Type 0} (stands : M → List CallRecord → Type 0) (text : M 
 
     -- it is too long, or one too many
     pub refused_at : (t' : List ℕ) → (65535 < length line) ⊎ (4294967294 ≤ count) → t' ≡ t ++ refusal (count + 1) reason.Limit
-        → IsLineRefused (course plays slots stands text old old_spare on spare) (ls ++ line ∷ []) (front ++ t')
+        → IsLineRefused (course plays slots moves stands text old old_spare on spare) (ls ++ line ∷ []) (front ++ t')
     refused_at t' why is =
-        refused_long stands text carries frames sizes plays slots old old_spare on spare before count exchange ls (front ++ t) line h (front ++ t') why (joined t' (refusal (count + 1) reason.Limit) is)
+        refused_long stands text carries frames sizes plays slots moves old old_spare on spare before count exchange ls (front ++ t) line h (front ++ t') why (joined t' (refusal (count + 1) reason.Limit) is)
 
     module _ (short : length line ≤ 65535) (few : count < 4294967294) (limits : Limits) (are : limits ≡ line_limits) where
       -- a check of it fails
       pub refused_by : (why : Reason) (t' : List ℕ) → says limits before line ≡ Err why → t' ≡ t ++ refusal (count + 1) why
-          → IsLineRefused (course plays slots stands text old old_spare on spare) (ls ++ line ∷ []) (front ++ t')
+          → IsLineRefused (course plays slots moves stands text old old_spare on spare) (ls ++ line ∷ []) (front ++ t')
       refused_by why t' fails is =
-          refused_more stands text carries frames sizes plays slots old old_spare on spare before before count exchange ls (front ++ t) line h short few why (front ++ t')
+          refused_more stands text carries frames sizes plays slots moves old old_spare on spare before before count exchange ls (front ++ t) line h short few why (front ++ t')
           (ap (λ (l : Limits). says l before line) (sym are) ∙ fails) (joined t' (refusal (count + 1) why) is)
 
       pub is_read : (hap : Happening) (after : SoFar) → IsLineRead limits before line hap after
-          → HasRead carries frames sizes (course plays slots stands text old old_spare on spare) after count exchange ls line (front ++ t) hap
+          → HasRead carries frames sizes (course plays slots moves stands text old old_spare on spare) after count exchange ls line (front ++ t) hap
       is_read hap after read = record { before = before; handled = h; short = short; few = few; read = subst (λ (l : Limits). IsLineRead l before line hap after) are read }
 
 pub known_there : (o : Option Sizes) → is_some o ≡ true → (z : Sizes) × (o ≡ Some z)

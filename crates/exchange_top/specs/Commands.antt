@@ -57,6 +57,11 @@ most_read_by (Some (Check strict)) = most_of most_checked
 abbrev pub most_read : List (List ℕ) → ℕ
 most_read words = most_read_by (command_of words)
 
+-- the maximum number of live paths that a new path moves on a fabric of n lines
+abbrev pub moves_of : Bool → ℕ → ℕ
+moves_of true = most_strict_moves
+moves_of false = most_moves
+
 -- the fabric for a trace, and the maximum number of live paths that a new path moves: 59 internal slots and no move for
 -- a strict one, and 30 internal slots otherwise
 abbrev pub fabric_of : Bool → Trace → Fabric

@@ -1,12 +1,13 @@
 -- A trace whose lines are processed when they arrive: its story, and the ending of its call. Source: this project.
-use Rattle.std.specs.Prelude.{◌≡◌, ℕ, ◌+◌, nat_lt, if◌then◌else◌, List, [], ◌∷◌, ◌++◌, length, Option, Some, None, Result, Ok, Err}
+use Rattle.std.specs.Prelude.{◌≡◌, ℕ, ◌+◌, All, nat_lt, if◌then◌else◌, List, [], ◌∷◌, ◌++◌, length, Option, Some, None, Result, Ok, Err}
 use Rattle.circuit_model.specs.Hears.{Plays}
 use Rattle.tone_rules.specs.Tables.{table_of}
 use Rattle.exchange_events.specs.declared.record.CallRecord.{CallRecord}
+use Rattle.exchange_events.specs.declared.trace.Event.{Event}
 use Rattle.exchange_events.specs.Kept.{kept_of}
 use Rattle.exchange_events.specs.Sizes.{Dimensions, Setting}
 use Rattle.call_profile.specs.CallsTold.{calls_kept}
-use Rattle.call_profile.specs.Step.{next, reply, world_after_all}
+use Rattle.call_profile.specs.Step.{MovesAtMost, next, reply, run, world_after_all}
 use Rattle.call_profile.specs.World.{World, start}
 use Rattle.report_text.specs.RunReport.{Played, event_line}
 use Rattle.meters.specs.Changing.{Step, Event_done, Meters_changed, records_of}
@@ -67,6 +68,14 @@ setting_said slots sizes told = record {
 abbrev pub world_said : ℕ → Sizes → List Said → World
 world_said slots sizes told = let s = setting_said slots sizes told in world_after_all s (start s.dimensions) (events_in told)
 
+-- in a run of these events, a new path moves at most this number of live paths, which depends on the number of lines
+abbrev pub MovesFewIn : (ℕ → ℕ) → Setting → List Event → Type 0
+MovesFewIn moves s events = All (MovesAtMost (moves (s.dimensions.external + s.dimensions.bridges))) (run s (start s.dimensions) events)
+
+-- the same for the events of these lines
+abbrev pub MovesFewSaid : ℕ → (ℕ → ℕ) → Sizes → List Said → Type 0
+MovesFewSaid slots moves sizes told = MovesFewIn moves (setting_said slots sizes told) (events_in told)
+
 -- the events and the changes of meters of these lines, from an exchange state and after n events: each event has its
 -- numbered line, and the records of the calls that ended with it
 abbrev pub steps_said : Played → Setting → World → ℕ → List Said → List Step
@@ -88,16 +97,17 @@ story_said plays slots told = story_by plays slots (sizes_in told) told
 
 -- ---- the facts about lines that were followed
 
--- the parameters of the story of lines: the output of an engine, the number of internal slots of the fabric, and the
--- meters before and after
+-- the parameters of the story of lines: the output of an engine, the number of internal slots of the fabric, the maximum
+-- number of live paths that a new path moves on a fabric of n lines, and the meters before and after
 pub record Course : Type 1 where
   pub plays : Plays
   pub slots : ℕ
+  pub moves : ℕ → ℕ
   pub meters : MeterStory
 
 -- the parameters of a story with these meters, by the definitions of their type
-abbrev pub course : {M : Type 0} → Plays → ℕ → (M → List CallRecord → Type 0) → (M → List CallRecord → List ℕ) → (old spare new new_spare : List M) → Course
-course plays slots stands text old spare new new_spare = record { plays = plays; slots = slots; meters = meter_story stands text old spare new new_spare }
+abbrev pub course : {M : Type 0} → Plays → ℕ → (ℕ → ℕ) → (M → List CallRecord → Type 0) → (M → List CallRecord → List ℕ) → (old spare new new_spare : List M) → Course
+course plays slots moves stands text old spare new new_spare = record { plays = plays; slots = slots; moves = moves; meters = meter_story stands text old spare new new_spare }
 
 -- the octets that are due for these lines are the text of their story
 pub record AreAnswered (plays : Plays) (slots : ℕ) (written : List Step → List ℕ) (ls : List (List ℕ)) (said : List ℕ) : Type 0 where
@@ -116,12 +126,13 @@ pub record AreProcessed (x : Course) (ls : List (List ℕ)) (said : List ℕ) : 
   pub text : said ≡ x.meters.written (story_said x.plays x.slots told)
   pub meters : x.meters.left (story_said x.plays x.slots told)
 
--- these lines were processed, and the header is among them
+-- these lines were processed, the header is among them, and each new path moved few live paths
 pub record IsWhole (x : Course) (ls : List (List ℕ)) (said : List ℕ) : Type 0 where
   pub told : List Said
   pub meets : EachFollows [] ls told
   pub sizes : Sizes
   pub header : sizes_in told ≡ Some sizes
+  pub few : MovesFewSaid x.slots x.moves sizes told
   pub text : said ≡ x.meters.written (story_said x.plays x.slots told)
   pub meters : x.meters.left (story_said x.plays x.slots told)
 
@@ -193,10 +204,10 @@ pub record FollowParties : Type 1 where
   pub no_engine : Type 0
 
 -- the parameters of a call, by the definitions of its engine and of its meters
-abbrev pub follow_parties : {M E : Type 0} → Plays → ℕ → (E → Dimensions) → Carrying E → Option E → (M → List CallRecord → Type 0) → (M → List CallRecord → List ℕ)
+abbrev pub follow_parties : {M E : Type 0} → Plays → ℕ → (ℕ → ℕ) → (E → Dimensions) → Carrying E → Option E → (M → List CallRecord → Type 0) → (M → List CallRecord → List ℕ)
     → (old spare new new_spare : List M) → FollowParties
-follow_parties plays slots sizes carries engine stands text old spare new new_spare = record {
-  course = course plays slots stands text old spare new new_spare;
+follow_parties plays slots moves sizes carries engine stands text old spare new new_spare = record {
+  course = course plays slots moves stands text old spare new new_spare;
   handed = HandsOut sizes carries engine;
   no_engine = engine ≡ None;
 }

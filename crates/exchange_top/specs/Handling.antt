@@ -1,5 +1,5 @@
 -- The state of an exchange that follows a trace, between two lines. Source: this project.
-use Rattle.std.specs.Prelude.{◌≡◌, ℕ, ◌<◌, ◌≤◌, true, List, [], length, Option, Some, None}
+use Rattle.std.specs.Prelude.{◌≡◌, ℕ, ◌+◌, ◌<◌, ◌≤◌, true, List, [], length, Option, Some, None}
 use Rattle.circuit_model.specs.Dimensions.{Dimensions}
 use Rattle.number_plan.specs.Plan.{all_targets}
 use Rattle.circuit_model.specs.Hears.{Plays}
@@ -16,7 +16,7 @@ use Rattle.trace_text.specs.declared.heading.Happening.{Happening}
 use Rattle.trace_text.specs.TraceHeading.{IsLineRead}
 use Rattle.trace_text.specs.TraceLines.{SoFar, line_limits}
 use Rattle.line_follower.specs.Following.{Dues}
-use Rattle.exchange_top.specs.Following.{Course, EachFollows, IsEndRefused, IsInterrupted, IsLineRefused, IsWhole, course, setting_said, story_said, world_said}
+use Rattle.exchange_top.specs.Following.{Course, EachFollows, IsEndRefused, IsInterrupted, IsLineRefused, IsWhole, MovesFewSaid, course, setting_said, story_said, world_said}
 
 -- the properties of lines that follow one another: the header has the sizes of an exchange, the numbers are routed to
 -- its lines, and before the header there is no number, no event and no change
@@ -29,16 +29,19 @@ pub record IsSaid (k : SoFar) : Type 0 where
   pub no_events : k.sizes ≡ None → k.events ≡ 0
   pub no_changes : k.sizes ≡ None → k.changes ≡ 0
 
--- the exchange is in the state after these lines, in the setting of their header
-pub record IsAfter {P E : Type 0} (carries : Carrying E) (frames : E → ℕ) (sizes : E → Dimensions) (slots : ℕ) (told : List Said) (x : LoneExchange P E) : Type 0 where
+-- The exchange is in the state after these lines, in the setting of their header. Each new path moved at most the
+-- fabric's number of live paths.
+pub record IsAfter {P E : Type 0} (carries : Carrying E) (frames : E → ℕ) (sizes : E → Dimensions) (slots : ℕ) (moves : ℕ → ℕ) (told : List Said) (x : LoneExchange P E) : Type 0 where
   pub header : Sizes
   pub given : sizes_in told ≡ Some header
   pub at : IsAt carries frames sizes x (setting_said slots header told) (world_said slots header told)
+  pub bound : x.control.map.bound ≡ moves (header.external + header.bridges)
+  pub few : MovesFewSaid slots moves header told
 
 -- there is no exchange before the first event, and after it the exchange is in the state after these lines
-abbrev pub IsDriven : {P E : Type 0} → Carrying E → (E → ℕ) → (E → Dimensions) → ℕ → List Said → Option (LoneExchange P E) → Type 0
-IsDriven carries frames sizes slots told None = events_in told ≡ []
-IsDriven carries frames sizes slots told (Some x) = (1 ≤ length (events_in told)) × IsAfter carries frames sizes slots told x
+abbrev pub IsDriven : {P E : Type 0} → Carrying E → (E → ℕ) → (E → Dimensions) → ℕ → (ℕ → ℕ) → List Said → Option (LoneExchange P E) → Type 0
+IsDriven carries frames sizes slots moves told None = events_in told ≡ []
+IsDriven carries frames sizes slots moves told (Some x) = (1 ≤ length (events_in told)) × IsAfter carries frames sizes slots moves told x
 
 -- these lines were processed: exactly the text of their story is due, the meters are its result, and the heading, the
 -- count of lines and the exchange are the result of the lines
@@ -51,7 +54,7 @@ pub record HasHandled {P E : Type 0} (carries : Carrying E) (frames : E → ℕ)
   pub known : heading ≡ so_far told
   pub sound : IsSaid (so_far told)
   pub counted : count ≡ length ls
-  pub driven : IsDriven carries frames sizes x.slots told exchange
+  pub driven : IsDriven carries frames sizes x.slots x.moves told exchange
 
 -- a further line was read, and its effect is not processed yet: the heading has its content
 pub record HasRead {P E : Type 0} (carries : Carrying E) (frames : E → ℕ) (sizes : E → Dimensions) (x : Course) (heading : SoFar) (count : ℕ)
@@ -63,30 +66,30 @@ pub record HasRead {P E : Type 0} (carries : Carrying E) (frames : E → ℕ) (s
   pub read : IsLineRead line_limits before line hap heading
 
 -- the engine of an exchange after these lines
-pub record IsEngineAfter {P E : Type 0} (carries : Carrying E) (frames : E → ℕ) (sizes : E → Dimensions) (slots : ℕ) (ls : List (List ℕ))
+pub record IsEngineAfter {P E : Type 0} (carries : Carrying E) (frames : E → ℕ) (sizes : E → Dimensions) (slots : ℕ) (moves : ℕ → ℕ) (ls : List (List ℕ))
     (exchange : Option (LoneExchange P E)) : Type 0 where
   pub told : List Said
   pub meets : EachFollows [] ls told
   pub driver : LoneExchange P E
   pub is : exchange ≡ Some driver
-  pub after : IsAfter carries frames sizes slots told driver
+  pub after : IsAfter carries frames sizes slots moves told driver
 
 -- all lines were processed, and there is an exchange
 pub record HasFinished {P E : Type 0} (carries : Carrying E) (frames : E → ℕ) (sizes : E → Dimensions) (x : Course)
     (exchange : Option (LoneExchange P E)) (ls : List (List ℕ)) (said : List ℕ) : Type 0 where
   pub whole : IsWhole x ls said
-  pub engine : IsEngineAfter carries frames sizes x.slots ls exchange
+  pub engine : IsEngineAfter carries frames sizes x.slots x.moves ls exchange
 
 -- the octets that are due for lines that an exchange follows, from the meters before the first line and the current
 -- parts of the exchange
 abbrev pub handler_dues : {M P E : Type 0} → (M → List CallRecord → Type 0) → (M → List CallRecord → List ℕ) → Carrying E → (E → ℕ) → (E → Dimensions)
-    → Plays → ℕ → (old old_spare on spare : List M) → SoFar → ℕ → Option (LoneExchange P E) → Dues
-handler_dues stands text carries frames sizes plays slots old old_spare on spare heading count exchange = record {
-  answers = HasHandled carries frames sizes (course plays slots stands text old old_spare on spare) heading count exchange;
-  refuses = IsLineRefused (course plays slots stands text old old_spare on spare);
-  strands = IsInterrupted (course plays slots stands text old old_spare on spare);
-  ends = HasFinished carries frames sizes (course plays slots stands text old old_spare on spare) exchange;
-  refuses_end = IsEndRefused (course plays slots stands text old old_spare on spare);
+    → Plays → ℕ → (ℕ → ℕ) → (old old_spare on spare : List M) → SoFar → ℕ → Option (LoneExchange P E) → Dues
+handler_dues stands text carries frames sizes plays slots moves old old_spare on spare heading count exchange = record {
+  answers = HasHandled carries frames sizes (course plays slots moves stands text old old_spare on spare) heading count exchange;
+  refuses = IsLineRefused (course plays slots moves stands text old old_spare on spare);
+  strands = IsInterrupted (course plays slots moves stands text old old_spare on spare);
+  ends = HasFinished carries frames sizes (course plays slots moves stands text old old_spare on spare) exchange;
+  refuses_end = IsEndRefused (course plays slots moves stands text old old_spare on spare);
 }
 
 -- the engine that a call returns, by its ending

@@ -12,6 +12,9 @@ pub trait Fabric: PathMap + Sized + Drop {
     /// The number of internal slots.
     ghost slots: { ℕ };
 
+    /// The maximum number of live paths that a new path moves, by the number of lines.
+    ghost moves: { ℕ → ℕ };
+
     /// Returns a map of this many lines, without paths.
     ///
     /// # Errors
@@ -20,11 +23,16 @@ pub trait Fabric: PathMap + Sized + Drop {
     fn unused(alloc: Global, lines: u8) -> Result<Self, AllocError>
         requires { (0 < lines) × (lines ≤ 34) }
         ensures unused { IfOk result (λ m. IsUnused lines (Self.width m) (Self.depth m) (Self.layout m)) }
-        ensures depth { IfOk result (λ m. Self.depth m ≡ slots) };
+        ensures depth { IfOk result (λ m. Self.depth m ≡ slots) }
+        ensures bound { IfOk result (λ m. Self.bound m ≡ moves lines) };
 }
 
 impl Fabric for FabricMap {
+    ghost use Rattle.fabric_map.specs.Map.{most_moves};
+
     ghost slots = { 30 };
+
+    ghost moves = { most_moves };
 
     fn unused(alloc: Global, lines: u8) -> Result<FabricMap, AllocError> {
         FabricMap::new(alloc, lines)
@@ -32,7 +40,11 @@ impl Fabric for FabricMap {
 }
 
 impl Fabric for StrictMap {
+    ghost use Rattle.strict_map.specs.Strict.{most_moves};
+
     ghost slots = { 59 };
+
+    ghost moves = { most_moves };
 
     fn unused(alloc: Global, lines: u8) -> Result<StrictMap, AllocError> {
         StrictMap::new(alloc, lines)

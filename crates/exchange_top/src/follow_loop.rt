@@ -1,12 +1,8 @@
 // The lines of a wire, which an exchange processes in sequence.
-ghost use Rattle.std.specs.Prelude.{◌≡◌, ◌<◌, ◌≤◌, ◌++◌, ◌+◌, ◌∷◌, [], ℕ, List, length, take, drop, IfOk, IfErr, OnOk};
-ghost use Rattle.line_follower.specs.Following.{CountsReads, CountsWrites, HasFollowed, HasNoFeed};
-ghost use Rattle.line_follower.specs.Progress.{HasStopped, IsUnderway, OwesText};
+ghost use Rattle.std.specs.Prelude.{◌≡◌, ◌<◌, ◌≤◌, ◌+◌, [], length, drop, IfOk, IfErr, OnOk};
+ghost use Rattle.line_follower.specs.Following.{CountsReads, CountsWrites, HasNoFeed};
 ghost use Rattle.line_follower.specs.declared.following.Following.TheVariants as ended;
-ghost use Rattle.meters.specs.Changing.{handed_in, steps_text};
-ghost use Rattle.trace_text.specs.TraceWords.{lines as lines_of};
-ghost use Rattle.exchange_top.specs.Following.{IsAnswered};
-ghost use Rattle.exchange_top.specs.Handling.{handler_dues};
+ghost use Rattle.exchange_top.specs.Followers.{Ends, EndsIn, EndsWith, GoesOn, GoesToEnd, HandlesLine, IsOwing, IsPending, IsUnder, IsUnread, OwesLine, ReliesBy, StopsLine, StopsOwing};
 
 use crate::fabrics::Fabric;
 use crate::follower::TraceFollower;
@@ -36,35 +32,17 @@ fn handle_next<P: Fabric, C: Carrier, R: Threads + Sync>(
     line: &[u8],
     text: &mut Vec<u8>,
 ) -> Result<(), Following>
-    requires at { (old old_spare : List _) × (done : List (List ℕ)) × (front : List ℕ)
-        × (handler_dues (λ m. (⟦<dyn Meter as Meter>⟧ m.vtable).stands m.value)
-        (λ m. (⟦<dyn Meter as Meter>⟧ m.vtable).text m.value) C.carries C.next C.sizes C.plays P.slots old
-        old_spare handler.old.metering.on.items handler.old.metering.spare.items handler.old.heading handler.old.lines
-        handler.old.exchange).answers done (front ++ text.old.items) }
+    requires at { IsPending ⟦<dyn Meter as Meter>⟧ C.Carrier P.Fabric.own handler.old text.old }
     requires one { HasNoFeed line.now }
 
-    ensures done { OnOk result ((old old_spare : List _) (done : List (List ℕ)) (front : List ℕ)
-        → (handler_dues (λ m. (⟦<dyn Meter as Meter>⟧ m.vtable).stands m.value)
-        (λ m. (⟦<dyn Meter as Meter>⟧ m.vtable).text m.value) C.carries C.next C.sizes C.plays P.slots old
-        old_spare handler.old.metering.on.items handler.old.metering.spare.items handler.old.heading handler.old.lines
-        handler.old.exchange).answers done (front ++ text.old.items)
-        → (handler_dues (λ m. (⟦<dyn Meter as Meter>⟧ m.vtable).stands m.value)
-        (λ m. (⟦<dyn Meter as Meter>⟧ m.vtable).text m.value) C.carries C.next C.sizes C.plays P.slots old
-        old_spare handler.new.metering.on.items handler.new.metering.spare.items handler.new.heading handler.new.lines
-        handler.new.exchange).answers (done ++ line.now ∷ []) (front ++ text.new.items)) }
+    ensures done { OnOk result (HandlesLine ⟦<dyn Meter as Meter>⟧ C.Carrier P.Fabric.own
+        handler.old handler.new line.now text.old text.new) }
     ensures short { OnOk result (length line.now ≤ 65535) }
     ensures counted { OnOk result (handler.new.lines ≡ handler.old.lines + 1) }
     ensures few { OnOk result (handler.new.lines ≤ 4294967294) }
 
-    ensures stopped { IfErr result (λ why. (old old_spare : List _) (done : List (List ℕ)) (front : List ℕ)
-        → (handler_dues (λ m. (⟦<dyn Meter as Meter>⟧ m.vtable).stands m.value)
-        (λ m. (⟦<dyn Meter as Meter>⟧ m.vtable).text m.value) C.carries C.next C.sizes C.plays P.slots old
-        old_spare handler.old.metering.on.items handler.old.metering.spare.items handler.old.heading handler.old.lines
-        handler.old.exchange).answers done (front ++ text.old.items)
-        → HasStopped why (handler_dues (λ m. (⟦<dyn Meter as Meter>⟧ m.vtable).stands m.value)
-        (λ m. (⟦<dyn Meter as Meter>⟧ m.vtable).text m.value) C.carries C.next C.sizes C.plays P.slots old
-        old_spare handler.new.metering.on.items handler.new.metering.spare.items handler.new.heading handler.new.lines
-        handler.new.exchange) done line.now (front ++ text.new.items)) }
+    ensures stopped { IfErr result (λ why. StopsLine ⟦<dyn Meter as Meter>⟧ C.Carrier P.Fabric.own
+        why handler.old handler.new line.now text.old text.new) }
     ensures no_read { IfErr result (λ why. CountsReads why 0 0) }
     ensures no_write { IfErr result (λ why. CountsWrites why 0 0) }
 {
@@ -86,39 +64,18 @@ fn handle_line<W: Wire, P: Fabric, C: Carrier, R: Threads + Sync>(
     line: &[u8],
     text: &mut Vec<u8>,
 ) -> Result<(), Following>
-    requires at { (old old_spare : List _) × (heard : List ℕ) × (done : List (List ℕ))
-        × OwesText (W.stands wire.old) (handler_dues (λ m. (⟦<dyn Meter as Meter>⟧ m.vtable).stands m.value)
-        (λ m. (⟦<dyn Meter as Meter>⟧ m.vtable).text m.value) C.carries C.next C.sizes C.plays P.slots old
-        old_spare handler.old.metering.on.items handler.old.metering.spare.items handler.old.heading handler.old.lines
-        handler.old.exchange).answers heard done text.old.items handler.old.lines }
+    requires at { IsOwing ⟦<dyn Meter as Meter>⟧ C.Carrier P.Fabric.own (W.stands wire.old) handler.old text.old }
     requires one { HasNoFeed line.now }
 
-    ensures done { OnOk result ((old old_spare : List _) (heard : List ℕ) (done : List (List ℕ))
-        → OwesText (W.stands wire.old) (handler_dues (λ m. (⟦<dyn Meter as Meter>⟧ m.vtable).stands m.value)
-        (λ m. (⟦<dyn Meter as Meter>⟧ m.vtable).text m.value) C.carries C.next C.sizes C.plays P.slots old
-        old_spare handler.old.metering.on.items handler.old.metering.spare.items handler.old.heading handler.old.lines
-        handler.old.exchange).answers heard done text.old.items handler.old.lines
-        → OwesText (W.stands wire.new) (handler_dues (λ m. (⟦<dyn Meter as Meter>⟧ m.vtable).stands m.value)
-        (λ m. (⟦<dyn Meter as Meter>⟧ m.vtable).text m.value) C.carries C.next C.sizes C.plays P.slots old
-        old_spare handler.new.metering.on.items handler.new.metering.spare.items handler.new.heading handler.new.lines
-        handler.new.exchange).answers heard (done ++ line.now ∷ []) text.new.items
-        handler.new.lines) }
+    ensures done { OnOk result (OwesLine ⟦<dyn Meter as Meter>⟧ C.Carrier P.Fabric.own
+        (W.stands wire.old) (W.stands wire.new) handler.old handler.new line.now text.old text.new) }
     ensures short { OnOk result (length line.now ≤ 65535) }
     ensures counted { OnOk result (handler.new.lines ≡ handler.old.lines + 1) }
     ensures few { OnOk result (handler.new.lines ≤ 4294967294) }
     ensures steady { OnOk result (W.write_faults wire.new ≡ W.write_faults wire.old) }
 
-    ensures stopped { IfErr result (λ why. (old old_spare : List _) (heard : List ℕ) (done : List (List ℕ))
-        → OwesText (W.stands wire.old) (handler_dues (λ m. (⟦<dyn Meter as Meter>⟧ m.vtable).stands m.value)
-        (λ m. (⟦<dyn Meter as Meter>⟧ m.vtable).text m.value) C.carries C.next C.sizes C.plays P.slots old
-        old_spare handler.old.metering.on.items handler.old.metering.spare.items handler.old.heading handler.old.lines
-        handler.old.exchange).answers heard done text.old.items handler.old.lines
-        → (said : List ℕ) × W.stands wire.new heard said
-        × HasStopped why (handler_dues (λ m. (⟦<dyn Meter as Meter>⟧ m.vtable).stands m.value)
-        (λ m. (⟦<dyn Meter as Meter>⟧ m.vtable).text m.value) C.carries C.next C.sizes C.plays P.slots old
-        old_spare handler.new.metering.on.items handler.new.metering.spare.items handler.new.heading handler.new.lines
-        handler.new.exchange) done line.now
-        (said ++ text.new.items)) }
+    ensures stopped { IfErr result (λ why. StopsOwing ⟦<dyn Meter as Meter>⟧ C.Carrier P.Fabric.own
+        why (W.stands wire.old) (W.stands wire.new) handler.old handler.new line.now text.old text.new) }
     ensures writes { IfErr result (λ why. CountsWrites why (W.write_faults wire.old) (W.write_faults wire.new)) }
     ensures reads { W.read_faults wire.new ≡ W.read_faults wire.old }
     ensures no_read { IfErr result (λ why. CountsReads why 0 0) }
@@ -144,42 +101,22 @@ fn handle_lines<W: Wire, P: Fabric, C: Carrier, R: Threads + Sync>(
     bytes: &[u8],
     text: &mut Vec<u8>,
 ) -> Result<usize, Following>
-    requires at { (old old_spare : List _) × (heard : List ℕ)
-        × IsUnderway (W.stands wire.old) (handler_dues (λ m. (⟦<dyn Meter as Meter>⟧ m.vtable).stands m.value)
-        (λ m. (⟦<dyn Meter as Meter>⟧ m.vtable).text m.value) C.carries C.next C.sizes C.plays P.slots old
-        old_spare handler.old.metering.on.items handler.old.metering.spare.items handler.old.heading handler.old.lines
-        handler.old.exchange).answers heard bytes.now text.old.items handler.old.lines }
+    requires at { IsUnder ⟦<dyn Meter as Meter>⟧ C.Carrier P.Fabric.own
+        (W.stands wire.old) handler.old bytes.now text.old }
     requires room { length bytes.now ≤ 131072 }
 
     ensures within { IfOk result (λ n. n ≤ length bytes.now) }
     ensures partial { IfOk result (λ n. HasNoFeed (drop n bytes.now)) }
     ensures short { IfOk result (λ n. length bytes.now ≤ n + 65535) }
-    ensures done { IfOk result (λ n. (old old_spare : List _) (heard : List ℕ)
-        → IsUnderway (W.stands wire.old) (handler_dues (λ m. (⟦<dyn Meter as Meter>⟧ m.vtable).stands m.value)
-        (λ m. (⟦<dyn Meter as Meter>⟧ m.vtable).text m.value) C.carries C.next C.sizes C.plays P.slots old
-        old_spare handler.old.metering.on.items handler.old.metering.spare.items handler.old.heading handler.old.lines
-        handler.old.exchange).answers heard bytes.now text.old.items handler.old.lines
-        → IsUnderway (W.stands wire.new) (handler_dues (λ m. (⟦<dyn Meter as Meter>⟧ m.vtable).stands m.value)
-        (λ m. (⟦<dyn Meter as Meter>⟧ m.vtable).text m.value) C.carries C.next C.sizes C.plays P.slots old
-        old_spare handler.new.metering.on.items handler.new.metering.spare.items handler.new.heading handler.new.lines
-        handler.new.exchange).answers heard (drop n bytes.now) text.new.items
-        handler.new.lines) }
+    ensures done { IfOk result (λ n. GoesOn ⟦<dyn Meter as Meter>⟧ C.Carrier P.Fabric.own
+        (W.stands wire.old) (W.stands wire.new) handler.old handler.new bytes.now (drop n bytes.now) text.old text.new) }
     ensures counted { IfOk result (λ n. 0 < n → handler.old.lines < handler.new.lines) }
     ensures later { OnOk result (handler.old.lines ≤ handler.new.lines) }
     ensures few { OnOk result (handler.old.lines ≤ 4294967294 → handler.new.lines ≤ 4294967294) }
     ensures steady { OnOk result (W.write_faults wire.new ≡ W.write_faults wire.old) }
 
-    ensures stopped { IfErr result (λ why. (old old_spare : List _) (heard : List ℕ)
-        → IsUnderway (W.stands wire.old) (handler_dues (λ m. (⟦<dyn Meter as Meter>⟧ m.vtable).stands m.value)
-        (λ m. (⟦<dyn Meter as Meter>⟧ m.vtable).text m.value) C.carries C.next C.sizes C.plays P.slots old
-        old_spare handler.old.metering.on.items handler.old.metering.spare.items handler.old.heading handler.old.lines
-        handler.old.exchange).answers heard bytes.now text.old.items handler.old.lines
-        → (said : List ℕ) × W.stands wire.new heard said
-        × HasFollowed why (handler_dues (λ m. (⟦<dyn Meter as Meter>⟧ m.vtable).stands m.value)
-        (λ m. (⟦<dyn Meter as Meter>⟧ m.vtable).text m.value) C.carries C.next C.sizes C.plays P.slots old
-        old_spare handler.new.metering.on.items handler.new.metering.spare.items handler.new.heading handler.new.lines
-        handler.new.exchange) heard
-        (said ++ text.new.items)) }
+    ensures stopped { IfErr result (λ why. EndsIn ⟦<dyn Meter as Meter>⟧ C.Carrier P.Fabric.own
+        why (W.stands wire.old) (W.stands wire.new) handler.old handler.new bytes.now text.old text.new) }
     ensures writes { IfErr result (λ why. CountsWrites why (W.write_faults wire.old) (W.write_faults wire.new)) }
     ensures reads { W.read_faults wire.new ≡ W.read_faults wire.old }
     ensures no_read { IfErr result (λ why. CountsReads why 0 0) }
@@ -210,37 +147,18 @@ fn handle_rest<W: Wire, P: Fabric, C: Carrier, R: Threads + Sync>(
     rest: &[u8],
     text: &mut Vec<u8>,
 ) -> Result<(), Following>
-    requires at { (old old_spare : List _) × (heard : List ℕ)
-        × IsUnderway (W.stands wire.old) (handler_dues (λ m. (⟦<dyn Meter as Meter>⟧ m.vtable).stands m.value)
-        (λ m. (⟦<dyn Meter as Meter>⟧ m.vtable).text m.value) C.carries C.next C.sizes C.plays P.slots old
-        old_spare handler.old.metering.on.items handler.old.metering.spare.items handler.old.heading handler.old.lines
-        handler.old.exchange).answers heard rest.now text.old.items handler.old.lines }
+    requires at { IsUnder ⟦<dyn Meter as Meter>⟧ C.Carrier P.Fabric.own
+        (W.stands wire.old) handler.old rest.now text.old }
     requires partial { HasNoFeed rest.now }
     requires room { length rest.now ≤ 131072 }
 
-    ensures done { OnOk result ((old old_spare : List _) (heard : List ℕ)
-        → IsUnderway (W.stands wire.old) (handler_dues (λ m. (⟦<dyn Meter as Meter>⟧ m.vtable).stands m.value)
-        (λ m. (⟦<dyn Meter as Meter>⟧ m.vtable).text m.value) C.carries C.next C.sizes C.plays P.slots old
-        old_spare handler.old.metering.on.items handler.old.metering.spare.items handler.old.heading handler.old.lines
-        handler.old.exchange).answers heard rest.now text.old.items handler.old.lines
-        → OwesText (W.stands wire.new) (handler_dues (λ m. (⟦<dyn Meter as Meter>⟧ m.vtable).stands m.value)
-        (λ m. (⟦<dyn Meter as Meter>⟧ m.vtable).text m.value) C.carries C.next C.sizes C.plays P.slots old
-        old_spare handler.new.metering.on.items handler.new.metering.spare.items handler.new.heading handler.new.lines
-        handler.new.exchange).answers heard (lines_of heard) text.new.items handler.new.lines) }
+    ensures done { OnOk result (GoesToEnd ⟦<dyn Meter as Meter>⟧ C.Carrier P.Fabric.own
+        (W.stands wire.old) (W.stands wire.new) handler.old handler.new rest.now text.old text.new) }
     ensures short { OnOk result (length rest.now ≤ 65535) }
     ensures steady { OnOk result (W.write_faults wire.new ≡ W.write_faults wire.old) }
 
-    ensures stopped { IfErr result (λ why. (old old_spare : List _) (heard : List ℕ)
-        → IsUnderway (W.stands wire.old) (handler_dues (λ m. (⟦<dyn Meter as Meter>⟧ m.vtable).stands m.value)
-        (λ m. (⟦<dyn Meter as Meter>⟧ m.vtable).text m.value) C.carries C.next C.sizes C.plays P.slots old
-        old_spare handler.old.metering.on.items handler.old.metering.spare.items handler.old.heading handler.old.lines
-        handler.old.exchange).answers heard rest.now text.old.items handler.old.lines
-        → (said : List ℕ) × W.stands wire.new heard said
-        × HasFollowed why (handler_dues (λ m. (⟦<dyn Meter as Meter>⟧ m.vtable).stands m.value)
-        (λ m. (⟦<dyn Meter as Meter>⟧ m.vtable).text m.value) C.carries C.next C.sizes C.plays P.slots old
-        old_spare handler.new.metering.on.items handler.new.metering.spare.items handler.new.heading handler.new.lines
-        handler.new.exchange) heard
-        (said ++ text.new.items)) }
+    ensures stopped { IfErr result (λ why. EndsIn ⟦<dyn Meter as Meter>⟧ C.Carrier P.Fabric.own
+        why (W.stands wire.old) (W.stands wire.new) handler.old handler.new rest.now text.old text.new) }
     ensures writes { IfErr result (λ why. CountsWrites why (W.write_faults wire.old) (W.write_faults wire.new)) }
     ensures reads { W.read_faults wire.new ≡ W.read_faults wire.old }
     ensures no_read { IfErr result (λ why. CountsReads why 0 0) }
@@ -259,25 +177,13 @@ fn handle_end<W: Wire, P: Fabric, C: Carrier, R: Threads + Sync>(
     rest: &[u8],
     text: &mut Vec<u8>,
 ) -> Following
-    requires at { (old old_spare : List _) × (heard : List ℕ)
-        × IsUnderway (W.stands wire.old) (handler_dues (λ m. (⟦<dyn Meter as Meter>⟧ m.vtable).stands m.value)
-        (λ m. (⟦<dyn Meter as Meter>⟧ m.vtable).text m.value) C.carries C.next C.sizes C.plays P.slots old
-        old_spare handler.old.metering.on.items handler.old.metering.spare.items handler.old.heading handler.old.lines
-        handler.old.exchange).answers heard rest.now text.old.items handler.old.lines }
+    requires at { IsUnder ⟦<dyn Meter as Meter>⟧ C.Carrier P.Fabric.own
+        (W.stands wire.old) handler.old rest.now text.old }
     requires partial { HasNoFeed rest.now }
     requires room { length rest.now ≤ 131072 }
 
-    ensures ended { (old old_spare : List _) (heard : List ℕ)
-        → IsUnderway (W.stands wire.old) (handler_dues (λ m. (⟦<dyn Meter as Meter>⟧ m.vtable).stands m.value)
-        (λ m. (⟦<dyn Meter as Meter>⟧ m.vtable).text m.value) C.carries C.next C.sizes C.plays P.slots old
-        old_spare handler.old.metering.on.items handler.old.metering.spare.items handler.old.heading handler.old.lines
-        handler.old.exchange).answers heard rest.now text.old.items handler.old.lines
-        → (said : List ℕ) × W.stands wire.new heard said
-        × HasFollowed result (handler_dues (λ m. (⟦<dyn Meter as Meter>⟧ m.vtable).stands m.value)
-        (λ m. (⟦<dyn Meter as Meter>⟧ m.vtable).text m.value) C.carries C.next C.sizes C.plays P.slots old
-        old_spare handler.new.metering.on.items handler.new.metering.spare.items handler.new.heading handler.new.lines
-        handler.new.exchange) heard
-        (said ++ text.new.items) }
+    ensures ended { EndsIn ⟦<dyn Meter as Meter>⟧ C.Carrier P.Fabric.own
+        result (W.stands wire.old) (W.stands wire.new) handler.old handler.new rest.now text.old text.new }
     ensures writes { CountsWrites result (W.write_faults wire.old) (W.write_faults wire.new) }
     ensures reads { W.read_faults wire.new ≡ W.read_faults wire.old }
     ensures no_read { CountsReads result 0 0 }
@@ -303,20 +209,12 @@ fn follow_to_end<W: Wire, P: Fabric, C: Carrier, R: Threads + Sync>(
     requires size { length buffer.old ≡ 131072 }
     requires blank { text.old.items ≡ [] }
     requires fresh { W.stands wire.old [] [] }
-    requires unread { (handler_dues (λ m. (⟦<dyn Meter as Meter>⟧ m.vtable).stands m.value)
-        (λ m. (⟦<dyn Meter as Meter>⟧ m.vtable).text m.value) C.carries C.next C.sizes C.plays P.slots handler.old.metering.on.items
-        handler.old.metering.spare.items handler.old.metering.on.items handler.old.metering.spare.items handler.old.heading handler.old.lines
-        handler.old.exchange).answers [] [] }
-    requires promise { (heard said : List ℕ) → IsAnswered C.plays P.slots
-        (λ steps. steps_text (λ m. (⟦<dyn Meter as Meter>⟧ m.vtable).text m.value) steps
-        (handed_in handler.old.metering.on.items handler.old.metering.spare.items)) heard said → W.relies heard said }
+    requires unread { IsUnread ⟦<dyn Meter as Meter>⟧ C.Carrier P.Fabric.own handler.old }
+    requires promise { ReliesBy ⟦<dyn Meter as Meter>⟧ C.Carrier P.slots
+        handler.old.metering.on.items handler.old.metering.spare.items W.relies }
 
-    ensures ended { (heard : List ℕ) × (said : List ℕ) × W.stands wire.new heard said
-        × HasFollowed result (handler_dues (λ m. (⟦<dyn Meter as Meter>⟧ m.vtable).stands m.value)
-        (λ m. (⟦<dyn Meter as Meter>⟧ m.vtable).text m.value) C.carries C.next C.sizes C.plays P.slots handler.old.metering.on.items
-        handler.old.metering.spare.items handler.new.metering.on.items handler.new.metering.spare.items handler.new.heading handler.new.lines
-        handler.new.exchange) heard
-        (said ++ text.new.items) }
+    ensures ended { EndsWith ⟦<dyn Meter as Meter>⟧ C.Carrier P.Fabric.own
+        result (W.stands wire.new) handler.old handler.new text.new }
     ensures unheard { result ≡ ended.ReadFailed → text.new.items ≡ [] }
     ensures reads { CountsReads result (W.read_faults wire.old) (W.read_faults wire.new) }
     ensures writes { CountsWrites result (W.write_faults wire.old) (W.write_faults wire.new) }
@@ -355,20 +253,12 @@ fn follow_with<W: Wire, P: Fabric, C: Carrier, R: Threads + Sync>(
     requires size { length buffer.old ≡ 131072 }
     requires blank { text.old.items ≡ [] }
     requires fresh { W.stands wire.old [] [] }
-    requires unread { (handler_dues (λ m. (⟦<dyn Meter as Meter>⟧ m.vtable).stands m.value)
-        (λ m. (⟦<dyn Meter as Meter>⟧ m.vtable).text m.value) C.carries C.next C.sizes C.plays P.slots handler.old.metering.on.items
-        handler.old.metering.spare.items handler.old.metering.on.items handler.old.metering.spare.items handler.old.heading handler.old.lines
-        handler.old.exchange).answers [] [] }
-    requires promise { (heard said : List ℕ) → IsAnswered C.plays P.slots
-        (λ steps. steps_text (λ m. (⟦<dyn Meter as Meter>⟧ m.vtable).text m.value) steps
-        (handed_in handler.old.metering.on.items handler.old.metering.spare.items)) heard said → W.relies heard said }
+    requires unread { IsUnread ⟦<dyn Meter as Meter>⟧ C.Carrier P.Fabric.own handler.old }
+    requires promise { ReliesBy ⟦<dyn Meter as Meter>⟧ C.Carrier P.slots
+        handler.old.metering.on.items handler.old.metering.spare.items W.relies }
 
-    ensures followed { (heard : List ℕ) × (said : List ℕ) × W.stands wire.new heard said
-        × HasFollowed result (handler_dues (λ m. (⟦<dyn Meter as Meter>⟧ m.vtable).stands m.value)
-        (λ m. (⟦<dyn Meter as Meter>⟧ m.vtable).text m.value) C.carries C.next C.sizes C.plays P.slots handler.old.metering.on.items
-        handler.old.metering.spare.items handler.new.metering.on.items handler.new.metering.spare.items handler.new.heading handler.new.lines
-        handler.new.exchange) heard
-        said }
+    ensures followed { Ends ⟦<dyn Meter as Meter>⟧ C.Carrier P.Fabric.own
+        result (W.stands wire.new) handler.old handler.new }
     ensures reads { CountsReads result (W.read_faults wire.old) (W.read_faults wire.new) }
     ensures writes { CountsWrites result (W.write_faults wire.old) (W.write_faults wire.new) }
 {
@@ -394,20 +284,12 @@ pub fn follow_lines<W: Wire, P: Fabric, C: Carrier, R: Threads + Sync>(
     handler: &mut TraceFollower<'_, P, C, R>,
 ) -> Following
     requires fresh { W.stands wire.old [] [] }
-    requires unread { (handler_dues (λ m. (⟦<dyn Meter as Meter>⟧ m.vtable).stands m.value)
-        (λ m. (⟦<dyn Meter as Meter>⟧ m.vtable).text m.value) C.carries C.next C.sizes C.plays P.slots handler.old.metering.on.items
-        handler.old.metering.spare.items handler.old.metering.on.items handler.old.metering.spare.items handler.old.heading handler.old.lines
-        handler.old.exchange).answers [] [] }
-    requires promise { (heard said : List ℕ) → IsAnswered C.plays P.slots
-        (λ steps. steps_text (λ m. (⟦<dyn Meter as Meter>⟧ m.vtable).text m.value) steps
-        (handed_in handler.old.metering.on.items handler.old.metering.spare.items)) heard said → W.relies heard said }
+    requires unread { IsUnread ⟦<dyn Meter as Meter>⟧ C.Carrier P.Fabric.own handler.old }
+    requires promise { ReliesBy ⟦<dyn Meter as Meter>⟧ C.Carrier P.slots
+        handler.old.metering.on.items handler.old.metering.spare.items W.relies }
 
-    ensures followed { (heard : List ℕ) × (said : List ℕ) × W.stands wire.new heard said
-        × HasFollowed result (handler_dues (λ m. (⟦<dyn Meter as Meter>⟧ m.vtable).stands m.value)
-        (λ m. (⟦<dyn Meter as Meter>⟧ m.vtable).text m.value) C.carries C.next C.sizes C.plays P.slots handler.old.metering.on.items
-        handler.old.metering.spare.items handler.new.metering.on.items handler.new.metering.spare.items handler.new.heading handler.new.lines
-        handler.new.exchange) heard
-        said }
+    ensures followed { Ends ⟦<dyn Meter as Meter>⟧ C.Carrier P.Fabric.own
+        result (W.stands wire.new) handler.old handler.new }
     ensures reads { CountsReads result (W.read_faults wire.old) (W.read_faults wire.new) }
     ensures writes { CountsWrites result (W.write_faults wire.old) (W.write_faults wire.new) }
 {

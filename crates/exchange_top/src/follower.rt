@@ -1,5 +1,5 @@
 //! A trace whose lines are processed in sequence.
-ghost use Rattle.std.specs.Prelude.{◌≡◌, ◌<◌, ◌≤◌, ◌++◌, ◌∷◌, [], ℕ, List, length, OnOk, OnErr, IsErrOf};
+ghost use Rattle.std.specs.Prelude.{◌≡◌, ◌<◌, ◌≤◌, ◌++◌, length, OnOk, OnErr, IsErrOf};
 ghost use Rattle.line_follower.specs.declared.handler.Stop.TheVariants.{OutOfMemory, Refused};
 ghost use Rattle.exchange_top.specs.Refusals.{refusal};
 
@@ -43,26 +43,15 @@ pub struct TraceFollower<'a, P: PathMap + Drop, C: Carrier, R> {
 }
 
 impl<'a, P: Fabric, C: Carrier, R: Threads + Sync> TraceFollower<'a, P, C, R> {
-    ghost use Rattle.exchange_top.specs.Following.{IsEndRefused, IsInterrupted, IsLineRefused, course};
-    ghost use Rattle.exchange_top.specs.Handling.{HasFinished, HasHandled, HasRead};
+    ghost use Rattle.exchange_top.specs.Followers.{FinishesLines, HandlesLine, IsAtLine, IsFollowing, RefusesEnd, RefusesLine, StrandsAt, StrandsEnd, StrandsIn, TakesLine};
 
     // Processes the effect of a line, and counts the line.
     fn take(&mut self, happening: Happening, out: &mut Vec<u8>) -> Result<(), AllocError>
-        requires read { (old old_spare : List _) × (ls : List (List ℕ)) × (line : List ℕ) × (said : List ℕ) × HasRead C.carries C.next C.sizes (course C.plays P.slots (λ m. stands m) (λ m. text m)
-            old old_spare self.old.metering.on.items self.old.metering.spare.items) self.old.heading self.old.lines self.old.exchange ls line said happening }
-        ensures done { OnOk result ((old old_spare : List _) (ls : List (List ℕ)) (line front : List ℕ)
-            → HasRead C.carries C.next C.sizes (course C.plays P.slots (λ m. stands m) (λ m. text m)
-            old old_spare self.old.metering.on.items self.old.metering.spare.items) self.old.heading self.old.lines self.old.exchange
-            ls line (front ++ out.old.items) happening
-            → HasHandled C.carries C.next C.sizes (course C.plays P.slots (λ m. stands m) (λ m. text m)
-            old old_spare self.new.metering.on.items self.new.metering.spare.items) self.new.heading self.new.lines self.new.exchange
-            (ls ++ line ∷ []) (front ++ out.new.items)) }
-        ensures stranded { OnErr result ((old old_spare : List _) (ls : List (List ℕ)) (line front : List ℕ)
-            → HasRead C.carries C.next C.sizes (course C.plays P.slots (λ m. stands m) (λ m. text m)
-            old old_spare self.old.metering.on.items self.old.metering.spare.items) self.old.heading self.old.lines self.old.exchange
-            ls line (front ++ out.old.items) happening
-            → IsInterrupted (course C.plays P.slots (λ m. stands m) (λ m. text m)
-            old old_spare self.new.metering.on.items self.new.metering.spare.items) (ls ++ line ∷ []) (front ++ out.new.items)) }
+        requires read { IsAtLine ⟦<dyn Meter as Meter>⟧ C.Carrier P.Fabric.own self.old happening }
+        ensures done { OnOk result (TakesLine ⟦<dyn Meter as Meter>⟧ C.Carrier P.Fabric.own
+            self.old self.new happening out.old out.new) }
+        ensures stranded { OnErr result (StrandsIn ⟦<dyn Meter as Meter>⟧ C.Carrier P.Fabric.own
+            self.old self.new happening out.old out.new) }
     {
         match happening {
             Happening::Nothing => {}
@@ -95,29 +84,17 @@ impl<'a, P: Fabric, C: Carrier, R: Threads + Sync> TraceFollower<'a, P, C, R> {
     /// - [`Stop::Refused`] if the line is refused. Its refusal was appended.
     /// - [`Stop::OutOfMemory`] if an allocation failed.
     pub fn handle(&mut self, line: &[u8], out: &mut Vec<u8>) -> Result<(), Stop>
-        requires at { (old old_spare : List _) × (ls : List (List ℕ)) × (said : List ℕ)
-            × HasHandled C.carries C.next C.sizes (course C.plays P.slots (λ m. stands m) (λ m. text m)
-            old old_spare self.old.metering.on.items self.old.metering.spare.items) self.old.heading self.old.lines self.old.exchange ls said }
+        requires at { IsFollowing ⟦<dyn Meter as Meter>⟧ C.Carrier P.Fabric.own self.old }
 
-        ensures done { OnOk result ((old old_spare : List _) (ls : List (List ℕ)) (front : List ℕ)
-            → HasHandled C.carries C.next C.sizes (course C.plays P.slots (λ m. stands m) (λ m. text m)
-            old old_spare self.old.metering.on.items self.old.metering.spare.items) self.old.heading self.old.lines self.old.exchange ls (front ++ out.old.items)
-            → HasHandled C.carries C.next C.sizes (course C.plays P.slots (λ m. stands m) (λ m. text m)
-            old old_spare self.new.metering.on.items self.new.metering.spare.items) self.new.heading self.new.lines self.new.exchange
-            (ls ++ line.now ∷ []) (front ++ out.new.items)) }
+        ensures done { OnOk result (HandlesLine ⟦<dyn Meter as Meter>⟧ C.Carrier P.Fabric.own
+            self.old self.new line.now out.old out.new) }
         ensures short { OnOk result (length line.now ≤ 65535) }
         ensures few { OnOk result (self.old.lines < 4294967294) }
 
-        ensures refused { IsErrOf result Stop.Refused → (old old_spare : List _) (ls : List (List ℕ)) (front : List ℕ)
-            → HasHandled C.carries C.next C.sizes (course C.plays P.slots (λ m. stands m) (λ m. text m)
-            old old_spare self.old.metering.on.items self.old.metering.spare.items) self.old.heading self.old.lines self.old.exchange ls (front ++ out.old.items)
-            → IsLineRefused (course C.plays P.slots (λ m. stands m) (λ m. text m)
-            old old_spare self.new.metering.on.items self.new.metering.spare.items) (ls ++ line.now ∷ []) (front ++ out.new.items) }
-        ensures stranded { IsErrOf result Stop.OutOfMemory → (old old_spare : List _) (ls : List (List ℕ)) (front : List ℕ)
-            → HasHandled C.carries C.next C.sizes (course C.plays P.slots (λ m. stands m) (λ m. text m)
-            old old_spare self.old.metering.on.items self.old.metering.spare.items) self.old.heading self.old.lines self.old.exchange ls (front ++ out.old.items)
-            → IsInterrupted (course C.plays P.slots (λ m. stands m) (λ m. text m)
-            old old_spare self.new.metering.on.items self.new.metering.spare.items) (ls ++ line.now ∷ []) (front ++ out.new.items) }
+        ensures refused { IsErrOf result Stop.Refused → RefusesLine ⟦<dyn Meter as Meter>⟧ C.Carrier P.Fabric.own
+            self.old self.new line.now out.old out.new }
+        ensures stranded { IsErrOf result Stop.OutOfMemory → StrandsAt ⟦<dyn Meter as Meter>⟧ C.Carrier P.Fabric.own
+            self.old self.new line.now out.old out.new }
     {
         if line.len() > MOST_LINE || self.lines >= MOST_LINES {
             return Err(refuse(self.alloc, self.lines + 1, Reason::Limit, out));
@@ -144,26 +121,15 @@ impl<'a, P: Fabric, C: Carrier, R: Threads + Sync> TraceFollower<'a, P, C, R> {
     /// - [`Stop::Refused`] if no line was the header. The refusal was appended.
     /// - [`Stop::OutOfMemory`] if an allocation failed.
     pub fn finish(&mut self, out: &mut Vec<u8>) -> Result<(), Stop>
-        requires at { (old old_spare : List _) × (ls : List (List ℕ)) × (said : List ℕ)
-            × HasHandled C.carries C.next C.sizes (course C.plays P.slots (λ m. stands m) (λ m. text m)
-            old old_spare self.old.metering.on.items self.old.metering.spare.items) self.old.heading self.old.lines self.old.exchange ls said }
+        requires at { IsFollowing ⟦<dyn Meter as Meter>⟧ C.Carrier P.Fabric.own self.old }
 
-        ensures done { OnOk result ((old old_spare : List _) (ls : List (List ℕ)) (front : List ℕ)
-            → HasHandled C.carries C.next C.sizes (course C.plays P.slots (λ m. stands m) (λ m. text m)
-            old old_spare self.old.metering.on.items self.old.metering.spare.items) self.old.heading self.old.lines self.old.exchange ls (front ++ out.old.items)
-            → HasFinished C.carries C.next C.sizes (course C.plays P.slots (λ m. stands m) (λ m. text m)
-            old old_spare self.new.metering.on.items self.new.metering.spare.items) self.new.exchange ls (front ++ out.new.items)) }
+        ensures done { OnOk result (FinishesLines ⟦<dyn Meter as Meter>⟧ C.Carrier P.Fabric.own
+            self.old self.new out.old out.new) }
 
-        ensures refused { IsErrOf result Stop.Refused → (old old_spare : List _) (ls : List (List ℕ)) (front : List ℕ)
-            → HasHandled C.carries C.next C.sizes (course C.plays P.slots (λ m. stands m) (λ m. text m)
-            old old_spare self.old.metering.on.items self.old.metering.spare.items) self.old.heading self.old.lines self.old.exchange ls (front ++ out.old.items)
-            → IsEndRefused (course C.plays P.slots (λ m. stands m) (λ m. text m)
-            old old_spare self.new.metering.on.items self.new.metering.spare.items) ls (front ++ out.new.items) }
-        ensures stranded { IsErrOf result Stop.OutOfMemory → (old old_spare : List _) (ls : List (List ℕ)) (front : List ℕ)
-            → HasHandled C.carries C.next C.sizes (course C.plays P.slots (λ m. stands m) (λ m. text m)
-            old old_spare self.old.metering.on.items self.old.metering.spare.items) self.old.heading self.old.lines self.old.exchange ls (front ++ out.old.items)
-            → IsInterrupted (course C.plays P.slots (λ m. stands m) (λ m. text m)
-            old old_spare self.new.metering.on.items self.new.metering.spare.items) ls (front ++ out.new.items) }
+        ensures refused { IsErrOf result Stop.Refused → RefusesEnd ⟦<dyn Meter as Meter>⟧ C.Carrier P.Fabric.own
+            self.old self.new out.old out.new }
+        ensures stranded { IsErrOf result Stop.OutOfMemory → StrandsEnd ⟦<dyn Meter as Meter>⟧ C.Carrier P.Fabric.own
+            self.old self.new out.old out.new }
     {
         if self.heading.sizes().is_none() {
             return Err(refuse(self.alloc, self.lines + 1, Reason::Header, out));

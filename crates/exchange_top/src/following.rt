@@ -1,12 +1,12 @@
 //! The call that follows a trace.
-ghost use Rattle.std.specs.Prelude.{◌≡◌, ℕ, List, []};
+ghost use Rattle.std.specs.Prelude.{◌≡◌, []};
 ghost use Rattle.std.specs.Option.{option_map};
-ghost use Rattle.line_follower.specs.declared.following.Following.{Following as An_ending};
 ghost use Rattle.line_follower.specs.Following.{CountsReads, CountsWrites};
-ghost use Rattle.meters.specs.Changing.{handed_in, steps_text};
 ghost use Rattle.exchange_top.specs.Checking.{slots_of};
+ghost use Rattle.exchange_top.specs.Commands.{moves_of};
+ghost use Rattle.exchange_top.specs.Followers.{FollowEnds, ReliesBy, parties_by};
 ghost use Rattle.exchange_top.specs.Handling.{engine_returned};
-ghost use Rattle.exchange_top.specs.Following.{FollowsTo, IsAnswered, follow_parties, followed_status};
+ghost use Rattle.exchange_top.specs.Following.{FollowsTo, followed_status};
 
 use crate::fabrics::Fabric;
 use crate::follow_loop::follow_lines;
@@ -82,9 +82,8 @@ fn follow_on<W: Wire, P: Fabric, C: Carrier, R: Threads + Sync>(
     spare: &mut VecDeque<Box<dyn Meter>>,
 ) -> Ended<C>
     requires fresh { W.stands wire.old [] [] }
-    requires promise { (heard said : List ℕ) → IsAnswered C.plays P.slots
-        (λ steps. steps_text (λ m. (⟦<dyn Meter as Meter>⟧ m.vtable).text m.value) steps (handed_in meters.old.items spare.old.items)) heard said → W.relies heard said }
-    ensures ends { FollowsTo (follow_parties C.plays P.slots C.sizes C.carries result.engine (λ m. (⟦<dyn Meter as Meter>⟧ m.vtable).stands m.value) (λ m. (⟦<dyn Meter as Meter>⟧ m.vtable).text m.value)
+    requires promise { ReliesBy ⟦<dyn Meter as Meter>⟧ C.Carrier P.slots meters.old.items spare.old.items W.relies }
+    ensures ends { FollowsTo (parties_by ⟦<dyn Meter as Meter>⟧ C.Carrier P.slots P.moves result.engine
         meters.old.items spare.old.items meters.new.items spare.new.items) (W.stands wire.new) result.ending }
     ensures reads { CountsReads result.ending (W.read_faults wire.old) (W.read_faults wire.new) }
     ensures writes { CountsWrites result.ending (W.write_faults wire.old) (W.write_faults wire.new) }
@@ -138,14 +137,12 @@ pub fn follow<W: Wire, C: Carrier, R: Threads + Sync>(
 ) -> Followed<C>
     requires fresh { W.stands wire.old [] [] }
     // At each read the other side may rely on the output: it is exactly the text of the lines so far.
-    requires promise { (heard said : List ℕ) → IsAnswered C.plays (slots_of strict)
-        (λ steps. steps_text (λ m. (⟦<dyn Meter as Meter>⟧ m.vtable).text m.value) steps (handed_in meters.old.items spare.old.items)) heard said → W.relies heard said }
+    requires promise { ReliesBy ⟦<dyn Meter as Meter>⟧ C.Carrier (slots_of strict)
+        meters.old.items spare.old.items W.relies }
     // The ending of the call. Statuses 3 and 4 occur only after an error was counted, and no other status hides one.
-    ensures ends { (ending : An_ending) × (result.status ≡ followed_status ending)
-        × FollowsTo (follow_parties C.plays (slots_of strict) C.sizes C.carries result.engine (λ m. (⟦<dyn Meter as Meter>⟧ m.vtable).stands m.value) (λ m. (⟦<dyn Meter as Meter>⟧ m.vtable).text m.value)
-        meters.old.items spare.old.items meters.new.items spare.new.items) (W.stands wire.new) ending
-        × CountsReads ending (W.read_faults wire.old) (W.read_faults wire.new)
-        × CountsWrites ending (W.write_faults wire.old) (W.write_faults wire.new) }
+    ensures ends { FollowEnds W.Wire wire.old wire.new
+        (parties_by ⟦<dyn Meter as Meter>⟧ C.Carrier (slots_of strict) (moves_of strict) result.engine
+        meters.old.items spare.old.items meters.new.items spare.new.items) result.status }
 {
     let ended = if strict {
         follow_on::<W, StrictMap, C, R>(rt, alloc, wire, meters, spare)

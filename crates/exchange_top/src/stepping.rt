@@ -1,15 +1,13 @@
 //! One event of a trace that is followed.
-ghost use Rattle.std.specs.Prelude.{◌≡◌, ◌<◌, ◌≤◌, List, IfOk, OnOk, OnErr};
+ghost use Rattle.std.specs.Prelude.{◌≡◌, ◌+◌, ◌<◌, ◌≤◌, IfOk, OnOk, OnErr, is_some, false};
 ghost use Rattle.exchange_events.specs.Kept.{kept_of};
 ghost use Rattle.exchange_events.specs.Responses.{reply_of};
 ghost use Rattle.exchange_events.specs.Sound.{Fits};
 ghost use Rattle.call_profile.specs.CallsTold.{calls_kept};
-ghost use Rattle.call_profile.specs.Step.{reply};
-ghost use Rattle.trace_text.specs.TraceTimers.{timers_by};
-ghost use Rattle.lone_exchange.specs.At.{Appends, EachAt, IsSomewhere, Passes, StartsAt};
-ghost use Rattle.exchange_top.specs.Stepping.{HasHappened, IsEventDue, IsHeard, IsRunning, calls_at};
-ghost use Rattle.trace_text.specs.declared.said.Said.{Said};
-ghost use Rattle.trace_text.specs.declared.said.Sizes.{Sizes as A_header};
+ghost use Rattle.call_profile.specs.Step.{MovesAtMost, reply};
+ghost use Rattle.lone_exchange.specs.At.{Appends, StartsAt};
+ghost use Rattle.exchange_top.specs.Followers.{EachDue, EachHeard, HappensBy, InWorlds, IsDueSome, IsHeardSome, IsInWorld, PassesBy, RunsAfter};
+ghost use Rattle.exchange_top.specs.Stepping.{calls_at};
 ghost use Rattle.exchange_top.specs.Telling.{AreTold, AreToldFront};
 
 use crate::fabrics::Fabric;
@@ -32,6 +30,7 @@ fn opened<P: Fabric, C: Carrier>(
     requires external { 1 ≤ sizes.external × (sizes.external ≤ 32) }
     requires bridges { sizes.bridges ≤ 2 }
     ensures start { IfOk result (StartsAt C.carries C.next C.sizes sizes.external sizes.bridges P.slots) }
+    ensures bound { IfOk result (λ x. x.control.map.bound ≡ P.moves (sizes.external + sizes.bridges)) }
 {
     let paths = P::unused(alloc, sizes.external + sizes.bridges)?;
     LoneExchange::new(
@@ -53,16 +52,32 @@ pub fn ready<P: Fabric, C: Carrier>(
     heading: &Heading,
     exchange: &mut Option<LoneExchange<P, C>>,
 ) -> Result<(), AllocError>
-    requires heard { (told : List Said) × (z : A_header) × IsHeard C.carries C.next C.sizes P.slots told z heading.now exchange.old }
-    ensures running { (told : List Said) (z : A_header) → IsHeard C.carries C.next C.sizes P.slots told z heading.now exchange.old
-        → OnOk result (IsRunning C.carries C.next C.sizes P.slots told z exchange.new) }
+    requires heard { IsHeardSome C.Carrier P.Fabric.own heading.now exchange.old }
+    ensures running { EachHeard C.Carrier P.Fabric.own heading.now exchange.old
+        (λ told z. OnOk result (RunsAfter C.Carrier P.Fabric.own told z exchange.new)) }
 {
     if exchange.is_none() {
-        let Some(sizes) = heading.sizes() else {
-            unreachable!()
-        };
-        *exchange = Some(opened(alloc, heading, sizes)?);
+        return open_into(alloc, heading, exchange);
     }
+    Ok(())
+}
+
+// Makes the exchange of a heading. A separate function holds it, because a function clears its locals whenever it is
+// entered, and `ready` is entered at each event.
+fn open_into<P: Fabric, C: Carrier>(
+    alloc: Global,
+    heading: &Heading,
+    exchange: &mut Option<LoneExchange<P, C>>,
+) -> Result<(), AllocError>
+    requires none { is_some exchange.old ≡ false }
+    requires heard { IsHeardSome C.Carrier P.Fabric.own heading.now exchange.old }
+    ensures running { EachHeard C.Carrier P.Fabric.own heading.now exchange.old
+        (λ told z. OnOk result (RunsAfter C.Carrier P.Fabric.own told z exchange.new)) }
+{
+    let Some(sizes) = heading.sizes() else {
+        unreachable!()
+    };
+    *exchange = Some(opened(alloc, heading, sizes)?);
     Ok(())
 }
 
@@ -81,12 +96,12 @@ pub fn advance<P: Fabric, C: Carrier, R: Threads + Sync>(
     event: &Event,
     out: &mut Vec<u8>,
 ) -> Result<(), AllocError>
-    requires due { (told : List Said) × (z : A_header) × IsEventDue C.carries C.next C.sizes P.slots told z heading.now exchange.old event.now }
-    ensures happened { (told : List Said) (z : A_header) → IsEventDue C.carries C.next C.sizes P.slots told z heading.now exchange.old event.now
-        → OnOk result (HasHappened C.plays C.carries C.next C.sizes P.slots (λ m. stands m) (λ m. text m) told z heading.now.events event.now
-        meters.old.items meters.new.items out.old.items out.new.items exchange.new) }
-    ensures front { (told : List Said) (z : A_header) → IsEventDue C.carries C.next C.sizes P.slots told z heading.now exchange.old event.now
-        → OnErr result (AreToldFront (λ m. stands m) (λ m. text m) meters.old.items meters.new.items (calls_at P.slots told z event.now)) }
+    requires due { IsDueSome C.Carrier P.Fabric.own heading.now exchange.old event.now }
+    ensures happened { EachDue C.Carrier P.Fabric.own heading.now exchange.old event.now
+        (λ told z. OnOk result (HappensBy C.Carrier P.Fabric.own ⟦<dyn Meter as Meter>⟧
+        told z heading.now event.now meters.old meters.new out.old out.new exchange.new)) }
+    ensures front { EachDue C.Carrier P.Fabric.own heading.now exchange.old event.now (λ told z. OnErr result
+        (AreToldFront (λ m. stands m) (λ m. text m) meters.old.items meters.new.items (calls_at P.slots told z event.now))) }
     ensures kept { OnErr result (out.new.items ≡ out.old.items) }
 {
     ready(alloc, heading, exchange)?;
@@ -106,18 +121,19 @@ fn process<P: PathMap, C: Carrier, R: Threads + Sync>(
     event: &Event,
     out: &mut Vec<u8>,
 ) -> Result<(), AllocError>
-    requires at { IsSomewhere C.carries C.next C.sizes heading.now.plan heading.now.tones (timers_by heading.now.timers) exchange.old }
+    requires at { IsInWorld C.Carrier heading.now exchange.old }
     requires fits { Fits exchange.old.control.map.external event.now }
     requires room { exchange.old.control.map.next < 4294967295 }
-    ensures world { Passes C.carries C.next C.sizes heading.now.plan heading.now.tones (timers_by heading.now.timers)
-        event.now exchange.old exchange.new }
-    ensures line { EachAt C.carries C.next C.sizes heading.now.plan heading.now.tones (timers_by heading.now.timers) exchange.old
-        (λ s w. OnOk result (Appends C.plays s w event.now heading.now.events out.old.items out.new.items)) }
-    ensures told { EachAt C.carries C.next C.sizes heading.now.plan heading.now.tones (timers_by heading.now.timers) exchange.old
-        (λ s w. OnOk result (AreTold (λ m. stands m) (λ m. text m) meters.old.items meters.new.items (calls_kept (kept_of (reply s w event.now))))) }
+    ensures world { PassesBy C.Carrier heading.now event.now exchange.old exchange.new }
+    ensures bound { exchange.new.control.map.bound ≡ exchange.old.control.map.bound }
+    ensures few { InWorlds C.Carrier heading.now exchange.old (λ s w. MovesAtMost exchange.old.control.map.bound (reply s w event.now)) }
+    ensures line { InWorlds C.Carrier heading.now exchange.old (λ s w. OnOk result
+        (Appends C.plays s w event.now heading.now.events out.old.items out.new.items)) }
+    ensures told { InWorlds C.Carrier heading.now exchange.old (λ s w. OnOk result (AreTold (λ m. stands m) (λ m. text m)
+        meters.old.items meters.new.items (calls_kept (kept_of (reply s w event.now))))) }
     ensures kept { OnErr result (out.new.items ≡ out.old.items) }
-    ensures told_front { EachAt C.carries C.next C.sizes heading.now.plan heading.now.tones (timers_by heading.now.timers) exchange.old
-        (λ s w. OnErr result (AreToldFront (λ m. stands m) (λ m. text m) meters.old.items meters.new.items (calls_kept (kept_of (reply s w event.now))))) }
+    ensures told_front { InWorlds C.Carrier heading.now exchange.old (λ s w. OnErr result (AreToldFront (λ m. stands m) (λ m. text m)
+        meters.old.items meters.new.items (calls_kept (kept_of (reply s w event.now))))) }
 {
     let timers = heading.timers();
     let response = exchange.happen(rt, heading.plan(), heading.tones(), &timers, event);

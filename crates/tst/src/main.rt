@@ -16,6 +16,8 @@
 #[cfg(test)]
 mod changes;
 #[cfg(test)]
+mod follows;
+#[cfg(test)]
 mod gates;
 #[cfg(test)]
 mod refusals;

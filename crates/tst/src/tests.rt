@@ -11,8 +11,8 @@ use std::test::Fail;
 use std::thread::Threads;
 use traffic_gen::generate;
 
-// Returns the bytes of a text in which `+` means 29 idle octets.
-fn spelled(alloc: Global, text: &str) -> Result<Vec<u8>, AllocError> {
+/// Returns the bytes of a text in which `+` means 29 idle octets.
+pub(crate) fn spelled(alloc: Global, text: &str) -> Result<Vec<u8>, AllocError> {
     let mut bytes = Vec::new(alloc);
     for byte in text.bytes() {
         if byte == b'+' {
@@ -155,8 +155,8 @@ pub(crate) fn called_with<C: Carrier>(
     })
 }
 
-// Boxes a meter of each kind.
-fn add_meters(
+/// Boxes a meter of each kind.
+pub(crate) fn add_meters(
     alloc: Global,
     kinds: &[Kind],
     meters: &mut Vec<Box<dyn Meter>>,
@@ -172,8 +172,8 @@ fn add_meters(
     Ok(())
 }
 
-// Returns the texts of meters.
-fn said_by(alloc: Global, meters: &[Box<dyn Meter>]) -> Result<Vec<u8>, AllocError> {
+/// Returns the texts of meters.
+pub(crate) fn said_by(alloc: Global, meters: &[Box<dyn Meter>]) -> Result<Vec<u8>, AllocError> {
     let mut said = Vec::new(alloc);
     append_summaries(meters, &mut said)?;
     Ok(said)

@@ -2,6 +2,7 @@ use Rattle.std.proofs.Common.{List, ap, sym, subst, ◌∙◌}
 use Rattle.exchange_events.specs.declared.record.CallRecord.{CallRecord}
 use Rattle.exchange_events.specs.Kept.{kept_of}
 use Rattle.call_profile.specs.CallsTold.{calls_kept}
+use Rattle.call_profile.specs.Step.{MovesAtMost}
 use Rattle.lone_exchange.specs.At.{IsGiven}
 use Rattle.exchange_top.specs.Telling.{AreTold, AreToldFront}
 use Rattle.exchange_top.proofs.SteppingLemmas.{on_err, on_ok, told_front}
@@ -33,3 +34,8 @@ returns-clause-told_front g c s w given at =
     on_err c.append_line.result (told_front (λ m. (goal.Meter-dyn g (m.vtable, m.value)).stands m.value) (λ m. (goal.Meter-dyn g (m.vtable, m.value)).text m.value) _ _ _
     (subst (λ (calls : List CallRecord). AreTold (λ m. (goal.Meter-dyn g (m.vtable, m.value)).stands m.value) (λ m. (goal.Meter-dyn g (m.vtable, m.value)).text m.value)
     c.args.meters.now.items c.tell.new.meters.items calls) records c.in_ok-tell.ensures.told))
+
+pub returns-clause-few : goal.returns-clause-few
+returns-clause-few g c s w given at =
+    let here : IsGiven c.plan.result.now c.tones.result.now c.timers-timers.result s = record { plan_is = given.plan_is ∙ sym c.plan.ensures; tones_are = given.tones_are ∙ sym c.tones.ensures; timers_are = given.timers_are ∙ sym c.timers-timers.ensures } in
+    subst (MovesAtMost c.args.exchange.now.control.map.bound) (c.happen-response.ensures.reply s w here at) c.happen-response.ensures.few
