@@ -1,5 +1,5 @@
 -- The endings of a call, with one definition for each. Source: this project.
-use Rattle.std.specs.Prelude.{ℕ, Bool, false, List, [], Some, ◌≡◌, ◌⊎◌}
+use Rattle.std.specs.Prelude.{ℕ, Bool, false, List, [], Some, String, ◌≡◌, ◌⊎◌}
 use Rattle.std.specs.declared.option.Option.{Option}
 use Rattle.exchange_events.specs.declared.trace.Trace.{Trace}
 use Rattle.trace_text.specs.declared.fault.Reason.{Reason}
@@ -10,9 +10,9 @@ use Rattle.line_list.specs.declared.listing.Listing.TheVariants as listing
 use Rattle.exchange_top.specs.declared.ending.Ending.{Ending}
 use Rattle.exchange_top.specs.declared.ending.Ending.TheVariants as ended
 use Rattle.exchange_top.specs.Checking.{Finds, IsChecked, IsUnchecked, most_checked, slots_of}
-use Rattle.exchange_top.specs.Commands.{IsCheck, IsCheckOn, IsGeneration, IsNoCommand, IsReading, IsRun, IsRunOn, fabric_of}
+use Rattle.exchange_top.specs.Commands.{IsCheck, IsCheckOn, IsGeneration, IsNoCommand, IsReading, IsRun, IsRunOn, fabric_of, texts}
 use Rattle.exchange_top.specs.Inputs.{IsInputWithin, IsWholeInput}
-use Rattle.exchange_top.specs.Outcomes.{IsIdle, IsHandedOut, IsRunInterrupted, IsRunUnwritten, IsRunWhole, IsRunWritten, Parties}
+use Rattle.exchange_top.specs.Outcomes.{IsIdle, IsHandedOut, IsRunInterrupted, IsRunUnwritten, IsRunWhole, IsRunWritten, Part, Parties, Whole}
 use Rattle.exchange_top.specs.Refusals.{invalid_line, line_of, refusal, valid_line, words_refusal}
 use Rattle.exchange_top.specs.Streams.{HasFailed, IsUntouched, IsWritten, IsWrittenInPart, Stream}
 use Rattle.exchange_top.specs.Summary.{summary_text}
@@ -157,6 +157,10 @@ HasEnded arguments input x ended.WriteFailed = HasWriteFailed arguments input x
 HasEnded arguments input x ended.OutOfMemory = HasRunOutOfMemory arguments input x
 HasEnded arguments input x (ended.Invalid line) = IsReportRejected arguments input x line
 
+-- a whole call with these arguments and this input ended, with the facts for its ending
+abbrev pub Ends : {A : Type 0} → List (String A) → Stream → Whole → Type 0
+Ends arguments input call = (ending : Ending) × (call.status ≡ status_of ending) × HasEnded (texts arguments) input call.parties ending
+
 -- ---- the required ending for the arguments and the input
 
 -- the required ending for these arguments, and for an input with these bytes left
@@ -172,14 +176,20 @@ pub data IsDue (arguments : List (List ℕ)) (left : Option (List ℕ)) (due : E
 abbrev pub EndsAs : Ending → ℕ → Type 0
 EndsAs due status = (status ≡ status_of due) ⊎ (status ≡ status_of ended.ReadFailed) ⊎ (status ≡ status_of ended.WriteFailed) ⊎ (status ≡ status_of ended.OutOfMemory)
 
--- ---- the endings of the parts of a call, for any arguments that request them
+-- ---- the endings of the parts of a call
 
-abbrev pub RunEnds : Bool → Stream → Parties → Ending → Type 0
-RunEnds strict input x ending = (arguments : List (List ℕ)) → IsRunOn arguments strict → HasEnded arguments input x ending
+-- a part of a call with these arguments and this input ended, with the facts for its ending
+abbrev pub PartEnds : List (List ℕ) → Stream → Part → Type 0
+PartEnds arguments input p = HasEnded arguments input p.parties p.ending
 
-abbrev pub InputEnds : Bool → List ℕ → Parties → Ending → Type 0
-InputEnds strict bytes x ending =
-    (arguments : List (List ℕ)) (input : Stream) → IsRunOn arguments strict → IsInputWithin most_bytes input.old input.new bytes → HasEnded arguments input x ending
+-- the same for any arguments that request a run on this fabric, for any of them with an input of these bytes, and for
+-- any that request a generation
+abbrev pub RunEnds : Bool → Stream → Part → Type 0
+RunEnds strict input p = (arguments : List (List ℕ)) → IsRunOn arguments strict → PartEnds arguments input p
 
-abbrev pub GenerationEnds : ℕ → ℕ → Parties → Ending → Type 0
-GenerationEnds seed calls x ending = (arguments : List (List ℕ)) (input : Stream) → IsGeneration arguments seed calls → HasEnded arguments input x ending
+abbrev pub InputEnds : Bool → List ℕ → Part → Type 0
+InputEnds strict bytes p =
+    (arguments : List (List ℕ)) (input : Stream) → IsRunOn arguments strict → IsInputWithin most_bytes input.old input.new bytes → PartEnds arguments input p
+
+abbrev pub GenerationEnds : ℕ → ℕ → Part → Type 0
+GenerationEnds seed calls p = (arguments : List (List ℕ)) (input : Stream) → IsGeneration arguments seed calls → PartEnds arguments input p

@@ -1,7 +1,11 @@
 -- The progress of a run, its output, the records of its meters, and the engine. Source: this project.
 use Rattle.std.specs.Prelude.{◌≡◌, ◌⊎◌, ⊤, ℕ, List, Some, None, [], ◌++◌, All, IfSome}
 use Rattle.std.specs.Io.KnownBytes.{Appends}
+use Rattle.std.specs.declared.alloc.Global.{Global}
+use Rattle.std.specs.declared.collections.VecDeque.{VecDeque}
+use Rattle.std.specs.declared.dyn_box.DynBox.{DynBox}
 use Rattle.std.specs.declared.option.Option.{Option}
+use Rattle.std.specs.declared.vec.Vec.{Vec}
 use Rattle.exchange_events.specs.declared.record.CallRecord.{CallRecord}
 use Rattle.exchange_events.specs.declared.reply.Reply.{Reply}
 use Rattle.exchange_events.specs.declared.reply.Reply.TheVariants.{Granted, Busy, Seated, NoPort, Freed, NotNailed, Sent as Sent_reply, Frame as Frame_reply}
@@ -17,21 +21,23 @@ use Rattle.segment_run.specs.Segments.{IsDoneBelow}
 use Rattle.call_processor.specs.Frames.{Carrying, CarriesFrames, Plays}
 use Rattle.line_list.specs.declared.listing.Listing.{Listing}
 use Rattle.meters.specs.Changing.{Step, lines_of, records_of}
+use Rattle.exchange_top.specs.Borrowed.{Borrowed}
+use Rattle.ex_io.specs.declared.ends.Sink.{Ghosts as SinkMembers}
+use Rattle.frame_engine.specs.declared.carrier.Carrier.{Ghosts as CarrierMembers}
+use Rattle.exchange_top.specs.declared.call.Ended.{Ended}
+use Rattle.exchange_top.specs.declared.call.Outcome.{Outcome}
 use Rattle.exchange_top.specs.declared.ending.Ending.{Ending}
 use Rattle.exchange_top.specs.declared.ending.Ending.TheVariants as ended
+use Rattle.exchange_top.specs.declared.setting.Metering.{Metering}
 use Rattle.exchange_top.specs.Story.{story}
-use Rattle.exchange_top.specs.Streams.{HasFailed, IsWritten, IsWrittenInPart, Stream, stream}
-use Rattle.exchange_top.specs.Telling.{AreLeft, AreTold, MeterStory, meter_story}
+use Rattle.exchange_top.specs.Streams.{HasFailed, IsWritten, IsWrittenInPart, Stream, output}
+use Rattle.exchange_top.specs.Telling.{AreLeft, AreTold, MeterStory, metered, metered_together}
 use Rattle.call_profile.specs.CallsTold.{calls_told}
 
 -- the fabric for a trace: the number of internal slots, and the maximum number of live paths that a new path moves
 pub record Fabric : Type 0 where
   pub slots : ℕ
   pub most_moves : ℕ
-
--- the fabric of a map of paths, from the constants of its type
-abbrev pub fabric : {M : Type 0} → (M → ℕ) → (M → ℕ) → M → Fabric
-fabric depth bound paths = record { slots = depth paths; most_moves = bound paths }
 
 -- in a run of these events no new path moved more than n live paths
 abbrev pub MovesFew : Fabric → Trace → List ℕ → Type 0
@@ -74,17 +80,41 @@ pub record Parties : Type 1 where
   pub order : List ℕ
   pub output : Stream
 
--- the parties of a call: the output, dimensions and frames of an engine, which may be returned; the records and texts
--- of the active and spare meters before and after; the processed events; and the bytes and error counts of a sink
-abbrev pub parties : {M E K : Type 0} → Plays → (E → Dimensions) → Carrying E → Option E → (M → List CallRecord → Type 0) → (M → List CallRecord → List ℕ)
-    → (old spare new new_spare : List M) → List ℕ → (K → Option (List ℕ)) → (K → ℕ) → (sink_old sink_new : K) → Parties
-parties plays sizes carries engine stands text old spare new new_spare order written errors sink_old sink_new = record {
-  plays = plays;
-  handed = HandsOut sizes carries engine;
+-- the parties with an engine, which may be returned, the processed events, the meters and the output
+abbrev pub parties : {E : Type 0} → CarrierMembers E → Option E → List ℕ → MeterStory → Stream → Parties
+parties members engine order meters output = record {
+  plays = members.plays;
+  handed = HandsOut members.sizes members.carries engine;
   no_engine = engine ≡ None;
-  meters = meter_story stands text old spare new new_spare;
+  meters = meters;
   order = order;
-  output = stream written errors sink_old sink_new;
+  output = output;
+}
+
+-- a part of a call: its parties and its ending
+pub record Part : Type 1 where
+  pub parties : Parties
+  pub ending : Ending
+
+-- the part of a call that ended so, with its sink and its meters
+abbrev pub part : {E K V : Type 0} {F : V → Type 0} → CarrierMembers E → Ended E → SinkMembers K → Borrowed K
+    → (DynBox V Global F → List CallRecord → Type 0) → (DynBox V Global F → List CallRecord → List ℕ) → Borrowed (Metering V F) → Part
+part carrier ended members sink stands text metering = record {
+  parties = parties carrier ended.engine ended.order.items (metered_together stands text metering) (output members sink);
+  ending = ended.ending;
+}
+
+-- a whole call: its parties and its status
+pub record Whole : Type 1 where
+  pub parties : Parties
+  pub status : ℕ
+
+-- the whole call with this outcome, with its sink and its active and spare meters
+abbrev pub whole : {M E K : Type 0} → CarrierMembers E → Outcome E → SinkMembers K → Borrowed K
+    → (M → List CallRecord → Type 0) → (M → List CallRecord → List ℕ) → Borrowed (Vec M Global) → Borrowed (VecDeque M Global) → Whole
+whole carrier outcome members sink stands text meters spare = record {
+  parties = parties carrier outcome.engine outcome.order.items (metered stands text meters spare) (output members sink);
+  status = outcome.status;
 }
 
 -- no event was processed, no meter was changed or recorded a call, and no engine is returned

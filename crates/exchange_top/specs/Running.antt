@@ -1,11 +1,19 @@
 -- A run of a trace, segment by segment. Source: this project.
-use Rattle.std.specs.Prelude.{◌≡◌, ◌++◌, ℕ, List, All, Result, Ok, Err, None, Some, map}
+use Rattle.std.specs.Prelude.{◌≡◌, ◌++◌, ℕ, Bool, IsSomeAnd, List, All, Result, Ok, Err, None, Some, map}
+use Rattle.std.specs.declared.alloc.Global.{Global}
+use Rattle.std.specs.declared.dyn_box.DynBox.{DynBox}
 use Rattle.tone_rules.specs.Tables.{table_of}
 use Rattle.seat_history.specs.declared.known.Known.{Known}
+use Rattle.control_memory.specs.declared.path_map.PathMap.{Ghosts as PathMembers}
+use Rattle.ex_io.specs.declared.ends.Sink.{Ghosts as SinkMembers}
 use Rattle.exchange_core.specs.Boards.{Board, setting_at, world_at}
+use Rattle.exchange_core.specs.Working.{Entry}
+use Rattle.exchange_events.specs.declared.trace.Trace.{Trace}
+use Rattle.frame_engine.specs.declared.carrier.Carrier.{Ghosts as CarrierMembers}
 use Rattle.call_profile.specs.Step.{run, events_of, MovesAtMost}
 use Rattle.segment_run.specs.Segment.{new_events}
-use Rattle.call_processor.specs.Frames.{Plays}
+use Rattle.exchange_top.specs.Borrowed.{Borrowed}
+use Rattle.call_processor.specs.Frames.{IsReady, Plays}
 use Rattle.call_processor.specs.declared.worked.Placed.{Placed}
 use Rattle.line_list.specs.declared.listing.Listing.{Listing}
 use Rattle.line_list.specs.Lines.{Line, calls_of, line_of, listed, text_of}
@@ -14,15 +22,31 @@ use Rattle.exchange_top.specs.declared.run.RunFault.{RunFault}
 use Rattle.exchange_top.specs.declared.run.RunFault.TheVariants.{Memory, Write}
 use Rattle.exchange_top.specs.declared.ending.Ending.{Ending}
 use Rattle.exchange_top.specs.declared.ending.Ending.TheVariants as ended
-use Rattle.exchange_top.specs.Outcomes.{Fabric}
+use Rattle.exchange_top.specs.declared.segments.Carried.{Carried}
+use Rattle.exchange_top.specs.declared.setting.Metering.{Metering}
+use Rattle.exchange_top.specs.Commands.{fabric_of}
+use Rattle.exchange_top.specs.Outcomes.{Fabric, Part, Runs, parties}
+use Rattle.exchange_top.specs.Streams.{output}
 use Rattle.exchange_events.specs.declared.record.CallRecord.{CallRecord}
 use Rattle.report_text.specs.RunReport.{event_lines}
-use Rattle.exchange_top.specs.Telling.{Telling}
+use Rattle.exchange_top.specs.Telling.{Telling, metered_together}
 use Rattle.call_profile.specs.CallsTold.{calls_ended}
 
 -- the fabric of a board
 abbrev pub fabric_at : Board → Fabric
 fabric_at board = record { slots = board.slots; most_moves = board.bound }
+
+-- the board of a trace over a map of paths, and over a strict fabric or the other
+abbrev pub board_on : {P : Type 0} → PathMembers P → P → Trace → Board
+board_on members paths trace = record { trace = trace; slots = members.depth paths; bound = members.bound paths }
+
+abbrev pub board_for : Bool → Trace → Board
+board_for strict trace = record { trace = trace; slots = (fabric_of strict trace).slots; bound = (fabric_of strict trace).most_moves }
+
+-- the machine for the next segment is there, and is ready for the next frame after this history
+abbrev pub HasMachine : {T E L : Type 0} → CarrierMembers E → Board → List Entry → Option (Carried T E L) → Type 0
+HasMachine members board history carried =
+    IsSomeAnd carried (λ c. IsReady members.carries members.next members.sizes board history c.machine.value.engine c.machine.value.desk.tool)
 
 -- the lines of the new events of the history, in which no new path moved more live paths than the board's fabric allows
 abbrev pub grown_lines : Plays → Board → Known → Known → List ℕ
@@ -64,3 +88,15 @@ ending_of (Err Memory) = ended.OutOfMemory
 abbrev pub engine_of : {C : Type 0} → Result C RunFault → Option C
 engine_of (Ok engine) = Some engine
 engine_of (Err fault) = None
+
+-- a run as a part of a call: its result and the processed events, with its sink and its meters
+abbrev pub run_part : {E K V : Type 0} {F : V → Type 0} → CarrierMembers E → Result E RunFault → List ℕ → SinkMembers K → Borrowed K
+    → (DynBox V Global F → List CallRecord → Type 0) → (DynBox V Global F → List CallRecord → List ℕ) → Borrowed (Metering V F) → Part
+run_part carrier result order members sink stands text metering = record {
+  parties = parties carrier (engine_of result) order (metered_together stands text metering) (output members sink);
+  ending = ending_of result;
+}
+
+-- a part of a call is a run of a board's trace on its fabric, with this listing
+abbrev pub RunsOn : Part → Listing → Board → Type 0
+RunsOn p l board = Runs p.parties (fabric_at board) l board.trace p.ending

@@ -3,7 +3,10 @@
 use Rattle.std.specs.Prelude.{ℕ, ◌≤◌, List, length, take}
 use Rattle.std.specs.Io.KnownBytes.{Appends, Consumes, Keeps}
 use Rattle.std.specs.declared.option.Option.{Option}
+use Rattle.exchange_top.specs.Borrowed.{Borrowed}
 use Rattle.ex_io.specs.Ends.{Rose}
+use Rattle.ex_io.specs.declared.ends.Sink.{Ghosts as SinkMembers}
+use Rattle.ex_io.specs.declared.ends.Source.{Ghosts as SourceMembers}
 
 -- at most n bytes were read from the start, perhaps none
 abbrev pub ConsumesAtMost : ℕ → Option (List ℕ) → Option (List ℕ) → Type 0
@@ -23,6 +26,13 @@ pub record Stream : Type 0 where
 -- a source or a sink before and after a call, by the definitions of its type
 abbrev pub stream : {E : Type 0} → (E → Option (List ℕ)) → (E → ℕ) → (old new : E) → Stream
 stream bytes errors old new = record { old = bytes old; new = bytes new; before = errors old; after = errors new }
+
+-- a source that a call borrows, and a sink
+abbrev pub input : {S : Type 0} → SourceMembers S → Borrowed S → Stream
+input members source = stream members.left members.faults source.entry.now source.exit.now
+
+abbrev pub output : {K : Type 0} → SinkMembers K → Borrowed K → Stream
+output members sink = stream members.written members.faults sink.entry.now sink.exit.now
 
 -- exactly these bytes were written to it, a prefix of them, or nothing
 abbrev pub IsWritten : Stream → List ℕ → Type 0

@@ -5,12 +5,13 @@ ghost use Rattle.exchange_core.specs.Beginnings.{IsUnused};
 ghost use Rattle.trace_text.specs.TraceGrammar.{most_bytes};
 ghost use Rattle.exchange_top.specs.declared.ending.Ending.{Ending};
 ghost use Rattle.exchange_top.specs.declared.ending.Ending.TheVariants.{Completed, ReadFailed, WriteFailed};
-ghost use Rattle.exchange_top.specs.Commands.{IsReading, fabric_of, most_read, texts};
-ghost use Rattle.exchange_top.specs.Endings.{EndsAs, GenerationEnds, HasEnded, InputEnds, IsDue, RunEnds, status_of};
+ghost use Rattle.exchange_top.specs.Commands.{IsReading, most_read, texts};
+ghost use Rattle.exchange_top.specs.Endings.{Ends, EndsAs, GenerationEnds, InputEnds, IsDue, PartEnds, RunEnds, status_of};
 ghost use Rattle.exchange_top.specs.Inputs.{most_of};
-ghost use Rattle.exchange_top.specs.Outcomes.{Runs, SumsUp, fabric, parties};
+ghost use Rattle.exchange_top.specs.Outcomes.{SumsUp, part, whole};
 ghost use Rattle.exchange_top.specs.Refusals.{Says};
-ghost use Rattle.exchange_top.specs.Streams.{ConsumesAtMost, stream};
+ghost use Rattle.exchange_top.specs.Running.{RunsOn, board_for, board_on};
+ghost use Rattle.exchange_top.specs.Streams.{ConsumesAtMost, input, output};
 ghost use Rattle.exchange_top.specs.Summary.{summary_text};
 
 use crate::checking::check;
@@ -76,7 +77,7 @@ fn idle<C: Carrier>(alloc: Global, ending: Ending) -> Ended<C>
 fn refuse<K: Sink, C: Carrier>(alloc: Global, sink: &mut K, line: &[u8], ending: Ending) -> Ended<C>
     ensures none { result.order.items ≡ [] }
     ensures engine { result.engine ≡ None }
-    ensures answer { Says ending line.now result.ending (stream K.written K.faults sink.old sink.new) }
+    ensures answer { Says ending line.now result.ending (output K.Sink sink) }
     ensures writes { (result.ending ≡ WriteFailed) ⊎ (K.faults sink.new ≡ K.faults sink.old) }
 {
     idle(alloc, say(sink, line, ending))
@@ -103,11 +104,8 @@ fn run_on<
     requires paths { IsUnused (trace.now.external + trace.now.bridges) (P.width map) (P.depth map) (P.layout map) }
     requires blank { pending.old.lines ≡ [] }
     requires silent { pending.old.said.items ≡ [] }
-    ensures runs { Runs
-        (parties C.plays C.sizes C.carries result.engine (λ m. stands m) (λ m. text m)
-        metering.old.on.items metering.old.spare.items metering.new.on.items metering.new.spare.items
-        result.order.items K.written K.faults sink.old sink.new)
-        (fabric P.depth P.bound map) L.listing trace.now result.ending }
+    ensures runs { RunsOn (part C.Carrier result K.Sink sink stands text metering) L.listing
+        (board_on P.PathMap map trace.now) }
     ensures writes { (result.ending ≡ WriteFailed) ⊎ (K.faults sink.new ≡ K.faults sink.old) }
 {
     let alloc = setting.alloc;
@@ -145,11 +143,7 @@ fn run_trace<K: Sink, G: Gate, C: Carrier, L: ListingKind + Send + Drop, R: Thre
     requires sound { IsSound trace.now }
     requires blank { pending.old.lines ≡ [] }
     requires silent { pending.old.said.items ≡ [] }
-    ensures runs { Runs
-        (parties C.plays C.sizes C.carries result.engine (λ m. stands m) (λ m. text m)
-        metering.old.on.items metering.old.spare.items metering.new.on.items metering.new.spare.items
-        result.order.items K.written K.faults sink.old sink.new)
-        (fabric_of strict trace.now) L.listing trace.now result.ending }
+    ensures runs { RunsOn (part C.Carrier result K.Sink sink stands text metering) L.listing (board_for strict trace.now) }
     ensures writes { (result.ending ≡ WriteFailed) ⊎ (K.faults sink.new ≡ K.faults sink.old) }
 {
     let alloc = setting.alloc;
@@ -175,10 +169,7 @@ fn run_bytes<K: Sink, G: Gate, C: Carrier, R: Threads + Wait + Sync>(
     sink: &mut K,
     metering: &mut Metering,
 ) -> Ended<C>
-    ensures ends { InputEnds strict bytes.items
-        (parties C.plays C.sizes C.carries result.engine (λ m. stands m) (λ m. text m)
-        metering.old.on.items metering.old.spare.items metering.new.on.items metering.new.spare.items
-        result.order.items K.written K.faults sink.old sink.new) result.ending }
+    ensures ends { InputEnds strict bytes.items (part C.Carrier result K.Sink sink stands text metering) }
     ensures writes { (result.ending ≡ WriteFailed) ⊎ (K.faults sink.new ≡ K.faults sink.old) }
 {
     let alloc = setting.alloc;
@@ -213,8 +204,8 @@ fn sum_up<K: Sink, C: Carrier>(
     meters: &[Box<dyn Meter>],
 ) -> Ended<C>
     ensures order { result.order ≡ ended.order }
-    ensures sums { SumsUp (stream K.written K.faults sink.old sink.new)
-        (summary_text trace.now (concat (map (λ m. text m []) meters.now))) ended.engine result.engine result.ending }
+    ensures sums { SumsUp (output K.Sink sink) (summary_text trace.now (concat (map (λ m. text m []) meters.now)))
+        ended.engine result.engine result.ending }
     ensures writes { (result.ending ≡ WriteFailed) ⊎ (K.faults sink.new ≡ K.faults sink.old) }
 {
     let Ended { order, engine, .. } = ended;
@@ -249,10 +240,7 @@ fn run_generated<K: Sink, G: Gate, C: Carrier, R: Threads + Wait + Sync>(
 ) -> Ended<C>
     requires some { 1 ≤ calls }
     requires most { calls ≤ 2000 }
-    ensures ends { GenerationEnds seed calls
-        (parties C.plays C.sizes C.carries result.engine (λ m. stands m) (λ m. text m)
-        metering.old.on.items metering.old.spare.items metering.new.on.items metering.new.spare.items
-        result.order.items K.written K.faults sink.old sink.new) result.ending }
+    ensures ends { GenerationEnds seed calls (part C.Carrier result K.Sink sink stands text metering) }
     ensures writes { (result.ending ≡ WriteFailed) ⊎ (K.faults sink.new ≡ K.faults sink.old) }
 {
     let alloc = setting.alloc;
@@ -278,10 +266,7 @@ fn run_input<S: Source, K: Sink, G: Gate, C: Carrier, R: Threads + Wait + Sync>(
     sink: &mut K,
     metering: &mut Metering,
 ) -> Ended<C>
-    ensures ends { RunEnds strict (stream S.left S.faults source.old source.new)
-        (parties C.plays C.sizes C.carries result.engine (λ m. stands m) (λ m. text m)
-        metering.old.on.items metering.old.spare.items metering.new.on.items metering.new.spare.items
-        result.order.items K.written K.faults sink.old sink.new) result.ending }
+    ensures ends { RunEnds strict (input S.Source source) (part C.Carrier result K.Sink sink stands text metering) }
     ensures stops { ConsumesAtMost (most_of most_bytes) (S.left source.old) (S.left source.new) }
     ensures reads { (result.ending ≡ ReadFailed) ⊎ (S.faults source.new ≡ S.faults source.old) }
     ensures writes { (result.ending ≡ WriteFailed) ⊎ (K.faults sink.new ≡ K.faults sink.old) }
@@ -302,10 +287,7 @@ fn answer_words<S: Source, K: Sink, G: Gate, C: Carrier, R: Threads + Wait + Syn
     sink: &mut K,
     metering: &mut Metering,
 ) -> Ended<C>
-    ensures ends { HasEnded (texts words.now) (stream S.left S.faults source.old source.new)
-        (parties C.plays C.sizes C.carries result.engine (λ m. stands m) (λ m. text m)
-        metering.old.on.items metering.old.spare.items metering.new.on.items metering.new.spare.items
-        result.order.items K.written K.faults sink.old sink.new) result.ending }
+    ensures ends { PartEnds (texts words.now) (input S.Source source) (part C.Carrier result K.Sink sink stands text metering) }
     ensures unread { ¬ IsReading (texts words.now) → source.new ≡ source.old }
     ensures stops { ConsumesAtMost (most_read (texts words.now)) (S.left source.old) (S.left source.new) }
     ensures reads { (result.ending ≡ ReadFailed) ⊎ (S.faults source.new ≡ S.faults source.old) }
@@ -365,11 +347,7 @@ pub fn exchange<S: Source, K: Sink, G: Gate, C: Carrier, R: Threads + Wait + Syn
     spare: &mut VecDeque<Box<dyn Meter>>,
 ) -> Outcome<C>
     // The ending of the call, with the facts for it.
-    ensures ends { (ending : Ending) × (result.status ≡ status_of ending) × HasEnded (texts words.now)
-        (stream S.left S.faults source.old source.new)
-        (parties C.plays C.sizes C.carries result.engine
-        (λ m. stands m) (λ m. text m) meters.old.items spare.old.items meters.new.items spare.new.items
-        result.order.items K.written K.faults sink.old sink.new) ending }
+    ensures ends { Ends words.now (input S.Source source) (whole C.Carrier result K.Sink sink stands text meters spare) }
     // The arguments and the input decide the ending, unless a read, a write or an allocation fails.
     ensures due { (due : Ending) → IsDue (texts words.now) (S.left source.old) due → EndsAs due result.status }
     // No other ending hides an error of the source or of the sink.

@@ -3,17 +3,16 @@
 ghost use Rattle.std.specs.Prelude.{◌≡◌, ◌≤◌, ℕ, List, [], All, length, true};
 ghost use Rattle.exchange_events.specs.declared.trace.Trace.{Trace};
 ghost use Rattle.exchange_events.specs.Orders.{IsEvent, IsLawful, file_order};
-ghost use Rattle.circuit_model.specs.Hears.{Plays, hears};
+ghost use Rattle.circuit_model.specs.Hears.{Plays};
 ghost use Rattle.report_text.specs.RunReport.{report};
 ghost use Rattle.line_list.specs.declared.listing.Listing.{Listing};
 ghost use Rattle.line_list.specs.declared.listing.Listing.TheVariants.{Report};
 ghost use Rattle.line_list.specs.Lines.{listed};
 ghost use Rattle.meters.specs.Changing.{handed_in, steps_text};
-ghost use Rattle.run_verifier.specs.Verdicts.{IsValid};
 ghost use Rattle.trace_text.specs.declared.said.Said.{Said};
 ghost use Rattle.trace_text.specs.TraceGrammar.{IsTrace, IsWhatLinesSay};
 ghost use Rattle.trace_text.specs.TraceWords.{lines};
-ghost use Rattle.exchange_top.specs.Following.{EachFollows, most_line, story_said};
+ghost use Rattle.exchange_top.specs.Following.{EachFollows, HasValidStories, most_line, story_said};
 ghost use Rattle.exchange_top.specs.Checking.{IsDivided};
 ghost use Rattle.exchange_top.specs.Commands.{fabric_of};
 ghost use Rattle.exchange_top.specs.Outcomes.{MovesFew, MovesNone, NotesAll};
@@ -41,8 +40,7 @@ pub fn followed_traces_are_runs<M: Meter>()
     ensures story { (plays : Plays) (slots : ℕ) (bytes : List ℕ) (t : Trace) (told : List Said) → IsTrace bytes t → EachFollows [] (lines bytes) told
         → story_said plays slots told ≡ story plays Report slots t (file_order (length t.events)) }
     ensures lawful { (t : Trace) → IsLawful t (file_order (length t.events)) }
-    ensures valid { (slots : ℕ) (bytes : List ℕ) (t : Trace) (told : List Said) (old spare : List M) → IsTrace bytes t → EachFollows [] (lines bytes) told → t.changes ≡ []
-        → IsValid slots t (steps_text M.text (story_said hears slots told) (handed_in old spare)) }
+    ensures valid { HasValidStories M.text }
 {}
 
 /// Each trace whose lines have at most 65,535 octets is followed.

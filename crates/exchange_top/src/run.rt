@@ -7,8 +7,7 @@ ghost use Rattle.seat_history.specs.Seats.{first_seat};
 ghost use Rattle.shared_exchange.specs.Sharing.{IsSeated};
 ghost use Rattle.call_processor.specs.Frames.{IsReady};
 ghost use Rattle.exchange_top.specs.declared.ending.Ending.TheVariants.{WriteFailed};
-ghost use Rattle.exchange_top.specs.Outcomes.{Runs, fabric, parties};
-ghost use Rattle.exchange_top.specs.Running.{ending_of, engine_of};
+ghost use Rattle.exchange_top.specs.Running.{RunsOn, board_on, ending_of, run_part};
 
 use crate::segments::{Carried, report_segments};
 use crate::setting::{Metering, Pending, Setting};
@@ -83,10 +82,8 @@ pub fn run<
     requires blank { pending.old.lines ≡ [] }
     requires silent { pending.old.said.items ≡ [] }
     requires room { length trace.now.events ≤ vec_capacity order.old }
-    ensures runs { Runs (parties C.plays C.sizes C.carries (engine_of result) (λ m. stands m) (λ m. text m)
-        metering.old.on.items metering.old.spare.items metering.new.on.items metering.new.spare.items
-        order.new.items K.written K.faults sink.old sink.new)
-        (fabric P.depth P.bound paths) L.listing trace.now (ending_of result) }
+    ensures runs { RunsOn (run_part C.Carrier result order.new.items K.Sink sink stands text metering) L.listing
+        (board_on P.PathMap paths trace.now) }
     ensures writes { (ending_of result ≡ WriteFailed) ⊎ (K.faults sink.new ≡ K.faults sink.old) }
 {
     let (board, mut seat, carried) = equipped(setting.alloc, trace, paths, &pending.lines)?;

@@ -1,18 +1,17 @@
 //! The segments of a run, and the text of each.
-ghost use Rattle.std.specs.Prelude.{◌≡◌, ◌⊎◌, ◌*◌, ◌<◌, ◌≤◌, ◌++◌, [], drop, length, IsSome, IsSomeAnd, OnOk, OnErr};
+ghost use Rattle.std.specs.Prelude.{◌≡◌, ◌⊎◌, ◌*◌, ◌<◌, ◌≤◌, ◌++◌, [], drop, length, IsSome, OnOk, OnErr};
 ghost use Rattle.std.specs.Io.KnownBytes.{Appends};
 ghost use Rattle.ex_io.specs.Ends.{Rose};
 ghost use Rattle.seat_history.specs.Seats.{first_seat};
 ghost use Rattle.exchange_core.specs.Boards.{turns_of};
 ghost use Rattle.exchange_events.specs.Sound.{IsSound};
 ghost use Rattle.exchange_core.specs.Working.{order_of};
-ghost use Rattle.call_processor.specs.Frames.{IsReady, IsReadyAt};
 ghost use Rattle.segment_run.specs.Segment.{IsChief, Ran, RanWhole};
 ghost use Rattle.segment_run.specs.Segments.{IsDoneBelow};
 ghost use Rattle.line_list.specs.Lines.{calls_of, text_of};
 ghost use Rattle.exchange_top.specs.declared.ending.Ending.TheVariants.{WriteFailed};
-ghost use Rattle.exchange_top.specs.Outcomes.{IsFlushed, Runs, parties};
-ghost use Rattle.exchange_top.specs.Running.{AreOfAnswers, GrowthIsTold, IsAdded, ending_of, engine_of, fabric_at};
+ghost use Rattle.exchange_top.specs.Outcomes.{IsFlushed};
+ghost use Rattle.exchange_top.specs.Running.{AreOfAnswers, GrowthIsTold, HasMachine, IsAdded, RunsOn, ending_of, run_part};
 ghost use Rattle.exchange_top.specs.Streams.{AppendsFront};
 ghost use Rattle.exchange_top.specs.Telling.{AreTold, AreToldFront};
 
@@ -72,13 +71,11 @@ pub fn report_segments<
     requires trace { cx.now.trace.now ≡ (B.board cx.now.board.now).trace }
     requires sound { IsSound cx.now.trace.now }
     requires fresh { B.known seat.old ≡ first_seat (turns_of (B.board cx.now.board.now)) }
-    requires ready { IsSomeAnd carried.old (λ c. IsReady C.carries C.next C.sizes (B.board cx.now.board.now) [] c.machine.value.engine c.machine.value.desk.tool) }
+    requires ready { HasMachine C.Carrier (B.board cx.now.board.now) [] carried.old }
     ensures seated { B.seated cx.now.board.now seat.new }
     ensures chief { IsChief (turns_of (B.board cx.now.board.now)) (B.known seat.new) }
-    ensures runs { Runs (parties C.plays C.sizes C.carries (engine_of result) (λ m. stands m) (λ m. text m)
-        metering.old.on.items metering.old.spare.items metering.new.on.items metering.new.spare.items
-        (order_of (B.known seat.new).seen) K.written K.faults sink.old sink.new)
-        (fabric_at (B.board cx.now.board.now)) L.listing (B.board cx.now.board.now).trace (ending_of result) }
+    ensures runs { RunsOn (run_part C.Carrier result (order_of (B.known seat.new).seen) K.Sink sink stands text metering)
+        L.listing (B.board cx.now.board.now) }
     ensures writes { (ending_of result ≡ WriteFailed) ⊎ (K.faults sink.new ≡ K.faults sink.old) }
 {
     let ends = cx.trace.segments.as_slice();
@@ -151,17 +148,17 @@ fn report_segment<
     requires numbers { (B.known seat.old).made ≤ 9 * segment }
     requires kept { AreOfAnswers L.listing lines.old }
     requires done { IsDoneBelow cx.now.trace.now segment (order_of (B.known seat.old).seen) }
-    requires ready { IsSomeAnd carried.old (λ c. IsReadyAt C.carries C.next C.sizes (B.board cx.now.board.now) (B.known seat.old) c.machine.value) }
+    requires ready { HasMachine C.Carrier (B.board cx.now.board.now) (B.known seat.old).seen carried.old }
     ensures seated { B.seated cx.now.board.now seat.new }
     ensures chief { IsChief (turns_of (B.board cx.now.board.now)) (B.known seat.new) }
     ensures ran { Ran cx.now.trace.now segment (B.known seat.old) (B.known seat.new) }
     ensures whole { OnOk result (RanWhole cx.now.trace.now segment (B.known seat.old) (B.known seat.new)) }
     ensures added { OnOk result (IsAdded C.plays L.listing (B.board cx.now.board.now) (B.known seat.old) (B.known seat.new) lines.old lines.new) }
-    ensures told { OnOk result (GrowthIsTold (AreTold (λ m. stands m) (λ m. text m) meters.old.items meters.new.items)
+    ensures told { OnOk result (GrowthIsTold (AreTold stands text meters.old.items meters.new.items)
         (B.board cx.now.board.now) (B.known seat.old) (B.known seat.new)) }
-    ensures told_front { OnErr result (GrowthIsTold (AreToldFront (λ m. stands m) (λ m. text m) meters.old.items meters.new.items)
+    ensures told_front { OnErr result (GrowthIsTold (AreToldFront stands text meters.old.items meters.new.items)
         (B.board cx.now.board.now) (B.known seat.old) (B.known seat.new)) }
-    ensures ready { OnOk result (IsSomeAnd carried.new (λ c. IsReadyAt C.carries C.next C.sizes (B.board cx.now.board.now) (B.known seat.new) c.machine.value)) }
+    ensures ready { OnOk result (HasMachine C.Carrier (B.board cx.now.board.now) (B.known seat.new).seen carried.new) }
 {
     let Carried { machine, workroom } = taken(carried);
     let told = lines.records().len();

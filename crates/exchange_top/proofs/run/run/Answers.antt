@@ -4,6 +4,8 @@ use Rattle.exchange_core.specs.Working.{order_of}
 use Rattle.exchange_top.specs.declared.ending.Ending.TheVariants as ended
 use Rattle.exchange_top.specs.Outcomes.{Runs, parties}
 use Rattle.exchange_top.specs.Running.{ending_of, engine_of, fabric_at}
+use Rattle.exchange_top.specs.Streams.{stream}
+use Rattle.exchange_top.specs.Telling.{meter_story}
 use Rattle.exchange_top.proofs.Endings.{runs_so}
 use Rattle.exchange_top.proofs.Sums.{fits_order, moved}
 use Rattle.exchange_top.proofs.Tellings.{none_beyond}
@@ -25,8 +27,7 @@ returns-clause-runs g c =
     let journal = c.journal-2.ensures ∙ c.close.ensures.journal in
     let order = c.note_order.ensures ∙ (λ i. c.requires.empty i ++ order_of (journal i)) in
     let done = c.report_segments-done in
-    moved (λ b o. Runs (parties g.C.Carrier.plays g.C.Carrier.sizes g.C.Carrier.carries (engine_of done.result)
-    (λ m. (goal.Meter-dyn g (m.vtable, m.value)).stands m.value) (λ m. (goal.Meter-dyn g (m.vtable, m.value)).text m.value) c.args.metering.now.on.items c.args.metering.now.spare.items done.new.metering.on.items done.new.metering.spare.items
-    o g.K.Sink.written g.K.Sink.faults c.args.sink.now done.new.sink)
+    let meters = meter_story (λ m. (goal.Meter-dyn g (m.vtable, m.value)).stands m.value) (λ m. (goal.Meter-dyn g (m.vtable, m.value)).text m.value) c.args.metering.now.on.items c.args.metering.now.spare.items done.new.metering.on.items done.new.metering.spare.items in
+    moved (λ b o. Runs (parties g.C.Carrier (engine_of done.result) o meters (stream g.K.Sink.written g.K.Sink.faults c.args.sink.now done.new.sink))
     (fabric_at b) g.L.ListingKind.listing b.trace (ending_of done.result))
     _ _ _ _ c.in_ok-board.ensures.board order done.ensures.runs
