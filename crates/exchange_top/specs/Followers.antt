@@ -51,10 +51,11 @@ FollowEnds k before after x status = (ending : Following) × (status ≡ followe
 -- ---- one event
 
 module _ {E : Type 0} (c : CarrierKind E) where
-  -- the exchange is in some world of some setting with this heading; a statement on each of them; the event takes it there
+  -- the exchange has an exchange state, in a setting with this heading
   abbrev pub IsInWorld : {P : Type 0} → SoFar → LoneExchange P E → Type 0
   IsInWorld k x = IsSomewhere c.carries c.next c.sizes k.plan k.tones (timers_by k.timers) x
 
+  -- the statement holds in each such setting and exchange state
   abbrev pub InWorlds : {P : Type 0} → SoFar → LoneExchange P E → (Setting → World → Type 0) → Type 0
   InWorlds k x Says = EachAt c.carries c.next c.sizes k.plan k.tones (timers_by k.timers) x Says
 
@@ -97,7 +98,7 @@ module _ {V : Type 0} {F : V → Type 0} (m : (v : V) → MeterKind (F v)) where
   meter_text b = (m b.vtable).text b.value
 
 module _ {V : Type 0} {F : V → Type 0} {P E R : Type 0} (m : (v : V) → MeterKind (F v)) (c : CarrierKind E) (f : FabricKind P) where
-  -- the course and the octets due of the lines that this follower processed, if these were the meters before the first
+  -- the parameters of the story of the lines that this follower processed, if these were the meters before the first
   abbrev pub course_from : (old old_spare : List (DynBox V Global F)) → TraceFollower P E R V F → Course
   course_from old old_spare x = course c.plays f.slots f.moves (meter_stands m) (meter_text m) old old_spare x.metering.on.items x.metering.spare.items
 
