@@ -47,7 +47,7 @@ impl CodeTable {
     }
 
     /// Returns the octet of a value, which [`compress`] gives too.
-    pub fn code(&self, value: i32) -> u8
+    pub fn compress(&self, value: i32) -> u8
         ensures { result ≡ compress value }
     {
         let index = value.clamp(-LIMIT, LIMIT) + LIMIT;

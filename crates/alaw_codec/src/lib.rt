@@ -6,8 +6,8 @@
 //!
 //! - [`expand`] returns the value that the definition gives an octet (`value`). Its magnitude is at most 4032
 //!   (`within`).
-//! - [`compress`] returns the octet that the definition gives an `i32`. [`CodeTable::code`] returns the same octet by
-//!   one lookup in a table.
+//! - [`compress`] returns the octet that the definition gives an `i32`. [`CodeTable::compress`] returns the same octet
+//!   by one lookup in a table.
 //! - Coding the value of an octet gives the octet again ([`law_of_round_trip`]).
 #![tactic(auto)]
 

@@ -5,7 +5,7 @@
 #![tactic(auto)]
 
 use alaw_codec::CodeTable;
-use conference_mix::{MAX_MEMBERS, Mixer, Seated};
+use conference_mix::{MAX_MEMBERS, Mixer, RoomMember};
 use std::{env, io};
 
 /// Mixes the octets that the members sent: each fourth place is of one room.
@@ -14,7 +14,7 @@ fn mix(codes: &CodeTable, octets: &[Option<u8>; MAX_MEMBERS], out: &mut [u8; MAX
     for place in 0..MAX_MEMBERS {
         let room = (place % 4) as u8;
         let octet = octets[place];
-        mixer.seat(place, Seated { room, octet });
+        mixer.add(place, RoomMember { room, octet });
     }
     mixer.mix(codes, out);
 }

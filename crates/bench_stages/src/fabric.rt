@@ -4,13 +4,13 @@ ghost use Rattle.std.specs.Prelude.{◌≡◌, ◌<◌};
 ghost use Rattle.frame_buffer.specs.Highways.{SameHighwaySize};
 ghost use Rattle.control_memory.specs.Image.{lines_of};
 
-use circuit_model::{IDLE, PLACES, Slot};
+use circuit_model::{CHANNELS_PER_LINE, IDLE, Slot};
 use control_memory::Image;
 use frame_buffer::{Crossed, FrameBuffer, Highway};
-use space_stage::{cross_by_halves, cross_shared};
+use space_stage::{cross_shared, cross_split};
 use std::alloc::{AllocError, Global};
 use std::thread::Threads;
-use time_stage::{incoming_by_halves, incoming_shared, outgoing_by_halves, outgoing_shared};
+use time_stage::{incoming_shared, incoming_split, outgoing_shared, outgoing_split};
 
 const EXTERNAL: u8 = 30;
 
@@ -99,9 +99,9 @@ fn carry(
             outgoing_shared(rt, crossed, image, to, LEVELS);
         }
         Way::Joins => {
-            incoming_by_halves(rt, from, image, highway, LEVELS, 0);
-            cross_by_halves(rt, highway, image, crossed, LEVELS, 0);
-            outgoing_by_halves(rt, crossed, image, to, LEVELS, 0);
+            incoming_split(rt, from, image, highway, LEVELS, 0);
+            cross_split(rt, highway, image, crossed, LEVELS, 0);
+            outgoing_split(rt, crossed, image, to, LEVELS, 0);
         }
     }
     to.swap();
@@ -126,7 +126,7 @@ fn connect_line(image: &mut Image, line: u8)
     ensures lines { (image.new.external ≡ 30) × (image.new.bridges ≡ 4) }
     ensures slots { image.new.slots ≡ 59 }
 {
-    for place in 0..PLACES {
+    for place in 0..CHANNELS_PER_LINE {
         let to = (u32::from(line) + u32::from(place)) % 34;
         let other = (u32::from(place) * 7 + to) % 30;
         let slot = (u32::from(place) * 17 + 5) % 59;
@@ -161,7 +161,7 @@ fn sum_of(buffer: &FrameBuffer) -> u32
 {
     let mut sum = 0u32;
     for line in 0..LINES {
-        for place in 0..PLACES {
+        for place in 0..CHANNELS_PER_LINE {
             let octet = buffer.get(Slot { line, place });
             sum = sum.wrapping_mul(31).wrapping_add(u32::from(octet));
         }

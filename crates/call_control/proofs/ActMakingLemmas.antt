@@ -10,10 +10,10 @@ use Rattle.q931_codec.specs.CallStates.{active, call_delivered, call_received}
 use Rattle.q931_codec.specs.Outgoing.{OutgoingMessage, encoding}
 use Rattle.call_states.specs.declared.leg.Leg.{Leg}
 use Rattle.tone_rules.specs.declared.tones.Tones.{Tones}
-use Rattle.call_states.specs.declared.leg.Held.{Held}
+use Rattle.call_states.specs.declared.leg.HeldLeg.{HeldLeg}
 use Rattle.exchange_events.specs.declared.signal.Signal.{Signal}
 use Rattle.call_profile.specs.Acts.{with_progress, message_to, disconnect, in_state, in_disconnect_indication, tone_of, with_peer, clear_with, on_alerting, on_connect}
-use Rattle.call_profile.specs.Legs.{Legs, from_frame, with_leg}
+use Rattle.call_profile.specs.Legs.{Legs, waiting_from, with_leg}
 use Rattle.call_profile.specs.Operations.{Making, Clear, Pair, Sound, Put, making_after, making_after_all, moves_for, with_tone}
 use Rattle.call_control.specs.Standing.{Holds, Makes}
 use Rattle.exchange_events.specs.Sizes.{Dimensions}
@@ -32,10 +32,10 @@ connected_makes d map cleared connected legs once then_legs x y moves clears pai
 
 -- the other leg of a call is cleared with a cause, and gets a tone
 pub disconnected_makes : (d : Dimensions) (tones : Tones) (map cleared put sounds : Connections) (legs once twice thrice : Legs) (sends then_sends : List Signal) (moved then_moved : Option (ℕ × ℕ))
-    (o : Option Held) (h : Held) (cause : ℕ) (alone : Leg) (tone : Option Kind) (message : OutgoingMessage)
+    (o : Option HeldLeg) (h : HeldLeg) (cause : ℕ) (alone : Leg) (tone : Option Kind) (message : OutgoingMessage)
     → o ≡ Some h → alone ≡ in_disconnect_indication cause h.leg → tone ≡ tone_of tones alone → message ≡ with_progress tone (disconnect h.leg cause)
     → ((w : World) → Holds d map legs w → Holds d cleared once (obey d w (Clear_slot h.slot)))
-    → put ≡ cleared → twice ≡ with_leg once h.slot (from_frame cleared.next alone)
+    → put ≡ cleared → twice ≡ with_leg once h.slot (waiting_from cleared.next alone)
     → ((w : World) → Holds d put twice w → Holds d sounds thrice (record w { holding = with_tone w.holding h.slot tone }))
     → then_sends ≡ sends ++ record { line = h.slot.line; octets = encoding message } ∷ [] → then_moved ≡ moved
     → (m : Making) → Makes d map legs sends moved m → Makes d sounds thrice then_sends then_moved (making_after_all d m (with_peer o (clear_with tones cause)))
@@ -47,7 +47,7 @@ disconnected_makes d tones map cleared put sounds legs once twice thrice sends t
     let m1 : Making = making_after d m (Clear h.slot) in
     let one = makes_clear d map cleared legs once sends sends moved moved m made h.slot clears in
     let m2 : Making = making_after d m1 (Put h.slot gone) in
-    let two = makes_put d cleared put once twice sends sends moved moved m1 one h.slot gone same (legs_are ∙ ap (λ (l : Leg). with_leg once h.slot (from_frame cleared.next l)) alone_is) in
+    let two = makes_put d cleared put once twice sends sends moved moved m1 one h.slot gone same (legs_are ∙ ap (λ (l : Leg). with_leg once h.slot (waiting_from cleared.next l)) alone_is) in
     let m3 : Making = making_after d m2 (Sound h.slot hears) in
     let three = makes_sound d put sounds twice thrice sends sends moved moved m2 two h.slot hears
     (subst (λ (t : Option Kind). (w : World) → Holds d put twice w → Holds d sounds thrice (record w { holding = with_tone w.holding h.slot t })) tone_named sound) in
@@ -56,10 +56,10 @@ disconnected_makes d tones map cleared put sounds legs once twice thrice sends t
 
 -- the called user is being alerted, and the caller gets a tone
 pub alerted_makes : (d : Dimensions) (tones : Tones) (map first put sounds : Connections) (legs once twice thrice : Legs) (sends then_sends : List Signal) (moved then_moved : Option (ℕ × ℕ))
-    (o : Option Held) (h c : Held) (received waits : Leg) (tone : Option Kind) (message : OutgoingMessage)
+    (o : Option HeldLeg) (h c : HeldLeg) (received waits : Leg) (tone : Option Kind) (message : OutgoingMessage)
     → o ≡ Some c → received ≡ in_state call_received h.leg → waits ≡ in_state call_delivered c.leg → tone ≡ tone_of tones waits → message ≡ with_progress tone (message_to c.leg kind.Alerting)
-    → first ≡ map → once ≡ with_leg legs h.slot (from_frame map.next received)
-    → put ≡ first → twice ≡ with_leg once c.slot (from_frame first.next waits)
+    → first ≡ map → once ≡ with_leg legs h.slot (waiting_from map.next received)
+    → put ≡ first → twice ≡ with_leg once c.slot (waiting_from first.next waits)
     → ((w : World) → Holds d put twice w → Holds d sounds thrice (record w { holding = with_tone w.holding c.slot tone }))
     → then_sends ≡ sends ++ record { line = c.slot.line; octets = encoding message } ∷ [] → then_moved ≡ moved
     → (m : Making) → Makes d map legs sends moved m → Makes d sounds thrice then_sends then_moved (making_after_all d m (with_peer o (on_alerting tones h)))
@@ -70,9 +70,9 @@ alerted_makes d tones map first put sounds legs once twice thrice sends then_sen
     let tone_named : tone ≡ hears = tone_is ∙ ap (tone_of tones) waits_is in
     let named : message ≡ with_progress hears (message_to c.leg kind.Alerting) = message_is ∙ ap (λ (t : Option Kind). with_progress t (message_to c.leg kind.Alerting)) tone_named in
     let m1 : Making = making_after d m (Put h.slot rings) in
-    let one = makes_put d map first legs once sends sends moved moved m made h.slot rings same (once_is ∙ ap (λ (l : Leg). with_leg legs h.slot (from_frame map.next l)) received_is) in
+    let one = makes_put d map first legs once sends sends moved moved m made h.slot rings same (once_is ∙ ap (λ (l : Leg). with_leg legs h.slot (waiting_from map.next l)) received_is) in
     let m2 : Making = making_after d m1 (Put c.slot delivered) in
-    let two = makes_put d first put once twice sends sends moved moved m1 one c.slot delivered same_too (twice_is ∙ ap (λ (l : Leg). with_leg once c.slot (from_frame first.next l)) waits_is) in
+    let two = makes_put d first put once twice sends sends moved moved m1 one c.slot delivered same_too (twice_is ∙ ap (λ (l : Leg). with_leg once c.slot (waiting_from first.next l)) waits_is) in
     let m3 : Making = making_after d m2 (Sound c.slot hears) in
     let three = makes_sound d put sounds twice thrice sends sends moved moved m2 two c.slot hears
     (subst (λ (t : Option Kind). (w : World) → Holds d put twice w → Holds d sounds thrice (record w { holding = with_tone w.holding c.slot t })) tone_named sound) in
@@ -80,14 +80,14 @@ alerted_makes d tones map first put sounds legs once twice thrice sends then_sen
     rw is four
 
 -- a message without elements, as it is sent to the user of a leg
-abbrev pub told : Held → MessageKind → Signal
+abbrev pub told : HeldLeg → MessageKind → Signal
 told h k = record { line = h.slot.line; octets = encoding (message_to h.leg k) }
 
 -- the called user has answered
-pub answered_makes : (d : Dimensions) (map connected put same : Connections) (legs once twice thrice : Legs) (sends one_sent two_sent : List Signal) (moved then_moved : Option (ℕ × ℕ)) (moves : ℕ × ℕ) (o : Option Held) (h c : Held)
+pub answered_makes : (d : Dimensions) (map connected put same : Connections) (legs once twice thrice : Legs) (sends one_sent two_sent : List Signal) (moved then_moved : Option (ℕ × ℕ)) (moves : ℕ × ℕ) (o : Option HeldLeg) (h c : HeldLeg)
     → o ≡ Some c
     → ((m : Making) → Makes d map legs m.sends m.moves m → Makes d connected once m.sends (Some moves) (making_after_all d m (Clear c.slot ∷ Pair c.slot h.slot ∷ [])))
-    → put ≡ connected → same ≡ put → twice ≡ with_leg once h.slot (from_frame connected.next (in_state active h.leg)) → thrice ≡ with_leg twice c.slot (from_frame put.next (in_state active c.leg))
+    → put ≡ connected → same ≡ put → twice ≡ with_leg once h.slot (waiting_from connected.next (in_state active h.leg)) → thrice ≡ with_leg twice c.slot (waiting_from put.next (in_state active c.leg))
     → one_sent ≡ sends ++ told h kind.ConnectAcknowledge ∷ [] → two_sent ≡ one_sent ++ told c kind.Connect ∷ [] → then_moved ≡ Some moves
     → (m : Making) → Makes d map legs sends moved m → Makes d same thrice two_sent then_moved (making_after_all d m (with_peer o (on_connect h)))
 answered_makes d map connected put same legs once twice thrice sends one_sent two_sent moved then_moved moves o h c is connects first_map same_map twice_is thrice_is one_is two_is moved_is m made =

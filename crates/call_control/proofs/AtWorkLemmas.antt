@@ -11,7 +11,7 @@ use Rattle.call_states.proofs.Causes.{cause_fits}
 use Rattle.q931_codec.specs.CallStates.{overlap_sending}
 use Rattle.q931_codec.specs.Contents.{call_state_in}
 use Rattle.call_states.specs.declared.act.Act.TheVariants as act
-use Rattle.call_states.specs.declared.leg.Held.{Held}
+use Rattle.call_states.specs.declared.leg.HeldLeg.{HeldLeg}
 use Rattle.call_profile.specs.ActCourse.{course_of}
 use Rattle.call_profile.specs.Acts.{peer_of}
 use Rattle.call_control.specs.AtWork.{IsAtWork}
@@ -31,11 +31,11 @@ use Rattle.call_profile.proofs.MessageToLegLemmas.{Asked, asked}
 pub cleared_silent : (d : Dimensions) (map : Connections) (legs : Legs) (w : World) (x : Slot) → Holds d map legs w → unless_naming x (hears_at map x) ≡ None
 cleared_silent d map legs w x holds = cleared_by w.holding.circuits x (hears_at map x) (sym (holds.circuits.holds.heard x))
 
-pub peer_external : (external : ℕ) (h : Held) (o : Option Held) → PeerIsThere external h o → IfSome o (λ other. IsExternal external other.slot)
+pub peer_external : (external : ℕ) (h : HeldLeg) (o : Option HeldLeg) → PeerIsThere external h o → IfSome o (λ other. IsExternal external other.slot)
 peer_external external h None is = tt
 peer_external external h (Some other) is = is.0.within
 
-silent_on_map : (map : Connections) (w : World) → ((x : Slot) → hears_at map x ≡ heard_by w.holding.circuits x) → (o : Option Held)
+silent_on_map : (map : Connections) (w : World) → ((x : Slot) → hears_at map x ≡ heard_by w.holding.circuits x) → (o : Option HeldLeg)
     → IfSome o (λ c. heard_by w.holding.circuits c.slot ≡ None) → IsSilent map o
 silent_on_map map w same None deaf = tt
 silent_on_map map w same (Some c) deaf = same c.slot ∙ deaf
@@ -52,7 +52,7 @@ row_inside s map legs w line work within =
     let count : length legs.held ≡ 30 * s.dimensions.external = ap (λ (ls : Legs). length ls.held) work.holds.legs_are ∙ work.stands.legs.count in
     omega (arith, within, same, count)
 
-module _ (s : Setting) (map : Connections) (legs : Legs) (w : World) (work : IsAtWork s map legs w) (h : Held) (within : IsExternal map.external h.slot) (at : leg_at legs h.slot ≡ Some h.leg) where
+module _ (s : Setting) (map : Connections) (legs : Legs) (w : World) (work : IsAtWork s map legs w) (h : HeldLeg) (within : IsExternal map.external h.slot) (at : leg_at legs h.slot ≡ Some h.leg) where
   external_is : map.external ≡ s.dimensions.external
   external_is = ap (λ (d : Dimensions). d.external) work.holds.sizes
 
@@ -65,7 +65,7 @@ module _ (s : Setting) (map : Connections) (legs : Legs) (w : World) (work : IsA
   pub known_there : IsThere map.external h
   known_there = subst (λ n. IsThere n h) (sym external_is) (is_there s.dimensions.external s.tones w h work.stands.legs in_world at_world)
 
-  pub known_peer : (o : Option Held) → o ≡ peer_of legs h.leg.peer → PeerIsThere map.external h o
+  pub known_peer : (o : Option HeldLeg) → o ≡ peer_of legs h.leg.peer → PeerIsThere map.external h o
   known_peer o is =
       let there = subst (λ n. PeerIsThere n h (peer_of w.legs h.leg.peer)) (sym external_is) (peer_there_too s.dimensions.external s.tones w h work.stands.legs in_world at_world) in
       subst (PeerIsThere map.external h) (sym (is ∙ ap (λ ls. peer_of ls h.leg.peer) work.holds.legs_are)) there
@@ -76,12 +76,12 @@ module _ (s : Setting) (map : Connections) (legs : Legs) (w : World) (work : IsA
       ∙ rings_silent s.dimensions.external s.tones w h work.stands.legs in_world at_world (answers_among h.leg.state m.kind _ _ answers)
 
   -- the caller of a leg that is asked to be alerted hears nothing
-  pub known_waiting : (m : Message) → act_on h.leg.state m ≡ act.Alerting → (o : Option Held) → o ≡ peer_of legs h.leg.peer → IsSilent map o
+  pub known_waiting : (m : Message) → act_on h.leg.state m ≡ act.Alerting → (o : Option HeldLeg) → o ≡ peer_of legs h.leg.peer → IsSilent map o
   known_waiting m alerts o is =
       let asks = subst (Asked h.leg.state) alerts (asked h.leg.state m.kind (clearing_cause m.elements) (is_null (call_state_in m.elements)) (cause_fits m.elements)) in
       let deaf = caller_silent s.dimensions.external s.tones w h work.stands.legs in_world at_world asks in
       let same : peer_of w.legs h.leg.peer ≡ o = sym (is ∙ ap (λ ls. peer_of ls h.leg.peer) work.holds.legs_are) in
-      silent_on_map map w work.holds.circuits.holds.heard o (subst (λ (p : Option Held). IfSome p (λ c. heard_by w.holding.circuits c.slot ≡ None)) same deaf)
+      silent_on_map map w work.holds.circuits.holds.heard o (subst (λ (p : Option HeldLeg). IfSome p (λ c. heard_by w.holding.circuits c.slot ≡ None)) same deaf)
 
   pub known_records : (m : Message) → records_of_act w h (act_on h.leg.state m) ≡ (outcome_by s w (course_of s w h m (act_on h.leg.state m))).recorded
   known_records m = sym (leg_records s w h m work.planned work.stands in_world at_world)

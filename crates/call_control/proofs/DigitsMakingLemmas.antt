@@ -11,7 +11,7 @@ use Rattle.q931_codec.specs.CallStates.{overlap_sending}
 use Rattle.q931_codec.specs.Causes.{invalid_number_format}
 use Rattle.q931_codec.specs.Contents.{complete_in, dialled_digits}
 use Rattle.q931_codec.specs.declared.message.Message.{Message}
-use Rattle.call_states.specs.declared.leg.Held.{Held}
+use Rattle.call_states.specs.declared.leg.HeldLeg.{HeldLeg}
 use Rattle.call_states.specs.declared.pending.Pending.{Pending}
 use Rattle.exchange_events.specs.Sizes.{Setting, Dimensions}
 use Rattle.call_profile.specs.Acts.{clear_with}
@@ -34,7 +34,7 @@ not_some : (o : Option (List ℕ)) → is_none o ≡ not (is_some o)
 not_some None = refl
 not_some (Some digits) = refl
 
-module _ (s : Setting) (numbers : List Number) (map : Connections) (legs : Legs) (w : World) (plan : s.plan ≡ numbers) (work : IsAtWork s map legs w) (h : Held) (m : Message)
+module _ (s : Setting) (numbers : List Number) (map : Connections) (legs : Legs) (w : World) (plan : s.plan ≡ numbers) (work : IsAtWork s map legs w) (h : HeldLeg) (m : Message)
     (within : IsExternal map.external h.slot) (at : leg_at legs h.slot ≡ Some h.leg) (is : h.leg.state ≡ overlap_sending) (p : Pending) (pends : pending_at legs h.slot ≡ Some p) where
   abbrev in_world : IsExternal s.dimensions.external h.slot
   in_world = subst (λ (d : Dimensions). IsExternal d.external h.slot) work.holds.sizes within

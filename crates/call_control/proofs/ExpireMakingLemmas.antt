@@ -4,7 +4,7 @@ use Rattle.std.specs.Prelude.{IfSome}
 use Rattle.circuit_model.specs.declared.channel.Slot.{Slot}
 use Rattle.call_timers.specs.declared.timers.Timers.{Timers}
 use Rattle.circuit_model.specs.Extent.{IsExternal}
-use Rattle.call_states.specs.declared.leg.Held.{Held}
+use Rattle.call_states.specs.declared.leg.HeldLeg.{HeldLeg}
 use Rattle.tone_rules.specs.declared.tones.Tones.{Tones}
 use Rattle.circuit_map.specs.Connections.{Connections}
 use Rattle.exchange_events.specs.declared.record.CallRecord.{CallRecord}
@@ -51,7 +51,7 @@ line_done s frame w line map legs sends moved before told kept small first makes
     subst (λ (b : MessageOutcome). Makes s.dimensions map legs sends moved b.making × (told ≡ b.recorded)) (sym next) (makes, is)
 
 -- the cause of a leg can be sent
-pub cause_of_leg : (d : Dimensions) (tones : Tones) (map : Connections) (legs : Legs) (w : World) → Holds d map legs w → LegsStand d.external tones w → (h : Held) → IsExternal map.external h.slot
+pub cause_of_leg : (d : Dimensions) (tones : Tones) (map : Connections) (legs : Legs) (w : World) → Holds d map legs w → LegsStand d.external tones w → (h : HeldLeg) → IsExternal map.external h.slot
     → leg_at legs h.slot ≡ Some h.leg → h.leg.cause < 128
 cause_of_leg d tones map legs w holds stand h within at =
     let size : map.external ≡ d.external = ap (λ (e : Dimensions). e.external) holds.sizes in

@@ -8,7 +8,7 @@ use Rattle.q931_codec.specs.Outgoing.{OutgoingMessage, encoding}
 use Rattle.call_states.specs.declared.leg.Leg.{Leg}
 use Rattle.call_states.specs.declared.pending.Pending.{Pending}
 use Rattle.exchange_events.specs.declared.signal.Signal.{Signal}
-use Rattle.call_profile.specs.Legs.{Legs, from_frame, with_leg, with_waiting, with_kept}
+use Rattle.call_profile.specs.Legs.{Legs, waiting_from, with_leg, with_waiting, with_kept}
 use Rattle.call_profile.specs.Operations.{Clear, Seat, Sound, Put, Wait, Expect, Send, Making, begun, moves_of_seat, making_after, with_tone}
 use Rattle.call_control.specs.Standing.{Holds, Makes}
 use Rattle.exchange_events.specs.Sizes.{Dimensions}
@@ -20,28 +20,28 @@ holds_with d map map' legs legs' w holds same =
     subst (λ m. Holds d m legs' (record w { legs = legs' })) (sym same) (record { sizes = holds.sizes; circuits = record { holds = holds.circuits.holds; layout = holds.circuits.layout }; legs_are = refl })
 
 module _ (d : Dimensions) (map map' : Connections) (legs legs' : Legs) (sends sends' : List Signal) (moved moved' : Option (ℕ × ℕ)) (m : Making) (makes : Makes d map legs sends moved m) where
-  pub makes_put : (x : Slot) (leg : Leg) → map' ≡ map → legs' ≡ with_leg legs x (from_frame map.next leg) → Makes d map' legs' sends moved (making_after d m (Put x leg))
+  pub makes_put : (x : Slot) (leg : Leg) → map' ≡ map → legs' ≡ with_leg legs x (waiting_from map.next leg) → Makes d map' legs' sends moved (making_after d m (Put x leg))
   makes_put x leg same put =
-      let legs_are : legs' ≡ with_leg m.world.legs x (begun m.world leg) = put ∙ (λ i. with_leg (makes.holds.legs_are i) x (from_frame (makes.holds.circuits.holds.next i) leg)) in
+      let legs_are : legs' ≡ with_leg m.world.legs x (begun m.world leg) = put ∙ (λ i. with_leg (makes.holds.legs_are i) x (waiting_from (makes.holds.circuits.holds.next i) leg)) in
       record {
         holds = subst (λ ls. Holds d map' legs' (record m.world { legs = ls })) legs_are (holds_with d map map' legs legs' m.world makes.holds same);
         sent = makes.sent;
         moves = makes.moves;
       }
 
-  pub makes_wait : (x : Slot) (leg : Leg) (p : Pending) → map' ≡ map → legs' ≡ with_waiting legs x (from_frame map.next leg) p → Makes d map' legs' sends moved (making_after d m (Wait x leg p))
+  pub makes_wait : (x : Slot) (leg : Leg) (p : Pending) → map' ≡ map → legs' ≡ with_waiting legs x (waiting_from map.next leg) p → Makes d map' legs' sends moved (making_after d m (Wait x leg p))
   makes_wait x leg p same waits =
-      let legs_are : legs' ≡ with_waiting m.world.legs x (begun m.world leg) p = waits ∙ (λ i. with_waiting (makes.holds.legs_are i) x (from_frame (makes.holds.circuits.holds.next i) leg) p) in
+      let legs_are : legs' ≡ with_waiting m.world.legs x (begun m.world leg) p = waits ∙ (λ i. with_waiting (makes.holds.legs_are i) x (waiting_from (makes.holds.circuits.holds.next i) leg) p) in
       record {
         holds = subst (λ ls. Holds d map' legs' (record m.world { legs = ls })) legs_are (holds_with d map map' legs legs' m.world makes.holds same);
         sent = makes.sent;
         moves = makes.moves;
       }
 
-  pub makes_expect : (x : Slot) (leg : Leg) (message : OutgoingMessage) (octets : List ℕ) → octets ≡ encoding message → map' ≡ map → legs' ≡ with_kept legs x (from_frame map.next leg) octets
+  pub makes_expect : (x : Slot) (leg : Leg) (message : OutgoingMessage) (octets : List ℕ) → octets ≡ encoding message → map' ≡ map → legs' ≡ with_kept legs x (waiting_from map.next leg) octets
       → sends' ≡ sends ++ record { line = x.line; octets = octets } ∷ [] → moved' ≡ moved → Makes d map' legs' sends' moved' (making_after d m (Expect x leg message))
   makes_expect x leg message octets is same waits more still =
-      let legs_are : legs' ≡ with_kept m.world.legs x (begun m.world leg) (encoding message) = waits ∙ (λ i. with_kept (makes.holds.legs_are i) x (from_frame (makes.holds.circuits.holds.next i) leg) (is i)) in
+      let legs_are : legs' ≡ with_kept m.world.legs x (begun m.world leg) (encoding message) = waits ∙ (λ i. with_kept (makes.holds.legs_are i) x (waiting_from (makes.holds.circuits.holds.next i) leg) (is i)) in
       record {
         holds = subst (λ ls. Holds d map' legs' (record m.world { legs = ls })) legs_are (holds_with d map map' legs legs' m.world makes.holds same);
         sent = more ∙ (λ i. makes.sent i ++ record { line = x.line; octets = is i } ∷ []);

@@ -10,9 +10,9 @@ use Rattle.q931_codec.specs.Grammar.{IsMessage}
 use Rattle.q931_codec.specs.Reading.{reading}
 use Rattle.call_profile.specs.Calls.{Request, request_of, request_read}
 use Rattle.call_profile.specs.Legs.{Legs}
-use Rattle.call_control.specs.declared.reading_ahead.DialledNumber.{DialledNumber}
-use Rattle.call_control.specs.declared.reading_ahead.Incoming.{Incoming}
-use Rattle.call_control.specs.declared.reading_ahead.ReadAhead.{ReadAhead}
+use Rattle.call_control.specs.declared.preparsing.DialledNumber.{DialledNumber}
+use Rattle.call_control.specs.declared.preparsing.Incoming.{Incoming}
+use Rattle.call_control.specs.declared.preparsing.PreparsedMessage.{PreparsedMessage}
 use Rattle.call_control.specs.Ahead.{IsDialled, IsIncoming, IsReadAhead, is_message, message_ahead}
 
 pub taken : (legs now : Legs) (line : ℕ) (octets : List ℕ) (r : Result Message Discard) (P : Request → Type 0) → legs ≡ now → r ≡ reading octets
@@ -42,9 +42,9 @@ dialled_there plan m o number is dials = subst (λ (p : Option DialledNumber). I
 
 -- ---- a message that is read ahead
 
-pub read_before : (plan : List Number) (octets : List ℕ) (ahead : Option ReadAhead) (known : ReadAhead) → ahead ≡ Some known
+pub read_before : (plan : List Number) (octets : List ℕ) (ahead : Option PreparsedMessage) (known : PreparsedMessage) → ahead ≡ Some known
     → IfSome ahead (IsReadAhead plan octets) → IsReadAhead plan octets known
-read_before plan octets ahead known is reads = subst (λ (o : Option ReadAhead). IfSome o (IsReadAhead plan octets)) is reads
+read_before plan octets ahead known is reads = subst (λ (o : Option PreparsedMessage). IfSome o (IsReadAhead plan octets)) is reads
 
 -- its elements are read from the octets behind its header
 elements_behind : (octets : List ℕ) (m : Message) → IsMessage octets m → m.elements ≡ elements_of (drop 5 octets)
@@ -54,7 +54,7 @@ pub read_whole : (plan : List Number) (octets : List ℕ) (m : Message) (number 
     → IsMessage octets m → reading octets ≡ Ok m → IfSome number (IsDialled plan m)
     → IsReadAhead plan octets (record { flag = m.flag; reference = m.reference; kind = m.kind; number = number })
 read_whole plan octets m number is reads dials =
-    let known : ReadAhead = record { flag = m.flag; reference = m.reference; kind = m.kind; number = number } in
+    let known : PreparsedMessage = record { flag = m.flag; reference = m.reference; kind = m.kind; number = number } in
     let behind = elements_behind octets m is in
     let same : m ≡ message_ahead known octets = λ i. record { flag = m.flag; reference = m.reference; kind = m.kind; elements = behind i } in
     let size = ap length is.octets_are in

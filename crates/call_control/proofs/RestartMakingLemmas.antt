@@ -7,7 +7,7 @@ use Rattle.circuit_map.specs.Connections.{Connections, SameSizes}
 use Rattle.q931_codec.specs.Causes.{temporary_failure}
 use Rattle.clearing_rules.specs.declared.scope.Restart.{Restart}
 use Rattle.tone_rules.specs.declared.tones.Tones.{Tones}
-use Rattle.call_states.specs.declared.leg.Held.{Held}
+use Rattle.call_states.specs.declared.leg.HeldLeg.{HeldLeg}
 use Rattle.exchange_events.specs.declared.record.CallRecord.{CallRecord}
 use Rattle.exchange_events.specs.declared.signal.Signal.{Signal}
 use Rattle.call_profile.specs.Acts.{peer_of}
@@ -27,12 +27,12 @@ use Rattle.call_profile.proofs.ClearingLemmas.{Kept}
 use Rattle.call_profile.proofs.RestartLemmas.{below_kept, slot_told}
 
 -- the other leg of a call is there, where there is one
-there_of : (external : ℕ) (h : Held) (o : Option Held) → PeerIsThere external h o → IfSome o (λ other. IsThere external other)
+there_of : (external : ℕ) (h : HeldLeg) (o : Option HeldLeg) → PeerIsThere external h o → IfSome o (λ other. IsThere external other)
 there_of external h None is = tt
 there_of external h (Some other) is = is.0
 
-pub peer_is_there : (d : Dimensions) (tones : Tones) (map : Connections) (legs : Legs) (w : World) → Holds d map legs w → LegsStand d.external tones w → (h : Held) → IsExternal map.external h.slot
-    → leg_at legs h.slot ≡ Some h.leg → (o : Option Held) → o ≡ peer_of legs h.leg.peer → PeerIsThere map.external h o
+pub peer_is_there : (d : Dimensions) (tones : Tones) (map : Connections) (legs : Legs) (w : World) → Holds d map legs w → LegsStand d.external tones w → (h : HeldLeg) → IsExternal map.external h.slot
+    → leg_at legs h.slot ≡ Some h.leg → (o : Option HeldLeg) → o ≡ peer_of legs h.leg.peer → PeerIsThere map.external h o
 peer_is_there d tones map legs w holds stand h within at o is =
     let size : map.external ≡ d.external = ap (λ (e : Dimensions). e.external) holds.sizes in
     let in_world : IsExternal d.external h.slot = subst (λ n. IsExternal n h.slot) size within in
@@ -40,11 +40,11 @@ peer_is_there d tones map legs w holds stand h within at o is =
     let there = subst (λ n. PeerIsThere n h (peer_of w.legs h.leg.peer)) (sym size) (peer_there_too d.external tones w h stand in_world at_world) in
     subst (PeerIsThere map.external h) (sym (is ∙ ap (λ ls. peer_of ls h.leg.peer) holds.legs_are)) there
 
-pub peer_there : (d : Dimensions) (tones : Tones) (map : Connections) (legs : Legs) (w : World) → Holds d map legs w → LegsStand d.external tones w → (h : Held) → IsExternal map.external h.slot
-    → leg_at legs h.slot ≡ Some h.leg → (o : Option Held) → o ≡ peer_of legs h.leg.peer → IfSome o (λ other. IsThere map.external other)
+pub peer_there : (d : Dimensions) (tones : Tones) (map : Connections) (legs : Legs) (w : World) → Holds d map legs w → LegsStand d.external tones w → (h : HeldLeg) → IsExternal map.external h.slot
+    → leg_at legs h.slot ≡ Some h.leg → (o : Option HeldLeg) → o ≡ peer_of legs h.leg.peer → IfSome o (λ other. IsThere map.external other)
 peer_there d tones map legs w holds stand h within at o is = there_of map.external h o (peer_is_there d tones map legs w holds stand h within at o is)
 
-pub external_of : (external : ℕ) (o : Option Held) → IfSome o (λ other. IsThere external other) → IfSome o (λ other. IsExternal external other.slot)
+pub external_of : (external : ℕ) (o : Option HeldLeg) → IfSome o (λ other. IsThere external other) → IfSome o (λ other. IsExternal external other.slot)
 external_of external None is = tt
 external_of external (Some other) is = is.within
 

@@ -19,7 +19,7 @@ use Rattle.call_profile.specs.IdleSlots.{lowest_idle_beside, hunted}
 use Rattle.call_profile.specs.Setup.{accept, call, call_line}
 use Rattle.call_control.proofs.RefusalCauseLemmas.{reaches}
 use Rattle.exchange_events.specs.declared.signal.Signal.{Signal}
-use Rattle.call_profile.specs.Legs.{Legs, new_reference}
+use Rattle.call_profile.specs.Legs.{Legs, lowest_free_reference}
 use Rattle.call_profile.specs.Operations.{Operation, Making, making_at, making_after_all}
 use Rattle.exchange_events.specs.Sizes.{Setting, Dimensions}
 use Rattle.exchange_events.specs.Sound.{IsPlanned, is_reached}
@@ -76,7 +76,7 @@ module _ (w : World) (first : Bool) (own : ℕ) (asked : Pending) (x : Slot) whe
       let same : side.Line y ≡ called = cc in
       let on = (called_is w x line y chosen).2.0 in
       subst (λ (c : CalledSide). accept first w own asked x (Line line) ≡ accept_side first w own asked x c) same
-      (accepts_line w first own asked x line y chosen ∙ ap (λ n. call_line first own asked x y (new_reference w.legs n)) (sym on))
+      (accepts_line w first own asked x line y chosen ∙ ap (λ n. call_line first own asked x y (lowest_free_reference w.legs n)) (sym on))
 
   hunted_side : (lines : List ℕ) (o : Option Slot) (called : CalledSide) → hunted w x lines ≡ o → at_slot o ≡ Ok called → accept first w own asked x (Lines lines) ≡ accept_side first w own asked x called
   hunted_side lines None called chosen e = absurd cc

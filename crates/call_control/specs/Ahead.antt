@@ -8,9 +8,9 @@ use Rattle.q931_codec.specs.declared.message.Message.{Message}
 use Rattle.q931_codec.specs.Reading.{reading}
 use Rattle.call_profile.specs.Calls.{asks_for_call}
 use Rattle.call_profile.specs.Setup.{digits_in}
-use Rattle.call_control.specs.declared.reading_ahead.DialledNumber.{DialledNumber}
-use Rattle.call_control.specs.declared.reading_ahead.Incoming.{Incoming}
-use Rattle.call_control.specs.declared.reading_ahead.ReadAhead.{ReadAhead}
+use Rattle.call_control.specs.declared.preparsing.DialledNumber.{DialledNumber}
+use Rattle.call_control.specs.declared.preparsing.Incoming.{Incoming}
+use Rattle.call_control.specs.declared.preparsing.PreparsedMessage.{PreparsedMessage}
 
 -- whether the dialled digits can be read, and the entry of the plan for them
 pub record IsDialled (plan : List Number) (m : Message) (number : DialledNumber) : Type 0 where
@@ -18,7 +18,7 @@ pub record IsDialled (plan : List Number) (m : Message) (number : DialledNumber)
   pub leads : number.target ≡ found_for plan (unwrap_or (digits_in m) [])
 
 -- the message that was parsed: its elements are the octets after a header of five
-abbrev pub message_ahead : ReadAhead → List ℕ → Message
+abbrev pub message_ahead : PreparsedMessage → List ℕ → Message
 message_ahead known octets = record { flag = known.flag; reference = known.reference; kind = known.kind; elements = elements_of (drop 5 octets) }
 
 -- whether the octets are a message, so that it can be parsed ahead
@@ -26,7 +26,7 @@ abbrev pub is_message : List ℕ → Bool
 is_message octets = is_ok (reading octets)
 
 -- the octets are the parsed message, and its number is the dialled number
-pub record IsReadAhead (plan : List Number) (octets : List ℕ) (known : ReadAhead) : Type 0 where
+pub record IsReadAhead (plan : List Number) (octets : List ℕ) (known : PreparsedMessage) : Type 0 where
   pub long : 5 ≤ length octets
   pub bounded : known.reference < 2 ^ 15
   pub read : reading octets ≡ Ok (message_ahead known octets)

@@ -17,7 +17,7 @@ use Rattle.circuit_map.specs.Connections.{Connections}
 use Rattle.call_control.specs.declared.setup_checks.CalledSide.{CalledSide}
 use Rattle.call_control.specs.declared.setup_checks.CalledSide.TheVariants as side
 use Rattle.call_profile.specs.IdleSlots.{idle, lowest_idle_beside, hunted}
-use Rattle.call_profile.specs.Legs.{Legs, new_reference}
+use Rattle.call_profile.specs.Legs.{Legs, lowest_free_reference}
 use Rattle.call_profile.specs.Operations.{Operation}
 use Rattle.exchange_events.specs.Sizes.{Dimensions}
 use Rattle.exchange_events.specs.Sound.{line_exists}
@@ -59,7 +59,7 @@ IsWithin external side.More = Unit {0}
 
 -- the operations of a call whose called side was chosen
 abbrev pub accept_side : Bool → World → ℕ → Pending → Slot → CalledSide → List Operation
-accept_side first w own asked x (side.Line y) = call_line first own asked x y (new_reference w.legs y.line)
+accept_side first w own asked x (side.Line y) = call_line first own asked x y (lowest_free_reference w.legs y.line)
 accept_side first w own asked x (side.Room room) = call_room first own x room
 accept_side first w own asked x side.More = await_digits first own asked x
 

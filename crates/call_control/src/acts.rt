@@ -10,7 +10,7 @@ ghost use Rattle.call_profile.specs.Acts.{with_progress, peer_of, with_peer, dis
 ghost use Rattle.call_control.specs.AtWork.{IsAtWork, EachAtWork};
 ghost use Rattle.call_profile.specs.Calls.{making_by, outcome_by, course_on};
 ghost use Rattle.call_profile.specs.Legs.{leg_at};
-ghost use Rattle.exchange_events.specs.Limits.{most_sends};
+ghost use Rattle.exchange_events.specs.Limits.{max_sends};
 ghost use Rattle.call_profile.specs.Operations.{Clear, Pair, Making, making_after_all};
 ghost use Rattle.call_profile.specs.Peers.{IsThere, PeerIsThere, IsSilent};
 ghost use Rattle.exchange_events.specs.Sizes.{Setting, Dimensions};
@@ -19,7 +19,7 @@ ghost use Rattle.call_profile.specs.World.{World};
 
 use crate::operations::CallControl;
 use crate::sending::{message_to, record_only, send, send_bare};
-use call_states::{Act, Held, Leg, Peer, on_message, status, unexpected};
+use call_states::{Act, HeldLeg, Leg, Peer, on_message, status_message, unexpected};
 use circuit_model::{Kind, Slot};
 use control_memory::PathMap;
 use exchange_events::Outbox;
@@ -39,7 +39,7 @@ impl<P: PathMap> CallControl<P> {
         out: &mut Outbox,
         plan: &Plan,
         tones: &Tones,
-        held: Held,
+        held: HeldLeg,
         message: &Message,
     )
         requires work { (s : Setting) × (w : World) × (s.plan ≡ plan.now) × (s.tones ≡ tones.now) × IsAtWork s self.old.map self.old.legs w }
@@ -64,13 +64,13 @@ impl<P: PathMap> CallControl<P> {
     }
 
     /// Returns the other leg of a call, if there is one.
-    pub(crate) fn peer_of(&self, peer: Peer) -> Option<Held>
+    pub(crate) fn peer_of(&self, peer: Peer) -> Option<HeldLeg>
         ensures { result ≡ peer_of self.now.legs peer }
     {
         match peer {
             Peer::Leg(slot) => {
-                let leg = self.legs.at(slot)?;
-                Some(Held { slot, leg })
+                let leg = self.legs.get(slot)?;
+                Some(HeldLeg { slot, leg })
             }
             Peer::Alone | Peer::Room(_) => None,
         }
@@ -81,8 +81,8 @@ impl<P: PathMap> CallControl<P> {
         &mut self,
         out: &mut Outbox,
         tones: &Tones,
-        held: Held,
-        peer: Option<Held>,
+        held: HeldLeg,
+        peer: Option<HeldLeg>,
         act: Act,
         message: &Message,
     )
@@ -108,7 +108,7 @@ impl<P: PathMap> CallControl<P> {
                 send(
                     out,
                     held.slot.line,
-                    &status(&held.leg, RESPONSE_TO_STATUS_ENQUIRY),
+                    &status_message(&held.leg, RESPONSE_TO_STATUS_ENQUIRY),
                 )
             }
             Act::Proceeding => self.put(held.slot, in_state(INCOMING_CALL_PROCEEDING, held.leg)),
@@ -131,12 +131,12 @@ impl<P: PathMap> CallControl<P> {
 
     // ALERTING: the called user is being alerted. The caller is sent ALERTING, with ringing tone if the trace gives
     // that tone. The caller's slot has no circuit yet, so nothing is released first.
-    fn on_alerting(&mut self, out: &mut Outbox, tones: &Tones, held: Held, peer: Option<Held>)
+    fn on_alerting(&mut self, out: &mut Outbox, tones: &Tones, held: HeldLeg, peer: Option<HeldLeg>)
         requires there { IsThere self.old.map.external held }
         requires count { length self.old.legs.held ≡ 30 * self.old.map.external }
         requires peer_there { PeerIsThere self.old.map.external held peer }
         requires waiting { IsSilent self.old.map peer }
-        requires room { length out.old.sends < most_sends }
+        requires room { length out.old.sends < max_sends }
         ensures makes { Performs (with_peer peer (on_alerting tones.now held)) self.old.map self.old.legs out.old self.new.map self.new.legs out.new }
         ensures moved { out.new.moved ≡ out.old.moved }
         ensures sizes { SameSizes self.old.map self.new.map }
@@ -154,13 +154,13 @@ impl<P: PathMap> CallControl<P> {
     }
 
     // CONNECT: the called user has answered. The two slots are connected.
-    fn on_connect(&mut self, out: &mut Outbox, held: Held, peer: Option<Held>)
+    fn on_connect(&mut self, out: &mut Outbox, held: HeldLeg, peer: Option<HeldLeg>)
         requires work { (d : Dimensions) × (w : World) × Holds d self.old.map self.old.legs w }
         requires there { IsThere self.old.map.external held }
         requires count { length self.old.legs.held ≡ 30 * self.old.map.external }
         requires peer_there { PeerIsThere self.old.map.external held peer }
         requires silent { hears_at self.old.map held.slot ≡ None }
-        requires room { length out.old.sends + 1 < most_sends }
+        requires room { length out.old.sends + 1 < max_sends }
         requires fresh { out.old.moved ≡ None }
         ensures makes { Performs (with_peer peer (on_connect held)) self.old.map self.old.legs out.old self.new.map self.new.legs out.new }
         ensures few { IfSome out.new.moved (λ moves. (moves.0 ≤ self.old.map.bound) × (moves.1 ≤ self.old.map.bound)) }
@@ -195,10 +195,10 @@ impl<P: PathMap> CallControl<P> {
     }
 
     // DISCONNECT: the user of the leg clears the call.
-    fn on_disconnect(&mut self, out: &mut Outbox, held: Held)
+    fn on_disconnect(&mut self, out: &mut Outbox, held: HeldLeg)
         requires there { IsThere self.old.map.external held }
         requires count { length self.old.legs.held ≡ 30 * self.old.map.external }
-        requires room { length out.old.sends < most_sends }
+        requires room { length out.old.sends < max_sends }
         ensures makes { Performs (on_disconnect held) self.old.map self.old.legs out.old self.new.map self.new.legs out.new }
         ensures count { length self.new.legs.held ≡ length self.old.legs.held }
         ensures sends { length out.new.sends ≡ length out.old.sends + 1 }
@@ -211,10 +211,10 @@ impl<P: PathMap> CallControl<P> {
     }
 
     // RELEASE: the user of the leg has released its channel, and the exchange releases the call reference.
-    fn on_release(&mut self, out: &mut Outbox, held: Held)
+    fn on_release(&mut self, out: &mut Outbox, held: HeldLeg)
         requires there { IsThere self.old.map.external held }
         requires count { length self.old.legs.held ≡ 30 * self.old.map.external }
-        requires room { length out.old.sends < most_sends }
+        requires room { length out.old.sends < max_sends }
         ensures makes { Performs (on_release held) self.old.map self.old.legs out.old self.new.map self.new.legs out.new }
         ensures count { length self.new.legs.held ≡ length self.old.legs.held }
         ensures sends { length out.new.sends ≡ length out.old.sends + 1 }
@@ -226,7 +226,7 @@ impl<P: PathMap> CallControl<P> {
     }
 
     /// RELEASE COMPLETE, or a restart: removes the leg, and every circuit at its slot.
-    pub(crate) fn remove_leg(&mut self, held: Held)
+    pub(crate) fn remove_leg(&mut self, held: HeldLeg)
         requires external { IsExternal self.old.map.external held.slot }
         requires count { length self.old.legs.held ≡ 30 * self.old.map.external }
         ensures makes { PerformsQuietly (remove_leg held) self.old.map self.old.legs self.new.map self.new.legs }
@@ -242,12 +242,12 @@ impl<P: PathMap> CallControl<P> {
         &mut self,
         out: &mut Outbox,
         tones: &Tones,
-        peer: Option<Held>,
+        peer: Option<HeldLeg>,
         cause: u8,
     )
         requires there { IfSome peer (λ other. IsThere self.old.map.external other) }
         requires count { length self.old.legs.held ≡ 30 * self.old.map.external }
-        requires room { length out.old.sends < most_sends }
+        requires room { length out.old.sends < max_sends }
         requires cause { cause < 128 }
         ensures makes { Performs (with_peer peer (clear_with tones.now cause)) self.old.map self.old.legs out.old self.new.map self.new.legs out.new }
         ensures few { length out.new.sends ≤ length out.old.sends + 1 }
@@ -261,10 +261,10 @@ impl<P: PathMap> CallControl<P> {
     }
 
     /// Clears a leg with a cause. Its user receives the tone of that cause if the trace gives it.
-    pub(crate) fn clear_leg(&mut self, out: &mut Outbox, tones: &Tones, held: Held, cause: u8)
+    pub(crate) fn clear_leg(&mut self, out: &mut Outbox, tones: &Tones, held: HeldLeg, cause: u8)
         requires there { IsThere self.old.map.external held }
         requires count { length self.old.legs.held ≡ 30 * self.old.map.external }
-        requires room { length out.old.sends < most_sends }
+        requires room { length out.old.sends < max_sends }
         requires cause { cause < 128 }
         ensures makes { Performs (clear_with tones.now cause held) self.old.map self.old.legs out.old self.new.map self.new.legs out.new }
         ensures count { length self.new.legs.held ≡ length self.old.legs.held }

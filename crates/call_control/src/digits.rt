@@ -18,9 +18,9 @@ ghost use Rattle.call_control.specs.Standing.{Holds, HasMade};
 use crate::asked::asked_in;
 use crate::new_call::Caller;
 use crate::operations::CallControl;
-use crate::reading_ahead::{DialledNumber, look_up};
+use crate::preparsing::{DialledNumber, look_up};
 use crate::setup_checks::{CalledSide, number_cause};
-use call_states::{Contents, Held, Pending};
+use call_states::{Contents, HeldLeg, Pending};
 use circuit_model::Slot;
 use control_memory::PathMap;
 use exchange_events::Outbox;
@@ -30,7 +30,7 @@ use q931_codec::causes::INVALID_NUMBER_FORMAT;
 use tone_rules::Tones;
 
 /// The maximum number of octets in a called party number.
-const MOST_CALLED: usize = 21;
+const MAX_CALLED: usize = 21;
 
 impl<P: PathMap> CallControl<P> {
     /// Adds further digits to the number of a caller in overlap sending. Its leg waits for more, or its call is
@@ -40,7 +40,7 @@ impl<P: PathMap> CallControl<P> {
         out: &mut Outbox,
         plan: &Plan,
         tones: &Tones,
-        held: Held,
+        held: HeldLeg,
         message: &Message,
     )
         requires work { (s : Setting) × (w : World) × (s.plan ≡ plan.now) × (s.tones ≡ tones.now) × IsAtWork s self.old.map self.old.legs w }
@@ -115,7 +115,7 @@ fn dialled_on(number: &Pending, message: &Message) -> Option<Pending>
     }
     let called = number.called.as_slice();
     let more = octets_added(called, message);
-    if called.len() + more.len() > MOST_CALLED {
+    if called.len() + more.len() > MAX_CALLED {
         return None;
     }
     Some(Pending {
@@ -140,11 +140,11 @@ fn octets_added<'a>(called: &[u8], message: &Message<'a>) -> &'a [u8]
 }
 
 // Returns the octets of both lists, in this order.
-fn joined(first: &[u8], second: &[u8]) -> Contents<MOST_CALLED>
+fn joined(first: &[u8], second: &[u8]) -> Contents<MAX_CALLED>
     requires { length first.now + length second.now ≤ 21 }
     ensures { result ≡ first.now ++ second.now }
 {
     let mut contents = Contents::of(first);
-    contents.append(second);
+    contents.extend_from_slice(second);
     contents
 }

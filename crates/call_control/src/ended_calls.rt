@@ -9,8 +9,8 @@ ghost use Rattle.exchange_events.specs.Sizes.{Dimensions};
 ghost use Rattle.call_profile.specs.World.{World};
 
 use crate::operations::CallControl;
-use call_profile::{is_calling, party_of, since_of};
-use call_states::{Act, Held, Side, cause_of_act};
+use call_profile::{first_frame_of, is_calling, party_of};
+use call_states::{Act, HeldLeg, Side};
 use control_memory::PathMap;
 use exchange_events::CallRecord;
 use q931_codec::states::ACTIVE;
@@ -20,8 +20,8 @@ impl<P: PathMap> CallControl<P> {
     /// act, because the act releases the circuit that shows the first frame of the conversation.
     pub(crate) fn record_of_act(
         &self,
-        held: Held,
-        peer: Option<Held>,
+        held: HeldLeg,
+        peer: Option<HeldLeg>,
         act: Act,
     ) -> Option<CallRecord>
         requires external { IsExternal self.now.map.external held.slot }
@@ -29,14 +29,14 @@ impl<P: PathMap> CallControl<P> {
         requires peer { peer ≡ peer_of self.now.legs held.leg.peer }
         ensures { (d : Dimensions) (w : World) → Holds d self.now.map self.now.legs w → result ≡ record_of_act w held act }
     {
-        self.record_ended(held, peer, cause_of_act(act)?)
+        self.record_ended(held, peer, act.cause()?)
     }
 
     /// Returns the record of a leg's call, if its clearing has not begun.
     pub(crate) fn record_ended(
         &self,
-        held: Held,
-        peer: Option<Held>,
+        held: HeldLeg,
+        peer: Option<HeldLeg>,
         cause: u8,
     ) -> Option<CallRecord>
         requires external { IsExternal self.now.map.external held.slot }
@@ -51,7 +51,7 @@ impl<P: PathMap> CallControl<P> {
     }
 
     // Returns the record of a call from its caller's leg, if its clearing has not begun.
-    fn record_calling(&self, caller: Held, cause: u8) -> Option<CallRecord>
+    fn record_calling(&self, caller: HeldLeg, cause: u8) -> Option<CallRecord>
         requires external { IsExternal self.now.map.external caller.slot }
         ensures { (d : Dimensions) (w : World) → Holds d self.now.map self.now.legs w → result ≡ record_calling w cause caller }
     {
@@ -70,15 +70,15 @@ impl<P: PathMap> CallControl<P> {
     }
 
     // Returns the first frame of the conversation, or the next frame if there was none.
-    fn conversation_begin(&self, caller: Held) -> u32
+    fn conversation_begin(&self, caller: HeldLeg) -> u32
         requires external { IsExternal self.now.map.external caller.slot }
         ensures { (d : Dimensions) (w : World) → Holds d self.now.map self.now.legs w → result ≡ conversation_begin w caller }
     {
         if caller.leg.state != ACTIVE {
             return self.map.next_frame();
         }
-        match self.map.hears(caller.slot) {
-            Some(circuit) => since_of(circuit),
+        match self.map.circuit_at(caller.slot) {
+            Some(circuit) => first_frame_of(circuit),
             None => self.map.next_frame(),
         }
     }

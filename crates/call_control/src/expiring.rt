@@ -5,7 +5,7 @@ ghost use Rattle.circuit_model.specs.Extent.{IsExternal};
 ghost use Rattle.circuit_map.specs.Connections.{SameSizes};
 ghost use Rattle.q931_codec.specs.Outgoing.{outgoing_of};
 ghost use Rattle.call_states.specs.Acts.{is_among};
-ghost use Rattle.exchange_events.specs.Limits.{most_records, most_sends};
+ghost use Rattle.exchange_events.specs.Limits.{max_records, max_sends};
 ghost use Rattle.exchange_events.specs.Sizes.{Setting, Dimensions};
 ghost use Rattle.q931_codec.specs.Causes.{no_user_responding};
 ghost use Rattle.call_profile.specs.Acts.{message_to, peer_of};
@@ -21,10 +21,10 @@ ghost use Rattle.call_control.specs.Standing.{Expires, Holds, HasMade, Performs}
 use crate::acts::in_release_request;
 use crate::operations::CallControl;
 use crate::sending::{message_to, record_also, send};
-use call_profile::resent_from;
-use call_states::{Held, Leg};
+use call_profile::retransmitted_from;
+use call_states::{HeldLeg, Leg};
 use call_timers::{Expiry, Timers, due};
-use circuit_model::{PLACES, Slot};
+use circuit_model::{CHANNELS_PER_LINE, Slot};
 use control_memory::PathMap;
 use exchange_events::{Outbox, Signal};
 use q931_codec::causes::{
@@ -37,7 +37,7 @@ impl<P: PathMap> CallControl<P> {
     /// Examines one leg of each external line, lowest line first, after a frame's boundary. Performs the operations of
     /// each expired timer, and records the calls that it ends, in the same order. Returns at once if no leg of that
     /// place can be due.
-    pub fn expire(
+    pub fn handle_timers(
         &mut self,
         out: &mut Outbox,
         tones: &Tones,
@@ -55,21 +55,21 @@ impl<P: PathMap> CallControl<P> {
         ensures moved { out.new.moved ≡ None }
         ensures sizes { SameSizes self.old.map self.new.map }
     {
-        let place = (frame % u32::from(PLACES)) as u8;
+        let place = (frame % u32::from(CHANNELS_PER_LINE)) as u8;
         if !self.legs.may_be_due(place, frame, timers) {
             return;
         }
         for line in 0..external {
             self.expire_slot(out, tones, timers, frame, Slot { line, place });
         }
-        self.legs.settle(place);
+        self.legs.update_due_frame(place);
     }
 
     // Examines the leg that holds a slot, if there is one.
     fn expire_slot(&mut self, out: &mut Outbox, tones: &Tones, timers: &Timers, frame: u32, x: Slot)
         requires work { (s : Setting) × (w : World) × (s.tones ≡ tones.now) × (s.timers ≡ timers.now) × IsInOrder s self.old.map self.old.legs w }
         requires external { IsExternal self.old.map.external x }
-        requires room { (length out.old.sends + 1 < most_sends) × (length out.old.records < most_records) }
+        requires room { (length out.old.sends + 1 < max_sends) × (length out.old.records < max_records) }
         ensures makes { Expires tones.now timers.now frame x self.old.map self.old.legs out.old self.new.map self.new.legs out.new }
         ensures records { (s : Setting) (w : World) → s.timers ≡ timers.now → Holds s.dimensions self.old.map self.old.legs w
             → out.new.records ≡ out.old.records ++ expired_records s frame w x }
@@ -77,13 +77,13 @@ impl<P: PathMap> CallControl<P> {
         ensures moved { out.new.moved ≡ out.old.moved }
         ensures sizes { SameSizes self.old.map self.new.map }
     {
-        let Some(leg) = self.legs.at(x) else {
+        let Some(leg) = self.legs.get(x) else {
             return;
         };
         let Some(expiry) = due(leg.state, leg.resent, leg.since, frame, timers) else {
             return;
         };
-        let held = Held { slot: x, leg };
+        let held = HeldLeg { slot: x, leg };
         let peer = self.peer_of(leg.peer);
         self.on_expiry(out, tones, held, peer, expiry);
     }
@@ -93,8 +93,8 @@ impl<P: PathMap> CallControl<P> {
         &mut self,
         out: &mut Outbox,
         tones: &Tones,
-        held: Held,
-        peer: Option<Held>,
+        held: HeldLeg,
+        peer: Option<HeldLeg>,
         expiry: Expiry,
     )
         requires there { IsThere self.old.map.external held }
@@ -103,7 +103,7 @@ impl<P: PathMap> CallControl<P> {
         requires peer_there { PeerIsThere self.old.map.external held peer }
         requires state { held.leg.state ≡ timed_state expiry }
         requires cause { held.leg.cause < 128 }
-        requires room { (length out.old.sends + 1 < most_sends) × (length out.old.records < most_records) }
+        requires room { (length out.old.sends + 1 < max_sends) × (length out.old.records < max_records) }
         ensures makes { Performs (on_expiry tones.now self.old.legs held expiry) self.old.map self.old.legs out.old self.new.map self.new.legs out.new }
         ensures records { (d : Dimensions) (w : World) → Holds d self.old.map self.old.legs w
             → out.new.records ≡ out.old.records ++ cons_option (record_of_expiry w held expiry) [] }
@@ -123,35 +123,35 @@ impl<P: PathMap> CallControl<P> {
     }
 
     // Retransmits the stored message to the user of a leg.
-    fn send_again(&mut self, out: &mut Outbox, held: Held)
+    fn send_again(&mut self, out: &mut Outbox, held: HeldLeg)
         requires there { IsThere self.old.map.external held }
         requires count { length self.old.legs.held ≡ 30 * self.old.map.external }
         requires state { is_among awaiting_answer held.leg.state ≡ true }
-        requires room { length out.old.sends < most_sends }
+        requires room { length out.old.sends < max_sends }
         ensures makes { Performs (send_again held (kept_at self.old.legs held.slot)) self.old.map self.old.legs out.old self.new.map self.new.legs out.new }
         ensures few { length out.new.sends ≤ length out.old.sends + 1 }
         ensures moved { out.new.moved ≡ out.old.moved }
         ensures records { out.new.records ≡ out.old.records }
         ensures map { self.new.map ≡ self.old.map }
     {
-        let Some(octets) = self.legs.kept(held.slot) else {
+        let Some(octets) = self.legs.kept_message(held.slot) else {
             return;
         };
         out.sends.push(Signal {
             line: held.slot.line,
-            octets: octets.copy(),
+            octets: octets.copied(),
         });
-        let leg = resent_from(self.map.next_frame(), held.leg);
-        self.legs.expect_still(held.slot, leg);
+        let leg = retransmitted_from(self.map.next_frame(), held.leg);
+        self.legs.restart_wait(held.slot, leg);
     }
 
     // The called user did not answer the SETUP: removes its leg, and clears the caller.
-    fn setup_over(&mut self, out: &mut Outbox, tones: &Tones, held: Held, peer: Option<Held>)
+    fn setup_over(&mut self, out: &mut Outbox, tones: &Tones, held: HeldLeg, peer: Option<HeldLeg>)
         requires there { IsThere self.old.map.external held }
         requires count { length self.old.legs.held ≡ 30 * self.old.map.external }
         requires peer { peer ≡ peer_of self.old.legs held.leg.peer }
         requires peer_there { PeerIsThere self.old.map.external held peer }
-        requires room { (length out.old.sends + 1 < most_sends) × (length out.old.records < most_records) }
+        requires room { (length out.old.sends + 1 < max_sends) × (length out.old.records < max_records) }
         ensures makes { Performs (setup_over tones.now self.old.legs held) self.old.map self.old.legs out.old self.new.map self.new.legs out.new }
         ensures records { (d : Dimensions) (w : World) → Holds d self.old.map self.old.legs w
             → out.new.records ≡ out.old.records ++ cons_option (record_ended w held no_user_responding) [] }
@@ -170,8 +170,8 @@ impl<P: PathMap> CallControl<P> {
         &mut self,
         out: &mut Outbox,
         tones: &Tones,
-        held: Held,
-        peer: Option<Held>,
+        held: HeldLeg,
+        peer: Option<HeldLeg>,
         cause: u8,
     )
         requires there { IsThere self.old.map.external held }
@@ -179,7 +179,7 @@ impl<P: PathMap> CallControl<P> {
         requires peer { peer ≡ peer_of self.old.legs held.leg.peer }
         requires peer_there { PeerIsThere self.old.map.external held peer }
         requires cause { cause < 128 }
-        requires room { (length out.old.sends + 1 < most_sends) × (length out.old.records < most_records) }
+        requires room { (length out.old.sends + 1 < max_sends) × (length out.old.records < max_records) }
         ensures makes { Performs (clear_both tones.now self.old.legs held cause) self.old.map self.old.legs out.old self.new.map self.new.legs out.new }
         ensures records { (d : Dimensions) (w : World) → Holds d self.old.map self.old.legs w
             → out.new.records ≡ out.old.records ++ cons_option (record_ended w held cause) [] }
@@ -194,10 +194,10 @@ impl<P: PathMap> CallControl<P> {
     }
 
     // Removes the leg, and sends RELEASE COMPLETE to its user.
-    fn give_up(&mut self, out: &mut Outbox, held: Held)
+    fn give_up(&mut self, out: &mut Outbox, held: HeldLeg)
         requires there { IsThere self.old.map.external held }
         requires count { length self.old.legs.held ≡ 30 * self.old.map.external }
-        requires room { length out.old.sends < most_sends }
+        requires room { length out.old.sends < max_sends }
         ensures makes { Performs (give_up held) self.old.map self.old.legs out.old self.new.map self.new.legs out.new }
         ensures count { length self.new.legs.held ≡ length self.old.legs.held }
         ensures sends { length out.new.sends ≡ length out.old.sends + 1 }
@@ -215,11 +215,11 @@ impl<P: PathMap> CallControl<P> {
     }
 
     // The user did not release the call: sends RELEASE with the cause of the clearing.
-    fn ask_for_release(&mut self, out: &mut Outbox, held: Held)
+    fn ask_for_release(&mut self, out: &mut Outbox, held: HeldLeg)
         requires there { IsThere self.old.map.external held }
         requires count { length self.old.legs.held ≡ 30 * self.old.map.external }
         requires cause { held.leg.cause < 128 }
-        requires room { length out.old.sends < most_sends }
+        requires room { length out.old.sends < max_sends }
         ensures makes { Performs (ask_for_release held) self.old.map self.old.legs out.old self.new.map self.new.legs out.new }
         ensures few { length out.new.sends ≤ length out.old.sends + 1 }
         ensures moved { out.new.moved ≡ out.old.moved }

@@ -6,7 +6,7 @@
 //! - `message` sends the replies of the rules and replaces the exchange state by the next one (`makes`, `records`), for
 //!   any octets. It moves few paths (`few`), and does not allocate.
 //! - `expire` processes the legs of a frame whose timers have expired (`makes`, `records`).
-//! - [`read_ahead`] parses a message before its turn: the result depends only on the octets and the number plan
+//! - [`preparse`] parses a message before its turn: the result depends only on the octets and the number plan
 //!   (`read`).
 #![tactic(auto)]
 
@@ -18,11 +18,11 @@ mod expiring;
 mod messages;
 mod new_call;
 mod operations;
-mod reading_ahead;
+mod preparsing;
 mod restarting;
 mod sending;
 mod setup;
 mod setup_checks;
 
 pub use operations::CallControl;
-pub use reading_ahead::{DialledNumber, ReadAhead, Received, read_ahead};
+pub use preparsing::{DialledNumber, PreparsedMessage, Received, preparse};

@@ -11,7 +11,7 @@ ghost use Rattle.call_profile.specs.World.{World};
 ghost use Rattle.call_control.specs.Standing.{HasMade};
 
 use crate::operations::CallControl;
-use crate::reading_ahead::{Incoming, Received, read_received};
+use crate::preparsing::{Incoming, Received, read_received};
 use crate::sending::answer_on_no_call;
 use clearing_rules::{GLOBAL_CALL_REFERENCE, restart};
 use control_memory::PathMap;
@@ -23,7 +23,7 @@ use tone_rules::Tones;
 impl<P: PathMap> CallControl<P> {
     /// Processes the octets that the user of a line has sent, and records the calls whose clearing they begin. Octets
     /// that are not a message have no effect. A message that was parsed ahead is not parsed again.
-    pub fn message(
+    pub fn handle_message(
         &mut self,
         out: &mut Outbox,
         plan: &Plan,
@@ -72,7 +72,7 @@ impl<P: PathMap> CallControl<P> {
         ensures sizes { SameSizes self.old.map self.new.map }
     {
         let message = &incoming.message;
-        match self.legs.named(line, message.flag, message.reference) {
+        match self.legs.find(line, message.flag, message.reference) {
             Some(held) => self.act(out, plan, tones, held, message),
             None => self.answer_without_leg(out, tones, line, incoming),
         }

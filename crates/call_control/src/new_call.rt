@@ -6,7 +6,7 @@ ghost use Rattle.circuit_model.specs.Extent.{IsExternal};
 ghost use Rattle.q931_codec.specs.Outgoing.{outgoing_of};
 ghost use Rattle.call_states.specs.Pending.{FitsElements};
 ghost use Rattle.call_states.specs.Status.{FitsMessages};
-ghost use Rattle.exchange_events.specs.Limits.{most_sends};
+ghost use Rattle.exchange_events.specs.Limits.{max_sends};
 ghost use Rattle.exchange_events.specs.Sizes.{Dimensions};
 ghost use Rattle.call_profile.specs.Operations.{making_at, making_after_all};
 ghost use Rattle.call_profile.specs.Permitted.{CanSeat};
@@ -61,7 +61,7 @@ impl<P: PathMap> CallControl<P> {
     {
         match called {
             CalledSide::Line(slot) => {
-                let reference = self.legs.new_reference(slot.line);
+                let reference = self.legs.lowest_free_reference(slot.line);
                 self.call_line(out, caller, asked, slot, reference);
             }
             CalledSide::Room(room) => self.call_room(out, caller, room),
@@ -142,7 +142,7 @@ impl<P: PathMap> CallControl<P> {
 // Sends CALL PROCEEDING to a caller. As the first reply it states the channel.
 fn send_proceeding(out: &mut Outbox, caller: Caller, leg: &Leg)
     requires place { caller.slot.place < 30 }
-    requires room { length out.old.sends < most_sends }
+    requires room { length out.old.sends < max_sends }
     requires told { FitsMessages leg.now }
     ensures sends { out.new.sends ≡ out.old.sends ++ proceeding_sent caller.first caller.slot leg.now ∷ [] }
     ensures moved { out.new.moved ≡ out.old.moved }

@@ -8,17 +8,17 @@ ghost use Rattle.q931_codec.specs.CallStates.{overlap_sending};
 ghost use Rattle.q931_codec.specs.Outgoing.{IsWritable, outgoing_of};
 ghost use Rattle.call_states.specs.Acts.{is_among};
 ghost use Rattle.call_states.specs.Status.{FitsMessages};
-ghost use Rattle.exchange_events.specs.Limits.{most_sends};
+ghost use Rattle.exchange_events.specs.Limits.{max_sends};
 ghost use Rattle.call_profile.specs.KeptMessages.{awaiting_answer};
 ghost use Rattle.call_profile.specs.IdleSlots.{idle};
-ghost use Rattle.call_profile.specs.Legs.{from_frame, leg_at, with_leg, with_waiting, without_leg};
+ghost use Rattle.call_profile.specs.Legs.{waiting_from, leg_at, with_leg, with_waiting, without_leg};
 ghost use Rattle.call_profile.specs.Operations.{Put, Wait, Expect, moves_for, moves_of_seat, with_tone};
 ghost use Rattle.call_profile.specs.Permitted.{CanSeat};
 ghost use Rattle.call_control.specs.Standing.{Holds, Performs, PerformsQuietly};
 ghost use Rattle.exchange_events.specs.Sizes.{Dimensions};
 ghost use Rattle.call_profile.specs.World.{World, obey};
 
-use call_profile::from_frame;
+use call_profile::waiting_from;
 use call_states::{Leg, Pending};
 use circuit_map::CircuitMap;
 use circuit_model::{Kind, Slot};
@@ -39,13 +39,13 @@ pub struct CallControl<P: PathMap> {
 
 impl<P: PathMap> CallControl<P> {
     /// Returns whether a slot has no circuit and no leg.
-    pub fn idle(&self, x: Slot) -> bool
+    pub fn is_idle(&self, x: Slot) -> bool
         requires external { IsExternal self.now.map.external x }
         ensures idle { (d : Dimensions) (w : World) → Holds d self.now.map self.now.legs w → result ≡ idle w x }
         ensures silent { IsTrue result → hears_at self.now.map x ≡ None }
         ensures none { IsTrue result → leg_at self.now.legs x ≡ None }
     {
-        self.map.idle(x) && self.legs.at(x).is_none()
+        self.map.idle(x) && self.legs.get(x).is_none()
     }
 
     /// Releases every circuit at a slot.
@@ -115,11 +115,11 @@ impl<P: PathMap> CallControl<P> {
         requires told { FitsMessages leg }
         requires state { leg.state ≢ overlap_sending }
         requires unanswered { is_among awaiting_answer leg.state ≡ false }
-        ensures legs { self.new.legs ≡ with_leg self.old.legs x (from_frame self.old.map.next leg) }
+        ensures legs { self.new.legs ≡ with_leg self.old.legs x (waiting_from self.old.map.next leg) }
         ensures map { self.new.map ≡ self.old.map }
         ensures makes { PerformsQuietly (Put x leg ∷ []) self.old.map self.old.legs self.new.map self.new.legs }
     {
-        self.legs.put(x, from_frame(self.map.next_frame(), leg));
+        self.legs.put(x, waiting_from(self.map.next_frame(), leg));
     }
 
     /// Places a leg at a slot from the next frame on, and replaces any other. The leg waits there with its number.
@@ -128,12 +128,12 @@ impl<P: PathMap> CallControl<P> {
         requires count { length self.old.legs.held ≡ 30 * self.old.map.external }
         requires told { FitsMessages leg }
         requires state { leg.state ≡ overlap_sending }
-        ensures legs { self.new.legs ≡ with_waiting self.old.legs x (from_frame self.old.map.next leg) pending }
+        ensures legs { self.new.legs ≡ with_waiting self.old.legs x (waiting_from self.old.map.next leg) pending }
         ensures map { self.new.map ≡ self.old.map }
         ensures makes { PerformsQuietly (Wait x leg pending ∷ []) self.old.map self.old.legs self.new.map self.new.legs }
     {
         self.legs
-            .wait(x, from_frame(self.map.next_frame(), leg), pending);
+            .put_pending(x, waiting_from(self.map.next_frame(), leg), pending);
     }
 
     /// Places a leg at a slot from the next frame on, and replaces any other. Sends this message to its user, and
@@ -143,7 +143,7 @@ impl<P: PathMap> CallControl<P> {
         requires count { length self.old.legs.held ≡ 30 * self.old.map.external }
         requires told { FitsMessages leg }
         requires state { is_among awaiting_answer leg.state ≡ true }
-        requires room { length out.old.sends < most_sends }
+        requires room { length out.old.sends < max_sends }
         requires writable { IsWritable (outgoing_of message.now) }
         ensures makes { Performs (Expect x leg (outgoing_of message.now) ∷ []) self.old.map self.old.legs out.old self.new.map self.new.legs out.new }
         ensures count { length self.new.legs.held ≡ length self.old.legs.held }
@@ -153,8 +153,8 @@ impl<P: PathMap> CallControl<P> {
         ensures map { self.new.map ≡ self.old.map }
     {
         let octets = Encoded::of(write(message));
-        let leg = from_frame(self.map.next_frame(), leg);
-        self.legs.expect(x, leg, &octets);
+        let leg = waiting_from(self.map.next_frame(), leg);
+        self.legs.put_awaiting(x, leg, &octets);
         out.sends.push(Signal {
             line: x.line,
             octets,

@@ -7,7 +7,7 @@ ghost use Rattle.call_profile.specs.Acts.{with_peer};
 ghost use Rattle.call_control.specs.AtWork.{IsAtWork, EachWithTones};
 ghost use Rattle.call_profile.specs.EndedCalls.{slot_records};
 ghost use Rattle.call_profile.specs.LegStanding.{LegsStand};
-ghost use Rattle.exchange_events.specs.Limits.{most_records, most_sends};
+ghost use Rattle.exchange_events.specs.Limits.{max_records, max_sends};
 ghost use Rattle.call_profile.specs.Peers.{IsThere};
 ghost use Rattle.call_profile.specs.Restarts.{restart_peer, restart_slot, restarts_slot, outcome_of_restart};
 ghost use Rattle.exchange_events.specs.Sizes.{Setting, Dimensions};
@@ -16,9 +16,9 @@ ghost use Rattle.call_profile.specs.World.{World};
 
 use crate::operations::CallControl;
 use crate::sending::{record_also, send};
-use call_states::Held;
-use circuit_model::{PLACES, Slot};
-use clearing_rules::{Restart, acknowledgement};
+use call_states::HeldLeg;
+use circuit_model::{CHANNELS_PER_LINE, Slot};
+use clearing_rules::{Restart, restart_acknowledge};
 use control_memory::PathMap;
 use exchange_events::{Outbox, Records};
 use q931_codec::causes::TEMPORARY_FAILURE;
@@ -45,10 +45,10 @@ impl<P: PathMap> CallControl<P> {
         ensures sizes { SameSizes self.old.map self.new.map }
     {
         let mut records = Records::new();
-        for place in 0..PLACES {
+        for place in 0..CHANNELS_PER_LINE {
             self.restart_slot(out, tones, &mut records, asked, Slot { line, place });
         }
-        send(out, line, &acknowledgement(asked));
+        send(out, line, &restart_acknowledge(asked));
         records
     }
 
@@ -63,20 +63,20 @@ impl<P: PathMap> CallControl<P> {
     )
         requires work { (d : Dimensions) × (w : World) × Holds d self.old.map self.old.legs w × LegsStand d.external tones.now w }
         requires external { IsExternal self.old.map.external x }
-        requires room { (length out.old.sends < most_sends) × (length records.old < most_records) }
+        requires room { (length out.old.sends < max_sends) × (length records.old < max_records) }
         ensures makes { PerformsBy (λ legs. restart_slot tones.now asked legs x) self.old.map self.old.legs out.old self.new.map self.new.legs out.new }
         ensures records { (d : Dimensions) (w : World) → Holds d self.old.map self.old.legs w → records.new ≡ records.old ++ slot_records asked w x }
         ensures few { (length out.new.sends ≤ length out.old.sends + 1) × (length records.new ≤ length records.old + 1) }
         ensures moved { out.new.moved ≡ out.old.moved }
         ensures sizes { SameSizes self.old.map self.new.map }
     {
-        if !asked.concerns(x.place) {
+        if !asked.covers(x.place) {
             return;
         }
-        let Some(leg) = self.legs.at(x) else {
+        let Some(leg) = self.legs.get(x) else {
             return;
         };
-        let held = Held { slot: x, leg };
+        let held = HeldLeg { slot: x, leg };
         let peer = self.peer_of(leg.peer);
         let call = self.record_ended(held, peer, TEMPORARY_FAILURE);
         record_also(records, call);
@@ -91,11 +91,11 @@ impl<P: PathMap> CallControl<P> {
         tones: &Tones,
         asked: Restart,
         line: u8,
-        peer: Option<Held>,
+        peer: Option<HeldLeg>,
     )
         requires there { IfSome peer (λ other. IsThere self.old.map.external other) }
         requires count { length self.old.legs.held ≡ 30 * self.old.map.external }
-        requires room { length out.old.sends < most_sends }
+        requires room { length out.old.sends < max_sends }
         ensures makes { Performs (with_peer peer (restart_peer tones.now asked line)) self.old.map self.old.legs out.old self.new.map self.new.legs out.new }
         ensures few { length out.new.sends ≤ length out.old.sends + 1 }
         ensures moved { out.new.moved ≡ out.old.moved }
@@ -116,5 +116,5 @@ impl<P: PathMap> CallControl<P> {
 fn restarts_slot(asked: Restart, line: u8, x: Slot) -> bool
     ensures { result ≡ restarts_slot asked line x }
 {
-    x.line == line && asked.concerns(x.place)
+    x.line == line && asked.covers(x.place)
 }

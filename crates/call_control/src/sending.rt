@@ -10,18 +10,18 @@ ghost use Rattle.q931_codec.specs.MessageType.{IsNamed};
 ghost use Rattle.call_profile.specs.Acts.{message_to};
 ghost use Rattle.call_profile.specs.Calls.{answer_back};
 ghost use Rattle.call_profile.specs.Legs.{Legs};
-ghost use Rattle.exchange_events.specs.Limits.{most_sends, most_records};
+ghost use Rattle.exchange_events.specs.Limits.{max_sends, max_records};
 ghost use Rattle.call_profile.specs.Setup.{refuse};
 ghost use Rattle.call_control.specs.Standing.{Performs};
 
-use call_states::{Held, Leg};
+use call_states::{HeldLeg, Leg};
 use clearing_rules::unknown_reference;
 use exchange_events::{CallRecord, Encoded, Outbox, Records, Signal};
 use q931_codec::{Message, MessageKind, Outgoing, write};
 
 /// Sends a message to the user of a line.
 pub(crate) fn send(out: &mut Outbox, line: u8, message: &Outgoing)
-    requires room { length out.old.sends < most_sends }
+    requires room { length out.old.sends < max_sends }
     requires writable { IsWritable (outgoing_of message.now) }
     ensures sends { out.new.sends ≡ out.old.sends ++ record { line = line; octets = encoding (outgoing_of message.now) } ∷ [] }
     ensures moved { out.new.moved ≡ out.old.moved }
@@ -34,8 +34,8 @@ pub(crate) fn send(out: &mut Outbox, line: u8, message: &Outgoing)
 }
 
 /// Sends a message of a type, without elements, to the user of a leg.
-pub(crate) fn send_bare(out: &mut Outbox, held: Held, kind: MessageKind)
-    requires room { length out.old.sends < most_sends }
+pub(crate) fn send_bare(out: &mut Outbox, held: HeldLeg, kind: MessageKind)
+    requires room { length out.old.sends < max_sends }
     requires told { FitsMessages held.leg }
     requires named { IsNamed kind }
     ensures sends { out.new.sends ≡ out.old.sends ++ record { line = held.slot.line; octets = encoding (message_to held.leg kind) } ∷ [] }
@@ -57,7 +57,7 @@ pub(crate) fn refuse(out: &mut Outbox, line: u8, reference: u16, cause: u8)
 
 /// Sends the reply to a message on the call reference of no call, if there is one.
 pub(crate) fn answer_on_no_call(out: &mut Outbox, line: u8, message: &Message)
-    requires room { length out.old.sends < most_sends }
+    requires room { length out.old.sends < max_sends }
     requires reference { message.now.reference < 2 ^ 15 }
     ensures makes { (map : Connections) (legs : Legs) → Performs (answer_back line (answer_without_call message.now)) map legs out.old map legs out.new }
     ensures moved { out.new.moved ≡ out.old.moved }
@@ -94,7 +94,7 @@ pub(crate) fn record_only(records: &mut Records, call: Option<CallRecord>)
 
 /// Adds the record of a call, if there is one.
 pub(crate) fn record_also(records: &mut Records, call: Option<CallRecord>)
-    requires { length records.old < most_records }
+    requires { length records.old < max_records }
     ensures all { records.new ≡ records.old ++ cons_option call [] }
     ensures few { length records.new ≤ length records.old + 1 }
 {

@@ -13,7 +13,7 @@ ghost use Rattle.call_profile.specs.World.{World};
 use crate::asked::asked_by;
 use crate::new_call::Caller;
 use crate::operations::CallControl;
-use crate::reading_ahead::DialledNumber;
+use crate::preparsing::DialledNumber;
 use crate::sending::refuse;
 use control_memory::PathMap;
 use exchange_events::Outbox;

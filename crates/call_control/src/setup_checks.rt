@@ -12,8 +12,8 @@ ghost use Rattle.call_control.specs.Standing.{Holds};
 ghost use Rattle.call_profile.specs.World.{World};
 
 use crate::operations::CallControl;
-use crate::reading_ahead::DialledNumber;
-use circuit_model::{PLACES, Slot, slot_of_channel};
+use crate::preparsing::DialledNumber;
+use circuit_model::{CHANNELS_PER_LINE, Slot, slot_of_channel};
 use control_memory::PathMap;
 use number_plan::Found;
 use q931_codec::causes::{
@@ -50,9 +50,9 @@ impl<P: PathMap> CallControl<P> {
         ensures slot { (d : Dimensions) (w : World) → Holds d self.now.map self.now.legs w → result ≡ lowest_idle w line }
         ensures external { IfSome result (IsExternal self.now.map.external) }
     {
-        for place in 0..PLACES {
+        for place in 0..CHANNELS_PER_LINE {
             let slot = Slot { line, place };
-            if self.idle(slot) {
+            if self.is_idle(slot) {
                 return Some(slot);
             }
         }
@@ -65,7 +65,7 @@ impl<P: PathMap> CallControl<P> {
         ensures slot { (d : Dimensions) (w : World) → Holds d self.now.map self.now.legs w → result ≡ lowest_idle_beside w beside line }
         ensures external { IfSome result (IsExternal self.now.map.external) }
     {
-        for place in 0..PLACES {
+        for place in 0..CHANNELS_PER_LINE {
             let slot = Slot { line, place };
             if self.idle_beside(beside, slot) {
                 return Some(slot);
@@ -94,7 +94,7 @@ impl<P: PathMap> CallControl<P> {
         requires external { IsExternal self.now.map.external slot }
         ensures { (d : Dimensions) (w : World) → Holds d self.now.map self.now.legs w → result ≡ idle_beside w beside slot }
     {
-        self.idle(slot) && slot != beside
+        self.is_idle(slot) && slot != beside
     }
 
     /// Returns the caller's slot: the requested one if it is idle, otherwise the lowest idle slot of the line. An
@@ -109,7 +109,7 @@ impl<P: PathMap> CallControl<P> {
         ensures external { IfSome result (IsExternal self.now.map.external) }
     {
         match slot_asked(line, channel) {
-            Some(slot) if self.idle(slot) => Some(slot),
+            Some(slot) if self.is_idle(slot) => Some(slot),
             _ => self.lowest_idle(line),
         }
     }
@@ -123,7 +123,7 @@ impl<P: PathMap> CallControl<P> {
             return false;
         };
         match slot_asked(line, channel) {
-            Some(slot) => !self.idle(slot),
+            Some(slot) => !self.is_idle(slot),
             None => true,
         }
     }
@@ -251,7 +251,7 @@ fn element_cause(message: &Message, is_readable: bool) -> Option<u8>
     let Some(bearer) = message.bearer() else {
         return Some(MANDATORY_ELEMENT_MISSING);
     };
-    match BearerCapability::of(bearer) {
+    match BearerCapability::from_contents(bearer) {
         BearerCapability::Invalid => return Some(INVALID_ELEMENT_CONTENTS),
         BearerCapability::NotCarried => return Some(BEARER_CAPABILITY_NOT_IMPLEMENTED),
         BearerCapability::Carried => {}
@@ -271,7 +271,7 @@ fn lacks_number(message: &Message) -> bool
 {
     match message.called_contents() {
         Some(contents) => !is_called_number(contents),
-        None => message.sending_complete(),
+        None => message.is_sending_complete(),
     }
 }
 
@@ -281,7 +281,7 @@ pub(crate) fn number_cause(target: Found, message: &Message) -> Option<u8>
 {
     match target {
         Found::Nothing => Some(UNALLOCATED_NUMBER),
-        Found::More if message.sending_complete() => Some(INVALID_NUMBER_FORMAT),
+        Found::More if message.is_sending_complete() => Some(INVALID_NUMBER_FORMAT),
         Found::More | Found::Line(_) | Found::Lines(_) | Found::Room(_) => None,
     }
 }

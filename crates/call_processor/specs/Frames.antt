@@ -8,7 +8,7 @@ use Rattle.circuit_model.specs.Ports.{Ports}
 use Rattle.frame_engine.specs.Frames.{PlaysOut}
 use Rattle.exchange_core.specs.declared.tool.Tool.{Tool}
 use Rattle.exchange_events.specs.declared.trace.Event.TheVariants.{Frame}
-use Rattle.seat_history.specs.declared.known.Known.{Known}
+use Rattle.seat_history.specs.declared.seat_knowledge.SeatKnowledge.{SeatKnowledge}
 use Rattle.seat_history.specs.Histories.{before}
 use Rattle.exchange_core.specs.Boards.{Board, setting_at, world_at}
 use Rattle.exchange_core.specs.Working.{Entry, IsNumbered, IsToolFor}
@@ -38,12 +38,12 @@ pub record IsReady {E : Type 0} (carries : Carrying E) (next : E → ℕ) (sizes
   pub image : IsFrameTool (setting_at board).dimensions tool
 
 -- the engine and the tool are ready for the next frame after the history that a seat has seen
-abbrev pub IsReadyFor : {E : Type 0} → Carrying E → (E → ℕ) → (E → Dimensions) → Board → Known → E → Tool → Type 0
+abbrev pub IsReadyFor : {E : Type 0} → Carrying E → (E → ℕ) → (E → Dimensions) → Board → SeatKnowledge → E → Tool → Type 0
 IsReadyFor carries next sizes board v engine tool = IsReady carries next sizes board v.seen engine tool
 
 -- the engine and the control memory of a machine are ready for the next frame after the history that a seat has seen
-abbrev pub IsReadyAt : {E : Type 0} → Carrying E → (E → ℕ) → (E → Dimensions) → Board → Known → Machine E → Type 0
-IsReadyAt carries next sizes board v m = IsReadyFor carries next sizes board v m.engine m.desk.tool
+abbrev pub IsReadyAt : {E : Type 0} → Carrying E → (E → ℕ) → (E → Dimensions) → Board → SeatKnowledge → Machine E → Type 0
+IsReadyAt carries next sizes board v m = IsReadyFor carries next sizes board v m.engine m.context.tool
 
 -- in the frame with this input, which begins in this exchange state, the octets are the engine's output for each
 -- external line
@@ -52,6 +52,6 @@ pub record IsPlayed (plays : Plays) (tones : Kind → List ℕ) (external : ℕ)
   pub played : PlaysOut external (plays tones (pass w input).inputs (pass w input).held w.holding.next) octets
 
 -- an answer to a frame has the octets that the engine outputs in it
-abbrev pub HasFrame : Plays → (Kind → List ℕ) → Board → Known → Placed → Type 0
+abbrev pub HasFrame : Plays → (Kind → List ℕ) → Board → SeatKnowledge → Placed → Type 0
 HasFrame plays tones board seat p = (input : Input) → IsNumbered board.trace p.answer.event (Frame input)
     → IsPlayed plays tones board.trace.external (world_at board (before p.place seat.seen)) input p.answer.octets

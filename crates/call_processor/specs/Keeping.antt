@@ -4,7 +4,7 @@ use Rattle.exchange_events.specs.declared.outbox.Outbox.{Outbox}
 use Rattle.exchange_events.specs.declared.outbox.Response.{Response}
 use Rattle.exchange_events.specs.Kept.{kept_of}
 use Rattle.exchange_events.specs.Responses.{reply_of}
-use Rattle.seat_history.specs.declared.known.Known.{Known}
+use Rattle.seat_history.specs.declared.seat_knowledge.SeatKnowledge.{SeatKnowledge}
 use Rattle.exchange_core.specs.Boards.{Board}
 use Rattle.call_processor.specs.declared.worked.Placed.{Placed}
 use Rattle.call_processor.specs.Work.{IsAnswer, Works}
@@ -25,7 +25,7 @@ abbrev pub first_place : List Placed → Option ℕ
 first_place [] = None
 first_place (p ∷ ps) = Some p.place
 
--- the second keeper holds the answers of the first, and then this one
+-- the second sink holds the answers of the first, and then this one
 abbrev pub IsKept : {K : Type 0} → (K → List Placed → Type 0) → Placed → K → K → Type 0
 IsKept holds p before after = (answers : List Placed) → holds before answers → holds after (answers ++ p ∷ [])
 
@@ -33,8 +33,8 @@ IsKept holds p before after = (answers : List Placed) → holds before answers �
 abbrev pub BeginsFrom : ℕ → List Placed → Type 0
 BeginsFrom below answers = (place : ℕ) → first_place answers ≡ Some place → below ≤ place
 
--- The first answers of a keeper moved to the end of another: the first one, and the next ones as long as they come
--- before a position.
+-- The first answers of an answer sink moved to the end of another: the first one, and the next ones as long as they
+-- come before a position.
 pub record HandsOn {K : Type 0} (holds : K → List Placed → Type 0) (below : ℕ) (answers others : List Placed) (from to : K) : Type 0 where
   pub run : List Placed
   pub rest : List Placed
@@ -45,7 +45,7 @@ pub record HandsOn {K : Type 0} (holds : K → List Placed → Type 0) (below : 
   pub left : holds from rest
   pub got : holds to (others ++ run)
 
--- a keeper holds these answers, and perhaps more after them
+-- an answer sink holds these answers, and perhaps more after them
 pub record StillHolds {K : Type 0} (holds : K → List Placed → Type 0) (answers : List Placed) (k : K) : Type 0 where
   pub more : List Placed
   pub held : holds k (answers ++ more)
@@ -61,7 +61,7 @@ pub record HandsBelow (below : ℕ) (answers others from to : List Placed) : Typ
 
 -- The seat processed the event and stored it: its answer follows all earlier ones, at the position of the seat's last
 -- entry, and has octets as required.
-pub record HasKept {K : Type 0} (holds : K → List Placed → Type 0) (board : Board) (seat : Known) (event : ℕ) (octets : Placed → Type 0) (before after : K) : Type 0 where
+pub record HasKept {K : Type 0} (holds : K → List Placed → Type 0) (board : Board) (seat : SeatKnowledge) (event : ℕ) (octets : Placed → Type 0) (before after : K) : Type 0 where
   pub answer : Placed
   pub place : length seat.seen ≡ answer.place + 1
   pub event_is : answer.answer.event ≡ event
@@ -73,25 +73,25 @@ pub record HasKept {K : Type 0} (holds : K → List Placed → Type 0) (board : 
 abbrev pub has_no_octets : Placed → Type 0
 has_no_octets p = p.answer.octets ≡ []
 
--- From v to w a prefix of the part was processed, as `Works` states, and the keeper holds its answers. The octets of
+-- From v to w a prefix of the part was processed, as `Works` states, and the sink holds its answers. The octets of
 -- each are as required, for the seat's knowledge at the end.
-pub record KeepsWork {K : Type 0} (holds : K → List Placed → Type 0) (board : Board) (octets : Known → Placed → Type 0) (part : List ℕ) (v : Known) (keeper : K) (whole : Bool) (w : Known) : Type 0 where
+pub record KeepsWork {K : Type 0} (holds : K → List Placed → Type 0) (board : Board) (octets : SeatKnowledge → Placed → Type 0) (part : List ℕ) (v : SeatKnowledge) (sink : K) (whole : Bool) (w : SeatKnowledge) : Type 0 where
   pub answers : List Placed
-  pub held : holds keeper answers
+  pub held : holds sink answers
   pub works : Works board part v answers whole w
   pub said : All (octets w) answers
 
 -- The seat processed the frame and stored it, with the octets that the engine outputs in it.
-abbrev pub KeepsFrame : {K : Type 0} → (K → List Placed → Type 0) → Plays → (Kind → List ℕ) → Board → Known → ℕ → K → K → Type 0
+abbrev pub KeepsFrame : {K : Type 0} → (K → List Placed → Type 0) → Plays → (Kind → List ℕ) → Board → SeatKnowledge → ℕ → K → K → Type 0
 KeepsFrame holds plays tones board seat event before after = HasKept holds board seat event (HasFrame plays tones board seat) before after
 
--- From v to w a call processor processed a prefix of its part, and the keeper holds its answers, without octets.
-abbrev pub KeepsEvents : {K : Type 0} → (K → List Placed → Type 0) → Board → Trace → ℕ → ℕ → Known → K → Bool → Known → Type 0
-KeepsEvents holds board trace segment n v keeper whole w =
-    KeepsWork holds board (λ seat. has_no_octets) (part_of trace segment (Processor n)) v keeper whole w
+-- From v to w a call processor processed a prefix of its part, and the sink holds its answers, without octets.
+abbrev pub KeepsEvents : {K : Type 0} → (K → List Placed → Type 0) → Board → Trace → ℕ → ℕ → SeatKnowledge → K → Bool → SeatKnowledge → Type 0
+KeepsEvents holds board trace segment n v sink whole w =
+    KeepsWork holds board (λ seat. has_no_octets) (part_of trace segment (Processor n)) v sink whole w
 
--- From v to w the frame worker processed a prefix of the segment's frames, and the keeper holds their answers, with the
+-- From v to w the frame worker processed a prefix of the segment's frames, and the sink holds their answers, with the
 -- octets that the engine outputs.
-abbrev pub KeepsFrames : {K : Type 0} → (K → List Placed → Type 0) → Plays → Board → Trace → ℕ → Known → K → Bool → Known → Type 0
-KeepsFrames holds plays board trace segment v keeper whole w =
-    KeepsWork holds board (HasFrame plays (table_of trace.tones) board) (part_of trace segment Frame_worker) v keeper whole w
+abbrev pub KeepsFrames : {K : Type 0} → (K → List Placed → Type 0) → Plays → Board → Trace → ℕ → SeatKnowledge → K → Bool → SeatKnowledge → Type 0
+KeepsFrames holds plays board trace segment v sink whole w =
+    KeepsWork holds board (HasFrame plays (table_of trace.tones) board) (part_of trace segment Frame_worker) v sink whole w

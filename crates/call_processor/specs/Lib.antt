@@ -1,6 +1,6 @@
 pub mod Parts
 pub mod Work
 pub mod Frames
-pub mod Workplaces
+pub mod WorkerOutputs
 pub mod Keeping
 pub mod Alone

@@ -1,15 +1,15 @@
-//! The keeper of complete answers.
+//! The answer sink that stores complete answers.
 ghost use Rattle.std.specs.Prelude.{◌≡◌, ◌++◌, ◌∷◌, List, [], OnOk, OnErr, take, drop};
 ghost use Rattle.call_processor.specs.declared.worked.Placed.{Placed};
 ghost use Rattle.call_processor.specs.Keeping.{BeginsFrom, HandsBelow};
 
-use crate::keeper::Keeper;
+use crate::answer_sink::AnswerSink;
 use crate::worked::Placed;
 use exchange_events::{Answer, Outbox, Response};
 use std::alloc::{AllocError, Global};
 use std::collections::VecDeque;
 
-/// A keeper of complete answers.
+/// An answer sink that stores complete answers.
 #[derive(Drop)]
 pub struct AnswerList {
     /// The answers, in the order in which they were appended.
@@ -27,10 +27,10 @@ impl AnswerList {
     }
 }
 
-impl Keeper for AnswerList {
+impl AnswerSink for AnswerList {
     ghost holds = { λ k answers. k.items.items ≡ answers };
 
-    fn another(&self, alloc: Global) -> AnswerList {
+    fn new_empty(&self, alloc: Global) -> AnswerList {
         AnswerList::new(alloc)
     }
 
@@ -38,7 +38,7 @@ impl Keeper for AnswerList {
         self.items.clear();
     }
 
-    fn keep(
+    fn push(
         &mut self,
         alloc: Global,
         place: u32,
@@ -52,11 +52,11 @@ impl Keeper for AnswerList {
         Ok(())
     }
 
-    fn count(&self) -> usize {
+    fn len(&self) -> usize {
         self.items.len()
     }
 
-    fn cut(&mut self, count: usize) {
+    fn truncate(&mut self, count: usize) {
         self.items.truncate(count);
     }
 
@@ -67,14 +67,14 @@ impl Keeper for AnswerList {
         }
     }
 
-    fn hand_on(&mut self, to: &mut Self, below: u32) -> Result<(), AllocError> {
+    fn move_before(&mut self, to: &mut Self, below: u32) -> Result<(), AllocError> {
         move_first(&mut self.items, &mut to.items)?;
-        hand_on_below(&mut self.items, &mut to.items, below)
+        move_below(&mut self.items, &mut to.items, below)
     }
 }
 
 // Moves the first answers, as long as they come before a position.
-fn hand_on_below(
+fn move_below(
     from: &mut VecDeque<Placed>,
     to: &mut VecDeque<Placed>,
     below: u32,

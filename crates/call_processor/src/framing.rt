@@ -10,15 +10,15 @@ ghost use Rattle.call_processor.specs.Parts.{part_of};
 ghost use Rattle.call_processor.specs.declared.worked.Placed.{Placed};
 ghost use Rattle.call_processor.specs.Keeping.{KeepsFrame, KeepsFrames};
 ghost use Rattle.call_processor.specs.Work.{DidEvent};
-ghost use Rattle.call_processor.specs.Workplaces.{EndsReady, HasAnswered, HasRunFrames, MayDoFrames};
+ghost use Rattle.call_processor.specs.WorkerOutputs.{EndsReady, HasAnswered, HasRunFrames, MayDoFrames};
 
+use crate::alloc_failure::AllocFailureFlag;
 use crate::answer_list::AnswerList;
+use crate::answer_sink::AnswerSink;
 use crate::context::RunContext;
-use crate::keeper::Keeper;
 use crate::machine::Machine;
-use crate::segment::{input_of, numbers_of};
-use crate::shortage::Shortage;
-use crate::worked::{Finished, FinishedFrames, Framed, Worked, Workplace};
+use crate::segment::{event_range, input_of};
+use crate::worked::{FrameWorkerOutput, Framed, Worked, WorkerBuffers, WorkerOutput};
 use circuit_model::IDLE;
 use exchange_core::{Switchboard, Tool};
 use exchange_events::{Input, Trace};
@@ -30,14 +30,20 @@ use std::thread::Threads;
 
 // Processes one frame: its boundary in a turn of the seat, then its octets. Unless `keep` is true, the seat passes the
 // turn before the octets move, so that the call processors go on meanwhile.
-pub(crate) fn do_frame<B: Switchboard, G: Gate, C: Carrier, K: Keeper, R: Threads + Wait + Sync>(
+pub(crate) fn do_frame<
+    B: Switchboard,
+    G: Gate,
+    C: Carrier,
+    K: AnswerSink,
+    R: Threads + Wait + Sync,
+>(
     cx: &RunContext<B, G, R>,
     seat: &mut B::Seat,
     event: u32,
     keep: bool,
     input: &Input,
     machine: &mut Machine<C>,
-    keeper: &mut K,
+    sink: &mut K,
 ) -> Result<(), AllocError>
     requires seated { B.seated cx.now.board.now seat.old }
     requires known { IsEvent (B.board cx.now.board.now).trace event }
@@ -52,14 +58,16 @@ pub(crate) fn do_frame<B: Switchboard, G: Gate, C: Carrier, K: Keeper, R: Thread
     ensures next { IsOnly (B.known seat.old) → DidNext (turns_of (B.board cx.now.board.now)) (B.known seat.old) event (B.known seat.new) }
     ensures ready { IsReadyAt C.carries C.next C.sizes (B.board cx.now.board.now) (B.known seat.new) machine.new }
     ensures lines { length machine.new.octets.items ≡ (B.board cx.now.board.now).trace.external }
-    ensures kept { OnOk result (KeepsFrame K.holds C.plays (table_of cx.now.trace.now.tones) (B.board cx.now.board.now) (B.known seat.new) event keeper.old keeper.new) }
-    ensures refused { OnErr result ((answers : List Placed) → K.holds keeper.old answers → K.holds keeper.new answers) }
+    ensures kept { OnOk result (KeepsFrame K.holds C.plays (table_of cx.now.trace.now.tones) (B.board cx.now.board.now) (B.known seat.new) event sink.old sink.new) }
+    ensures refused { OnErr result ((answers : List Placed) → K.holds sink.old answers → K.holds sink.new answers) }
 {
     let worker = u32::from(cx.trace.processors);
     cx.gate.before_turn(worker, event);
-    let (place, response) = cx.board.work(cx.rt, seat, event, &mut machine.desk, keep);
+    let (place, response) = cx
+        .board
+        .handle_into(cx.rt, seat, event, &mut machine.context, keep);
     cx.gate.after_turn(worker, event);
-    let Tool::Image(image) = &mut machine.desk.tool else {
+    let Tool::Image(image) = &mut machine.context.tool else {
         unreachable!()
     };
     let frame = image.frame();
@@ -70,7 +78,14 @@ pub(crate) fn do_frame<B: Switchboard, G: Gate, C: Carrier, K: Keeper, R: Thread
         .frame(cx.rt, image, &cx.trace.tones, input.as_slice(), octets);
     cx.gate.after_crossing(frame);
     let octets = machine.octets.as_slice();
-    keeper.keep(cx.alloc, place, event, response, &machine.desk.out, octets)
+    sink.push(
+        cx.alloc,
+        place,
+        event,
+        response,
+        &machine.context.out,
+        octets,
+    )
 }
 
 // Gives the buffer the length of n lines, if it has another one.
@@ -88,32 +103,32 @@ pub(crate) fn grow(
 }
 
 // Processes the frames of a segment in order, until an allocation fails.
-fn do_frames<B: Switchboard, G: Gate, C: Carrier, K: Keeper, R: Threads + Wait + Sync>(
+fn do_frames<B: Switchboard, G: Gate, C: Carrier, K: AnswerSink, R: Threads + Wait + Sync>(
     cx: &RunContext<B, G, R>,
     seat: &mut B::Seat,
     segment: u32,
     machine: &mut Machine<C>,
-    keeper: &mut K,
-    shortage: &Shortage,
+    sink: &mut K,
+    failure: &AllocFailureFlag,
 ) -> Result<(), AllocError>
     requires seated { B.seated cx.now.board.now seat.old }
     requires may { MayDoFrames C.carries C.next C.sizes (B.board cx.now.board.now) cx.now.trace.now segment (B.known seat.old) machine.old }
     ensures seated { B.seated cx.now.board.now seat.new }
-    ensures works { KeepsFrames K.holds C.plays (B.board cx.now.board.now) cx.now.trace.now segment (B.known seat.old) keeper.new (is_ok result) (B.known seat.new) }
+    ensures works { KeepsFrames K.holds C.plays (B.board cx.now.board.now) cx.now.trace.now segment (B.known seat.old) sink.new (is_ok result) (B.known seat.new) }
     ensures ready { IsReadyAt C.carries C.next C.sizes (B.board cx.now.board.now) (B.known seat.new) machine.new }
 {
-    keeper.clear();
+    sink.clear();
     let external = usize::from(cx.trace.external);
     grow(cx.alloc, &mut machine.octets, external)?;
-    let (first, end) = numbers_of(cx.trace, segment);
+    let (first, end) = event_range(cx.trace, segment);
     for event in first..end {
         let Some(input) = input_of(cx.trace, event) else {
             continue;
         };
-        if shortage.is_told() {
+        if failure.is_set() {
             return Err(AllocError);
         }
-        do_frame(cx, seat, event, false, input, machine, keeper)?;
+        do_frame(cx, seat, event, false, input, machine, sink)?;
     }
     Ok(())
 }
@@ -158,42 +173,48 @@ pub fn run_frames<B: Switchboard, G: Gate, C: Carrier, R: Threads + Wait + Sync>
         gate,
     };
     let mut machine = Machine::new(alloc, engine, tool);
-    let mut keeper = AnswerList::new(alloc);
+    let mut sink = AnswerList::new(alloc);
     let done = do_frames(
         &cx,
         &mut seat,
         segment,
         &mut machine,
-        &mut keeper,
-        &Shortage::new(),
+        &mut sink,
+        &AllocFailureFlag::new(),
     );
     board.release(&mut seat);
     Framed {
         worked: Worked {
             seat,
-            answers: Vec::from(keeper.items),
+            answers: Vec::from(sink.items),
             whole: done.is_ok(),
         },
         engine: machine.engine,
-        tool: machine.desk.tool,
+        tool: machine.context.tool,
     }
 }
 
-/// Processes the frames of one segment as [`run_frames`] does, with a machine and at a workplace that the frame worker
-/// receives and returns. It begins with an empty keeper. If an allocation of another worker has failed, the work ends
-/// before the next frame.
-pub fn run_frames_at<B: Switchboard, G: Gate, C: Carrier, K: Keeper, R: Threads + Wait + Sync>(
+/// Processes the frames of one segment as [`run_frames`] does, with a machine and with buffers that the frame worker
+/// receives and returns. It begins with an empty answer sink. If an allocation of another worker has failed, the work
+/// ends before the next frame.
+pub fn run_frames_with<
+    B: Switchboard,
+    G: Gate,
+    C: Carrier,
+    K: AnswerSink,
+    R: Threads + Wait + Sync,
+>(
     cx: &RunContext<B, G, R>,
     mut seat: B::Seat,
     segment: u32,
     mut machine: Box<Machine<C>>,
-    mut workplace: Workplace<K>,
-    shortage: &Shortage,
-) -> FinishedFrames<B::Seat, C, K>
+    mut buffers: WorkerBuffers<K>,
+    failure: &AllocFailureFlag,
+) -> FrameWorkerOutput<B::Seat, C, K>
     requires seated { B.seated cx.now.board.now seat }
     requires may { MayDoFrames C.carries C.next C.sizes (B.board cx.now.board.now) cx.now.trace.now segment (B.known seat) machine.value }
-    ensures seated { B.seated cx.now.board.now result.finished.seat }
-    ensures passed { B.keeps result.finished.seat ≡ false }
+    ensures seated { B.seated cx.now.board.now result.output.seat }
+    ensures passed { B.keeps result.output.seat ≡ false }
     ensures done { HasRunFrames K.holds C.plays C.carries C.next C.sizes B.known (B.board cx.now.board.now)
         cx.now.trace.now segment (B.known seat) result }
 {
@@ -202,18 +223,18 @@ pub fn run_frames_at<B: Switchboard, G: Gate, C: Carrier, K: Keeper, R: Threads 
         &mut seat,
         segment,
         &mut machine,
-        &mut workplace.keeper,
-        shortage,
+        &mut buffers.sink,
+        failure,
     )
     .is_ok();
     cx.board.release(&mut seat);
     if !whole {
-        shortage.tell();
+        failure.set();
     }
-    FinishedFrames {
-        finished: Finished {
+    FrameWorkerOutput {
+        output: WorkerOutput {
             seat,
-            workplace,
+            buffers,
             whole,
         },
         machine,

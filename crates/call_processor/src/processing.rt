@@ -8,15 +8,15 @@ ghost use Rattle.call_processor.specs.declared.worked.Placed.{Placed};
 ghost use Rattle.call_processor.specs.Keeping.{HasKept, KeepsEvents, has_no_octets};
 ghost use Rattle.call_processor.specs.Parts.{is_its, part_of};
 ghost use Rattle.call_processor.specs.Work.{DidEvent, MayWork};
-ghost use Rattle.call_processor.specs.Workplaces.{HasAnswered, HasDoneEvents};
+ghost use Rattle.call_processor.specs.WorkerOutputs.{HasAnswered, HasDoneEvents};
 
+use crate::alloc_failure::AllocFailureFlag;
 use crate::answer_list::AnswerList;
+use crate::answer_sink::AnswerSink;
 use crate::context::RunContext;
-use crate::keeper::Keeper;
-use crate::segment::{is_of_processor, numbers_of};
-use crate::shortage::Shortage;
-use crate::worked::{Finished, Worked, Workplace};
-use exchange_core::{Desk, Switchboard, Tool};
+use crate::segment::{event_range, is_of_processor};
+use crate::worked::{Worked, WorkerBuffers, WorkerOutput};
+use exchange_core::{StepContext, Switchboard, Tool};
 use exchange_events::Trace;
 use gate::Gate;
 use std::alloc::{AllocError, Global};
@@ -26,69 +26,69 @@ use std::sync::Wait;
 /// which takes the time of many events. A waiting worker waits for at most one turn of each other worker.
 pub const MAX_TURN_EVENTS: u32 = 512;
 
-// Processes one event of a call processor in a turn of the seat, and keeps the turn if `keep` is true. The desk holds
-// the message of the event, if it was read ahead.
-pub(crate) fn do_event<B: Switchboard, G: Gate, K: Keeper, R: Wait>(
+// Processes one event of a call processor in a turn of the seat, and keeps the turn if `keep` is true. The context
+// holds the message of the event, if it was read ahead.
+pub(crate) fn do_event<B: Switchboard, G: Gate, K: AnswerSink, R: Wait>(
     cx: &RunContext<B, G, R>,
     seat: &mut B::Seat,
     processor: u32,
     event: u32,
     keep: bool,
-    desk: &mut Desk,
-    keeper: &mut K,
+    context: &mut StepContext,
+    sink: &mut K,
 ) -> Result<(), AllocError>
     requires seated { B.seated cx.now.board.now seat.old }
     requires known { IsEvent (B.board cx.now.board.now).trace event }
     requires its { is_its (B.board cx.now.board.now).trace (Processor processor) event ≡ true }
     requires turn { 0 < (B.known seat.old).left }
-    requires tool { desk.old.tool ≡ Nothing }
-    requires ahead { IsReadAt (B.board cx.now.board.now).trace event desk.old.ahead }
+    requires tool { context.old.tool ≡ Nothing }
+    requires ahead { IsReadAt (B.board cx.now.board.now).trace event context.old.ahead }
     ensures seated { B.seated cx.now.board.now seat.new }
     ensures handled { DidEvent (B.known seat.old) event (B.known seat.new) }
     ensures next { IsOnly (B.known seat.old) → DidNext (turns_of (B.board cx.now.board.now)) (B.known seat.old) event (B.known seat.new) }
-    ensures tool { desk.new.tool ≡ Nothing }
-    ensures kept { OnOk result (HasKept K.holds (B.board cx.now.board.now) (B.known seat.new) event has_no_octets keeper.old keeper.new) }
-    ensures refused { OnErr result ((answers : List Placed) → K.holds keeper.old answers → K.holds keeper.new answers) }
+    ensures tool { context.new.tool ≡ Nothing }
+    ensures kept { OnOk result (HasKept K.holds (B.board cx.now.board.now) (B.known seat.new) event has_no_octets sink.old sink.new) }
+    ensures refused { OnErr result ((answers : List Placed) → K.holds sink.old answers → K.holds sink.new answers) }
 {
     cx.gate.before_turn(processor, event);
-    let (place, response) = cx.board.work(cx.rt, seat, event, desk, keep);
+    let (place, response) = cx.board.handle_into(cx.rt, seat, event, context, keep);
     cx.gate.after_turn(processor, event);
-    keeper.keep(cx.alloc, place, event, response, &desk.out, &[])
+    sink.push(cx.alloc, place, event, response, &context.out, &[])
 }
 
 // Processes the events of one call processor in one segment in order, until an allocation fails. It tests every event
 // of the segment: there are at most nine workers, and no list is stored. Unless the gate may hold a thread, it keeps
 // each turn for `MAX_TURN_EVENTS` events. The caller must release the last turn.
-fn do_events<B: Switchboard, G: Gate, K: Keeper, R: Wait>(
+fn do_events<B: Switchboard, G: Gate, K: AnswerSink, R: Wait>(
     cx: &RunContext<B, G, R>,
     seat: &mut B::Seat,
     segment: u32,
     processor: u32,
-    desk: &mut Desk,
-    keeper: &mut K,
-    shortage: &Shortage,
+    context: &mut StepContext,
+    sink: &mut K,
+    failure: &AllocFailureFlag,
 ) -> Result<(), AllocError>
     requires seated { B.seated cx.now.board.now seat.old }
     requires may { MayWork (B.board cx.now.board.now) cx.now.trace.now segment (Processor processor) (B.known seat.old) }
     requires processor { processor < cx.now.trace.now.processors }
-    requires tool { desk.old.tool ≡ Nothing }
+    requires tool { context.old.tool ≡ Nothing }
     ensures seated { B.seated cx.now.board.now seat.new }
-    ensures works { KeepsEvents K.holds (B.board cx.now.board.now) cx.now.trace.now segment processor (B.known seat.old) keeper.new (is_ok result) (B.known seat.new) }
+    ensures works { KeepsEvents K.holds (B.board cx.now.board.now) cx.now.trace.now segment processor (B.known seat.old) sink.new (is_ok result) (B.known seat.new) }
 {
-    keeper.clear();
-    let (first, end) = numbers_of(cx.trace, segment);
+    sink.clear();
+    let (first, end) = event_range(cx.trace, segment);
     let mut left = 0;
     for event in first..end {
         if !is_of_processor(cx.trace, processor, event) {
             continue;
         }
-        if shortage.is_told() {
+        if failure.is_set() {
             return Err(AllocError);
         }
-        desk.look_ahead(cx.trace, event);
+        context.preparse(cx.trace, event);
         left = if left == 0 { MAX_TURN_EVENTS } else { left } - 1;
         let keep = left > 0 && !cx.gate.may_hold();
-        do_event(cx, seat, processor, event, keep, desk, keeper)?;
+        do_event(cx, seat, processor, event, keep, context, sink)?;
     }
     Ok(())
 }
@@ -126,36 +126,36 @@ pub fn process<B: Switchboard, G: Gate, R: Wait>(
         trace,
         gate,
     };
-    let mut desk = Desk::new(Tool::Nothing);
-    let mut keeper = AnswerList::new(alloc);
+    let mut context = StepContext::new(Tool::Nothing);
+    let mut sink = AnswerList::new(alloc);
     let done = do_events(
         &cx,
         &mut seat,
         segment,
         processor,
-        &mut desk,
-        &mut keeper,
-        &Shortage::new(),
+        &mut context,
+        &mut sink,
+        &AllocFailureFlag::new(),
     );
     board.release(&mut seat);
     Worked {
         seat,
-        answers: Vec::from(keeper.items),
+        answers: Vec::from(sink.items),
         whole: done.is_ok(),
     }
 }
 
-/// Processes the events of one call processor in one segment as [`process`] does, at a workplace that it receives and
-/// returns. It begins with an empty keeper. If an allocation of another worker has failed, the work ends before the
-/// next event. The seat does not have the turn at the end in any case.
-pub fn process_at<B: Switchboard, G: Gate, K: Keeper, R: Wait>(
+/// Processes the events of one call processor in one segment as [`process`] does, with buffers that it receives and
+/// returns. It begins with an empty answer sink. If an allocation of another worker has failed, the work ends before
+/// the next event. The seat does not have the turn at the end in any case.
+pub fn process_with<B: Switchboard, G: Gate, K: AnswerSink, R: Wait>(
     cx: &RunContext<B, G, R>,
     mut seat: B::Seat,
     segment: u32,
     processor: u32,
-    mut workplace: Workplace<K>,
-    shortage: &Shortage,
-) -> Finished<B::Seat, K>
+    mut buffers: WorkerBuffers<K>,
+    failure: &AllocFailureFlag,
+) -> WorkerOutput<B::Seat, K>
     requires seated { B.seated cx.now.board.now seat }
     requires may { MayWork (B.board cx.now.board.now) cx.now.trace.now segment (Processor processor) (B.known seat) }
     requires processor { processor < cx.now.trace.now.processors }
@@ -163,24 +163,24 @@ pub fn process_at<B: Switchboard, G: Gate, K: Keeper, R: Wait>(
     ensures passed { B.keeps result.seat ≡ false }
     ensures works { HasDoneEvents K.holds B.known (B.board cx.now.board.now) cx.now.trace.now segment processor (B.known seat) result }
 {
-    workplace.desk.tool = Tool::Nothing;
+    buffers.context.tool = Tool::Nothing;
     let whole = do_events(
         cx,
         &mut seat,
         segment,
         processor,
-        &mut workplace.desk,
-        &mut workplace.keeper,
-        shortage,
+        &mut buffers.context,
+        &mut buffers.sink,
+        failure,
     )
     .is_ok();
     cx.board.release(&mut seat);
     if !whole {
-        shortage.tell();
+        failure.set();
     }
-    Finished {
+    WorkerOutput {
         seat,
-        workplace,
+        buffers,
         whole,
     }
 }

@@ -10,7 +10,7 @@ use exchange_events::{Event, Input, Trace};
 
 /// Returns the number of a segment's first event, and the number after its last event. Segments are counted from 0,
 /// events from 1.
-pub fn numbers_of(trace: &Trace, segment: u32) -> (u32, u32)
+pub fn event_range(trace: &Trace, segment: u32) -> (u32, u32)
     requires sound { IsSound trace.now }
     requires segment { segment < length trace.now.segments }
     ensures parts { (worker : Worker) → part_of trace.now segment worker ≡ filter (is_its trace.now worker) (range_with_len result.0 (result.1 - result.0)) }

@@ -1,6 +1,6 @@
-use crate::keeper::Keeper;
+use crate::answer_sink::AnswerSink;
 use crate::machine::Machine;
-use exchange_core::{Desk, Tool};
+use exchange_core::{StepContext, Tool};
 use exchange_events::Answer;
 use std::alloc::{AllocError, Global};
 
@@ -36,42 +36,42 @@ pub struct Framed<T, C> {
 }
 
 /// The buffers of a worker, which serve consecutive parts of segments. Each worker clears the data of the one before.
-/// `K` is the type of the keeper.
+/// `K` is the type of the sink.
 #[derive(Drop)]
-pub struct Workplace<K> {
-    /// The desk of commands and messages.
-    pub desk: Box<Desk>,
-    /// The keeper of the answers.
-    pub keeper: K,
+pub struct WorkerBuffers<K> {
+    /// The context of commands and messages.
+    pub context: Box<StepContext>,
+    /// The sink of the answers.
+    pub sink: K,
 }
 
-/// The result of one worker's part of a segment at a workplace.
+/// The result of one worker's part of a segment, with its buffers.
 #[derive(Drop)]
-pub struct Finished<T, K> {
-    /// The workplace. Its keeper has the worker's events, in the order of its part.
+pub struct WorkerOutput<T, K> {
+    /// The worker's seat.
     pub seat: T,
-    /// The workplace. Its keeper keeps the worker's events, in the order of its part.
-    pub workplace: Workplace<K>,
+    /// The buffers. Their sink has the worker's events, in the order of its part.
+    pub buffers: WorkerBuffers<K>,
     /// Whether the whole part was processed and its answers stored. False only if an allocation failed, of this worker
     /// or of another one.
     pub whole: bool,
 }
 
-/// The result of the frame worker's part of a segment at a workplace, with its machine.
+/// The result of the frame worker's part of a segment, with its buffers and its machine.
 #[derive(Drop)]
-pub struct FinishedFrames<T, C, K> {
+pub struct FrameWorkerOutput<T, C, K> {
     /// The result of its part.
-    pub finished: Finished<T, K>,
+    pub output: WorkerOutput<T, K>,
     /// The machine, ready for the next frame.
     pub machine: Box<Machine<C>>,
 }
 
-impl<K: Keeper> Workplace<K> {
-    /// Returns a new workplace with this keeper. [`AllocError`] if an allocation fails.
-    pub fn new(alloc: Global, keeper: K) -> Result<Workplace<K>, AllocError> {
-        Ok(Workplace {
-            desk: Box::new(alloc, Desk::new(Tool::Nothing))?,
-            keeper,
+impl<K: AnswerSink> WorkerBuffers<K> {
+    /// Returns new buffers with this sink. [`AllocError`] if an allocation fails.
+    pub fn new(alloc: Global, sink: K) -> Result<WorkerBuffers<K>, AllocError> {
+        Ok(WorkerBuffers {
+            context: Box::new(alloc, StepContext::new(Tool::Nothing))?,
+            sink,
         })
     }
 }

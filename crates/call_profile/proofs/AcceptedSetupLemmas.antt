@@ -11,7 +11,7 @@ use Rattle.call_states.specs.declared.pending.Pending.{Pending}
 use Rattle.number_plan.specs.declared.target.Found.TheVariants.{Line, Room}
 use Rattle.call_profile.specs.IdleSlots.{lowest_idle_beside}
 use Rattle.call_profile.specs.LegStanding.{CallsStand}
-use Rattle.call_profile.specs.Legs.{Legs, leg_at, new_reference}
+use Rattle.call_profile.specs.Legs.{Legs, leg_at, lowest_free_reference}
 use Rattle.call_profile.specs.Permitted.{CanSeat}
 use Rattle.exchange_events.specs.Sizes.{Setting, Dimensions}
 use Rattle.call_profile.specs.Setup.{Check, checks, first_cause, refusal, caller_slot, target_of, call, call_line, accept, is_room_full}
@@ -22,7 +22,7 @@ use Rattle.call_profile.proofs.SetupLemmas.{all_pass, all_from, caller_is}
 -- ---- the operations
 
 module _ (w : World) (first : Bool) (own : ℕ) (asked : Pending) (x : Slot) where
-  pub accepts_line : (line : ℕ) (y : Slot) → lowest_idle_beside w x line ≡ Some y → accept first w own asked x (Line line) ≡ call_line first own asked x y (new_reference w.legs line)
+  pub accepts_line : (line : ℕ) (y : Slot) → lowest_idle_beside w x line ≡ Some y → accept first w own asked x (Line line) ≡ call_line first own asked x y (lowest_free_reference w.legs line)
   accepts_line line y chosen = ap (λ o. call first w own asked x (Line line) o) chosen
 
   pub accepts_full_line : (line : ℕ) → lowest_idle_beside w x line ≡ None → accept first w own asked x (Line line) ≡ []

@@ -26,7 +26,7 @@ use Rattle.call_states.specs.declared.leg.Side.{Side}
 use Rattle.call_states.specs.declared.leg.Side.TheVariants.{Caller, Called}
 use Rattle.tone_rules.specs.declared.tones.Tones.{Tones}
 use Rattle.call_profile.specs.LegStanding.{LegsStand, HasPeer, MayHear, IsInCall, AreOneCall}
-use Rattle.call_states.specs.declared.leg.Held.{Held}
+use Rattle.call_states.specs.declared.leg.HeldLeg.{HeldLeg}
 use Rattle.call_profile.specs.ActCourse.{course_of}
 use Rattle.call_profile.specs.Acts.{on_connect}
 use Rattle.call_profile.specs.Answered.{AreConnected}
@@ -136,7 +136,7 @@ silent_idle bridges h x y valid silent =
 held_there : (legs : Legs) (y : Slot) (other : Leg) → leg_at legs y ≡ Some other → held_at legs y ≡ Some (record { slot = y; leg = other })
 held_there legs y other e = rw e refl
 
-answer_operations : (s : Setting) (w : World) (h : Held) (m : Message) (y : Slot) (other : Leg) → h.leg.peer ≡ peer.Leg y → leg_at w.legs y ≡ Some other
+answer_operations : (s : Setting) (w : World) (h : HeldLeg) (m : Message) (y : Slot) (other : Leg) → h.leg.peer ≡ peer.Leg y → leg_at w.legs y ≡ Some other
     → (course_of s w h m act.Answer).operations ≡ on_connect h (record { slot = y; leg = other })
 answer_operations s w h m y other is at = rw (is, held_there w.legs y other at) refl
 
@@ -154,7 +154,7 @@ apart legs x y leg other at_x at_y one same =
     let sides : Caller ≡ Called = sym one.calls ∙ ap (λ (l : Leg). l.side) legs_same ∙ one.is_called in
     cc
 
-answered_by : (s : Setting) (w : World) (line : ℕ) (r : Request) (h : Held) (m : Message) → Valid s.dimensions.bridges w.holding → LegsStand s.dimensions.external s.tones w
+answered_by : (s : Setting) (w : World) (line : ℕ) (r : Request) (h : HeldLeg) (m : Message) → Valid s.dimensions.bridges w.holding → LegsStand s.dimensions.external s.tones w
     → r ≡ For_leg h m → leg_at w.legs h.slot ≡ Some h.leg → IsExternal s.dimensions.external h.slot → act_on h.leg.state m ≡ act.Answer
     → (y : Slot) × (h.leg.peer ≡ peer.Leg y) × AreConnected s.dimensions.bridges w (outcome_for s w line r).making.world y h.slot
 answered_by s w line r h m valid stand e at within answers =
@@ -178,7 +178,7 @@ answered_by s w line r h m valid stand e at within answers =
       },
     )
 
-pub answered : (s : Setting) (w : World) (line : ℕ) (octets : List ℕ) (h : Held) (m : Message) → Valid s.dimensions.bridges w.holding → LegsStand s.dimensions.external s.tones w
+pub answered : (s : Setting) (w : World) (line : ℕ) (octets : List ℕ) (h : HeldLeg) (m : Message) → Valid s.dimensions.bridges w.holding → LegsStand s.dimensions.external s.tones w
     → line < s.dimensions.external → request_of w.legs line octets ≡ For_leg h m → act_on h.leg.state m ≡ act.Answer
     → (y : Slot) × (h.leg.peer ≡ peer.Leg y) × AreConnected s.dimensions.bridges w (after_message s w line octets) y h.slot
 answered s w line octets h m valid stand below e answers =

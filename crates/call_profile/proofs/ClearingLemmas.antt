@@ -14,12 +14,12 @@ use Rattle.call_states.specs.declared.leg.Peer.TheVariants as peer
 use Rattle.call_states.specs.declared.leg.Side.{Side}
 use Rattle.call_states.specs.declared.leg.Side.TheVariants.{Caller, Called}
 use Rattle.tone_rules.specs.declared.tones.Tones.{Tones}
-use Rattle.call_states.specs.declared.leg.Held.{Held}
+use Rattle.call_states.specs.declared.leg.HeldLeg.{HeldLeg}
 use Rattle.call_profile.specs.ActCourse.{course_of}
 use Rattle.call_profile.specs.Acts.{in_release_request, in_disconnect_indication, tone_of, peer_of, with_peer, clear_with, on_disconnect, on_release, remove_leg}
 use Rattle.call_profile.specs.Calls.{making_by}
 use Rattle.call_profile.specs.LegStanding.{LegsStand, HasPeer, IsInCall}
-use Rattle.call_profile.specs.Legs.{Legs, from_frame, leg_at, held_at, with_entry}
+use Rattle.call_profile.specs.Legs.{Legs, waiting_from, leg_at, held_at, with_entry}
 use Rattle.call_profile.specs.Operations.{Making, begun, making_at, making_after_all, with_tone}
 use Rattle.exchange_events.specs.Sizes.{Setting, Dimensions}
 use Rattle.call_profile.specs.World.{World}
@@ -77,7 +77,7 @@ module _ (d : Dimensions) (tones : Tones) (w : World) (x : Slot) (leg : Leg) (o 
         (tone_of tones (in_disconnect_indication cause other)),
     both_cleared d.external tones d.bridges w (making_after_all d m (clear_with tones cause (record { slot = y; leg = other }))).world x y leg other o cause small valid stand
         (peers_of d.external w x y leg other within in_y at at_y call) left
-        (λ i. slice_set (legs i) (number_of y) (Some (from_frame (holding i).next (in_disconnect_indication cause other))))
+        (λ i. slice_set (legs i) (number_of y) (Some (waiting_from (holding i).next (in_disconnect_indication cause other))))
         (ap (λ (h : Holding). with_tone (after h (Clear_slot y)) y (tone_of tones (in_disconnect_indication cause other))) holding),
   )
 
@@ -91,7 +91,7 @@ module _ (d : Dimensions) (tones : Tones) (w : World) (x : Slot) (leg : Leg) (o 
 
 -- ---- the three acts
 
-module _ (s : Setting) (w : World) (h : Held) (m : Message) (cause : ℕ) (small : cause < 128) (valid : Valid s.dimensions.bridges w.holding) (stand : LegsStand s.dimensions.external s.tones w)
+module _ (s : Setting) (w : World) (h : HeldLeg) (m : Message) (cause : ℕ) (small : cause < 128) (valid : Valid s.dimensions.bridges w.holding) (stand : LegsStand s.dimensions.external s.tones w)
     (within : IsExternal s.dimensions.external h.slot) (at : leg_at w.legs h.slot ≡ Some h.leg) where
   pub disconnect_kept : Kept s.dimensions s.tones (making_by s w (course_of s w h m (act.Disconnect cause))).world
   disconnect_kept = clearing_kept s.dimensions s.tones w h.slot h.leg (Some (begun w (in_release_request h.leg))) cause small valid stand within at (inr refl) (making_after_all s.dimensions (making_at w) (on_disconnect h)) refl refl

@@ -11,7 +11,7 @@ use Rattle.circuit_model.proofs.Validity.{valid-clear}
 use Rattle.control_memory.specs.Layout.{number_of}
 use Rattle.q931_codec.specs.CallStates.{overlap_sending}
 use Rattle.q931_codec.specs.declared.message.Message.{Message}
-use Rattle.call_states.specs.declared.leg.Held.{Held}
+use Rattle.call_states.specs.declared.leg.HeldLeg.{HeldLeg}
 use Rattle.call_states.specs.declared.leg.Leg.{Leg}
 use Rattle.call_states.specs.declared.leg.Peer.TheVariants as peer
 use Rattle.call_states.specs.declared.pending.Pending.{Pending}
@@ -38,7 +38,7 @@ use Rattle.call_profile.proofs.WaitingLegLemmas.{each_waits, waiting_may}
 
 -- ---- a leg that is alone is cleared
 
-module _ (d : Dimensions) (tones : Tones) (w : World) (h : Held) (cause : ℕ) (small : cause < 128) (valid : Valid d.bridges w.holding) (stand : LegsStand d.external tones w)
+module _ (d : Dimensions) (tones : Tones) (w : World) (h : HeldLeg) (cause : ℕ) (small : cause < 128) (valid : Valid d.bridges w.holding) (stand : LegsStand d.external tones w)
     (within : IsExternal d.external h.slot) (at : leg_at w.legs h.slot ≡ Some h.leg) (alone : h.leg.peer ≡ peer.Alone) where
   abbrev x : Slot
   x = h.slot
@@ -136,7 +136,7 @@ module _ (s : Setting) (w : World) (x : Slot) (p : Pending) (m : Message) (plann
 
 -- ---- what is done
 
-module _ (s : Setting) (w : World) (h : Held) (m : Message) (planned : IsPlanned s) (stands : CallsStand s w) (within : IsExternal s.dimensions.external h.slot)
+module _ (s : Setting) (w : World) (h : HeldLeg) (m : Message) (planned : IsPlanned s) (stands : CallsStand s w) (within : IsExternal s.dimensions.external h.slot)
     (at : leg_at w.legs h.slot ≡ Some h.leg) (is : h.leg.state ≡ overlap_sending) where
   pub number : Waits s w h.slot h.leg
   number = each_waits s w stands h.slot h.leg within at is

@@ -3,7 +3,7 @@ use Rattle.std.proofs.Common.{◌≡◌, ℕ, ◌&&◌, Bool, true, false, [], O
 use Rattle.circuit_model.specs.Extent.{IsExternal}
 use Rattle.q931_codec.specs.CallStates.{overlap_sending}
 use Rattle.q931_codec.specs.declared.message.Message.{Message}
-use Rattle.call_states.specs.declared.leg.Held.{Held}
+use Rattle.call_states.specs.declared.leg.HeldLeg.{HeldLeg}
 use Rattle.call_states.specs.declared.leg.Leg.{Leg}
 use Rattle.exchange_events.specs.Sizes.{Setting}
 use Rattle.exchange_events.specs.Sound.{IsPlanned}
@@ -27,7 +27,7 @@ and_false false = refl
 waits_silent : (leg : Leg) → leg.state ≡ overlap_sending → is_calling (Some leg) ≡ false
 waits_silent leg is = rw is (and_false _)
 
-module _ (s : Setting) (w : World) (h : Held) (m : Message) (planned : IsPlanned s) (stands : CallsStand s w) (within : IsExternal s.dimensions.external h.slot)
+module _ (s : Setting) (w : World) (h : HeldLeg) (m : Message) (planned : IsPlanned s) (stands : CallsStand s w) (within : IsExternal s.dimensions.external h.slot)
     (at : leg_at w.legs h.slot ≡ Some h.leg) (is : h.leg.state ≡ overlap_sending) where
   silent : is_calling (leg_at w.legs h.slot) ≡ false
   silent = ap is_calling at ∙ waits_silent h.leg is

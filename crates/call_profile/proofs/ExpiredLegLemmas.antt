@@ -16,32 +16,32 @@ use Rattle.call_states.specs.declared.leg.Side.TheVariants.{Caller, Called}
 use Rattle.tone_rules.specs.declared.tones.Tones.{Tones}
 use Rattle.call_profile.specs.Acts.{in_release_request, tone_of}
 use Rattle.call_profile.specs.LegStanding.{LegStands, LegsStand, HasPeer, MayHear, IsInCall}
-use Rattle.call_profile.specs.Legs.{from_frame, resent_from, leg_at, with_entry}
+use Rattle.call_profile.specs.Legs.{waiting_from, retransmitted_from, leg_at, with_entry}
 use Rattle.call_profile.specs.World.{World}
 use Rattle.call_profile.proofs.BesideLemmas.{look, entry_here, entry_else, same_or_apart, named_back, Beside, each_stands, SameReferences, still_one}
 use Rattle.call_profile.proofs.HearingLemmas.{IsStrange}
 
 -- ---- a leg that waits anew, in the same state
 
-may_hear_anew : (tones : Tones) (next : ℕ) (leg : Leg) (o : Option Circuit) → MayHear tones leg o → MayHear tones (resent_from next leg) o
+may_hear_anew : (tones : Tones) (next : ℕ) (leg : Leg) (o : Option Circuit) → MayHear tones leg o → MayHear tones (retransmitted_from next leg) o
 may_hear_anew tones next leg None may = may
 may_hear_anew tones next leg (Some (Tone kind to since)) may = may
 may_hear_anew tones next leg (Some (Pair from to since)) may = may
 may_hear_anew tones next leg (Some (Member room at since)) may = may
 
 -- either leg of a call may wait anew
-this_anew : (next : ℕ) (side : Side) (x y : Slot) (leg other : Leg) → IsInCall side x leg y other → IsInCall side x (resent_from next leg) y other
+this_anew : (next : ℕ) (side : Side) (x y : Slot) (leg other : Leg) → IsInCall side x leg y other → IsInCall side x (retransmitted_from next leg) y other
 this_anew next Caller x y leg other one = record { calls = one.calls; is_called = one.is_called; there = one.there; back = one.back; matched = one.matched }
 this_anew next Called x y leg other one = record { calls = one.calls; is_called = one.is_called; there = one.there; back = one.back; matched = one.matched }
 
-other_anew : (next : ℕ) (side : Side) (x y : Slot) (leg other : Leg) → IsInCall side x leg y other → IsInCall side x leg y (resent_from next other)
+other_anew : (next : ℕ) (side : Side) (x y : Slot) (leg other : Leg) → IsInCall side x leg y other → IsInCall side x leg y (retransmitted_from next other)
 other_anew next Caller x y leg other one = record { calls = one.calls; is_called = one.is_called; there = one.there; back = one.back; matched = one.matched }
 other_anew next Called x y leg other one = record { calls = one.calls; is_called = one.is_called; there = one.there; back = one.back; matched = one.matched }
 
 module _ (external : ℕ) (tones : Tones) (w v : World) (x : Slot) (leg : Leg) (next : ℕ) (stand : LegsStand external tones w) (within : IsExternal external x) (at : leg_at w.legs x ≡ Some leg)
-    (legs : v.legs.held ≡ (with_entry w.legs x (Some (resent_from next leg))).held) (holding : v.holding ≡ w.holding) where
+    (legs : v.legs.held ≡ (with_entry w.legs x (Some (retransmitted_from next leg))).held) (holding : v.holding ≡ w.holding) where
   abbrev anew : Leg
-  anew = resent_from next leg
+  anew = retransmitted_from next leg
 
   here : leg_at v.legs x ≡ Some anew
   here = ap (look x) legs ∙ entry_here external w.legs x (Some anew) stand.count within
@@ -118,7 +118,7 @@ module _ (external : ℕ) (tones : Tones) (w v : World) (x : Slot) (leg : Leg) (
 
 -- ---- a leg in disconnect indication, whose user is asked to release
 
-may_hear_still : (tones : Tones) (next : ℕ) (leg : Leg) (o : Option Circuit) → leg.state ≡ disconnect_indication → MayHear tones leg o → MayHear tones (from_frame next (in_release_request leg)) o
+may_hear_still : (tones : Tones) (next : ℕ) (leg : Leg) (o : Option Circuit) → leg.state ≡ disconnect_indication → MayHear tones leg o → MayHear tones (waiting_from next (in_release_request leg)) o
 may_hear_still tones next leg None is may = (λ e. absurd cc, refl)
 may_hear_still tones next leg (Some (Tone kind to since)) is may = elim may [
   | inl sounds ↦ inr (refl, subst (λ (state : ℕ). tone_of tones (record leg { state = state }) ≡ Some kind) is sounds)
@@ -129,9 +129,9 @@ may_hear_still tones next leg (Some (Member room at since)) is may = let talks =
 
 module _ (external : ℕ) (tones : Tones) (w v : World) (x : Slot) (leg : Leg) (next : ℕ) (stand : LegsStand external tones w) (within : IsExternal external x) (at : leg_at w.legs x ≡ Some leg)
     (is : leg.state ≡ disconnect_indication) (nobody : leg.peer ≡ peer.Alone)
-    (legs : v.legs.held ≡ (with_entry w.legs x (Some (from_frame next (in_release_request leg)))).held) (holding : v.holding ≡ w.holding) where
+    (legs : v.legs.held ≡ (with_entry w.legs x (Some (waiting_from next (in_release_request leg)))).held) (holding : v.holding ≡ w.holding) where
   abbrev asked : Leg
-  asked = from_frame next (in_release_request leg)
+  asked = waiting_from next (in_release_request leg)
 
   asked_here : leg_at v.legs x ≡ Some asked
   asked_here = ap (look x) legs ∙ entry_here external w.legs x (Some asked) stand.count within

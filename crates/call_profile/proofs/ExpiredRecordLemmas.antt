@@ -8,7 +8,7 @@ use Rattle.q931_codec.specs.Causes.{invalid_number_format, no_answer_from_user, 
 use Rattle.call_timers.specs.declared.expiry.Expiry.{Expiry}
 use Rattle.call_timers.specs.declared.expiry.Expiry.TheVariants as expiry
 use Rattle.call_states.specs.Acts.{is_among}
-use Rattle.call_states.specs.declared.leg.Held.{Held}
+use Rattle.call_states.specs.declared.leg.HeldLeg.{HeldLeg}
 use Rattle.call_states.specs.declared.leg.Leg.{Leg}
 use Rattle.call_states.specs.declared.leg.Peer.TheVariants as peer
 use Rattle.call_states.specs.declared.leg.Side.{Side}
@@ -21,7 +21,7 @@ use Rattle.call_profile.specs.CallRecords.{before_clearing, is_calling, records}
 use Rattle.call_profile.specs.EndedCalls.{caller_in, record_calling, record_ended, record_of_expiry, expired_records}
 use Rattle.call_profile.specs.Expiring.{timed_state, send_again, give_up, ask_for_release, clear_peer, clear_both, on_expiry, cause_of_expiry, cause_if_due, cause_at, due_of, if_due, expire_leg, expire_slot}
 use Rattle.call_profile.specs.LegStanding.{AreOneCall}
-use Rattle.call_profile.specs.Legs.{leg_at, kept_at, with_entry, resent_from}
+use Rattle.call_profile.specs.Legs.{leg_at, kept_at, with_entry, retransmitted_from}
 use Rattle.call_profile.specs.Operations.{Operation, Making, begun, making_after_all}
 use Rattle.call_profile.specs.World.{World}
 use Rattle.call_profile.proofs.AnsweringLemmas.{ringing, caller_of}
@@ -41,7 +41,7 @@ no_caller leg not_up = rw not_up (nothing_more _) where
   nothing_more false = refl
 
 module _ (d : Dimensions) (tones : Tones) (m : Making) (x : Slot) (leg : Leg) (kept : Kept d tones m.world) (within : IsExternal d.external x) (at : leg_at m.world.legs x ≡ Some leg) where
-  abbrev h : Held
+  abbrev h : HeldLeg
   h = record { slot = x; leg = leg }
 
   abbrev w : World
@@ -63,13 +63,13 @@ module _ (d : Dimensions) (tones : Tones) (m : Making) (x : Slot) (leg : Leg) (k
 
   again_told : (o : Option (List ℕ)) → Told no_user_responding (send_again h o) []
   again_told None = no_records w no_user_responding
-  again_told (Some octets) = quiet no_user_responding (making_after_all d m (send_again h (Some octets))).world (Some (resent_from w.holding.next leg)) refl (λ calls. calls)
+  again_told (Some octets) = quiet no_user_responding (making_after_all d m (send_again h (Some octets))).world (Some (retransmitted_from w.holding.next leg)) refl (λ calls. calls)
 
   over_told : Told no_user_responding (give_up h ++ clear_peer tones w.legs h no_user_responding) (cons_option (record_ended w h no_user_responding) [])
   over_told = clearing_records d tones w x leg None no_user_responding kept.1 within at (inl refl) (making_after_all d m (give_up h)) refl
 
   -- the caller of a called leg is the one whose call is recorded
-  ended_by : (cause : ℕ) (side : Side) (o : Option Held) (k : Held) → side ≡ Called → o ≡ Some k → option_and_then (record_calling w cause) (caller_in side h o) ≡ record_calling w cause k
+  ended_by : (cause : ℕ) (side : Side) (o : Option HeldLeg) (k : HeldLeg) → side ≡ Called → o ≡ Some k → option_and_then (record_calling w cause) (caller_in side h o) ≡ record_calling w cause k
   ended_by cause side o k is_called is = rw (is_called, is) refl
 
   -- both legs are cleared, whose called user proceeds or is alerted
@@ -86,7 +86,7 @@ module _ (d : Dimensions) (tones : Tones) (m : Making) (x : Slot) (leg : Leg) (k
         let other = c.3.0 in
         let at_y = c.3.1 in
         let call = c.3.2 in
-        let k : Held = record { slot = y; leg = other } in
+        let k : HeldLeg = record { slot = y; leg = other } in
         let one : Leg = begun w (in_disconnect_indication recovery_on_timer_expiry leg) in
         let two : Leg = begun w (in_disconnect_indication cause other) in
         let is_peer : peer_of w.legs leg.peer ≡ Some k = ap (peer_of w.legs) c.1 ∙ held_there w.legs y other at_y in
@@ -135,9 +135,9 @@ module _ (s : Setting) (frame : ℕ) (m : Making) (x : Slot) (kept : Kept s.dime
   told_due leg (Some e) at is = expiry_told s.dimensions s.tones m x leg kept within at e (due_state leg.state leg.resent leg.since frame s.timers e is)
 
   told_held : (o : Option Leg) → leg_at m.world.legs x ≡ o
-      → records m.world (done (expire_leg s frame m.world.legs (option_map (λ (leg : Leg). let held : Held = record { slot = x; leg = leg } in held) o)))
-      (cause_if_due (option_and_then (λ (k : Held). due_of s.timers frame k.leg) (option_map (λ (leg : Leg). let held : Held = record { slot = x; leg = leg } in held) o)))
-      ≡ cons_option (option_and_then (λ (k : Held). option_and_then (record_of_expiry m.world k) (due_of s.timers frame k.leg)) (option_map (λ (leg : Leg). let held : Held = record { slot = x; leg = leg } in held) o)) []
+      → records m.world (done (expire_leg s frame m.world.legs (option_map (λ (leg : Leg). let held : HeldLeg = record { slot = x; leg = leg } in held) o)))
+      (cause_if_due (option_and_then (λ (k : HeldLeg). due_of s.timers frame k.leg) (option_map (λ (leg : Leg). let held : HeldLeg = record { slot = x; leg = leg } in held) o)))
+      ≡ cons_option (option_and_then (λ (k : HeldLeg). option_and_then (record_of_expiry m.world k) (due_of s.timers frame k.leg)) (option_map (λ (leg : Leg). let held : HeldLeg = record { slot = x; leg = leg } in held) o)) []
   told_held None at = no_records m.world no_user_responding
   told_held (Some leg) at = told_due leg (due_of s.timers frame leg) at refl
 

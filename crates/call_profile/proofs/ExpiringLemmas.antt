@@ -12,7 +12,7 @@ use Rattle.call_timers.specs.declared.expiry.Expiry.TheVariants as expiry
 use Rattle.call_states.specs.Acts.{is_among}
 use Rattle.q931_codec.proofs.Writable.{short_writable}
 use Rattle.call_states.specs.Status.{FitsMessages}
-use Rattle.call_states.specs.declared.leg.Held.{Held}
+use Rattle.call_states.specs.declared.leg.HeldLeg.{HeldLeg}
 use Rattle.call_states.specs.declared.leg.Leg.{Leg}
 use Rattle.call_states.specs.declared.leg.Peer.{Peer}
 use Rattle.call_states.specs.declared.leg.Peer.TheVariants as peer
@@ -42,7 +42,7 @@ permitted_both d tones plan m [] ps one more = more
 permitted_both d tones plan m (o ∷ os) ps one more = (one.0, permitted_both d tones plan (making_after d m o) os ps one.1 more)
 
 module _ (d : Dimensions) (tones : Tones) (m : Making) (x : Slot) (leg : Leg) (kept : Kept d tones m.world) (within : IsExternal d.external x) (at : leg_at m.world.legs x ≡ Some leg) where
-  abbrev h : Held
+  abbrev h : HeldLeg
   h = record { slot = x; leg = leg }
 
   abbrev w : World
@@ -159,7 +159,7 @@ module _ (s : Setting) (frame : ℕ) (legs : Legs) (x : Slot) (P : List Operatio
   due_by leg None at is = none
   due_by leg (Some e) at is = some leg e at is
 
-  held_by : (o : Option Leg) → leg_at legs x ≡ o → P (expire_leg s frame legs (option_map (λ (leg : Leg). let held : Held = record { slot = x; leg = leg } in held) o))
+  held_by : (o : Option Leg) → leg_at legs x ≡ o → P (expire_leg s frame legs (option_map (λ (leg : Leg). let held : HeldLeg = record { slot = x; leg = leg } in held) o))
   held_by None at = none
   held_by (Some leg) at = due_by leg (due_of s.timers frame leg) at refl
 

@@ -13,7 +13,7 @@ use Rattle.call_timers.specs.declared.expiry.Expiry.{Expiry}
 use Rattle.call_timers.specs.declared.expiry.Expiry.TheVariants as expiry
 use Rattle.call_timers.specs.declared.timers.Timers.{Timers}
 use Rattle.call_states.specs.Acts.{is_among}
-use Rattle.call_states.specs.declared.leg.Held.{Held}
+use Rattle.call_states.specs.declared.leg.HeldLeg.{HeldLeg}
 use Rattle.call_states.specs.declared.leg.Leg.{Leg}
 use Rattle.call_states.specs.declared.leg.Peer.{Peer}
 use Rattle.call_states.specs.declared.leg.Peer.TheVariants as peer
@@ -24,7 +24,7 @@ use Rattle.exchange_events.specs.Sizes.{Setting, Dimensions}
 use Rattle.call_profile.specs.Acts.{peer_of, with_peer, clear_with}
 use Rattle.call_profile.specs.Expiring.{timed_state, send_again, clear_peer, clear_both, on_expiry, due_of, expire_slot, slot_looked_at, outcome_of_lines}
 use Rattle.call_profile.specs.ExpiryBounds.{RunsOut, EitherRunsOut, NoneElseChanges, UntimedStay, without_timers}
-use Rattle.call_profile.specs.Legs.{Legs, resent_from, leg_at, kept_at}
+use Rattle.call_profile.specs.Legs.{Legs, retransmitted_from, leg_at, kept_at}
 use Rattle.call_profile.specs.LegStanding.{CallsStand, HasPeer, IsInCall, are_matched}
 use Rattle.call_profile.specs.Operations as op
 use Rattle.call_profile.specs.Operations.{Operation, Making, begun, making_after, making_after_all}
@@ -67,7 +67,7 @@ module _ (d : Dimensions) (z : Slot) (in_z : IsExternal d.external z) where
   spared m (op.Put x leg) may = entry_else d.external m.world.legs x z (Some (begun m.world leg)) may.0 in_z may.1
   spared m (op.Wait x leg p) may = entry_else d.external m.world.legs x z (Some (begun m.world leg)) may.0 in_z may.1
   spared m (op.Expect x leg message) may = entry_else d.external m.world.legs x z (Some (begun m.world leg)) may.0 in_z may.1
-  spared m (op.Repeat h octets) may = entry_else d.external m.world.legs h.slot z (Some (resent_from m.world.holding.next h.leg)) may.0 in_z may.1
+  spared m (op.Repeat h octets) may = entry_else d.external m.world.legs h.slot z (Some (retransmitted_from m.world.holding.next h.leg)) may.0 in_z may.1
   spared m (op.Remove x) may = entry_else d.external m.world.legs x z None may.0 in_z may.1
   spared m (op.Send line message) may = refl
 
@@ -81,11 +81,11 @@ module _ (d : Dimensions) (z : Slot) (in_z : IsExternal d.external z) where
 
   -- ---- an expiry
 
-  module _ (tones : Tones) (legs : Legs) (h : Held) (apart : Apart h.slot) where
-    cleared : (cause : ℕ) (k : Held) → Apart k.slot → SparesAll (clear_with tones cause k)
+  module _ (tones : Tones) (legs : Legs) (h : HeldLeg) (apart : Apart h.slot) where
+    cleared : (cause : ℕ) (k : HeldLeg) → Apart k.slot → SparesAll (clear_with tones cause k)
     cleared cause k away = (tt, (away, (tt, (tt, tt))))
 
-    peer_cleared : (cause : ℕ) (o : Option Held) → IfSome o (λ k. Apart k.slot) → SparesAll (with_peer o (clear_with tones cause))
+    peer_cleared : (cause : ℕ) (o : Option HeldLeg) → IfSome o (λ k. Apart k.slot) → SparesAll (with_peer o (clear_with tones cause))
     peer_cleared cause None away = tt
     peer_cleared cause (Some k) away = cleared cause k away
 
@@ -146,12 +146,12 @@ module _ (s : Setting) (frame next : ℕ) (before : Legs) (later : frame < next)
     names leg peer.Alone has = inl tt
     names leg (peer.Leg y) has = elim (same_or_apart z y) [
       | inl same ↦ inr (has.1.0, ap (leg_at now_legs) same ∙ has.1.1, peer_back leg.side x y leg has.1.0 has.1.2)
-      | inr apart ↦ inl (subst (λ (o : Option Held). IfSome o (λ k. Apart s.dimensions z in_z k.slot)) (sym (held_there now_legs y has.1.0 has.1.1)) (has.0, apart))
+      | inr apart ↦ inl (subst (λ (o : Option HeldLeg). IfSome o (λ k. Apart s.dimensions z in_z k.slot)) (sym (held_there now_legs y has.1.0 has.1.1)) (has.0, apart))
     ]
     names leg (peer.Room room) has = inl tt
 
     module _ (leg : Leg) (e : Expiry) (at : leg_at now_legs x ≡ Some leg) (is : due_of s.timers frame leg ≡ Some e) where
-      abbrev h : Held
+      abbrev h : HeldLeg
       h = record { slot = x; leg = leg }
 
       -- what an earlier line's timer has put here is not due in the same frame

@@ -22,7 +22,7 @@ use Rattle.q931_codec.specs.Causes.{invalid_number_format, no_answer_from_user, 
 use Rattle.call_timers.specs.declared.expiry.Expiry.{Expiry}
 use Rattle.call_timers.specs.declared.expiry.Expiry.TheVariants as expiry
 use Rattle.call_states.specs.Acts.{is_among}
-use Rattle.call_states.specs.declared.leg.Held.{Held}
+use Rattle.call_states.specs.declared.leg.HeldLeg.{HeldLeg}
 use Rattle.call_states.specs.declared.leg.Leg.{Leg}
 use Rattle.call_states.specs.declared.leg.Peer.{Peer}
 use Rattle.call_states.specs.declared.leg.Peer.TheVariants as peer
@@ -70,11 +70,11 @@ module _ (Free : Slot → Type 0) where
   both_clear [] ps one other = other
   both_clear (o ∷ os) ps one other = (one.0, both_clear os ps one.1 other)
 
-  module _ (tones : Tones) (legs : Legs) (h : Held) (free : Free h.slot) where
-    cleared : (cause : ℕ) (k : Held) → Free k.slot → ClearsAll (clear_with tones cause k)
+  module _ (tones : Tones) (legs : Legs) (h : HeldLeg) (free : Free h.slot) where
+    cleared : (cause : ℕ) (k : HeldLeg) → Free k.slot → ClearsAll (clear_with tones cause k)
     cleared cause k at = (at, (tt, (tt, (tt, tt))))
 
-    peer_cleared : (cause : ℕ) (o : Option Held) → IfSome o (λ k. Free k.slot) → ClearsAll (with_peer o (clear_with tones cause))
+    peer_cleared : (cause : ℕ) (o : Option HeldLeg) → IfSome o (λ k. Free k.slot) → ClearsAll (with_peer o (clear_with tones cause))
     peer_cleared cause None at = tt
     peer_cleared cause (Some k) at = cleared cause k at
 
@@ -124,7 +124,7 @@ module _ (s : Setting) (frame : ℕ) (m : Making) (kept : Kept s.dimensions s.to
   peer_free : (leg : Leg) (p : Peer) → is_among ringing leg.state ≡ true → HasPeer s.dimensions.external m.world.legs x leg p → IfSome (peer_of m.world.legs p) (λ k. Free k.slot)
   peer_free leg peer.Alone among has = tt
   peer_free leg (peer.Leg y) among has =
-      subst (λ (o : Option Held). IfSome o (λ k. Free k.slot)) (sym (held_there m.world.legs y has.1.0 has.1.1)) (free y has.1.0 has.0 has.1.1 (λ up. not_answered leg.side x y leg has.1.0 among up has.1.2))
+      subst (λ (o : Option HeldLeg). IfSome o (λ k. Free k.slot)) (sym (held_there m.world.legs y has.1.0 has.1.1)) (free y has.1.0 has.0 has.1.1 (λ up. not_answered leg.side x y leg has.1.0 among up has.1.2))
   peer_free leg (peer.Room room) among has = tt
 
   slot_clears : ClearsAll Free (expire_slot s frame m.world.legs x)

@@ -5,7 +5,7 @@ use Rattle.q931_codec.specs.Causes.{no_answer_from_user, no_user_responding}
 use Rattle.q931_codec.specs.Outgoing.{encoding}
 use Rattle.call_timers.specs.declared.expiry.Expiry.{Expiry}
 use Rattle.call_timers.specs.declared.expiry.Expiry.TheVariants as expiry
-use Rattle.call_states.specs.declared.leg.Held.{Held}
+use Rattle.call_states.specs.declared.leg.HeldLeg.{HeldLeg}
 use Rattle.tone_rules.specs.declared.tones.Tones.{Tones}
 use Rattle.exchange_events.specs.declared.record.CallRecord.{CallRecord}
 use Rattle.exchange_events.specs.declared.signal.Signal.{Signal}
@@ -71,15 +71,15 @@ sent_by_both (o ∷ os) ps = let rest = sent_by_both os ps in omega (arith, rest
 
 -- ---- an expiry
 
-peer_sends : (tones : Tones) (cause : ℕ) (o : Option Held) → sent_by_all (with_peer o (clear_with tones cause)) ≤ 1
+peer_sends : (tones : Tones) (cause : ℕ) (o : Option HeldLeg) → sent_by_all (with_peer o (clear_with tones cause)) ≤ 1
 peer_sends tones cause None = omega arith
 peer_sends tones cause (Some h) = omega arith
 
-again_sends : (h : Held) (o : Option (List ℕ)) → sent_by_all (send_again h o) ≤ 2
+again_sends : (h : HeldLeg) (o : Option (List ℕ)) → sent_by_all (send_again h o) ≤ 2
 again_sends h None = omega arith
 again_sends h (Some octets) = omega arith
 
-expiry_sends : (tones : Tones) (legs : Legs) (h : Held) (e : Expiry) → sent_by_all (on_expiry tones legs h e) ≤ 2
+expiry_sends : (tones : Tones) (legs : Legs) (h : HeldLeg) (e : Expiry) → sent_by_all (on_expiry tones legs h e) ≤ 2
 expiry_sends tones legs h expiry.Digits = omega arith
 expiry_sends tones legs h expiry.SetupAgain = again_sends h (kept_at legs h.slot)
 expiry_sends tones legs h expiry.SetupOver = let peer = peer_sends tones no_user_responding (peer_of legs h.leg.peer) in omega (arith, peer)
@@ -89,11 +89,11 @@ expiry_sends tones legs h expiry.Disconnect = omega arith
 expiry_sends tones legs h expiry.ReleaseAgain = again_sends h (kept_at legs h.slot)
 expiry_sends tones legs h expiry.ReleaseOver = omega arith
 
-due_sends : (tones : Tones) (legs : Legs) (h : Held) (o : Option Expiry) → sent_by_all (if_due tones legs h o) ≤ 2
+due_sends : (tones : Tones) (legs : Legs) (h : HeldLeg) (o : Option Expiry) → sent_by_all (if_due tones legs h o) ≤ 2
 due_sends tones legs h None = omega arith
 due_sends tones legs h (Some e) = expiry_sends tones legs h e
 
-leg_sends : (s : Setting) (frame : ℕ) (legs : Legs) (o : Option Held) → sent_by_all (expire_leg s frame legs o) ≤ 2
+leg_sends : (s : Setting) (frame : ℕ) (legs : Legs) (o : Option HeldLeg) → sent_by_all (expire_leg s frame legs o) ≤ 2
 leg_sends s frame legs None = omega arith
 leg_sends s frame legs (Some h) = due_sends s.tones legs h (due_of s.timers frame h.leg)
 

@@ -9,7 +9,7 @@ use Rattle.call_states.specs.declared.leg.Leg.{Leg}
 use Rattle.tone_rules.specs.declared.tones.Tones.{Tones}
 use Rattle.exchange_events.specs.Sizes.{Setting, Dimensions}
 use Rattle.call_profile.specs.Expiring.{expire_slot, slot_looked_at, outcome_of_lines}
-use Rattle.call_profile.specs.Legs.{Legs, resent_from, leg_at, with_entry}
+use Rattle.call_profile.specs.Legs.{Legs, retransmitted_from, leg_at, with_entry}
 use Rattle.call_profile.specs.Operations as op
 use Rattle.call_profile.specs.Operations.{Operation, Making, begun, making_after, making_after_all}
 use Rattle.call_profile.specs.World.{World}
@@ -51,7 +51,7 @@ module _ (d : Dimensions) (tones : Tones) (plan : List Number) (before : Legs) (
   performed m (op.Wait x leg p) may fine = (fine.0, length-set m.world.legs.held (number_of x) (Some (begun m.world leg)) ∙ fine.1, entered m.world.legs x (Some (begun m.world leg)) may.0 fine.1 fine.2 fine.0)
   performed m (op.Expect x leg message) may fine = (fine.0, length-set m.world.legs.held (number_of x) (Some (begun m.world leg)) ∙ fine.1, entered m.world.legs x (Some (begun m.world leg)) may.0 fine.1 fine.2 fine.0)
   performed m (op.Repeat h octets) may fine =
-      let again = resent_from m.world.holding.next h.leg in
+      let again = retransmitted_from m.world.holding.next h.leg in
       (fine.0, length-set m.world.legs.held (number_of h.slot) (Some again) ∙ fine.1, entered m.world.legs h.slot (Some again) may.0 fine.1 fine.2 fine.0)
   performed m (op.Remove x) may fine = (fine.0, length-set m.world.legs.held (number_of x) None ∙ fine.1, entered m.world.legs x None may fine.1 fine.2 tt)
   performed m (op.Send line message) may fine = fine

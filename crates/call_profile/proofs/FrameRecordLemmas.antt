@@ -16,7 +16,7 @@ use Rattle.q931_codec.specs.Causes.{invalid_number_format, no_answer_from_user, 
 use Rattle.call_timers.specs.declared.expiry.Expiry.{Expiry}
 use Rattle.call_timers.specs.declared.expiry.Expiry.TheVariants as expiry
 use Rattle.call_states.specs.Acts.{is_among}
-use Rattle.call_states.specs.declared.leg.Held.{Held}
+use Rattle.call_states.specs.declared.leg.HeldLeg.{HeldLeg}
 use Rattle.call_states.specs.declared.leg.Leg.{Leg}
 use Rattle.call_states.specs.declared.leg.Peer.{Peer}
 use Rattle.call_states.specs.declared.leg.Peer.TheVariants as peer
@@ -34,7 +34,7 @@ use Rattle.call_profile.specs.Expiring.{timed_state, send_again, clear_peer, cle
 use Rattle.call_profile.specs.ExpiryBounds.{RunsOut, EitherRunsOut, without_timers}
 use Rattle.call_profile.specs.ExpiryRecords.{cause_of_silence, IsFrameRecord, IsInFrame, IsLineBefore, ComeByLine}
 use Rattle.call_profile.specs.LegStanding.{CallsStand, HasPeer, IsInCall, are_matched}
-use Rattle.call_profile.specs.Legs.{Legs, leg_at, held_at, kept_at, with_entry, resent_from}
+use Rattle.call_profile.specs.Legs.{Legs, leg_at, held_at, kept_at, with_entry, retransmitted_from}
 use Rattle.call_profile.specs.Operations as op
 use Rattle.call_profile.specs.Operations.{Operation, Making, begun, making_after, making_after_all}
 use Rattle.call_profile.specs.Recorded.{HasEnded}
@@ -102,7 +102,7 @@ module _ (d : Dimensions) (tones : Tones) (plan : List Number) (before : Legs) (
   performed m (op.Put x leg) may hushes so_far = entered m.world.legs x (Some (begun m.world leg)) may.0 hushes so_far
   performed m (op.Wait x leg p) may hushes so_far = entered m.world.legs x (Some (begun m.world leg)) may.0 hushes so_far
   performed m (op.Expect x leg message) may hushes so_far = entered m.world.legs x (Some (begun m.world leg)) may.0 hushes so_far
-  performed m (op.Repeat h octets) may hushes so_far = entered m.world.legs h.slot (Some (resent_from m.world.holding.next h.leg)) may.0 hushes so_far
+  performed m (op.Repeat h octets) may hushes so_far = entered m.world.legs h.slot (Some (retransmitted_from m.world.holding.next h.leg)) may.0 hushes so_far
   performed m (op.Remove x) may hushes so_far = entered m.world.legs x None may refl so_far
   performed m (op.Send line message) may hushes so_far = so_far
 
@@ -116,17 +116,17 @@ module _ (d : Dimensions) (tones : Tones) (plan : List Number) (before : Legs) (
 
   -- ---- an expiry
 
-  cleared_hush : (cause : ℕ) (k : Held) → HushesAll (clear_with tones cause k)
+  cleared_hush : (cause : ℕ) (k : HeldLeg) → HushesAll (clear_with tones cause k)
   cleared_hush cause k = (tt, (no_caller (in_disconnect_indication cause k.leg) refl, (tt, (tt, tt))))
 
-  peer_hush : (cause : ℕ) (o : Option Held) → HushesAll (with_peer o (clear_with tones cause))
+  peer_hush : (cause : ℕ) (o : Option HeldLeg) → HushesAll (with_peer o (clear_with tones cause))
   peer_hush cause None = tt
   peer_hush cause (Some k) = cleared_hush cause k
 
-  legs_hush : (cause : ℕ) (legs : Legs) (h : Held) → HushesAll (clear_both tones legs h cause)
+  legs_hush : (cause : ℕ) (legs : Legs) (h : HeldLeg) → HushesAll (clear_both tones legs h cause)
   legs_hush cause legs h = both_hush (clear_with tones recovery_on_timer_expiry h) (clear_peer tones legs h cause) (cleared_hush recovery_on_timer_expiry h) (peer_hush cause (peer_of legs h.leg.peer))
 
-  again_hush : (h : Held) (o : Option (List ℕ)) → is_calling (Some h.leg) ≡ false → HushesAll (send_again h o)
+  again_hush : (h : HeldLeg) (o : Option (List ℕ)) → is_calling (Some h.leg) ≡ false → HushesAll (send_again h o)
   again_hush h None silent = tt
   again_hush h (Some octets) silent = (silent, tt)
 
@@ -140,7 +140,7 @@ module _ (d : Dimensions) (tones : Tones) (plan : List Number) (before : Legs) (
   timed_silent expiry.ReleaseAgain = refl
   timed_silent expiry.ReleaseOver = refl
 
-  expiry_hush : (legs : Legs) (h : Held) (e : Expiry) → is_calling (Some h.leg) ≡ false → HushesAll (on_expiry tones legs h e)
+  expiry_hush : (legs : Legs) (h : HeldLeg) (e : Expiry) → is_calling (Some h.leg) ≡ false → HushesAll (on_expiry tones legs h e)
   expiry_hush legs h expiry.Digits silent = cleared_hush invalid_number_format h
   expiry_hush legs h expiry.SetupAgain silent = again_hush h (kept_at legs h.slot) silent
   expiry_hush legs h expiry.SetupOver silent = (tt, (tt, (tt, peer_hush no_user_responding (peer_of legs h.leg.peer))))
@@ -185,7 +185,7 @@ record IsToldOf (u : World) (x : Slot) (cause : ℕ) (c : CallRecord) : Type 0 w
   caller : (y : Slot) × (other : Leg) × (leg_at u.legs y ≡ Some other) × (c.caller ≡ y) × (cause ≡ cause_of_silence other)
 
 module _ (external : ℕ) (tones : Tones) (u : World) (x : Slot) (leg : Leg) (c : CallRecord) (f : Expiry) (state : leg.state ≡ timed_state f) where
-  abbrev held : Held
+  abbrev held : HeldLeg
   held = record { slot = x; leg = leg }
 
   abbrev cause : ℕ
@@ -195,7 +195,7 @@ module _ (external : ℕ) (tones : Tones) (u : World) (x : Slot) (leg : Leg) (c 
   of_called peer.Alone is has side e = absurd (cc e)
   of_called (peer.Leg y) is has side e =
       let other = has.1.0 in
-      let caller : Held = record { slot = y; leg = other } in
+      let caller : HeldLeg = record { slot = y; leg = other } in
       let record_is = calling_is u cause caller c (rw (held_there u.legs y other has.1.1) at e) in
       let who = record_parties u cause caller c record_is in
       let call : IsInCall Called x leg y other = subst (λ (s : Side). IsInCall s x leg y other) side has.1.2 in
@@ -237,8 +237,8 @@ module _ (s : Setting) (frame : ℕ) (u : World) (kept : Kept s.dimensions s.ton
       of_expiry s.dimensions.external s.tones u x leg c f (due_state leg.state leg.resent leg.since frame s.timers f is) (due_silent s frame leg (Some f) is f refl) (kept.1.each x leg in_x at).peer e
 
   of_leg : (o : Option Leg) → leg_at u.legs x ≡ o
-      → option_and_then (λ (h : Held). option_and_then (record_of_expiry u h) (due_of s.timers frame h.leg)) (option_map (λ (leg : Leg). let h : Held = record { slot = x; leg = leg } in h) o) ≡ Some c
-      → IsToldOf u x (cause_if_due (option_and_then (λ (h : Held). due_of s.timers frame h.leg) (option_map (λ (leg : Leg). let h : Held = record { slot = x; leg = leg } in h) o))) c
+      → option_and_then (λ (h : HeldLeg). option_and_then (record_of_expiry u h) (due_of s.timers frame h.leg)) (option_map (λ (leg : Leg). let h : HeldLeg = record { slot = x; leg = leg } in h) o) ≡ Some c
+      → IsToldOf u x (cause_if_due (option_and_then (λ (h : HeldLeg). due_of s.timers frame h.leg) (option_map (λ (leg : Leg). let h : HeldLeg = record { slot = x; leg = leg } in h) o))) c
   of_leg None at e = absurd (cc e)
   of_leg (Some leg) at e = of_due leg (due_of s.timers frame leg) at refl e
 
@@ -297,11 +297,11 @@ none_come = record { rising = λ i j d lt within. absurd (omega (arith, lt, with
 
 -- ---- the record of a call that was not answered
 
-early : (w : World) (cause : ℕ) (h : Held) → (h.leg.state == active) ≡ false
+early : (w : World) (cause : ℕ) (h : HeldLeg) → (h.leg.state == active) ≡ false
     → record_of w cause h ≡ option_map (λ (called : Party). let c : CallRecord = record { caller = h.slot; called = called; answered = false; from = w.holding.next; to = w.holding.next; cause = cause } in c) (party_of h.leg.peer)
 early w cause h e = rw e refl
 
-early_same : (u w : World) (cause : ℕ) (h : Held) → (h.leg.state == active) ≡ false → u.holding.next ≡ w.holding.next → record_of u cause h ≡ record_of w cause h
+early_same : (u w : World) (cause : ℕ) (h : HeldLeg) → (h.leg.state == active) ≡ false → u.holding.next ≡ w.holding.next → record_of u cause h ≡ record_of w cause h
 early_same u w cause h e next =
     early u cause h e
     ∙ ap (λ (n : ℕ). option_map (λ (called : Party). let c : CallRecord = record { caller = h.slot; called = called; answered = false; from = n; to = n; cause = cause } in c) (party_of h.leg.peer)) next
@@ -311,7 +311,7 @@ no_timer_but : (state : ℕ) → is_among without_timers state ≡ false → (st
 no_timer_but state e = grind (arith, common_steps, e)
 
 -- the cause with which the call of a caller's leg is recorded
-abbrev silence_of : Held → ℕ
+abbrev silence_of : HeldLeg → ℕ
 silence_of h = cause_of_silence h.leg
 
 -- ---- line by line
@@ -382,7 +382,7 @@ module _ (s : Setting) (frame : ℕ) (w : World) (kept : Kept s.dimensions s.ton
     ]
 
     -- a call that ends here was not answered
-    not_active : (h : Held) → HasEnded external u v h → (h.leg.state == active) ≡ false
+    not_active : (h : HeldLeg) → HasEnded external u v h → (h.leg.state == active) ≡ false
     not_active h ended = elim (true_or_false (is_among without_timers h.leg.state)) [
       | inl among ↦ absurd (stays among (changed_by s frame w kept later h.slot ended.within (suc n) small))
       | inr timed ↦ no_timer_but h.leg.state timed
@@ -398,7 +398,7 @@ module _ (s : Setting) (frame : ℕ) (w : World) (kept : Kept s.dimensions s.ton
         stays among (inl same) = let wrong : false ≡ true = sym ended.stops ∙ ap is_calling (sym now ∙ same ∙ at_first) ∙ ended.calls in cc
         stays among (inr out) = untimed h.slot h.leg ended.within at_first among out
 
-    same_record : (h : Held) → HasEnded external u v h → record_of u (silence_of h) h ≡ record_of w (silence_of h) h
+    same_record : (h : HeldLeg) → HasEnded external u v h → record_of u (silence_of h) h ≡ record_of w (silence_of h) h
     same_record h ended = early_same u w (silence_of h) h (not_active h ended) (next_by s frame w kept h.slot ended.within n fewer)
 
     abbrev cause_here : ℕ
@@ -411,7 +411,7 @@ module _ (s : Setting) (frame : ℕ) (w : World) (kept : Kept s.dimensions s.ton
     ended_here = of_records external u v cause_here now_kept.1.count
 
     -- the caller's state gives the cause with which its call is recorded
-    cause_is : (h : Held) → HasEnded external u v h → cause_here ≡ silence_of h
+    cause_is : (h : HeldLeg) → HasEnded external u v h → cause_here ≡ silence_of h
     cause_is h ended =
         let found = calling_record external u cause_here h (now_kept.1.each h.slot h.leg ended.within ended.at).peer ended.calls in
         let c = found.0 in
@@ -465,7 +465,7 @@ module _ (s : Setting) (w : World) (input : Input) (stands : CallsStand s w) whe
   calls_untimed leg (Some e) is calls = let wrong : false ≡ true = sym (due_silent s w.holding.next leg (Some e) is e refl) ∙ calls in absurd cc
 
   -- the timer that ran out is the one of the called leg
-  module _ (h : Held) (c : CallRecord) (ended : HasEnded s.dimensions.external w afterwards h) (is : record_of passed (silence_of h) h ≡ Some c) where
+  module _ (h : HeldLeg) (c : CallRecord) (ended : HasEnded s.dimensions.external w afterwards h) (is : record_of passed (silence_of h) h ≡ Some c) where
     abbrev Due : Type 0
     Due = (y : Slot) × (leg : Leg) × (c.called ≡ party.Line y) × RunsOut s.timers w.holding.next w.legs y leg
 
@@ -496,13 +496,13 @@ module _ (s : Setting) (w : World) (input : Input) (stands : CallsStand s w) whe
         let cause = record_cause passed (silence_of h) h c is in
         record { ended = ended; is = subst (λ (n : ℕ). record_of passed n h ≡ Some c) (sym cause) is; cause = cause; due = due }
 
-  pub frame_record_is : (c : CallRecord) → Contains (outcome_of_frame s w input).recorded c → (h : Held) × IsFrameRecord s w input h c
+  pub frame_record_is : (c : CallRecord) → Contains (outcome_of_frame s w input).recorded c → (h : HeldLeg) × IsFrameRecord s w input h c
   frame_record_is c inside =
       let e = whole.recorded.ends c inside in
       let ended : HasEnded s.dimensions.external w afterwards e.0 = record { within = e.1.within; at = e.1.at; calls = e.1.calls; stops = e.1.stops } in
       (e.0, is_frame_record e.0 c ended e.2)
 
-  pub frame_ended_is_recorded : (h : Held) → HasEnded s.dimensions.external w afterwards h → IsInFrame s w input h
+  pub frame_ended_is_recorded : (h : HeldLeg) → HasEnded s.dimensions.external w afterwards h → IsInFrame s w input h
   frame_ended_is_recorded h ended =
       let found = calling_record s.dimensions.external passed (silence_of h) h (stands.legs.each h.slot h.leg ended.within ended.at).peer ended.calls in
       let over : HasEnded s.dimensions.external passed afterwards h = record { within = ended.within; at = ended.at; calls = ended.calls; stops = ended.stops } in

@@ -9,7 +9,7 @@ use Rattle.call_states.specs.declared.pending.Pending.{Pending}
 use Rattle.exchange_events.specs.Sizes.{Dimensions}
 use Rattle.call_profile.specs.Hunting.{IsFull, IsFirstIdle, IsIdleOnOne}
 use Rattle.call_profile.specs.IdleSlots.{lowest_idle_beside, hunted}
-use Rattle.call_profile.specs.Legs.{new_reference}
+use Rattle.call_profile.specs.Legs.{lowest_free_reference}
 use Rattle.call_profile.specs.Setup.{accept, call, call_line, called_checks}
 use Rattle.call_profile.specs.World.{World}
 use Rattle.call_profile.proofs.SetupLemmas.{called_is, hunted_on}
@@ -95,7 +95,7 @@ module _ (w : World) (x : Slot) where
 
   one_call : (first : Bool) (own : ℕ) (asked : Pending) (line : ℕ) (o : Option Slot) → lowest_idle_beside w x line ≡ o → call first w own asked x (Lines (line ∷ [])) (option_or o None) ≡ call first w own asked x (Line line) o
   one_call first own asked line None chosen = refl
-  one_call first own asked line (Some y) chosen = ap (λ n. call_line first own asked x y (new_reference w.legs n)) (called_is w x line y chosen).2.0
+  one_call first own asked line (Some y) chosen = ap (λ n. call_line first own asked x y (lowest_free_reference w.legs n)) (called_is w x line y chosen).2.0
 
   pub one_accepted : (first : Bool) (own : ℕ) (asked : Pending) (line : ℕ) → accept first w own asked x (Lines (line ∷ [])) ≡ accept first w own asked x (Line line)
   one_accepted first own asked line = one_call first own asked line (lowest_idle_beside w x line) refl

@@ -13,7 +13,7 @@ use Rattle.call_states.specs.Acts.{is_among}
 use Rattle.call_states.specs.declared.leg.Leg.{Leg}
 use Rattle.call_states.specs.declared.pending.Pending.{Pending}
 use Rattle.call_profile.specs.KeptMessages.{awaiting_answer, state_after, IsAwaited, IsKept, MayKeep, LegsWait, EachBegan, EachIsKept, NoneElseIsKept}
-use Rattle.call_profile.specs.Legs.{Legs, from_frame, resent_from, leg_at, kept_at, no_legs}
+use Rattle.call_profile.specs.Legs.{Legs, waiting_from, retransmitted_from, leg_at, kept_at, no_legs}
 use Rattle.call_profile.specs.LegStanding.{CallsStand}
 use Rattle.call_profile.specs.World.{World}
 use Rattle.exchange_events.specs.Sizes.{Setting}
@@ -40,14 +40,14 @@ digits_keep_none state is = rw is refl
 
 -- ---- what is kept of a leg that is put, or waits anew
 
-pub kept_from : (next : ℕ) (leg : Leg) (message : OutgoingMessage) → IsAwaited leg message → IsKept (from_frame next leg) (encoding message)
+pub kept_from : (next : ℕ) (leg : Leg) (message : OutgoingMessage) → IsAwaited leg message → IsKept (waiting_from next leg) (encoding message)
 kept_from next leg message is = record {
   message = message;
   encoded = refl;
   awaited = record { flag = is.flag; reference = is.reference; state = is.state; writable = is.writable; quiet = is.quiet };
 }
 
-pub kept_anew : (next : ℕ) (leg : Leg) (octets : List ℕ) → IsKept leg octets → IsKept (resent_from next leg) octets
+pub kept_anew : (next : ℕ) (leg : Leg) (octets : List ℕ) → IsKept leg octets → IsKept (retransmitted_from next leg) octets
 kept_anew next leg octets is = record {
   message = is.message;
   encoded = is.encoded;

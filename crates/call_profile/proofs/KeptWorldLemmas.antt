@@ -23,7 +23,7 @@ use Rattle.call_profile.specs.Expiring.{slot_looked_at, expire_slot}
 use Rattle.call_profile.specs.IdleSlots.{idle, is_nailed}
 use Rattle.call_profile.specs.LegStanding.{CallsStand}
 use Rattle.q931_codec.specs.Outgoing.{encoding}
-use Rattle.call_profile.specs.Legs.{Legs, leg_at, with_leg, resent_from, with_waiting, with_kept, without_leg}
+use Rattle.call_profile.specs.Legs.{Legs, leg_at, with_leg, retransmitted_from, with_waiting, with_kept, without_leg}
 use Rattle.call_profile.specs.Operations.{Operation, begun, Making, making_at, making_after, making_after_all, with_tone}
 use Rattle.call_profile.specs.Operations as op
 use Rattle.call_profile.specs.Permitted.{CanSeat}
@@ -65,7 +65,7 @@ module _ (d : Dimensions) (tones : Tones) (plan : List Number) (P : World → Ty
   performed m (op.Put x leg) may holds = keeps.legs m.world (with_leg m.world.legs x (begun m.world leg)) holds
   performed m (op.Wait x leg p) may holds = keeps.legs m.world (with_waiting m.world.legs x (begun m.world leg) p) holds
   performed m (op.Expect x leg message) may holds = keeps.legs m.world (with_kept m.world.legs x (begun m.world leg) (encoding message)) holds
-  performed m (op.Repeat h octets) may holds = keeps.legs m.world (with_kept m.world.legs h.slot (resent_from m.world.holding.next h.leg) octets) holds
+  performed m (op.Repeat h octets) may holds = keeps.legs m.world (with_kept m.world.legs h.slot (retransmitted_from m.world.holding.next h.leg) octets) holds
   performed m (op.Remove x) may holds = keeps.legs m.world (without_leg m.world.legs x) holds
   performed m (op.Send line message) may holds = holds
 

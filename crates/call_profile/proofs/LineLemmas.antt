@@ -4,8 +4,8 @@ use Rattle.std.specs.Prelude.{find, filter_map}
 use Rattle.std.specs.List.{range_with_len, position_or_len}
 use Rattle.circuit_model.specs.declared.channel.Slot.{Slot}
 use Rattle.call_states.specs.declared.leg.Leg.{Leg}
-use Rattle.call_states.specs.declared.leg.Held.{Held}
-use Rattle.call_profile.specs.Legs.{Legs, leg_at, held_at, slots_of, is_for, leg_named, is_unused, new_reference}
+use Rattle.call_states.specs.declared.leg.HeldLeg.{HeldLeg}
+use Rattle.call_profile.specs.Legs.{Legs, leg_at, held_at, slots_of, is_addressed_to, leg_named, is_unused, lowest_free_reference}
 
 -- the slots of a line from a place on
 pub slots_from : ℕ → ℕ → List Slot
@@ -29,8 +29,8 @@ slots_more line place within =
     ap (map (λ p. record { line = line; place = p })) (range_more place (30 - place) (30 - (place + 1)) long)
 
 -- the leg that is found from a place on
-pub found_from : Legs → ℕ → Bool → ℕ → ℕ → Option Held
-found_from legs line flag reference place = find (is_for flag reference) (filter_map (held_at legs) (slots_from line place))
+pub found_from : Legs → ℕ → Bool → ℕ → ℕ → Option HeldLeg
+found_from legs line flag reference place = find (is_addressed_to flag reference) (filter_map (held_at legs) (slots_from line place))
 
 pub found_all : (legs : Legs) (line : ℕ) (flag : Bool) (reference : ℕ) → leg_named legs line flag reference ≡ found_from legs line flag reference 0
 unfolding found_from
@@ -46,13 +46,13 @@ module _ (legs : Legs) (line : ℕ) (flag : Bool) (reference place : ℕ) (withi
   found_none none = rw (slots_more line place within, none) refl
 
   pub found_other : (leg : Leg) → leg_at legs (record { line = line; place = place }) ≡ Some leg
-      → is_for flag reference (record { slot = record { line = line; place = place }; leg = leg }) ≡ false
+      → is_addressed_to flag reference (record { slot = record { line = line; place = place }; leg = leg }) ≡ false
       → found_from legs line flag reference place ≡ found_from legs line flag reference (place + 1)
   unfolding found_from
   found_other leg some other = rw (slots_more line place within, some, other) refl
 
   pub found_here : (leg : Leg) → leg_at legs (record { line = line; place = place }) ≡ Some leg
-      → is_for flag reference (record { slot = record { line = line; place = place }; leg = leg }) ≡ true
+      → is_addressed_to flag reference (record { slot = record { line = line; place = place }; leg = leg }) ≡ true
       → found_from legs line flag reference place ≡ Some (record { slot = record { line = line; place = place }; leg = leg })
   unfolding found_from
   found_here leg some here = rw (slots_more line place within, some, here) refl
@@ -61,7 +61,7 @@ module _ (legs : Legs) (line : ℕ) (flag : Bool) (reference place : ℕ) (withi
 pub unused_from : Legs → ℕ → ℕ → ℕ
 unused_from legs line reference = position_or_len (is_unused legs line) (range_with_len reference (31 - reference))
 
-pub unused_all : (legs : Legs) (line : ℕ) → new_reference legs line ≡ 1 + unused_from legs line 1
+pub unused_all : (legs : Legs) (line : ℕ) → lowest_free_reference legs line ≡ 1 + unused_from legs line 1
 unfolding unused_from
 unused_all legs line = refl
 

@@ -20,7 +20,7 @@ use Rattle.call_states.specs.declared.leg.Peer.{Peer}
 use Rattle.call_states.specs.declared.leg.Peer.TheVariants as peer
 use Rattle.call_states.specs.declared.leg.Side.{Side}
 use Rattle.call_states.proofs.Causes.{cause_fits}
-use Rattle.call_states.specs.declared.leg.Held.{Held}
+use Rattle.call_states.specs.declared.leg.HeldLeg.{HeldLeg}
 use Rattle.call_profile.specs.ActCourse.{course_of}
 use Rattle.call_profile.specs.Acts.{peer_of, with_peer, on_alerting, on_connect}
 use Rattle.call_profile.specs.Calls.{making_by}
@@ -98,11 +98,11 @@ one_rings state among = grind (arith, common_steps, among)
 
 -- ---- what is done with a leg whose call has a caller
 
-pub with_caller : (legs : Legs) (p : Peer) (y : Slot) (other : Leg) (does : Held → List Operation) → p ≡ peer.Leg y → leg_at legs y ≡ Some other
+pub with_caller : (legs : Legs) (p : Peer) (y : Slot) (other : Leg) (does : HeldLeg → List Operation) → p ≡ peer.Leg y → leg_at legs y ≡ Some other
     → with_peer (peer_of legs p) does ≡ does (record { slot = y; leg = other })
 with_caller legs p y other does is at = rw (is, held_there legs y other at) refl
 
-module _ (s : Setting) (w : World) (h : Held) (planned : IsPlanned s) (stands : CallsStand s w)
+module _ (s : Setting) (w : World) (h : HeldLeg) (planned : IsPlanned s) (stands : CallsStand s w)
     (within : IsExternal s.dimensions.external h.slot) (at : leg_at w.legs h.slot ≡ Some h.leg) where
   abbrev valid : Valid s.dimensions.bridges w.holding
   valid = stands.circuits
@@ -111,7 +111,7 @@ module _ (s : Setting) (w : World) (h : Held) (planned : IsPlanned s) (stands : 
   stand = stands.legs
 
   ringing_kept : is_among ringing h.leg.state ≡ true
-      → (os : Held → List Operation)
+      → (os : HeldLeg → List Operation)
       → ((y : Slot) (other : Leg) → ArePeers s.dimensions.external w h.slot y h.leg other → AreOneCall y other h.slot h.leg → Kept s.dimensions s.tones (making_after_all s.dimensions (making_at w) (os (record { slot = y; leg = other }))).world)
       → Kept s.dimensions s.tones (making_after_all s.dimensions (making_at w) (with_peer (peer_of w.legs h.leg.peer) os)).world
   ringing_kept rings os kept =

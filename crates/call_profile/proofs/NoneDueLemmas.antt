@@ -2,7 +2,7 @@
 use Rattle.std.proofs.Common.{◌≡◌, ℕ, zero, suc, List, [], Option, Some, None, refl, ◌∙◌, ap}
 use Rattle.std.specs.Prelude.{IfSome, option_map}
 use Rattle.circuit_model.specs.declared.channel.Slot.{Slot}
-use Rattle.call_states.specs.declared.leg.Held.{Held}
+use Rattle.call_states.specs.declared.leg.HeldLeg.{HeldLeg}
 use Rattle.call_states.specs.declared.leg.Leg.{Leg}
 use Rattle.exchange_events.specs.Sizes.{Setting}
 use Rattle.call_profile.specs.Expiring.{due_of, expire_leg, slot_looked_at, outcome_on_line, outcome_of_lines}
@@ -18,7 +18,7 @@ abbrev pub untouched : World → MessageOutcome
 untouched w = record { making = making_at w; recorded = [] }
 
 leg_not_due : (s : Setting) (frame : ℕ) (legs : Legs) (x : Slot) (o : Option Leg) → IfSome o (λ leg. due_of s.timers frame leg ≡ None)
-    → expire_leg s frame legs (option_map (λ (leg : Leg). let h : Held = record { slot = x; leg = leg } in h) o) ≡ []
+    → expire_leg s frame legs (option_map (λ (leg : Leg). let h : HeldLeg = record { slot = x; leg = leg } in h) o) ≡ []
 leg_not_due s frame legs x None quiet = refl
 leg_not_due s frame legs x (Some leg) quiet = rw quiet refl
 

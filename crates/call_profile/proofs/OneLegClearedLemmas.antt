@@ -11,7 +11,7 @@ use Rattle.call_states.specs.declared.leg.Peer.TheVariants as peer
 use Rattle.tone_rules.specs.declared.tones.Tones.{Tones}
 use Rattle.call_profile.specs.Acts.{in_release_request, in_disconnect_indication}
 use Rattle.call_profile.specs.LegStanding.{LegStands, LegsStand, MayHear}
-use Rattle.call_profile.specs.Legs.{from_frame, leg_at, with_entry}
+use Rattle.call_profile.specs.Legs.{waiting_from, leg_at, with_entry}
 use Rattle.call_profile.specs.World.{World}
 use Rattle.call_profile.proofs.AnsweringLemmas.{cleared_by}
 use Rattle.call_profile.proofs.BesideLemmas.{look, entry_here, entry_else, same_or_apart, named_back, Beside, each_stands, SameReferences, still_one}
@@ -28,18 +28,18 @@ deaf_still bridges h x y valid deaf = heard_by-clear h.circuits y x (valid.stand
 
 -- a leg that was released is alone in silence, and one that was disconnected with a cause where it hears what it may
 pub released_stands : (external : ℕ) (tones : Tones) (w v : World) (x : Slot) (leg : Leg) (next : ℕ) → LegStands external tones w x leg → heard_by v.holding.circuits x ≡ None
-    → LegStands external tones v x (from_frame next (in_release_request leg))
+    → LegStands external tones v x (waiting_from next (in_release_request leg))
 released_stands external tones w v x leg next stands deaf = record {
   state = refl;
   reference = stands.reference;
   cause = stands.cause;
   peer = refl;
-  hears = subst (MayHear tones (from_frame next (in_release_request leg))) (sym deaf) (λ e. absurd cc, refl);
+  hears = subst (MayHear tones (waiting_from next (in_release_request leg))) (sym deaf) (λ e. absurd cc, refl);
 }
 
 pub disconnected_stands : (external : ℕ) (tones : Tones) (w v : World) (x : Slot) (leg : Leg) (next cause : ℕ) → cause < 128 → LegStands external tones w x leg
-    → MayHear tones (from_frame next (in_disconnect_indication cause leg)) (heard_by v.holding.circuits x)
-    → LegStands external tones v x (from_frame next (in_disconnect_indication cause leg))
+    → MayHear tones (waiting_from next (in_disconnect_indication cause leg)) (heard_by v.holding.circuits x)
+    → LegStands external tones v x (waiting_from next (in_disconnect_indication cause leg))
 disconnected_stands external tones w v x leg next cause small stands may = record {
   state = refl;
   reference = stands.reference;
@@ -52,21 +52,21 @@ disconnected_stands external tones w v x leg next cause small stands may = recor
 
 -- what becomes of a leg that is released: it is gone, or waits for its release from the next frame on
 abbrev pub IsLeft : ℕ → Leg → Option Leg → Type 0
-IsLeft next leg o = (o ≡ None) ⊎ (o ≡ Some (from_frame next (in_release_request leg)))
+IsLeft next leg o = (o ≡ None) ⊎ (o ≡ Some (waiting_from next (in_release_request leg)))
 
 pub left_stands : (external : ℕ) (tones : Tones) (w v : World) (x : Slot) (leg : Leg) (next : ℕ) (o : Option Leg) → IsLeft next leg o → LegStands external tones w x leg → heard_by v.holding.circuits x ≡ None
     → (l : Leg) → o ≡ Some l → LegStands external tones v x l
 left_stands external tones w v x leg next o (inl gone) stands deaf l is = let e : None ≡ Some l = sym gone ∙ is in absurd cc
 left_stands external tones w v x leg next o (inr waits) stands deaf l is =
-    let e : Some (from_frame next (in_release_request leg)) ≡ Some l = sym waits ∙ is in
-    let same : from_frame next (in_release_request leg) ≡ l = cc in
+    let e : Some (waiting_from next (in_release_request leg)) ≡ Some l = sym waits ∙ is in
+    let same : waiting_from next (in_release_request leg) ≡ l = cc in
     subst (LegStands external tones v x) same (released_stands external tones w v x leg next stands deaf)
 
 pub left_reference : (leg : Leg) (next : ℕ) (o : Option Leg) → IsLeft next leg o → (b : Leg) → o ≡ Some b → (leg.side ≡ b.side) × (leg.reference ≡ b.reference)
 left_reference leg next o (inl gone) b is = let e : None ≡ Some b = sym gone ∙ is in absurd cc
 left_reference leg next o (inr waits) b is =
-    let e : Some (from_frame next (in_release_request leg)) ≡ Some b = sym waits ∙ is in
-    let same : from_frame next (in_release_request leg) ≡ b = cc in
+    let e : Some (waiting_from next (in_release_request leg)) ≡ Some b = sym waits ∙ is in
+    let same : waiting_from next (in_release_request leg) ≡ b = cc in
     (ap (λ (l : Leg). l.side) same, ap (λ (l : Leg). l.reference) same)
 
 module _ (external : ℕ) (tones : Tones) (bridges : ℕ) (w v : World) (x : Slot) (leg : Leg) (o : Option Leg) (valid : Valid bridges w.holding) (stand : LegsStand external tones w)

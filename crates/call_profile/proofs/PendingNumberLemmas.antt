@@ -21,7 +21,7 @@ use Rattle.call_profile.specs.ActCourse.{course_of}
 use Rattle.call_profile.specs.Calls.{Request, For_leg, New_call, On_no_call, Restarts, Unanswered, request_of, answer_back, outcome_for}
 use Rattle.call_profile.specs.Expiring.{slot_looked_at, expire_slot}
 use Rattle.call_profile.specs.IdleSlots.{is_nailed}
-use Rattle.call_profile.specs.Legs.{Legs, from_frame, resent_from, leg_at, pending_at, no_legs}
+use Rattle.call_profile.specs.Legs.{Legs, waiting_from, retransmitted_from, leg_at, pending_at, no_legs}
 use Rattle.call_profile.specs.LegStanding.{CallsStand}
 use Rattle.call_profile.specs.Operations as op
 use Rattle.call_profile.specs.Operations.{Operation, Making, begun, with_legs, making_at, making_after, making_after_all}
@@ -69,8 +69,8 @@ module _ (external : ℕ) (plan : List Number) (legs : Legs) (x : Slot) (pend : 
 abbrev pub EntriesStand : ℕ → List Number → World → Type 0
 EntriesStand external plan w = NumbersPend external plan w.legs × LegsWait external w.holding.next w.legs
 
-waiting_from : (plan : List Number) (next : ℕ) (leg : Leg) (p : Pending) → IsWaiting plan leg p → IsWaiting plan (from_frame next leg) p
-waiting_from plan next leg p is = record { state = is.state; calls = is.calls; alone = is.alone; dialled = is.dialled; fits = is.fits }
+waiting_begun : (plan : List Number) (next : ℕ) (leg : Leg) (p : Pending) → IsWaiting plan leg p → IsWaiting plan (waiting_from next leg) p
+waiting_begun plan next leg p is = record { state = is.state; calls = is.calls; alone = is.alone; dialled = is.dialled; fits = is.fits }
 
 module _ (d : Dimensions) (tones : Tones) (plan : List Number) where
   abbrev Stand : World → Type 0
@@ -91,12 +91,12 @@ module _ (d : Dimensions) (tones : Tones) (plan : List Number) where
   performed m (op.Sound x kind) may stand = (stand.0, subst (λ next. LegsWait d.external next m.world.legs) (sym (sounding_next m.world.holding x kind)) stand.1)
   performed m (op.Put x leg) may stand = entered m.world x may.0 stand (Some (begun m.world leg)) None None may.2 (omega arith) may.3
   performed m (op.Wait x leg p) may stand =
-      entered m.world x may.0 stand (Some (begun m.world leg)) (Some p) None (waiting_from plan m.world.holding.next leg p may.2) (omega arith) (digits_keep_none leg.state may.2.state)
+      entered m.world x may.0 stand (Some (begun m.world leg)) (Some p) None (waiting_begun plan m.world.holding.next leg p may.2) (omega arith) (digits_keep_none leg.state may.2.state)
   performed m (op.Expect x leg message) may stand =
       entered m.world x may.0 stand (Some (begun m.world leg)) None (Some (encoding message)) (awaits_by message.kind leg.state may.2.state).1 (omega arith) (kept_from m.world.holding.next leg message may.2)
   performed m (op.Repeat h octets) may stand =
       let keeps = kept_there d.external m.world.holding.next m.world.legs h.slot h.leg octets stand.1 may.0 may.1 may.2 in
-      entered m.world h.slot may.0 stand (Some (resent_from m.world.holding.next h.leg)) None (Some octets) (awaits_by keeps.message.kind h.leg.state keeps.awaited.state).1 (omega arith)
+      entered m.world h.slot may.0 stand (Some (retransmitted_from m.world.holding.next h.leg)) None (Some octets) (awaits_by keeps.message.kind h.leg.state keeps.awaited.state).1 (omega arith)
       (kept_anew m.world.holding.next h.leg octets keeps)
   performed m (op.Remove x) may stand = entered m.world x may stand None None None tt tt tt
   performed m (op.Send line message) may stand = stand

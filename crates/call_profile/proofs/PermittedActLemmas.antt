@@ -26,7 +26,7 @@ use Rattle.call_states.specs.declared.leg.Leg.{Leg}
 use Rattle.call_states.specs.declared.leg.Peer.{Peer}
 use Rattle.call_states.specs.declared.leg.Peer.TheVariants as peer
 use Rattle.call_states.proofs.Causes.{cause_fits}
-use Rattle.call_states.specs.declared.leg.Held.{Held}
+use Rattle.call_states.specs.declared.leg.HeldLeg.{HeldLeg}
 use Rattle.call_profile.specs.ActCourse.{course_of}
 use Rattle.call_profile.specs.Digits.{on_digits}
 use Rattle.call_profile.specs.Acts.{with_progress, peer_of, tone_of, with_peer, clear_with, in_state, in_release_request, in_disconnect_indication, message_to, disconnect, on_alerting, on_connect}
@@ -85,7 +85,7 @@ unexpected_fits _ = omega arith
 peer_held : (legs : Legs) (p : Peer) (y : Slot) (other : Leg) → p ≡ peer.Leg y → leg_at legs y ≡ Some other → peer_of legs p ≡ Some (record { slot = y; leg = other })
 peer_held legs p y other is at = rw (is, held_there legs y other at) refl
 
-module _ (external : ℕ) (tones : Tones) (w : World) (h : Held) (stand : LegsStand external tones w) (within : IsExternal external h.slot) (at : leg_at w.legs h.slot ≡ Some h.leg) where
+module _ (external : ℕ) (tones : Tones) (w : World) (h : HeldLeg) (stand : LegsStand external tones w) (within : IsExternal external h.slot) (at : leg_at w.legs h.slot ≡ Some h.leg) where
   pub is_there : IsThere external h
   is_there = record { within = within; told = stands_told external tones w h.slot h.leg (stand.each h.slot h.leg within at) }
 
@@ -111,21 +111,21 @@ module _ (external : ℕ) (tones : Tones) (w : World) (h : Held) (stand : LegsSt
       let other = c.3.0 in
       let deaf = silent_waiting tones other (heard_by w.holding.circuits y) (waiting other.state h.leg.state among c.3.2.matched) (stand.each y other c.2 c.3.1).hears in
       let is : peer_of w.legs h.leg.peer ≡ Some (record { slot = y; leg = other }) = peer_held w.legs h.leg.peer y other c.1 c.3.1 in
-      subst (λ (o : Option Held). IfSome o (λ k. heard_by w.holding.circuits k.slot ≡ None)) (sym is) deaf
+      subst (λ (o : Option HeldLeg). IfSome o (λ k. heard_by w.holding.circuits k.slot ≡ None)) (sym is) deaf
 
 -- ---- the acts
 
 -- a message to a held leg's user, and another leg at its slot
-abbrev Sends : Dimensions → Held → OutgoingMessage → Type 0
+abbrev Sends : Dimensions → HeldLeg → OutgoingMessage → Type 0
 Sends d h message = (h.slot.line < d.external) × IsWritable message
 
-abbrev Puts : Dimensions → Held → Leg → Type 0
+abbrev Puts : Dimensions → HeldLeg → Leg → Type 0
 Puts d h leg = IsExternal d.external h.slot × FitsMessages leg × (leg.state ≢ overlap_sending) × (is_among awaiting_answer leg.state ≡ false)
 
 in_state_told : (leg : Leg) (state : ℕ) → FitsMessages leg → state < 64 → FitsMessages (in_state state leg)
 in_state_told leg state told small = record { state = small; reference = told.reference }
 
-pub clear_permitted : (d : Dimensions) (tones : Tones) (plan : List Number) (m : Making) (cause : ℕ) (c : Held) → IsThere d.external c → cause < 128
+pub clear_permitted : (d : Dimensions) (tones : Tones) (plan : List Number) (m : Making) (cause : ℕ) (c : HeldLeg) → IsThere d.external c → cause < 128
     → ArePermitted d tones plan m (clear_with tones cause c)
 clear_permitted d tones plan m cause c there small =
     let tone = tone_of tones (in_disconnect_indication cause c.leg) in
@@ -139,12 +139,12 @@ clear_permitted d tones plan m cause c there small =
     } in
     (there.within, (goes, (record { within = sound.within; idle = sound.idle; octets = sound.octets }, (sends, tt))))
 
-pub peer_permitted : (d : Dimensions) (tones : Tones) (plan : List Number) (m : Making) (h : Held) (cause : ℕ) (o : Option Held) → PeerIsThere d.external h o → cause < 128
+pub peer_permitted : (d : Dimensions) (tones : Tones) (plan : List Number) (m : Making) (h : HeldLeg) (cause : ℕ) (o : Option HeldLeg) → PeerIsThere d.external h o → cause < 128
     → ArePermitted d tones plan m (with_peer o (clear_with tones cause))
 peer_permitted d tones plan m h cause None there small = tt
 peer_permitted d tones plan m h cause (Some c) there small = clear_permitted d tones plan m cause c there.0 small
 
-alerting_permitted : (d : Dimensions) (tones : Tones) (plan : List Number) (m : Making) (h : Held) → IsThere d.external h → (o : Option Held) → PeerIsThere d.external h o
+alerting_permitted : (d : Dimensions) (tones : Tones) (plan : List Number) (m : Making) (h : HeldLeg) → IsThere d.external h → (o : Option HeldLeg) → PeerIsThere d.external h o
     → IfSome o (λ c. is_idle m.world.holding.circuits c.slot ≡ true) → ArePermitted d tones plan m (with_peer o (on_alerting tones h))
 alerting_permitted d tones plan m h there None is idle = tt
 alerting_permitted d tones plan m h there (Some c) is idle =
@@ -155,7 +155,7 @@ alerting_permitted d tones plan m h there (Some c) is idle =
     let called_goes : Puts d h (in_state call_received h.leg) = (there.within, in_state_told h.leg call_received there.told (omega arith), λ e. absurd cc, refl) in
     (called_goes, (caller_goes, (record { within = is.0.within; idle = idle; octets = tone_octets tones (in_state call_delivered c.leg) }, (sends, tt))))
 
-module _ (s : Setting) (w : World) (h : Held) (stand : CallsStand s w) (within : IsExternal s.dimensions.external h.slot) (at : leg_at w.legs h.slot ≡ Some h.leg) where
+module _ (s : Setting) (w : World) (h : HeldLeg) (stand : CallsStand s w) (within : IsExternal s.dimensions.external h.slot) (at : leg_at w.legs h.slot ≡ Some h.leg) where
   abbrev d : Dimensions
   d = s.dimensions
 
@@ -168,7 +168,7 @@ module _ (s : Setting) (w : World) (h : Held) (stand : CallsStand s w) (within :
   peer_too : PeerIsThere d.external h (peer_of w.legs h.leg.peer)
   peer_too = peer_there_too d.external tones w h stand.legs within at
 
-  answer_permitted : heard_by w.holding.circuits h.slot ≡ None → (o : Option Held) → PeerIsThere d.external h o → ArePermitted d tones s.plan (making_at w) (with_peer o (on_connect h))
+  answer_permitted : heard_by w.holding.circuits h.slot ≡ None → (o : Option HeldLeg) → PeerIsThere d.external h o → ArePermitted d tones s.plan (making_at w) (with_peer o (on_connect h))
   answer_permitted silent None is = tt
   answer_permitted silent (Some c) is =
       let can : CanPair d (obey d w (Clear_slot c.slot)) c.slot h.slot = record {
@@ -184,7 +184,7 @@ module _ (s : Setting) (w : World) (h : Held) (stand : CallsStand s w) (within :
       let called_goes : Puts d h (in_state active h.leg) = (within, in_state_told h.leg active there.told (omega arith), λ e. absurd cc, refl) in
       (is.0.within, (can, (called_goes, (caller_goes, (acknowledged, (connected, tt))))))
 
-  each_idle : (o : Option Held) → IfSome o (λ c. heard_by w.holding.circuits c.slot ≡ None) → IfSome o (λ c. is_idle w.holding.circuits c.slot ≡ true)
+  each_idle : (o : Option HeldLeg) → IfSome o (λ c. heard_by w.holding.circuits c.slot ≡ None) → IfSome o (λ c. is_idle w.holding.circuits c.slot ≡ true)
   each_idle None deaf = tt
   each_idle (Some c) deaf = deaf_is_idle w.holding.circuits c.slot (stand.circuits.standing c.slot) deaf
 

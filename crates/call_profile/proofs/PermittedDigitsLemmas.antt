@@ -6,7 +6,7 @@ use Rattle.q931_codec.specs.CallStates.{overlap_sending}
 use Rattle.q931_codec.specs.Contents.{dialled_digits}
 use Rattle.q931_codec.specs.declared.message.Message.{Message}
 use Rattle.number_plan.specs.declared.target.Found.{Found}
-use Rattle.call_states.specs.declared.leg.Held.{Held}
+use Rattle.call_states.specs.declared.leg.HeldLeg.{HeldLeg}
 use Rattle.call_states.specs.declared.pending.Pending.{Pending}
 use Rattle.exchange_events.specs.Sizes.{Setting}
 use Rattle.exchange_events.specs.Sound.{IsPlanned}
@@ -23,7 +23,7 @@ use Rattle.call_profile.proofs.Permitted.{ArePermitted}
 use Rattle.call_profile.proofs.PermittedActLemmas.{clear_permitted, is_there}
 use Rattle.call_profile.proofs.PermittedSetupLemmas.{CanAccept, accepted_permitted, begun}
 
-module _ (s : Setting) (w : World) (h : Held) (m : Message) (planned : IsPlanned s) (stands : CallsStand s w) (within : IsExternal s.dimensions.external h.slot)
+module _ (s : Setting) (w : World) (h : HeldLeg) (m : Message) (planned : IsPlanned s) (stands : CallsStand s w) (within : IsExternal s.dimensions.external h.slot)
     (at : leg_at w.legs h.slot ≡ Some h.leg) (is : h.leg.state ≡ overlap_sending) where
   abbrev waits : Waits s w h.slot h.leg
   waits = number s w h m planned stands within at is

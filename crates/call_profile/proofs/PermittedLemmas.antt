@@ -8,7 +8,7 @@ use Rattle.q931_codec.specs.Reading.{reading}
 use Rattle.q931_codec.proofs.Messages.{read_message}
 use Rattle.exchange_events.specs.declared.trace.Event.TheVariants.{Message}
 use Rattle.call_states.specs.Acts.{act_on}
-use Rattle.call_states.specs.declared.leg.Held.{Held}
+use Rattle.call_states.specs.declared.leg.HeldLeg.{HeldLeg}
 use Rattle.call_profile.specs.ActCourse.{course_of}
 use Rattle.call_profile.specs.Calls.{For_leg, New_call, On_no_call, request_of, answer_back}
 use Rattle.call_profile.specs.LegStanding.{CallsStand}
@@ -28,7 +28,7 @@ use Rattle.call_profile.proofs.PermittedDigitsLemmas.{digits_permitted}
 use Rattle.call_profile.proofs.SetupLemmas.{new_from, no_call_read}
 
 module _ (s : Setting) (w : World) (line : ℕ) (octets : List ℕ) (planned : IsPlanned s) (fits : Fits s.dimensions.external (Message line octets)) (stands : CallsStand s w) where
-  pub act_may : (h : Held) (m : Q931) → request_of w.legs line octets ≡ For_leg h m → ArePermitted s.dimensions s.tones s.plan (making_at w) (course_of s w h m (act_on h.leg.state m)).operations
+  pub act_may : (h : HeldLeg) (m : Q931) → request_of w.legs line octets ≡ For_leg h m → ArePermitted s.dimensions s.tones s.plan (making_at w) (course_of s w h m (act_on h.leg.state m)).operations
   act_may h m is =
       let named = received_stands w.legs line octets h m is in
       let on = named.among in

@@ -26,7 +26,7 @@ use Rattle.call_states.specs.declared.leg.Peer.TheVariants as peer
 use Rattle.number_plan.specs.declared.target.Found.{Found}
 use Rattle.number_plan.specs.declared.target.Found.TheVariants.{Line, Lines, Room, More, Nothing}
 use Rattle.call_profile.specs.LegStanding.{CallsStand}
-use Rattle.call_profile.specs.Legs.{leg_named, new_reference}
+use Rattle.call_profile.specs.Legs.{leg_named, lowest_free_reference}
 use Rattle.call_profile.specs.Operations.{making_at}
 use Rattle.call_profile.specs.Permitted.{CanSeat}
 use Rattle.call_profile.proofs.Permitted.{ArePermitted}
@@ -158,11 +158,11 @@ module _ (s : Setting) (w : World) (first : Bool) (own : ℕ) (asked : Pending) 
   call_permitted : (t : Found) (o : Option Slot) → called_slot w x t ≡ o → CanAccept s w own asked x t → ArePermitted s.dimensions s.tones s.plan (making_at w) (call first w own asked x t o)
   call_permitted (Line l) (Some y) chosen can =
       let may = offered s w x l y (can.line l refl) chosen in
-      line_permitted s w first own asked x y (new_reference w.legs l) can.within can.small can.fits may.in_y may.small.1
+      line_permitted s w first own asked x y (lowest_free_reference w.legs l) can.within can.small can.fits may.in_y may.small.1
   call_permitted (Line l) None chosen can = tt
   call_permitted (Lines ls) (Some y) chosen can =
       let may = offered_by_hunting s w x ls y (can.lines ls refl) chosen in
-      line_permitted s w first own asked x y (new_reference w.legs y.line) can.within can.small can.fits may.in_y may.small.1
+      line_permitted s w first own asked x y (lowest_free_reference w.legs y.line) can.within can.small can.fits may.in_y may.small.1
   call_permitted (Lines ls) None chosen can = tt
   call_permitted (Room room) o chosen can = room_permitted s w first own asked x room can.within can.small (can.room room refl)
   call_permitted More o chosen can = waiting_permitted s w first own asked x can.within can.small (can.more refl)

@@ -18,7 +18,7 @@ use Rattle.call_timers.specs.declared.expiry.Expiry.TheVariants as expiry
 use Rattle.q931_codec.specs.CallStates.{call_delivered}
 use Rattle.call_states.specs.declared.act.Act.{Act}
 use Rattle.call_states.specs.declared.act.Act.TheVariants as act
-use Rattle.call_states.specs.declared.leg.Held.{Held}
+use Rattle.call_states.specs.declared.leg.HeldLeg.{HeldLeg}
 use Rattle.clearing_rules.specs.declared.scope.Restart.{Restart}
 use Rattle.clearing_rules.specs.Restarting.{is_restarted, global_call_reference}
 use Rattle.clearing_rules.specs.UnknownReference.{answer_to_type, answer_without_call}
@@ -48,18 +48,18 @@ sounding_tells : (tone : Option Kind) (x : Slot) (m : OutgoingMessage) → Tells
 sounding_tells None x m = refl
 sounding_tells (Some kind) x m = refl
 
-alerting_tells : (tones : Tones) (h : Held) (o : Option Held) → TellsOfTones (with_peer o (on_alerting tones h))
+alerting_tells : (tones : Tones) (h : HeldLeg) (o : Option HeldLeg) → TellsOfTones (with_peer o (on_alerting tones h))
 alerting_tells tones h None = refl
 alerting_tells tones h (Some caller) = sounding_tells (tone_of tones (in_state call_delivered caller.leg)) caller.slot (message_to caller.leg kind.Alerting)
 
-answering_tells : (h : Held) (o : Option Held) → TellsOfTones (with_peer o (on_connect h))
+answering_tells : (h : HeldLeg) (o : Option HeldLeg) → TellsOfTones (with_peer o (on_connect h))
 answering_tells h None = refl
 answering_tells h (Some caller) = refl
 
-cleared_tells : (tones : Tones) (cause : ℕ) (other : Held) → TellsOfTones (clear_with tones cause other)
+cleared_tells : (tones : Tones) (cause : ℕ) (other : HeldLeg) → TellsOfTones (clear_with tones cause other)
 cleared_tells tones cause other = sounding_tells (tone_of tones (in_disconnect_indication cause other.leg)) other.slot (disconnect other.leg cause)
 
-peer_tells : (tones : Tones) (cause : ℕ) (o : Option Held) → TellsOfTones (with_peer o (clear_with tones cause))
+peer_tells : (tones : Tones) (cause : ℕ) (o : Option HeldLeg) → TellsOfTones (with_peer o (clear_with tones cause))
 peer_tells tones cause None = refl
 peer_tells tones cause (Some other) = cleared_tells tones cause other
 
@@ -80,18 +80,18 @@ call_tells first w own asked x Nothing o = refl
 
 -- ---- more digits
 
-dialling_tells : (s : Setting) (w : World) (h : Held) (asked : Pending) (o : Option ℕ) → TellsOfTones (dial_on s w h asked o)
+dialling_tells : (s : Setting) (w : World) (h : HeldLeg) (asked : Pending) (o : Option ℕ) → TellsOfTones (dial_on s w h asked o)
 dialling_tells s w h asked (Some cause) = cleared_tells s.tones cause h
 dialling_tells s w h asked None =
     call_tells false w h.leg.reference asked h.slot (target_dialled s.plan asked.called) (called_slot w h.slot (target_dialled s.plan asked.called))
 
-digits_tell : (s : Setting) (w : World) (h : Held) (m : Message) (o : Option Pending) → TellsOfTones (with_pending s w h m o)
+digits_tell : (s : Setting) (w : World) (h : HeldLeg) (m : Message) (o : Option Pending) → TellsOfTones (with_pending s w h m o)
 digits_tell s w h m None = refl
 digits_tell s w h m (Some p) = dialling_tells s w h (asked_with p m) (digits_refusal s w h.slot p.called m)
 
 -- ---- the acts
 
-pub act_tells : (s : Setting) (w : World) (h : Held) (m : Message) (a : Act) → TellsOfTones (course_of s w h m a).operations
+pub act_tells : (s : Setting) (w : World) (h : HeldLeg) (m : Message) (a : Act) → TellsOfTones (course_of s w h m a).operations
 act_tells s w h m act.Nothing = refl
 act_tells s w h m act.Unexpected = refl
 act_tells s w h m act.Enquiry = refl
@@ -123,12 +123,12 @@ either_tells : (b : Bool) (p q : List Operation) → TellsOfTones p → TellsOfT
 either_tells true p q one other = one
 either_tells false p q one other = other
 
-restarted_peer_tells : (tones : Tones) (r : Restart) (line : ℕ) (o : Option Held) → TellsOfTones (with_peer o (restart_peer tones r line))
+restarted_peer_tells : (tones : Tones) (r : Restart) (line : ℕ) (o : Option HeldLeg) → TellsOfTones (with_peer o (restart_peer tones r line))
 restarted_peer_tells tones r line None = refl
 restarted_peer_tells tones r line (Some other) =
     either_tells (restarts_slot r line other.slot) (remove_leg other) (clear_with tones temporary_failure other) refl (cleared_tells tones temporary_failure other)
 
-restarted_leg_tells : (tones : Tones) (r : Restart) (legs : Legs) (o : Option Held) → TellsOfTones (restart_leg tones r legs o)
+restarted_leg_tells : (tones : Tones) (r : Restart) (legs : Legs) (o : Option HeldLeg) → TellsOfTones (restart_leg tones r legs o)
 restarted_leg_tells tones r legs None = refl
 restarted_leg_tells tones r legs (Some h) = restarted_peer_tells tones r h.slot.line (peer_of legs h.leg.peer)
 
@@ -168,13 +168,13 @@ answer_tells line m = either_answer_tells line (m.reference == global_call_refer
 -- ---- the expiry of a timer
 
 -- what is kept of a leg has no progress indicator, as it is read
-kept_quiet : (h : Held) (octets : List ℕ) → IsKept h.leg octets → has_progress (reading octets) ≡ false
+kept_quiet : (h : HeldLeg) (octets : List ℕ) → IsKept h.leg octets → has_progress (reading octets) ≡ false
 kept_quiet h octets is =
     let m : OutgoingMessage = is.message in
     let reads = message_read (encoding m) _ (encoding_read m is.awaited.writable) in
     ap has_progress (ap reading is.encoded ∙ reads) ∙ (fields_back m is.awaited.writable).progress ∙ is.awaited.quiet
 
-module _ (s : Setting) (w : World) (h : Held) (stands : CallsStand s w) (in_x : IsExternal s.dimensions.external h.slot) (at : leg_at w.legs h.slot ≡ Some h.leg) where
+module _ (s : Setting) (w : World) (h : HeldLeg) (stands : CallsStand s w) (in_x : IsExternal s.dimensions.external h.slot) (at : leg_at w.legs h.slot ≡ Some h.leg) where
   again_tells : (o : Option (List ℕ)) → kept_at w.legs h.slot ≡ o → TellsOfTones (send_again h o)
   again_tells None keeps = refl
   again_tells (Some octets) keeps = rw (kept_quiet h octets (kept_there s.dimensions.external w.holding.next w.legs h.slot h.leg octets stands.waits in_x at keeps)) refl

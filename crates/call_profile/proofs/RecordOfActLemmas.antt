@@ -18,7 +18,7 @@ use Rattle.call_states.specs.declared.leg.Side.{Side}
 use Rattle.call_states.specs.declared.leg.Side.TheVariants.{Caller, Called}
 use Rattle.call_states.proofs.Causes.{cause_fits}
 use Rattle.tone_rules.specs.declared.tones.Tones.{Tones}
-use Rattle.call_states.specs.declared.leg.Held.{Held}
+use Rattle.call_states.specs.declared.leg.HeldLeg.{HeldLeg}
 use Rattle.exchange_events.specs.declared.record.CallRecord.{CallRecord}
 use Rattle.call_profile.specs.ActCourse.{course_of}
 use Rattle.call_profile.specs.Acts.{in_release_request, in_disconnect_indication, peer_of, with_peer, clear_with, on_disconnect, on_release, remove_leg, on_alerting, on_connect}
@@ -27,7 +27,7 @@ use Rattle.call_profile.specs.Calls.{making_by}
 use Rattle.call_profile.specs.EndedCalls.{caller_in, record_calling, record_ended, record_of_act}
 use Rattle.call_profile.specs.LegStanding.{CallsStand, LegsStand, HasPeer, IsInCall, AreOneCall}
 use Rattle.exchange_events.specs.Sound.{IsPlanned}
-use Rattle.call_profile.specs.Legs.{Legs, from_frame, leg_at, with_entry}
+use Rattle.call_profile.specs.Legs.{Legs, waiting_from, leg_at, with_entry}
 use Rattle.call_profile.specs.Operations.{Operation, Making, begun, making_at, making_after_all}
 use Rattle.exchange_events.specs.Sizes.{Setting, Dimensions}
 use Rattle.call_profile.specs.World.{World}
@@ -43,7 +43,7 @@ use Rattle.call_profile.proofs.TwoStatesLemmas.{gone_to}
 use Rattle.call_profile.proofs.LegTableLemmas.{both_else, both_first, both_second}
 
 -- the record of what an act ends, as a list
-abbrev pub records_of_act : World → Held → Act → List CallRecord
+abbrev pub records_of_act : World → HeldLeg → Act → List CallRecord
 records_of_act w h a = cons_option (record_of_act w h a) []
 
 -- the cause of an act that clears a call; any cause would do for another act, which has no records
@@ -71,7 +71,7 @@ left_silent : (leg : Leg) (next : ℕ) (o : Option Leg) → IsLeft next leg o �
 left_silent leg next o (inl gone) = rw gone refl
 left_silent leg next o (inr waits) = rw waits (and_false _)
 
-pub disconnected_silent : (next cause : ℕ) (leg : Leg) → is_calling (Some (from_frame next (in_disconnect_indication cause leg))) ≡ false
+pub disconnected_silent : (next cause : ℕ) (leg : Leg) → is_calling (Some (waiting_from next (in_disconnect_indication cause leg))) ≡ false
 disconnected_silent next cause leg = and_false _
 
 pub same_goes_on : (before after : Legs) (x : Slot) → leg_at after x ≡ leg_at before x → GoesOn before after x
@@ -190,7 +190,7 @@ active_calls w leg is = rw is refl
 
 -- ---- the acts
 
-module _ (s : Setting) (w : World) (h : Held) (m : Message) (planned : IsPlanned s) (stands : CallsStand s w)
+module _ (s : Setting) (w : World) (h : HeldLeg) (m : Message) (planned : IsPlanned s) (stands : CallsStand s w)
     (within : IsExternal s.dimensions.external h.slot) (at : leg_at w.legs h.slot ≡ Some h.leg) where
   abbrev stand : LegsStand s.dimensions.external s.tones w
   stand = stands.legs
@@ -204,7 +204,7 @@ module _ (s : Setting) (w : World) (h : Held) (m : Message) (planned : IsPlanned
   apart_from : (c : caller_there) → c.0 ≡ h.slot → ⊥
   apart_from c = peers_apart w.legs h.slot c.0 h.leg c.3.0 at c.3.1 (subst (λ (side : Side). IsInCall side h.slot h.leg c.0 c.3.0) (sym c.3.2.is_called) c.3.2)
 
-  progress_records : (os : Held → List Operation) (c : caller_there)
+  progress_records : (os : HeldLeg → List Operation) (c : caller_there)
       → records w (making_after_all s.dimensions (making_at w) (os (record { slot = c.0; leg = c.3.0 }))).world 0 ≡ []
       → records w (making_after_all s.dimensions (making_at w) (with_peer (peer_of w.legs h.leg.peer) os)).world 0 ≡ []
   progress_records os c none =
@@ -256,7 +256,7 @@ module _ (s : Setting) (w : World) (h : Held) (m : Message) (planned : IsPlanned
   asked_by = asked h.leg.state m.kind (clearing_cause m.elements) (is_null (call_state_in m.elements)) (cause_fits m.elements)
 
 -- what a message to a leg ends is what its act ends
-module _ (s : Setting) (w : World) (h : Held) (m : Message) (planned : IsPlanned s) (stands : CallsStand s w)
+module _ (s : Setting) (w : World) (h : HeldLeg) (m : Message) (planned : IsPlanned s) (stands : CallsStand s w)
     (within : IsExternal s.dimensions.external h.slot) (at : leg_at w.legs h.slot ≡ Some h.leg) where
   abbrev asked_act : Act
   asked_act = act_on h.leg.state m

@@ -10,7 +10,7 @@ use Rattle.circuit_model.specs.declared.channel.Slot.{Slot}
 use Rattle.circuit_model.specs.Extent.{IsExternal}
 use Rattle.circuit_model.proofs.Slots.{true_or_false}
 use Rattle.q931_codec.specs.Causes.{temporary_failure}
-use Rattle.call_states.specs.declared.leg.Held.{Held}
+use Rattle.call_states.specs.declared.leg.HeldLeg.{HeldLeg}
 use Rattle.call_states.specs.declared.leg.Leg.{Leg}
 use Rattle.call_states.specs.declared.leg.Peer.{Peer}
 use Rattle.call_states.specs.declared.leg.Peer.TheVariants as peer
@@ -57,12 +57,12 @@ mapped f None y e = absurd (cc e)
 mapped f (Some x) y e = (x, refl, cc e)
 
 -- its caller held the slot, and was in a call with the other party
-pub record_parties : (w : World) (cause : ℕ) (h : Held) (c : CallRecord) → record_of w cause h ≡ Some c → (c.caller ≡ h.slot) × (party_of h.leg.peer ≡ Some c.called)
+pub record_parties : (w : World) (cause : ℕ) (h : HeldLeg) (c : CallRecord) → record_of w cause h ≡ Some c → (c.caller ≡ h.slot) × (party_of h.leg.peer ≡ Some c.called)
 record_parties w cause h c e =
     let m = mapped _ (party_of h.leg.peer) c e in
     (ap (λ (k : CallRecord). k.caller) (sym m.2), m.1 ∙ ap (λ (k : CallRecord). Some k.called) m.2)
 
-pub calling_is : (w : World) (cause : ℕ) (h : Held) (c : CallRecord) → record_calling w cause h ≡ Some c → record_of w cause h ≡ Some c
+pub calling_is : (w : World) (cause : ℕ) (h : HeldLeg) (c : CallRecord) → record_calling w cause h ≡ Some c → record_of w cause h ≡ Some c
 calling_is w cause h c e = elim (true_or_false (is_calling (Some h.leg))) [
   | inl calls ↦ rw calls at e
   | inr silent ↦ let wrong : None ≡ Some c = rw silent at e in absurd cc
@@ -106,7 +106,7 @@ module _ (external : ℕ) (tones : Tones) (r : Restart) (line n : ℕ) (u : Worl
       least (restarted_place r line (party.Line c.caller)) (restarted_place r line c.called) n other (omega (arith, place)) (inr place)
 
   module _ (leg : Leg) (at : leg_at u.legs here ≡ Some leg) (c : CallRecord) where
-    abbrev held : Held
+    abbrev held : HeldLeg
     held = record { slot = here; leg = leg }
 
     -- a caller's own slot
@@ -132,7 +132,7 @@ module _ (external : ℕ) (tones : Tones) (r : Restart) (line n : ℕ) (u : Worl
     called_place peer.Alone is has side e = absurd (cc e)
     called_place (peer.Leg y) is has side e =
         let other = has.1.0 in
-        let caller : Held = record { slot = y; leg = other } in
+        let caller : HeldLeg = record { slot = y; leg = other } in
         let record_is = calling_is u temporary_failure caller c (rw (held_there u.legs y other has.1.1) at e) in
         let who = record_parties u temporary_failure caller c record_is in
         let call : IsInCall Called here leg y other = subst (λ (s : Side). IsInCall s here leg y other) side has.1.2 in
@@ -208,7 +208,7 @@ module _ (s : Setting) (r : Restart) (line : ℕ) (w : World) (below : line < s.
     done = restarted_below s r line w below kept n (omega (arith, small))
 
     of_leg : is_restarted r n ≡ true → (o : Option Leg) → leg_at u.legs x ≡ o → (c : CallRecord)
-        → option_and_then (λ h. record_ended u h temporary_failure) (option_map (λ (leg : Leg). let h : Held = record { slot = x; leg = leg } in h) o) ≡ Some c → first_restarted r line c ≡ n
+        → option_and_then (λ h. record_ended u h temporary_failure) (option_map (λ (leg : Leg). let h : HeldLeg = record { slot = x; leg = leg } in h) o) ≡ Some c → first_restarted r line c ≡ n
     of_leg restarted None at c e = absurd (cc e)
     of_leg restarted (Some leg) at c e = ended_place s.dimensions.external s.tones r line n u done.kept.1 below small done.gone restarted leg at c e
 

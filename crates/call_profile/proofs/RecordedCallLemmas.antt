@@ -12,7 +12,7 @@ use Rattle.control_memory.specs.Layout.{number_of, slot_numbered}
 use Rattle.control_memory.proofs.Lookups.{numbered_number}
 use Rattle.control_memory.proofs.Steps.{number_inside}
 use Rattle.q931_codec.specs.CallStates.{active}
-use Rattle.call_states.specs.declared.leg.Held.{Held}
+use Rattle.call_states.specs.declared.leg.HeldLeg.{HeldLeg}
 use Rattle.call_states.specs.declared.leg.Leg.{Leg}
 use Rattle.call_states.specs.declared.leg.Peer.{Peer}
 use Rattle.call_states.specs.declared.leg.Peer.TheVariants as peer
@@ -61,14 +61,14 @@ is_given f first (suc count) n c low high e = elim (same_or_not first n) [
 -- ---- the record of a slot
 
 -- a call ended, and this is its record with the cause that its caller's leg gives, or with one cause
-abbrev pub EndsBy : ℕ → World → World → (Held → ℕ) → CallRecord → Type 0
-EndsBy external before afterwards cause c = (h : Held) × HasEnded external before afterwards h × (record_of before (cause h) h ≡ Some c)
+abbrev pub EndsBy : ℕ → World → World → (HeldLeg → ℕ) → CallRecord → Type 0
+EndsBy external before afterwards cause c = (h : HeldLeg) × HasEnded external before afterwards h × (record_of before (cause h) h ≡ Some c)
 
 abbrev pub EndsWith : ℕ → World → World → ℕ → CallRecord → Type 0
 EndsWith external before afterwards cause c = EndsBy external before afterwards (λ h. cause) c
 
 by_leg : (external : ℕ) (u v : World) (cause : ℕ) (x : Slot) (c : CallRecord) (o : Option Leg) → IsExternal external x → leg_at u.legs x ≡ o → is_calling o ≡ true → is_calling (leg_at v.legs x) ≡ false
-    → option_and_then (record_of u cause) (option_map (λ (leg : Leg). let h : Held = record { slot = x; leg = leg } in h) o) ≡ Some c → EndsWith external u v cause c
+    → option_and_then (record_of u cause) (option_map (λ (leg : Leg). let h : HeldLeg = record { slot = x; leg = leg } in h) o) ≡ Some c → EndsWith external u v cause c
 by_leg external u v cause x c None in_x at calls stops e = absurd cc
 by_leg external u v cause x c (Some leg) in_x at calls stops e = (record { slot = x; leg = leg }, record { within = in_x; at = at; calls = calls; stops = stops }, e)
 
@@ -80,7 +80,7 @@ ends_at external u v cause x c in_x e = elim (true_or_false (is_ended u v x)) [
   | inr goes_on ↦ let wrong : None ≡ Some c = rw goes_on at e in absurd cc
 ]
 
-is_at : (external : ℕ) (u v : World) (cause : ℕ) (h : Held) (c : CallRecord) → HasEnded external u v h → record_of u cause h ≡ Some c → record_at u v cause h.slot ≡ Some c
+is_at : (external : ℕ) (u v : World) (cause : ℕ) (h : HeldLeg) (c : CallRecord) → HasEnded external u v h → record_of u cause h ≡ Some c → record_at u v cause h.slot ≡ Some c
 is_at external u v cause h c ended e =
     let calls : is_calling (leg_at u.legs h.slot) ≡ true = ap is_calling ended.at ∙ ended.calls in
     rw (calls, ended.stops, ended.at) e
@@ -94,7 +94,7 @@ module _ (external : ℕ) (u v : World) (cause : ℕ) (size : length u.legs.held
       let high = g.2 in
       ends_at external u v cause (slot_numbered g.0) c (in_numbered external g.0 (omega (arith, high, size))) g.3
 
-  pub end_recorded : (h : Held) (c : CallRecord) → HasEnded external u v h → record_of u cause h ≡ Some c → Contains (records u v cause) c
+  pub end_recorded : (h : HeldLeg) (c : CallRecord) → HasEnded external u v h → record_of u cause h ≡ Some c → Contains (records u v cause) c
   end_recorded h c ended e =
       let inside = number_inside external h.slot ended.within in
       is_given (λ n. record_at u v cause (slot_numbered n)) 0 (length u.legs.held) (number_of h.slot) c (omega arith) (omega (arith, inside, size))
@@ -110,7 +110,7 @@ calling_party external legs x leg (peer.Room room) has calls = (_, refl)
 some_mapped : {X Y : Type 0} (f : X → Y) (o : Option X) (x : X) → o ≡ Some x → option_map f o ≡ Some (f x)
 some_mapped f o x e = ap (option_map f) e
 
-pub calling_record : (external : ℕ) (w : World) (cause : ℕ) (h : Held) → HasPeer external w.legs h.slot h.leg h.leg.peer → is_calling (Some h.leg) ≡ true
+pub calling_record : (external : ℕ) (w : World) (cause : ℕ) (h : HeldLeg) → HasPeer external w.legs h.slot h.leg h.leg.peer → is_calling (Some h.leg) ≡ true
     → (c : CallRecord) × (record_of w cause h ≡ Some c) × (c.cause ≡ cause)
 calling_record external w cause h has calls =
     let party = calling_party external w.legs h.slot h.leg h.leg.peer has calls in
@@ -118,7 +118,7 @@ calling_record external w cause h has calls =
 
 -- ---- two worlds in which a slot hears the same
 
-pub record_same : (u v : World) (cause : ℕ) (h : Held) → u.holding.next ≡ v.holding.next → heard_by u.holding.circuits h.slot ≡ heard_by v.holding.circuits h.slot
+pub record_same : (u v : World) (cause : ℕ) (h : HeldLeg) → u.holding.next ≡ v.holding.next → heard_by u.holding.circuits h.slot ≡ heard_by v.holding.circuits h.slot
     → record_of u cause h ≡ record_of v cause h
 record_same u v cause h next heard =
     λ i. option_map (λ (called : Party).
@@ -133,7 +133,7 @@ record_same u v cause h next heard =
     c) (party_of h.leg.peer)
 
 -- the cause of a record
-pub record_cause : (w : World) (cause : ℕ) (h : Held) (c : CallRecord) → record_of w cause h ≡ Some c → c.cause ≡ cause
+pub record_cause : (w : World) (cause : ℕ) (h : HeldLeg) (c : CallRecord) → record_of w cause h ≡ Some c → c.cause ≡ cause
 record_cause w cause h c e = by_party (party_of h.leg.peer) e
   where
     by_party : (o : Option Party) → option_map (λ (called : Party).

@@ -12,7 +12,7 @@ use Rattle.q931_codec.specs.declared.message.Message.{Message}
 use Rattle.call_states.specs.Acts.{act_on, cause_of_act}
 use Rattle.call_states.specs.declared.act.Act.{Act}
 use Rattle.call_states.specs.declared.act.Act.TheVariants as act
-use Rattle.call_states.specs.declared.leg.Held.{Held}
+use Rattle.call_states.specs.declared.leg.HeldLeg.{HeldLeg}
 use Rattle.call_states.specs.declared.leg.Leg.{Leg}
 use Rattle.call_states.specs.declared.leg.Peer.TheVariants as peer
 use Rattle.clearing_rules.specs.declared.scope.Restart.{Restart}
@@ -42,9 +42,9 @@ use Rattle.call_profile.proofs.RestartedSlotLemmas.{below_none, below_more}
 
 -- the record of each call that ended between two worlds is there, with the cause that its caller's leg gives, and no
 -- other
-pub record AreEndedBy (external : ℕ) (before afterwards : World) (cause : Held → ℕ) (told : List CallRecord) : Type 0 where
+pub record AreEndedBy (external : ℕ) (before afterwards : World) (cause : HeldLeg → ℕ) (told : List CallRecord) : Type 0 where
   pub ends : (c : CallRecord) → Contains told c → EndsBy external before afterwards cause c
-  pub recorded : (h : Held) (c : CallRecord) → HasEnded external before afterwards h → record_of before (cause h) h ≡ Some c → Contains told c
+  pub recorded : (h : HeldLeg) (c : CallRecord) → HasEnded external before afterwards h → record_of before (cause h) h ≡ Some c → Contains told c
 
 -- with one cause for all
 abbrev pub AreOfEnded : ℕ → World → World → ℕ → List CallRecord → Type 0
@@ -107,9 +107,9 @@ module _ (external : ℕ) (r : Restart) (line : ℕ) (u v : World) (x : Slot) (d
 
 -- ---- one slot after another
 
-module _ (external : ℕ) (w u v : World) (cause : Held → ℕ)
+module _ (external : ℕ) (w u v : World) (cause : HeldLeg → ℕ)
     (called_before : (x : Slot) (leg : Leg) → IsExternal external x → leg_at u.legs x ≡ Some leg → is_calling (Some leg) ≡ true → leg_at w.legs x ≡ Some leg)
-    (same_record : (h : Held) → HasEnded external u v h → record_of u (cause h) h ≡ record_of w (cause h) h)
+    (same_record : (h : HeldLeg) → HasEnded external u v h → record_of u (cause h) h ≡ record_of w (cause h) h)
     (silent : (z : Slot) → IsExternal external z → is_calling (leg_at u.legs z) ≡ false → is_calling (leg_at v.legs z) ≡ false)
     (before later : List CallRecord) (old : AreEndedBy external w u cause before) (new : AreEndedBy external u v cause later) where
   old_ends : (c : CallRecord) → EndsBy external w u cause c → EndsBy external w v cause c
@@ -123,7 +123,7 @@ module _ (external : ℕ) (w u v : World) (cause : Held → ℕ)
         sym (same_record h e.1) ∙ e.2,
       )
 
-  recorded_by : (h : Held) (c : CallRecord) → HasEnded external w v h → record_of w (cause h) h ≡ Some c → (o : Option Leg) → leg_at u.legs h.slot ≡ o → is_calling o ≡ true → Contains (before ++ later) c
+  recorded_by : (h : HeldLeg) (c : CallRecord) → HasEnded external w v h → record_of w (cause h) h ≡ Some c → (o : Option Leg) → leg_at u.legs h.slot ≡ o → is_calling o ≡ true → Contains (before ++ later) c
   recorded_by h c ended e None at calls = absurd cc
   recorded_by h c ended e (Some k) at calls =
       let both : Some k ≡ Some h.leg = sym (called_before h.slot k ended.within at calls) ∙ ended.at in
@@ -215,7 +215,7 @@ module _ (s : Setting) (r : Restart) (line : ℕ) (w : World) (below : line < s.
 abbrev pub IsAccounted : ℕ → World → World → Option ℕ → List CallRecord → Type 0
 IsAccounted external w v given told = (cause : ℕ) × AreOfEnded external w v cause told × ((given ≡ Some cause) ⊎ (told ≡ []))
 
-act_clears : (w : World) (h : Held) (a : Act) → (cause_of_act a ≡ Some (told_cause a)) ⊎ (records_of_act w h a ≡ [])
+act_clears : (w : World) (h : HeldLeg) (a : Act) → (cause_of_act a ≡ Some (told_cause a)) ⊎ (records_of_act w h a ≡ [])
 act_clears w h act.Nothing = inr refl
 act_clears w h act.Unexpected = inr refl
 act_clears w h act.Enquiry = inr refl
@@ -231,7 +231,7 @@ module _ (s : Setting) (w : World) (line : ℕ) (octets : List ℕ) (may : Arriv
   abbrev size : length w.legs.held ≡ 30 * s.dimensions.external
   size = may.stands.legs.count
 
-  leg_accounted : (h : Held) (m : Message) → request_of w.legs line octets ≡ For_leg h m
+  leg_accounted : (h : HeldLeg) (m : Message) → request_of w.legs line octets ≡ For_leg h m
       → IsAccounted s.dimensions.external w (outcome_for s w line (For_leg h m)).making.world (cause_of_act (act_on h.leg.state m)) (outcome_for s w line (For_leg h m)).recorded
   leg_accounted h m is =
       let named = received_stands w.legs line octets h m is in
@@ -263,7 +263,7 @@ module _ (s : Setting) (w : World) (line : ℕ) (octets : List ℕ) (may : Arriv
   all_accounted : IsAccounted s.dimensions.external w (after_message s w line octets) (cause_of_clearing (request_of w.legs line octets)) (answer_to s w line octets).records
   all_accounted = request_accounted (request_of w.legs line octets) refl
 
-  pub record_is : (c : CallRecord) → Contains (answer_to s w line octets).records c → (h : Held) × IsRecordOf s w line octets h c
+  pub record_is : (c : CallRecord) → Contains (answer_to s w line octets).records c → (h : HeldLeg) × IsRecordOf s w line octets h c
   record_is c inside =
       let e = all_accounted.1.ends c inside in
       let same = record_cause w all_accounted.0 e.0 c e.2 in (
@@ -274,7 +274,7 @@ module _ (s : Setting) (w : World) (line : ℕ) (octets : List ℕ) (may : Arriv
         ],
       )
 
-  pub ended_is_recorded : (h : Held) → HasEnded s.dimensions.external w (after_message s w line octets) h → IsRecorded s w line octets h
+  pub ended_is_recorded : (h : HeldLeg) → HasEnded s.dimensions.external w (after_message s w line octets) h → IsRecorded s w line octets h
   ended_is_recorded h ended =
       let found = calling_record s.dimensions.external w all_accounted.0 h (may.stands.legs.each h.slot h.leg ended.within ended.at).peer ended.calls in
       let c = found.0 in

@@ -4,10 +4,10 @@ use Rattle.std.specs.Prelude.{is_none}
 use Rattle.std.proofs.lemmas.Bool.{eqb-true}
 use Rattle.circuit_model.specs.declared.channel.Slot.{Slot}
 use Rattle.circuit_model.proofs.Slots.{true_or_false}
-use Rattle.call_states.specs.declared.leg.Held.{Held}
+use Rattle.call_states.specs.declared.leg.HeldLeg.{HeldLeg}
 use Rattle.call_states.specs.declared.leg.Side.{Side}
 use Rattle.call_states.specs.declared.leg.Side.TheVariants.{Caller, Called}
-use Rattle.call_profile.specs.Legs.{Legs, leg_at, leg_named, is_unused, new_reference, same_side}
+use Rattle.call_profile.specs.Legs.{Legs, leg_at, leg_named, is_unused, lowest_free_reference, same_side}
 use Rattle.call_profile.specs.References.{IsOnLine, HasReference}
 use Rattle.call_profile.proofs.CommandLemmas.{both_true}
 use Rattle.call_profile.proofs.LineLemmas.{unused_from, unused_all, unused_end, unused_here, unused_other}
@@ -16,18 +16,18 @@ use Rattle.call_profile.proofs.VacantSlotLemmas.{none_named, new_unused}
 
 -- ---- no leg has the new one
 
-none_is : (o : Option Held) → is_none o ≡ true → o ≡ None
+none_is : (o : Option HeldLeg) → is_none o ≡ true → o ≡ None
 none_is None e = refl
 none_is (Some h) e = absurd cc
 
-pub new_is_free : (legs : Legs) (line : ℕ) (x : Slot) → IsOnLine line x → leg_at legs x ≡ None → HasReference legs line (new_reference legs line) → ⊥
+pub new_is_free : (legs : Legs) (line : ℕ) (x : Slot) → IsOnLine line x → leg_at legs x ≡ None → HasReference legs line (lowest_free_reference legs line) → ⊥
 new_is_free legs line x on none has =
-    let free = none_is (leg_named legs line true (new_reference legs line)) (new_unused legs line x on none).0 in
-    none_named legs line true (new_reference legs line) free has.slot has.leg has.on_line has.at has.is_called has.same
+    let free = none_is (leg_named legs line true (lowest_free_reference legs line)) (new_unused legs line x on none).0 in
+    none_named legs line true (lowest_free_reference legs line) free has.slot has.leg has.on_line has.at has.is_called has.same
 
 -- ---- each lower one is some leg's
 
-some_is : (o : Option Held) → is_none o ≡ false → (h : Held) × (o ≡ Some h)
+some_is : (o : Option HeldLeg) → is_none o ≡ false → (h : HeldLeg) × (o ≡ Some h)
 some_is None e = absurd cc
 some_is (Some h) e = (h, refl)
 
@@ -70,12 +70,12 @@ before_it legs line (suc gap) from reference e small less = elim (true_or_false 
       before_it legs line gap (from + 1) reference (omega (arith, e)) small (omega (arith, more, less))
 ]
 
-pub lower_is_used : (legs : Legs) (line reference : ℕ) → 1 ≤ reference → reference < new_reference legs line → HasReference legs line reference
+pub lower_is_used : (legs : Legs) (line reference : ℕ) → 1 ≤ reference → reference < lowest_free_reference legs line → HasReference legs line reference
 lower_is_used legs line reference low high =
     let same = unused_all legs line in
     let most = at_most legs line 30 1 refl in
     let gap = reference - 1 in
     used_has legs line reference (before_it legs line gap 1 reference (omega (arith, low)) (omega (arith, same, most, high)) (omega (arith, same, high)))
 
-pub new_is_positive : (legs : Legs) (line : ℕ) → 1 ≤ new_reference legs line
+pub new_is_positive : (legs : Legs) (line : ℕ) → 1 ≤ lowest_free_reference legs line
 new_is_positive legs line = let same = unused_all legs line in omega (arith, same)

@@ -16,7 +16,7 @@ use Rattle.q931_codec.specs.declared.message.Message.{Message as Q931}
 use Rattle.call_states.specs.Acts.{is_among}
 use Rattle.call_states.specs.declared.act.Act.{Act}
 use Rattle.call_states.specs.declared.act.Act.TheVariants as act
-use Rattle.call_states.specs.declared.leg.Held.{Held}
+use Rattle.call_states.specs.declared.leg.HeldLeg.{HeldLeg}
 use Rattle.call_states.specs.declared.leg.Leg.{Leg}
 use Rattle.call_states.specs.declared.leg.Peer.{Peer}
 use Rattle.call_states.specs.declared.leg.Peer.TheVariants as peer
@@ -63,7 +63,7 @@ other_elsewhere : (side : Side) (x y : Slot) (leg other : Leg) → IsInCall side
 other_elsewhere Caller x y leg other call = (matched_elsewhere leg.state other.state call.matched).1
 other_elsewhere Called x y leg other call = (matched_elsewhere other.state leg.state call.matched).0
 
-abbrev pub PeerUnreleased : World → Option Held → Type 0
+abbrev pub PeerUnreleased : World → Option HeldLeg → Type 0
 PeerUnreleased w o = IfSome o (λ k. Unreleased w k.slot)
 
 pub peer_unreleased : (external : ℕ) (w : World) (x : Slot) (leg : Leg) (p : Peer) → HasPeer external w.legs x leg p → PeerUnreleased w (peer_of w.legs p)
@@ -73,7 +73,7 @@ peer_unreleased external w x leg (peer.Leg y) has =
 peer_unreleased external w x leg (peer.Room room) has = tt
 
 -- it is still there once other slots got other entries
-pub still_unreleased : (external : ℕ) (w v : World) (h : Held) (o : Option Held) → PeerIsThere external h o
+pub still_unreleased : (external : ℕ) (w v : World) (h : HeldLeg) (o : Option HeldLeg) → PeerIsThere external h o
     → ((z : Slot) → IsExternal external z → (z ≡ h.slot → ⊥) → leg_at v.legs z ≡ leg_at w.legs z) → PeerUnreleased w o → PeerUnreleased v o
 still_unreleased external w v h None there else quiet = tt
 still_unreleased external w v h (Some k) there else quiet = subst IsElsewhere (sym (else k.slot there.0.within there.1)) quiet
@@ -91,25 +91,25 @@ module _ (d : Dimensions) (tones : Tones) (plan : List Number) (m : Making) (bef
   put_elsewhere x leg in_x apart = subst IsElsewhere (sym (entry_here d.external m.world.legs x (Some leg) before.held in_x)) apart
 
   -- a leg that is gone: neither of the two operations reads what the other one writes
-  pub removed_sounds : (h : Held) → IsExternal d.external h.slot → Sounds (remove_leg h)
+  pub removed_sounds : (h : HeldLeg) → IsExternal d.external h.slot → Sounds (remove_leg h)
   removed_sounds h in_x =
       let x = h.slot in
       let gone = subst IsElsewhere (sym (entry_here d.external m.world.legs x None before.held in_x)) tt in
       performed_all d tones plan m (Remove x ∷ Clear x ∷ []) (in_x, (in_x, tt)) (tt, (gone, tt)) before
 
-  pub clear_quiet : (h : Held) (cause : ℕ) → IsExternal d.external h.slot → Unreleased m.world h.slot → AreHushed d tones m (clear_with tones cause h)
+  pub clear_quiet : (h : HeldLeg) (cause : ℕ) → IsExternal d.external h.slot → Unreleased m.world h.slot → AreHushed d tones m (clear_with tones cause h)
   clear_quiet h cause in_x quiet = (quiet, (tt, (put_elsewhere h.slot (begun m.world (in_disconnect_indication cause h.leg)) in_x (λ e. absurd cc), (tt, tt))))
 
-  pub cleared_sounds : (h : Held) (cause : ℕ) → IsThere d.external h → cause < 128 → Unreleased m.world h.slot → Sounds (clear_with tones cause h)
+  pub cleared_sounds : (h : HeldLeg) (cause : ℕ) → IsThere d.external h → cause < 128 → Unreleased m.world h.slot → Sounds (clear_with tones cause h)
   cleared_sounds h cause there small quiet =
       performed_all d tones plan m (clear_with tones cause h) (clear_permitted d tones plan m cause h there small) (clear_quiet h cause there.within quiet) before
 
-  pub peer_sounds : (h : Held) (cause : ℕ) (o : Option Held) → PeerIsThere d.external h o → cause < 128 → PeerUnreleased m.world o → Sounds (with_peer o (clear_with tones cause))
+  pub peer_sounds : (h : HeldLeg) (cause : ℕ) (o : Option HeldLeg) → PeerIsThere d.external h o → cause < 128 → PeerUnreleased m.world o → Sounds (with_peer o (clear_with tones cause))
   peer_sounds h cause None there small quiet = before
   peer_sounds h cause (Some k) there small quiet = cleared_sounds k cause there.0 small quiet
 
   -- a called user's progress
-  pub alerting_sounds : (h : Held) (o : Option Held) → ArePermitted d tones plan m (with_peer o (on_alerting tones h)) → Sounds (with_peer o (on_alerting tones h))
+  pub alerting_sounds : (h : HeldLeg) (o : Option HeldLeg) → ArePermitted d tones plan m (with_peer o (on_alerting tones h)) → Sounds (with_peer o (on_alerting tones h))
   alerting_sounds h None may = before
   alerting_sounds h (Some c) may =
       let first = with_leg m.world.legs h.slot (begun m.world (in_state call_received h.leg)) in
@@ -118,13 +118,13 @@ module _ (d : Dimensions) (tones : Tones) (plan : List Number) (m : Making) (bef
       let put = subst IsElsewhere (sym (entry_here d.external first c.slot (Some caller) size may.1.0.0)) (λ e. absurd cc) in
       performed_all d tones plan m (on_alerting tones h c) may (tt, (tt, (put, (tt, tt)))) before
 
-  pub answer_sounds : (h : Held) (o : Option Held) → Unreleased m.world h.slot → PeerUnreleased m.world o → ArePermitted d tones plan m (with_peer o (on_connect h)) → Sounds (with_peer o (on_connect h))
+  pub answer_sounds : (h : HeldLeg) (o : Option HeldLeg) → Unreleased m.world h.slot → PeerUnreleased m.world o → ArePermitted d tones plan m (with_peer o (on_connect h)) → Sounds (with_peer o (on_connect h))
   answer_sounds h None called quiet may = before
   answer_sounds h (Some c) called quiet may = performed_all d tones plan m (on_connect h c) may (quiet, ((quiet, called), (tt, (tt, (tt, (tt, tt)))))) before
 
 -- ---- a leg that goes to release request by its user's DISCONNECT
 
-module _ (d : Dimensions) (tones : Tones) (plan : List Number) (w : World) (h : Held) (before : Sounding d tones w) where
+module _ (d : Dimensions) (tones : Tones) (plan : List Number) (w : World) (h : HeldLeg) (before : Sounding d tones w) where
   abbrev cleared : World
   cleared = obey d w (Clear_slot h.slot)
 
@@ -141,8 +141,8 @@ module _ (d : Dimensions) (tones : Tones) (plan : List Number) (w : World) (h : 
 
 -- ---- the other leg of a call
 
-module _ (d : Dimensions) (tones : Tones) (plan : List Number) (w : World) (h : Held) (stand : LegsStand d.external tones w) (within : IsExternal d.external h.slot) (at : leg_at w.legs h.slot ≡ Some h.leg) where
-  abbrev other : Option Held
+module _ (d : Dimensions) (tones : Tones) (plan : List Number) (w : World) (h : HeldLeg) (stand : LegsStand d.external tones w) (within : IsExternal d.external h.slot) (at : leg_at w.legs h.slot ≡ Some h.leg) where
+  abbrev other : Option HeldLeg
   other = peer_of w.legs h.leg.peer
 
   pub peer_quiet : PeerUnreleased w other
@@ -162,7 +162,7 @@ module _ (d : Dimensions) (tones : Tones) (plan : List Number) (w : World) (h : 
 
 -- ---- an act
 
-module _ (s : Setting) (w : World) (h : Held) (stands : CallsStand s w) (within : IsExternal s.dimensions.external h.slot) (at : leg_at w.legs h.slot ≡ Some h.leg) where
+module _ (s : Setting) (w : World) (h : HeldLeg) (stands : CallsStand s w) (within : IsExternal s.dimensions.external h.slot) (at : leg_at w.legs h.slot ≡ Some h.leg) where
   abbrev d : Dimensions
   d = s.dimensions
 

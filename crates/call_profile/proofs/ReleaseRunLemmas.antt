@@ -22,7 +22,7 @@ use Rattle.q931_codec.specs.Outgoing.{OutgoingMessage, encoding}
 use Rattle.q931_codec.specs.declared.message.Message.{Message as Q931}
 use Rattle.call_states.specs.Acts.{act_on, clearing_cause, is_null}
 use Rattle.call_states.proofs.Causes.{cause_fits}
-use Rattle.call_states.specs.declared.leg.Held.{Held}
+use Rattle.call_states.specs.declared.leg.HeldLeg.{HeldLeg}
 use Rattle.call_states.specs.declared.leg.Leg.{Leg}
 use Rattle.call_states.specs.declared.leg.Peer.TheVariants as peer
 use Rattle.call_states.specs.declared.pending.Pending.{Pending}
@@ -108,7 +108,7 @@ module _ (s : Setting) (w : World) (before : Sounding s.dimensions s.tones w) wh
   setup_sounds line m may = performed_all s.dimensions s.tones s.plan (making_at w) (course_of_setup s w line m).operations may (setup_quiet line m (refusal s w line m) may) before
 
   -- more digits
-  module _ (h : Held) (m : Q931) (quiet : Unreleased w h.slot) (within : IsExternal s.dimensions.external h.slot) where
+  module _ (h : HeldLeg) (m : Q931) (quiet : Unreleased w h.slot) (within : IsExternal s.dimensions.external h.slot) where
     dial_quiet : (p : Pending) (o : Option ℕ) → May (dial_on s w h p o) → Quiet (dial_on s w h p o)
     dial_quiet p (Some cause) may = clear_quiet s.dimensions s.tones s.plan (making_at w) before h cause within quiet
     dial_quiet p None may =
@@ -126,7 +126,7 @@ module _ (s : Setting) (w : World) (before : Sounding s.dimensions s.tones w) wh
 
 module _ (d : Dimensions) (tones : Tones) (r : Restart) (m : Making) (x : Slot) (kept : Kept d tones m.world) (within : IsExternal d.external x) (plan : List Number) (before : Sounding d tones m.world) where
   module _ (leg : Leg) (at : leg_at m.world.legs x ≡ Some leg) where
-    abbrev held : Held
+    abbrev held : HeldLeg
     held = record { slot = x; leg = leg }
 
     abbrev gone : Making
@@ -135,7 +135,7 @@ module _ (d : Dimensions) (tones : Tones) (r : Restart) (m : Making) (x : Slot) 
     gone_sounds : Sounding d tones gone.world
     gone_sounds = removed_sounds d tones plan m before held within
 
-    peer_restarted : (o : Option Held) → PeerIsThere d.external held o → PeerUnreleased gone.world o → Sounding d tones (making_after_all d gone (with_peer o (restart_peer tones r x.line))).world
+    peer_restarted : (o : Option HeldLeg) → PeerIsThere d.external held o → PeerUnreleased gone.world o → Sounding d tones (making_after_all d gone (with_peer o (restart_peer tones r x.line))).world
     peer_restarted None there quiet = gone_sounds
     peer_restarted (Some other) there quiet = elim (true_or_false (restarts_slot r x.line other.slot)) [
       | inl too ↦ rw too (removed_sounds d tones plan gone gone_sounds other there.0.within)
@@ -177,7 +177,7 @@ module _ (s : Setting) (frame : ℕ) (m : Making) (x : Slot) (kept : Kept s.dime
   d = s.dimensions
 
   module _ (leg : Leg) (at : leg_at m.world.legs x ≡ Some leg) where
-    abbrev h : Held
+    abbrev h : HeldLeg
     h = record { slot = x; leg = leg }
 
     abbrev Sounds : List Operation → Type 0

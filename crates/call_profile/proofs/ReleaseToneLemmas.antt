@@ -21,7 +21,7 @@ use Rattle.tone_rules.specs.declared.tones.Tones.{Tones}
 use Rattle.exchange_events.specs.Sizes.{Dimensions}
 use Rattle.call_profile.specs.KeptMessages.{awaiting_answer}
 use Rattle.call_states.specs.Acts.{is_among}
-use Rattle.call_profile.specs.Legs.{Legs, leg_at, kept_at, resent_from}
+use Rattle.call_profile.specs.Legs.{Legs, leg_at, kept_at, retransmitted_from}
 use Rattle.call_profile.specs.Operations as op
 use Rattle.call_profile.specs.Operations.{Operation, Making, begun, with_legs, making_after, making_after_all}
 use Rattle.call_profile.specs.ReleaseTones.{SoundsByRelease, ReleasesSound}
@@ -100,7 +100,7 @@ dialling_state : (state : ℕ) → state ≡ overlap_sending → state ≢ relea
 dialling_state state dials is = grind (arith, common_steps, dials, is)
 
 -- the same message is kept of a leg that waits anew
-anew_sounds : (tones : Tones) (x : Slot) (next : ℕ) (leg : Leg) (octets : List ℕ) (heard : Option Circuit) → SoundsByRelease tones x leg octets heard → SoundsByRelease tones x (resent_from next leg) octets heard
+anew_sounds : (tones : Tones) (x : Slot) (next : ℕ) (leg : Leg) (octets : List ℕ) (heard : Option Circuit) → SoundsByRelease tones x leg octets heard → SoundsByRelease tones x (retransmitted_from next leg) octets heard
 anew_sounds tones x next leg octets heard old = record { cause = old.cause; own = old.own; kept = old.kept; hears = old.hears }
 
 -- ---- operations
@@ -193,13 +193,13 @@ module _ (d : Dimensions) (tones : Tones) (plan : List Number) where
   performed m (op.Repeat h octets) may quiet before =
       let w = m.world in
       let next : ℕ = w.holding.next in
-      entered w h.slot (Some (resent_from next h.leg)) None (Some octets) may.0 before (λ leg os e is f.
-      let same : resent_from next h.leg ≡ leg = cc in
+      entered w h.slot (Some (retransmitted_from next h.leg)) None (Some octets) may.0 before (λ leg os e is f.
+      let same : retransmitted_from next h.leg ≡ leg = cc in
       let those : octets ≡ os = cc in
       let old = before.sound h.slot h.leg octets may.0 may.1 (ap (λ (l : Leg). l.state) same ∙ is) may.2 in
       let new = anew_sounds tones h.slot next h.leg octets (heard_by w.holding.circuits h.slot) old in
       subst (λ (l : Leg). SoundsByRelease tones h.slot l os (heard_by w.holding.circuits h.slot)) same
-      (subst (λ (list : List ℕ). SoundsByRelease tones h.slot (resent_from next h.leg) list (heard_by w.holding.circuits h.slot)) those new))
+      (subst (λ (list : List ℕ). SoundsByRelease tones h.slot (retransmitted_from next h.leg) list (heard_by w.holding.circuits h.slot)) those new))
   performed m (op.Remove x) may quiet before = entered m.world x None None None may before (λ leg octets e is f. absurd cc)
   performed m (op.Send line message) may quiet before = before
 

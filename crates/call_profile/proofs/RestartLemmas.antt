@@ -22,7 +22,7 @@ use Rattle.clearing_rules.specs.declared.scope.Restart.{Restart}
 use Rattle.clearing_rules.specs.Restarting.{is_restarted, acknowledgement, global_call_reference, IsOnLine}
 use Rattle.clearing_rules.specs.declared.scope.Restart.TheVariants.{Channel, Interface}
 use Rattle.tone_rules.specs.declared.tones.Tones.{Tones}
-use Rattle.call_states.specs.declared.leg.Held.{Held}
+use Rattle.call_states.specs.declared.leg.HeldLeg.{HeldLeg}
 use Rattle.number_plan.specs.declared.plan.Number.{Number}
 use Rattle.call_profile.specs.Acts.{in_disconnect_indication, peer_of, with_peer, clear_with, remove_leg}
 use Rattle.call_profile.specs.CallRecords.{records}
@@ -59,7 +59,7 @@ cleared_twice h y = ap (λ (circuits : List Circuit). let cleared : Holding = re
 -- ---- a leg whose slot is restarted
 
 module _ (d : Dimensions) (tones : Tones) (r : Restart) (m : Making) (x : Slot) (leg : Leg) (kept : Kept d tones m.world) (within : IsExternal d.external x) (at : leg_at m.world.legs x ≡ Some leg) where
-  abbrev held : Held
+  abbrev held : HeldLeg
   held = record { slot = x; leg = leg }
 
   abbrev gone : Making
@@ -114,7 +114,7 @@ module _ (d : Dimensions) (tones : Tones) (r : Restart) (m : Making) (x : Slot) 
   leg_told = told_by leg.peer refl (kept.1.each x leg within at).peer
 
   -- and each operation is permitted
-  permitted_by : (plan : List Number) (o : Option Held) → PeerIsThere d.external held o → ArePermitted d tones plan gone (with_peer o (restart_peer tones r x.line))
+  permitted_by : (plan : List Number) (o : Option HeldLeg) → PeerIsThere d.external held o → ArePermitted d tones plan gone (with_peer o (restart_peer tones r x.line))
   permitted_by plan None there = tt
   permitted_by plan (Some other) there = elim (true_or_false (restarts_slot r x.line other.slot)) [
     | inl too ↦ rw too (there.0.within, (there.0.within, tt))
@@ -129,7 +129,7 @@ module _ (d : Dimensions) (tones : Tones) (r : Restart) (m : Making) (x : Slot) 
 -- what holds where nothing is done, and where a leg that holds the slot is gone, holds of what is done at the slot
 module _ (tones : Tones) (r : Restart) (legs : Legs) (x : Slot) (P : List Operation → Type 0) (none : P [])
     (some : (leg : Leg) → leg_at legs x ≡ Some leg → P (restart_leg tones r legs (Some (record { slot = x; leg = leg })))) where
-  held_by : (o : Option Leg) → leg_at legs x ≡ o → P (restart_leg tones r legs (option_map (λ (leg : Leg). let h : Held = record { slot = x; leg = leg } in h) o))
+  held_by : (o : Option Leg) → leg_at legs x ≡ o → P (restart_leg tones r legs (option_map (λ (leg : Leg). let h : HeldLeg = record { slot = x; leg = leg } in h) o))
   held_by None at = none
   held_by (Some leg) at = some leg at
 
@@ -147,8 +147,8 @@ module _ (d : Dimensions) (tones : Tones) (r : Restart) (m : Making) (x : Slot) 
   slot_permitted plan = at_slot tones r m.world.legs x (ArePermitted d tones plan m) tt (λ leg at. leg_permitted d tones r m x leg kept within at plan)
 
   told_of : (o : Option Leg) → leg_at m.world.legs x ≡ o
-      → records m.world (making_after_all d m (restart_leg tones r m.world.legs (option_map (λ (leg : Leg). let h : Held = record { slot = x; leg = leg } in h) o))).world temporary_failure
-      ≡ cons_option (option_and_then (λ h. record_ended m.world h temporary_failure) (option_map (λ (leg : Leg). let h : Held = record { slot = x; leg = leg } in h) o)) []
+      → records m.world (making_after_all d m (restart_leg tones r m.world.legs (option_map (λ (leg : Leg). let h : HeldLeg = record { slot = x; leg = leg } in h) o))).world temporary_failure
+      ≡ cons_option (option_and_then (λ h. record_ended m.world h temporary_failure) (option_map (λ (leg : Leg). let h : HeldLeg = record { slot = x; leg = leg } in h) o)) []
   told_of None at = no_records m.world temporary_failure
   told_of (Some leg) at = leg_told d tones r m x leg kept within at
 

@@ -18,10 +18,10 @@ use Rattle.call_states.specs.declared.leg.Peer.TheVariants as peer
 use Rattle.clearing_rules.specs.declared.scope.Restart.{Restart}
 use Rattle.clearing_rules.specs.Restarting.{is_restarted}
 use Rattle.tone_rules.specs.declared.tones.Tones.{Tones}
-use Rattle.call_states.specs.declared.leg.Held.{Held}
+use Rattle.call_states.specs.declared.leg.HeldLeg.{HeldLeg}
 use Rattle.call_profile.specs.Acts.{in_disconnect_indication, tone_of, peer_of, with_peer, clear_with, remove_leg}
 use Rattle.call_profile.specs.LegStanding.{LegsStand, HasPeer, MayHear, IsInCall}
-use Rattle.call_profile.specs.Legs.{from_frame, leg_at, with_entry}
+use Rattle.call_profile.specs.Legs.{waiting_from, leg_at, with_entry}
 use Rattle.call_profile.specs.Operations.{Making, begun, making_after_all, with_tone}
 use Rattle.call_profile.specs.Restarts.{restarts_slot, restart_peer, restart_leg, restart_slot}
 use Rattle.exchange_events.specs.Sizes.{Dimensions}
@@ -77,7 +77,7 @@ module _ (external bridges : ℕ) (tones : Tones) (w : World) (valid : Valid bri
 
 -- what becomes of the leg of a call whose other leg was at the slot: it is gone if its own slot is restarted too, and is cleared otherwise
 abbrev pub peer_after : Restart → ℕ → ℕ → Slot → Leg → Option Leg
-peer_after r line next z other = if restarts_slot r line z then None else Some (from_frame next (in_disconnect_indication temporary_failure other))
+peer_after r line next z other = if restarts_slot r line z then None else Some (waiting_from next (in_disconnect_indication temporary_failure other))
 
 -- the slot holds no leg any more, and the other leg of its call is what it must be; all others are as they were, and hear what they heard; and so
 -- do the slots that no leg holds
@@ -108,7 +108,7 @@ module _ (d : Dimensions) (tones : Tones) (r : Restart) (line : ℕ) (m : Making
   }
 
   module _ (leg : Leg) (at : leg_at u.legs x ≡ Some leg) where
-    abbrev held : Held
+    abbrev held : HeldLeg
     held = record { slot = x; leg = leg }
 
     abbrev gone : Making
@@ -210,7 +210,7 @@ module _ (d : Dimensions) (tones : Tones) (r : Restart) (line : ℕ) (m : Making
     leg_done = subst (λ n. Done (making_after_all d gone (with_peer (peer_of u.legs leg.peer) (restart_peer tones r n))).world) (sym on_line) (with_peer_done leg.peer refl (kept.1.each x leg in_x at).peer)
 
   held_done : (o : Option Leg) → leg_at u.legs x ≡ o
-      → Done (making_after_all d m (restart_leg tones r u.legs (option_map (λ (leg : Leg). let h : Held = record { slot = x; leg = leg } in h) o))).world
+      → Done (making_after_all d m (restart_leg tones r u.legs (option_map (λ (leg : Leg). let h : HeldLeg = record { slot = x; leg = leg } in h) o))).world
   held_done None none = none_done none
   held_done (Some leg) at = leg_done leg at
 

@@ -18,13 +18,13 @@ use Rattle.number_plan.specs.declared.target.Found.{Found}
 use Rattle.number_plan.specs.declared.target.Found.TheVariants.{Line, Lines, Room, More, Nothing}
 use Rattle.number_plan.specs.declared.target.Target.TheVariants as target
 use Rattle.number_plan.proofs.Meanings.{found_passes}
-use Rattle.call_states.specs.declared.leg.Held.{Held}
+use Rattle.call_states.specs.declared.leg.HeldLeg.{HeldLeg}
 use Rattle.clearing_rules.specs.declared.scope.Restart.{Restart}
 use Rattle.call_profile.specs.Calls.{New_call, On_no_call, on_global_reference, is_setup, making_by, request_read, with_leg_named, request_without_leg as unnamed}
 use Rattle.call_profile.specs.IdleSlots.{idle, lowest_idle, lowest_idle_beside, hunted}
 use Rattle.call_profile.specs.LegStanding.{LegsStand}
 use Rattle.exchange_events.specs.Sound.{IsPlanned, is_reached, line_exists}
-use Rattle.call_profile.specs.Legs.{Legs, leg_named, new_reference}
+use Rattle.call_profile.specs.Legs.{Legs, leg_named, lowest_free_reference}
 use Rattle.call_profile.specs.Operations.{making_at, making_after_all}
 use Rattle.exchange_events.specs.Sizes.{Setting}
 use Rattle.call_states.specs.declared.pending.Pending.{Pending}
@@ -137,11 +137,11 @@ hunted_passes test w x (line ∷ lines) y all e =
 
 -- ---- the new reference
 
-none_of : (o : Option Held) → is_none o ≡ true → o ≡ None
+none_of : (o : Option HeldLeg) → is_none o ≡ true → o ≡ None
 none_of None e = refl
 none_of (Some h) e = absurd cc
 
-pub offered : (s : Setting) (w : World) (x : Slot) (line : ℕ) (y : Slot) → line < s.dimensions.external → lowest_idle_beside w x line ≡ Some y → MayOffer s.dimensions w x y (new_reference w.legs line)
+pub offered : (s : Setting) (w : World) (x : Slot) (line : ℕ) (y : Slot) → line < s.dimensions.external → lowest_idle_beside w x line ≡ Some y → MayOffer s.dimensions w x y (lowest_free_reference w.legs line)
 offered s w x line y below e =
     let is = called_is w x line y e in
     let unused = new_unused w.legs line y is.2 (empty_slot w y is.0) in
@@ -150,11 +150,11 @@ offered s w x line y below e =
       apart = is.1;
       idle_y = is.0;
       small = (omega arith, omega (arith, unused.1));
-      free = subst (λ n. leg_named w.legs n true (new_reference w.legs line) ≡ None) (sym is.2.0) (none_of (leg_named w.legs line true (new_reference w.legs line)) unused.0);
+      free = subst (λ n. leg_named w.legs n true (lowest_free_reference w.legs line) ≡ None) (sym is.2.0) (none_of (leg_named w.legs line true (lowest_free_reference w.legs line)) unused.0);
     }
 
 pub offered_by_hunting : (s : Setting) (w : World) (x : Slot) (lines : List ℕ) (y : Slot) → list_all (line_exists s.dimensions.external) lines ≡ true → hunted w x lines ≡ Some y
-    → MayOffer s.dimensions w x y (new_reference w.legs y.line)
+    → MayOffer s.dimensions w x y (lowest_free_reference w.legs y.line)
 offered_by_hunting s w x lines y exist e =
     let passes = hunted_passes (line_exists s.dimensions.external) w x lines y exist e in
     offered s w x y.line y (grind (arith, nat_tests, passes)) (hunted_on w x lines y e)
@@ -177,9 +177,9 @@ pub record CanReach (s : Setting) (w : World) (t : Found) : Type 0 where
 
 module _ (s : Setting) (w : World) (first : Bool) (own : ℕ) (asked : Pending) (x : Slot) (may : MayCall s.dimensions s.tones w own x) where
   call_kept : (t : Found) (called : Option Slot) → called_slot w x t ≡ called → CanReach s w t → Kept s.dimensions s.tones (making_after_all s.dimensions (making_at w) (call first w own asked x t called)).world
-  call_kept (Line line) (Some y) chosen can = line_call_kept s.dimensions s.tones w first own asked x y (new_reference w.legs line) may (offered s w x line y (can.line line refl) chosen)
+  call_kept (Line line) (Some y) chosen can = line_call_kept s.dimensions s.tones w first own asked x y (lowest_free_reference w.legs line) may (offered s w x line y (can.line line refl) chosen)
   call_kept (Line line) None chosen can = (may.valid, may.stand)
-  call_kept (Lines lines) (Some y) chosen can = line_call_kept s.dimensions s.tones w first own asked x y (new_reference w.legs y.line) may (offered_by_hunting s w x lines y (can.lines lines refl) chosen)
+  call_kept (Lines lines) (Some y) chosen can = line_call_kept s.dimensions s.tones w first own asked x y (lowest_free_reference w.legs y.line) may (offered_by_hunting s w x lines y (can.lines lines refl) chosen)
   call_kept (Lines lines) None chosen can = (may.valid, may.stand)
   call_kept (Room room) called chosen can = room_call_kept s.dimensions s.tones w first own x room may (can.room room refl)
   call_kept More called chosen can = waiting_kept s.dimensions s.tones w own asked x may first
@@ -239,7 +239,7 @@ asked_for n m =
     without_leg_by n (λ r. r ≡ New_call m → (n ≡ m) × (n.flag ≡ false) × ((n.reference == 0) ≡ false))
     (λ o e. absurd (not_on_global o m e)) (λ asks own e. (cc, unflagged (is_setup n.kind) n.flag asks, own)) (λ back own e. absurd cc)
 
-named_new : (n : Message) (o : Option Held) (m : Message) → with_leg_named n o ≡ New_call m → (o ≡ None) × (n ≡ m) × (n.flag ≡ false) × ((n.reference == 0) ≡ false)
+named_new : (n : Message) (o : Option HeldLeg) (m : Message) → with_leg_named n o ≡ New_call m → (o ≡ None) × (n ≡ m) × (n.flag ≡ false) × ((n.reference == 0) ≡ false)
 named_new n None m e = let is = asked_for n m e in (refl, is.0, is.1, is.2)
 named_new n (Some h) m e = absurd cc
 
@@ -259,7 +259,7 @@ new_from legs line (Ok n) m e =
 back_from : (n m : Message) → unnamed n ≡ On_no_call m → n ≡ m
 back_from n m = without_leg_by n (λ r. r ≡ On_no_call m → n ≡ m) (λ o e. absurd (not_back_on_global o m e)) (λ asks own e. absurd cc) (λ back own e. cc)
 
-named_back : (n : Message) (o : Option Held) (m : Message) → with_leg_named n o ≡ On_no_call m → n ≡ m
+named_back : (n : Message) (o : Option HeldLeg) (m : Message) → with_leg_named n o ≡ On_no_call m → n ≡ m
 named_back n None m e = back_from n m e
 named_back n (Some h) m e = absurd cc
 

@@ -12,7 +12,7 @@ use Rattle.number_plan.specs.declared.target.Found.TheVariants.{Line, Lines, Roo
 use Rattle.call_profile.specs.CallRecords.{records, is_calling}
 use Rattle.call_profile.specs.Calls.{making_by}
 use Rattle.call_profile.specs.LegStanding.{CallsStand}
-use Rattle.call_profile.specs.Legs.{Legs, leg_at, new_reference}
+use Rattle.call_profile.specs.Legs.{Legs, leg_at, lowest_free_reference}
 use Rattle.call_profile.specs.Operations.{Wait, begun, making_at, making_after, making_after_all}
 use Rattle.exchange_events.specs.Sizes.{Setting}
 use Rattle.call_states.specs.declared.leg.Leg.{Leg}
@@ -66,11 +66,11 @@ module _ (s : Setting) (w : World) (first : Bool) (own : ℕ) (asked : Pending) 
       → records w (making_after_all s.dimensions (making_at w) (call first w own asked x t o)).world 0 ≡ []
   call_ends (Line l) (Some y) chosen exist =
       let may = offered s w x l y (exist.0 l refl) chosen in
-      line_ends y (new_reference w.legs l) may.in_y may.apart (ap is_calling (empty_slot w y may.idle_y))
+      line_ends y (lowest_free_reference w.legs l) may.in_y may.apart (ap is_calling (empty_slot w y may.idle_y))
   call_ends (Line l) None chosen exist = no_records w 0
   call_ends (Lines ls) (Some y) chosen exist =
       let may = offered_by_hunting s w x ls y (exist.1 ls refl) chosen in
-      line_ends y (new_reference w.legs y.line) may.in_y may.apart (ap is_calling (empty_slot w y may.idle_y))
+      line_ends y (lowest_free_reference w.legs y.line) may.in_y may.apart (ap is_calling (empty_slot w y may.idle_y))
   call_ends (Lines ls) None chosen exist = no_records w 0
   call_ends (Room room) o chosen exist = room_ends room
   call_ends More o chosen exist = waiting_ends first

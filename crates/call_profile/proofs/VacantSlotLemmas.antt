@@ -10,8 +10,8 @@ use Rattle.circuit_model.proofs.Slots.{true_or_false}
 use Rattle.call_states.specs.declared.leg.Leg.{Leg}
 use Rattle.call_states.specs.declared.leg.Side.{Side}
 use Rattle.call_states.specs.declared.leg.Side.TheVariants.{Caller, Called}
-use Rattle.call_states.specs.declared.leg.Held.{Held}
-use Rattle.call_profile.specs.Legs.{Legs, leg_at, held_at, slots_of, legs_of, is_for, leg_named, is_unused, new_reference, side_named, same_side}
+use Rattle.call_states.specs.declared.leg.HeldLeg.{HeldLeg}
+use Rattle.call_profile.specs.Legs.{Legs, leg_at, held_at, slots_of, legs_of, is_addressed_to, leg_named, is_unused, lowest_free_reference, side_named, same_side}
 use Rattle.call_profile.proofs.LineLemmas.{unused_from, unused_all, unused_here, unused_other}
 use Rattle.call_profile.proofs.NamedLegLemmas.{IsOn, slots_on}
 
@@ -51,12 +51,12 @@ on_line Q line first (suc count) x is low high all =
 
 -- ---- no leg has a reference that none was found for
 
-none_step : (legs : Legs) (p : Held → Bool) (x : Slot) (rest : List Held) (o : Option Leg) → leg_at legs x ≡ o
-    → find p (cons_option (option_map (λ (leg : Leg). let held : Held = record { slot = x; leg = leg } in held) o) rest) ≡ None
+none_step : (legs : Legs) (p : HeldLeg → Bool) (x : Slot) (rest : List HeldLeg) (o : Option Leg) → leg_at legs x ≡ o
+    → find p (cons_option (option_map (λ (leg : Leg). let held : HeldLeg = record { slot = x; leg = leg } in held) o) rest) ≡ None
     → ((l : Leg) → leg_at legs x ≡ Some l → p (record { slot = x; leg = l }) ≡ false) × (find p rest ≡ None)
 none_step legs p x rest None at e = (λ l is. let f : None ≡ Some l = sym at ∙ is in absurd cc, e)
 none_step legs p x rest (Some leg) at e =
-    let one : Held = record { slot = x; leg = leg } in
+    let one : HeldLeg = record { slot = x; leg = leg } in
     elim (true_or_false (p one)) [
       | inl passed ↦ let f : Some one ≡ None = rw passed at e in absurd cc
       | inr failed ↦ (
@@ -69,10 +69,10 @@ none_step legs p x rest (Some leg) at e =
     ]
 
 -- no leg at the slot passes the test
-abbrev Fails : Legs → (Held → Bool) → Slot → Type 0
+abbrev Fails : Legs → (HeldLeg → Bool) → Slot → Type 0
 Fails legs p x = (l : Leg) → leg_at legs x ≡ Some l → p (record { slot = x; leg = l }) ≡ false
 
-none_among : (legs : Legs) (p : Held → Bool) (xs : List Slot) → find p (filter_map (held_at legs) xs) ≡ None → AllByRecursion (Fails legs p) xs
+none_among : (legs : Legs) (p : HeldLeg → Bool) (xs : List Slot) → find p (filter_map (held_at legs) xs) ≡ None → AllByRecursion (Fails legs p) xs
 none_among legs p [] e = tt
 none_among legs p (x ∷ xs) e =
     let step = none_step legs p x (filter_map (held_at legs) xs) (leg_at legs x) refl e in
@@ -88,7 +88,7 @@ pub none_named : (legs : Legs) (line : ℕ) (flag : Bool) (reference : ℕ) → 
     → (x : Slot) (l : Leg) → IsOn line x → leg_at legs x ≡ Some l → l.side ≡ side_named flag → l.reference ≡ reference → ⊥
 unfolding slots_of
 none_named legs line flag reference none x l on at side same =
-    let fails = on_line (Fails legs (is_for flag reference)) line 0 30 x on.0 (omega arith) (omega (arith, on.1)) (none_among legs (is_for flag reference) (slots_of line) none) l at in
+    let fails = on_line (Fails legs (is_addressed_to flag reference)) line 0 30 x on.0 (omega arith) (omega (arith, on.1)) (none_among legs (is_addressed_to flag reference) (slots_of line) none) l at in
     let passed = passes flag reference l.side l.reference side same in
     let wrong : true ≡ false = sym passed ∙ fails in
     cc
@@ -124,33 +124,33 @@ found_or_all legs line zero reference e = inr (λ r low high. absurd (omega (ari
 found_or_all legs line (suc count) reference e = unused_step legs line reference (omega (arith, e)) (found_or_all legs line count (reference + 1) (omega (arith, e)))
 
 -- were all of them used, the line would have thirty legs
-used_step : (q : ℕ) (h : Held) (hs : List Held) → (is_none (find (is_for true (q + 1)) hs) ≡ false → list_any (eqb q) (map (λ (l : Held). l.leg.reference - 1) hs) ≡ true) → is_none (find (is_for true (q + 1)) (h ∷ hs)) ≡ false
-    → list_any (eqb q) (map (λ (l : Held). l.leg.reference - 1) (h ∷ hs)) ≡ true
-used_step q h hs later e = elim (true_or_false (is_for true (q + 1) h)) [
+used_step : (q : ℕ) (h : HeldLeg) (hs : List HeldLeg) → (is_none (find (is_addressed_to true (q + 1)) hs) ≡ false → list_any (eqb q) (map (λ (l : HeldLeg). l.leg.reference - 1) hs) ≡ true) → is_none (find (is_addressed_to true (q + 1)) (h ∷ hs)) ≡ false
+    → list_any (eqb q) (map (λ (l : HeldLeg). l.leg.reference - 1) (h ∷ hs)) ≡ true
+used_step q h hs later e = elim (true_or_false (is_addressed_to true (q + 1) h)) [
   | inl here ↦ grind (arith, common_steps, here)
   | inr other ↦ let rest = later (rw other at e) in grind (arith, common_steps, rest)
 ]
 
-used_by : (q : ℕ) (hs : List Held) → is_none (find (is_for true (q + 1)) hs) ≡ false → list_any (eqb q) (map (λ (h : Held). h.leg.reference - 1) hs) ≡ true
+used_by : (q : ℕ) (hs : List HeldLeg) → is_none (find (is_addressed_to true (q + 1)) hs) ≡ false → list_any (eqb q) (map (λ (h : HeldLeg). h.leg.reference - 1) hs) ≡ true
 used_by q [] e = absurd cc
 used_by q (h ∷ hs) e = used_step q h hs (used_by q hs) e
 
-cons_longer : (o : Option Held) (rest : List Held) → length (cons_option o rest) ≤ suc (length rest)
+cons_longer : (o : Option HeldLeg) (rest : List HeldLeg) → length (cons_option o rest) ≤ suc (length rest)
 cons_longer None rest = omega arith
 cons_longer (Some h) rest = omega arith
 
-at_most : (f : Slot → Option Held) (line first count : ℕ) → length (filter_map f (map (λ place. record { line = line; place = place }) (range_with_len first count))) ≤ count
+at_most : (f : Slot → Option HeldLeg) (line first count : ℕ) → length (filter_map f (map (λ place. record { line = line; place = place }) (range_with_len first count))) ≤ count
 at_most f line first zero = omega arith
 at_most f line first (suc count) =
     let rest = at_most f line (first + 1) count in
     let step = cons_longer (f (record { line = line; place = first })) (filter_map f (map (λ place. record { line = line; place = place }) (range_with_len (first + 1) count))) in
     omega (arith, rest, step)
 
-cons_none : (o : Option Held) (rest : List Held) (n : ℕ) → o ≡ None → length rest ≤ n → length (cons_option o rest) < suc n
+cons_none : (o : Option HeldLeg) (rest : List HeldLeg) (n : ℕ) → o ≡ None → length rest ≤ n → length (cons_option o rest) < suc n
 cons_none None rest n e short = omega (arith, short)
 cons_none (Some h) rest n e short = absurd cc
 
-fewer : (f : Slot → Option Held) (line first count : ℕ) (y : Slot) → y.line ≡ line → first ≤ y.place → y.place < first + count → f y ≡ None
+fewer : (f : Slot → Option HeldLeg) (line first count : ℕ) (y : Slot) → y.line ≡ line → first ≤ y.place → y.place < first + count → f y ≡ None
     → length (filter_map f (map (λ place. record { line = line; place = place }) (range_with_len first count))) < count
 fewer f line first zero y is low high none = absurd (omega (arith, low, high))
 fewer f line first (suc count) y is low high none =
@@ -163,7 +163,7 @@ fewer f line first (suc count) y is low high none =
           cons_none (f (record { line = line; place = first })) others count here (at_most f line (first + 1) count)
     ]
 
-map_length : (g : Held → ℕ) (hs : List Held) → length (map g hs) ≡ length hs
+map_length : (g : HeldLeg → ℕ) (hs : List HeldLeg) → length (map g hs) ≡ length hs
 map_length g [] = refl
 map_length g (h ∷ hs) = ap suc (map_length g hs)
 
@@ -172,11 +172,11 @@ unfolding slots_of
 not_all legs line y on none all =
     let nothing : held_at legs y ≡ None = rw none refl in
     let few = fewer (held_at legs) line 0 30 y on.0 (omega arith) (omega (arith, on.1)) nothing in
-    let many = le-length_from_below (map (λ (h : Held). h.leg.reference - 1) (legs_of legs line)) 30 (λ q below. used_by q (legs_of legs line) (all (q + 1) (omega arith) (omega (arith, below)))) in
-    omega (arith, few, many, map_length (λ (h : Held). h.leg.reference - 1) (legs_of legs line))
+    let many = le-length_from_below (map (λ (h : HeldLeg). h.leg.reference - 1) (legs_of legs line)) 30 (λ q below. used_by q (legs_of legs line) (all (q + 1) (omega arith) (omega (arith, below)))) in
+    omega (arith, few, many, map_length (λ (h : HeldLeg). h.leg.reference - 1) (legs_of legs line))
 
 -- the reference of a new called leg is unused, and one of the first thirty, where the line has a slot without a leg
-pub new_unused : (legs : Legs) (line : ℕ) (y : Slot) → IsOn line y → leg_at legs y ≡ None → (is_unused legs line (new_reference legs line) ≡ true) × (new_reference legs line ≤ 30)
+pub new_unused : (legs : Legs) (line : ℕ) (y : Slot) → IsOn line y → leg_at legs y ≡ None → (is_unused legs line (lowest_free_reference legs line) ≡ true) × (lowest_free_reference legs line ≤ 30)
 new_unused legs line y on none =
     let same = unused_all legs line in
     elim (found_or_all legs line 30 1 refl) [

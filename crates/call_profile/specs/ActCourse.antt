@@ -6,7 +6,7 @@ use Rattle.q931_codec.specs.CallStates.{incoming_call_proceeding}
 use Rattle.q931_codec.specs.Causes.{response_to_status_enquiry}
 use Rattle.call_states.specs.declared.act.Act.{Act}
 use Rattle.call_states.specs.declared.act.Act.TheVariants as act
-use Rattle.call_states.specs.declared.leg.Held.{Held}
+use Rattle.call_states.specs.declared.leg.HeldLeg.{HeldLeg}
 use Rattle.call_states.specs.Status.{status, unexpected_cause}
 use Rattle.exchange_events.specs.Sizes.{Setting}
 use Rattle.call_profile.specs.Acts.{send_to, in_state, peer_of, with_peer, clear_with, on_alerting, on_connect, on_disconnect, on_release, on_release_complete}
@@ -15,7 +15,7 @@ use Rattle.call_profile.specs.Digits.{on_digits}
 use Rattle.call_profile.specs.Operations.{Put}
 use Rattle.call_profile.specs.World.{World}
 
-abbrev pub course_of : Setting → World → Held → Message → Act → Course
+abbrev pub course_of : Setting → World → HeldLeg → Message → Act → Course
 course_of s w h m act.Nothing = nothing
 course_of s w h m act.Unexpected = only (send_to h (status h.leg (unexpected_cause m.kind)) ∷ [])
 course_of s w h m act.Enquiry = only (send_to h (status h.leg response_to_status_enquiry) ∷ [])

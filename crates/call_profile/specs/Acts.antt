@@ -12,7 +12,7 @@ use Rattle.call_states.specs.declared.leg.Peer.TheVariants as peer
 use Rattle.call_states.specs.Status.{flag_to}
 use Rattle.tone_rules.specs.declared.tones.Tones.{Tones}
 use Rattle.tone_rules.specs.CallTones.{tone_given}
-use Rattle.call_states.specs.declared.leg.Held.{Held}
+use Rattle.call_states.specs.declared.leg.HeldLeg.{HeldLeg}
 use Rattle.call_profile.specs.Legs.{Legs, held_at}
 use Rattle.call_profile.specs.Operations.{Operation, Clear, Pair, Sound, Put, Expect, Remove, Send}
 
@@ -25,7 +25,7 @@ message_to leg kind = bare (flag_to leg.side) leg.reference kind
 abbrev pub disconnect : Leg → ℕ → OutgoingMessage
 disconnect leg cause = record (message_to leg kind.Disconnect) { cause = Some cause }
 
-abbrev pub send_to : Held → OutgoingMessage → Operation
+abbrev pub send_to : HeldLeg → OutgoingMessage → Operation
 send_to h message = Send h.slot.line message
 
 -- the same message, with a progress indicator if and only if the slot of its user gets a tone
@@ -51,17 +51,17 @@ tone_of tones leg = tone_given tones leg.state leg.cause
 -- ---- the peer
 
 -- the other leg of the call, if there is one, and its operations
-abbrev pub peer_of : Legs → Peer → Option Held
+abbrev pub peer_of : Legs → Peer → Option HeldLeg
 peer_of legs peer.Alone = None
 peer_of legs (peer.Leg y) = held_at legs y
 peer_of legs (peer.Room room) = None
 
-abbrev pub with_peer : Option Held → (Held → List Operation) → List Operation
+abbrev pub with_peer : Option HeldLeg → (HeldLeg → List Operation) → List Operation
 with_peer None does = []
 with_peer (Some h) does = does h
 
 -- the other leg of the call is cleared with a cause, and its user may hear the tone of the cause
-abbrev pub clear_with : Tones → ℕ → Held → List Operation
+abbrev pub clear_with : Tones → ℕ → HeldLeg → List Operation
 clear_with tones cause h =
     let tone = tone_of tones (in_disconnect_indication cause h.leg) in
     Clear h.slot
@@ -74,7 +74,7 @@ clear_with tones cause h =
 
 -- the called user is being alerted; the caller is sent the same, and may hear ringing tone; its slot is silent until
 -- then, so nothing is cleared first
-abbrev pub on_alerting : Tones → Held → Held → List Operation
+abbrev pub on_alerting : Tones → HeldLeg → HeldLeg → List Operation
 on_alerting tones h caller =
     let tone = tone_of tones (in_state call_delivered caller.leg) in
     Put h.slot (in_state call_received h.leg)
@@ -84,7 +84,7 @@ on_alerting tones h caller =
     ∷ []
 
 -- the called user has answered: the caller's slot is cleared of its tone, and the two slots are connected
-abbrev pub on_connect : Held → Held → List Operation
+abbrev pub on_connect : HeldLeg → HeldLeg → List Operation
 on_connect h caller =
     Clear caller.slot
     ∷ Pair caller.slot h.slot
@@ -95,14 +95,14 @@ on_connect h caller =
     ∷ []
 
 -- the user of the leg has requested that the call be cleared, by DISCONNECT
-abbrev pub on_disconnect : Held → List Operation
+abbrev pub on_disconnect : HeldLeg → List Operation
 on_disconnect h =
     Clear h.slot
     ∷ Expect h.slot (in_release_request h.leg) (message_to h.leg kind.Release)
     ∷ []
 
 -- the user of the leg has released its channel, and its call reference is released
-abbrev pub on_release : Held → List Operation
+abbrev pub on_release : HeldLeg → List Operation
 on_release h =
     Clear h.slot
     ∷ Remove h.slot
@@ -110,12 +110,12 @@ on_release h =
     ∷ []
 
 -- the leg is removed, and every circuit that uses its slot
-abbrev pub remove_leg : Held → List Operation
+abbrev pub remove_leg : HeldLeg → List Operation
 remove_leg h =
     Clear h.slot
     ∷ Remove h.slot
     ∷ []
 
 -- the user of the leg has released its call reference
-abbrev pub on_release_complete : Held → List Operation
+abbrev pub on_release_complete : HeldLeg → List Operation
 on_release_complete h = remove_leg h

@@ -8,7 +8,7 @@ use Rattle.q931_codec.specs.declared.message.Message.{Message}
 use Rattle.call_states.specs.Acts.{act_on}
 use Rattle.call_states.specs.declared.act.Act.TheVariants as act
 use Rattle.call_states.specs.declared.leg.Peer.TheVariants as peer
-use Rattle.call_states.specs.declared.leg.Held.{Held}
+use Rattle.call_states.specs.declared.leg.HeldLeg.{HeldLeg}
 use Rattle.call_profile.specs.Calls.{For_leg, request_of, after_message}
 use Rattle.call_profile.specs.LegStanding.{LegsStand}
 use Rattle.exchange_events.specs.declared.reply.Reply.{Reply}
@@ -24,7 +24,7 @@ pub record AreConnected (bridges : ℕ) (before afterwards : World) (caller call
   pub back : Contains afterwards.holding.circuits (Pair called caller before.holding.next)
 
 -- a message answers the call of a leg: circuits and legs are consistent, and this is the act of the message at the leg
-pub record IsAnswered (s : Setting) (w : World) (line : ℕ) (octets : List ℕ) (h : Held) : Type 0 where
+pub record IsAnswered (s : Setting) (w : World) (line : ℕ) (octets : List ℕ) (h : HeldLeg) : Type 0 where
   pub valid : Valid s.dimensions.bridges w.holding
   pub legs_stand : LegsStand s.dimensions.external s.tones w
   pub line_exists : line < s.dimensions.external
@@ -33,7 +33,7 @@ pub record IsAnswered (s : Setting) (w : World) (line : ℕ) (octets : List ℕ)
   pub answers : act_on h.leg.state message ≡ act.Answer
 
 -- the leg's peer is another leg, and the two slots are connected after the message
-abbrev pub GetsBothPaths : Setting → World → ℕ → List ℕ → Held → Type 0
+abbrev pub GetsBothPaths : Setting → World → ℕ → List ℕ → HeldLeg → Type 0
 GetsBothPaths s w line octets h =
     (y : Slot) × (h.leg.peer ≡ peer.Leg y) × AreConnected s.dimensions.bridges w (after_message s w line octets) y h.slot
 

@@ -3,7 +3,7 @@ use Rattle.std.specs.Prelude.{ℕ, ◌==◌, ◌&&◌, not, Bool, false, List, [
 use Rattle.std.specs.List.{range_with_len}
 use Rattle.circuit_model.specs.declared.channel.Slot.{Slot}
 use Rattle.circuit_model.specs.declared.circuit.Circuit.{Circuit}
-use Rattle.circuit_model.specs.Circuits.{heard_by, since_of}
+use Rattle.circuit_model.specs.Circuits.{heard_by, first_frame_of}
 use Rattle.control_memory.specs.Layout.{slot_numbered}
 use Rattle.q931_codec.specs.CallStates.{outgoing_call_proceeding, call_delivered, active}
 use Rattle.call_states.specs.declared.leg.Leg.{Leg}
@@ -11,7 +11,7 @@ use Rattle.call_states.specs.declared.leg.Peer.{Peer}
 use Rattle.call_states.specs.declared.leg.Peer.TheVariants as peer
 use Rattle.call_states.specs.declared.leg.Side.TheVariants.{Caller}
 use Rattle.call_states.specs.Acts.{is_among}
-use Rattle.call_states.specs.declared.leg.Held.{Held}
+use Rattle.call_states.specs.declared.leg.HeldLeg.{HeldLeg}
 use Rattle.exchange_events.specs.declared.record.CallRecord.{CallRecord}
 use Rattle.exchange_events.specs.declared.record.Party.{Party}
 use Rattle.exchange_events.specs.declared.record.Party.TheVariants as party
@@ -35,13 +35,13 @@ party_of (peer.Room room) = Some (party.Room room)
 -- the first frame of the circuit by which a slot receives
 abbrev pub since_heard : ℕ → Option Circuit → ℕ
 since_heard next None = next
-since_heard next (Some c) = since_of c
+since_heard next (Some c) = first_frame_of c
 
 -- the first frame of the conversation, if there was one
-abbrev pub conversation_begin : World → Held → ℕ
+abbrev pub conversation_begin : World → HeldLeg → ℕ
 conversation_begin w h = if h.leg.state == active then since_heard w.holding.next (heard_by w.holding.circuits h.slot) else w.holding.next
 
-abbrev pub record_of : World → ℕ → Held → Option CallRecord
+abbrev pub record_of : World → ℕ → HeldLeg → Option CallRecord
 record_of w cause h = option_map (λ called. record {
   caller = h.slot;
   called = called;

@@ -13,7 +13,7 @@ use Rattle.clearing_rules.specs.Restarting.{global_call_reference, restart_asked
 use Rattle.clearing_rules.specs.UnknownReference.{answer_without_call}
 use Rattle.exchange_events.specs.declared.record.CallRecord.{CallRecord}
 use Rattle.exchange_events.specs.declared.signal.Signal.{Signal}
-use Rattle.call_states.specs.declared.leg.Held.{Held}
+use Rattle.call_states.specs.declared.leg.HeldLeg.{HeldLeg}
 use Rattle.call_profile.specs.ActCourse.{course_of}
 use Rattle.call_profile.specs.CallRecords.{records_by}
 use Rattle.call_profile.specs.Course.{Course, only, nothing}
@@ -29,7 +29,7 @@ use Rattle.call_profile.specs.World.{World}
 -- the request of the user of a line: a message for a leg, a SETUP for a new call, a message on a call reference without
 -- a call, an accepted RESTART, or a message without a reply
 pub data Request : Type 0 where
-  For_leg : (held : Held) (message : Message) → Request
+  For_leg : (held : HeldLeg) (message : Message) → Request
   New_call : (setup : Message) → Request
   On_no_call : (message : Message) → Request
   Restarts : (restart : Restart) → Request
@@ -55,7 +55,7 @@ request_without_leg m =
     else if asks_for_call m then New_call m
     else On_no_call m
 
-abbrev pub with_leg_named : Message → Option Held → Request
+abbrev pub with_leg_named : Message → Option HeldLeg → Request
 with_leg_named m None = request_without_leg m
 with_leg_named m (Some h) = For_leg h m
 
@@ -81,7 +81,7 @@ answer_back line None = []
 answer_back line (Some message) = Send line message ∷ []
 
 -- the operations of a message to a leg in the leg's state
-abbrev pub course_on : Setting → World → Held → Message → Course
+abbrev pub course_on : Setting → World → HeldLeg → Message → Course
 course_on s w h m = course_of s w h m (act_on h.leg.state m)
 
 abbrev pub outcome_for : Setting → World → ℕ → Request → MessageOutcome

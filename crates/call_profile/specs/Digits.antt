@@ -6,7 +6,7 @@ use Rattle.q931_codec.specs.declared.message.Message.{Message}
 use Rattle.q931_codec.specs.Causes.{invalid_number_format}
 use Rattle.q931_codec.specs.Contents.{called_received, complete_in, dialled_digits}
 use Rattle.number_plan.specs.declared.target.Found.TheVariants.{Room}
-use Rattle.call_states.specs.declared.leg.Held.{Held}
+use Rattle.call_states.specs.declared.leg.HeldLeg.{HeldLeg}
 use Rattle.call_states.specs.declared.pending.Pending.{Pending}
 use Rattle.exchange_events.specs.Sizes.{Setting}
 use Rattle.call_profile.specs.Acts.{clear_with}
@@ -56,15 +56,15 @@ digits_refusal s w x called m = first_cause (digits_checks s w x called m)
 -- ---- the operations
 
 -- the leg waits with the longer number, or its call is accepted; if a check fails, the leg is cleared
-abbrev pub dial_on : Setting → World → Held → Pending → Option ℕ → List Operation
+abbrev pub dial_on : Setting → World → HeldLeg → Pending → Option ℕ → List Operation
 dial_on s w h asked (Some cause) = clear_with s.tones cause h
 dial_on s w h asked None = accept false w h.leg.reference asked h.slot (target_dialled s.plan asked.called)
 
-abbrev pub with_pending : Setting → World → Held → Message → Option Pending → List Operation
+abbrev pub with_pending : Setting → World → HeldLeg → Message → Option Pending → List Operation
 with_pending s w h m None = []
 with_pending s w h m (Some p) = dial_on s w h (asked_with p m) (digits_refusal s w h.slot p.called m)
 
-abbrev pub on_digits : Setting → World → Held → Message → List Operation
+abbrev pub on_digits : Setting → World → HeldLeg → Message → List Operation
 on_digits s w h m = with_pending s w h m (pending_at w.legs h.slot)
 
 -- ---- calls that cannot continue

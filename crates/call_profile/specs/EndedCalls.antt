@@ -12,7 +12,7 @@ use Rattle.call_states.specs.declared.leg.Side.{Side}
 use Rattle.call_states.specs.declared.leg.Side.TheVariants.{Caller, Called}
 use Rattle.clearing_rules.specs.declared.scope.Restart.{Restart}
 use Rattle.clearing_rules.specs.Restarting.{is_restarted}
-use Rattle.call_states.specs.declared.leg.Held.{Held}
+use Rattle.call_states.specs.declared.leg.HeldLeg.{HeldLeg}
 use Rattle.exchange_events.specs.declared.record.CallRecord.{CallRecord}
 use Rattle.call_profile.specs.Acts.{peer_of}
 use Rattle.call_profile.specs.CallRecords.{is_calling, record_of}
@@ -22,20 +22,20 @@ use Rattle.exchange_events.specs.Sizes.{Setting}
 use Rattle.call_profile.specs.World.{World}
 
 -- the caller's leg of a leg's call: that leg itself, or its peer
-abbrev pub caller_in : Side → Held → Option Held → Option Held
+abbrev pub caller_in : Side → HeldLeg → Option HeldLeg → Option HeldLeg
 caller_in Caller h peer = Some h
 caller_in Called h peer = peer
 
 -- the record of a caller's leg, if its call's clearing has not begun
-abbrev pub record_calling : World → ℕ → Held → Option CallRecord
+abbrev pub record_calling : World → ℕ → HeldLeg → Option CallRecord
 record_calling w cause h = if is_calling (Some h.leg) then record_of w cause h else None
 
 -- the record of the call of a leg, which ends with this cause
-abbrev pub record_ended : World → Held → ℕ → Option CallRecord
+abbrev pub record_ended : World → HeldLeg → ℕ → Option CallRecord
 record_ended w h cause = option_and_then (record_calling w cause) (caller_in h.leg.side h (peer_of w.legs h.leg.peer))
 
 -- the record of the call that an act ends
-abbrev pub record_of_act : World → Held → Act → Option CallRecord
+abbrev pub record_of_act : World → HeldLeg → Act → Option CallRecord
 record_of_act w h a = option_and_then (record_ended w h) (cause_of_act a)
 
 -- the records of the calls that the restart of a slot ends
@@ -43,7 +43,7 @@ abbrev pub slot_records : Restart → World → Slot → List CallRecord
 slot_records r w x = if is_restarted r x.place then cons_option (option_and_then (λ h. record_ended w h temporary_failure) (held_at w.legs x)) [] else []
 
 -- the record of the call that an expiry ends
-abbrev pub record_of_expiry : World → Held → Expiry → Option CallRecord
+abbrev pub record_of_expiry : World → HeldLeg → Expiry → Option CallRecord
 record_of_expiry w h expiry.SetupOver = record_ended w h no_user_responding
 record_of_expiry w h expiry.Proceeding = record_ended w h no_user_responding
 record_of_expiry w h expiry.Alerting = record_ended w h no_answer_from_user

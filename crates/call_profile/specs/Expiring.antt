@@ -12,7 +12,7 @@ use Rattle.call_timers.specs.Expiries.{due}
 use Rattle.call_timers.specs.declared.expiry.Expiry.{Expiry}
 use Rattle.call_timers.specs.declared.expiry.Expiry.TheVariants as expiry
 use Rattle.call_timers.specs.declared.timers.Timers.{Timers}
-use Rattle.call_states.specs.declared.leg.Held.{Held}
+use Rattle.call_states.specs.declared.leg.HeldLeg.{HeldLeg}
 use Rattle.call_states.specs.declared.leg.Leg.{Leg}
 use Rattle.tone_rules.specs.declared.tones.Tones.{Tones}
 use Rattle.exchange_events.specs.Sizes.{Setting}
@@ -31,32 +31,32 @@ abbrev pub release_complete_for : Leg → ℕ → OutgoingMessage
 release_complete_for leg cause = record (message_to leg kind.ReleaseComplete) { cause = Some cause }
 
 -- the stored message of a leg is retransmitted to its user
-abbrev pub send_again : Held → Option (List ℕ) → List Operation
+abbrev pub send_again : HeldLeg → Option (List ℕ) → List Operation
 send_again h None = []
 send_again h (Some octets) = Repeat h octets ∷ []
 
 -- the called user did not answer the SETUP: its leg is removed
-abbrev pub give_up : Held → List Operation
+abbrev pub give_up : HeldLeg → List Operation
 give_up h = Clear h.slot ∷ Remove h.slot ∷ send_to h (release_complete_for h.leg recovery_on_timer_expiry) ∷ []
 
 -- the user did not release the call: it is sent RELEASE with the cause with which it was cleared, and still hears its
 -- tone
-abbrev pub ask_for_release : Held → List Operation
+abbrev pub ask_for_release : HeldLeg → List Operation
 ask_for_release h = Expect h.slot (in_release_request h.leg) (release_for h.leg h.leg.cause) ∷ []
 
 -- the caller is cleared, because the called user does not respond or does not answer
-abbrev pub clear_peer : Tones → Legs → Held → ℕ → List Operation
+abbrev pub clear_peer : Tones → Legs → HeldLeg → ℕ → List Operation
 clear_peer tones legs h cause = with_peer (peer_of legs h.leg.peer) (clear_with tones cause)
 
 -- the called user did not answer the SETUP, which was sent twice
-abbrev pub setup_over : Tones → Legs → Held → List Operation
+abbrev pub setup_over : Tones → Legs → HeldLeg → List Operation
 setup_over tones legs h = give_up h ++ clear_peer tones legs h no_user_responding
 
 -- both legs are cleared, and the caller with this cause
-abbrev pub clear_both : Tones → Legs → Held → ℕ → List Operation
+abbrev pub clear_both : Tones → Legs → HeldLeg → ℕ → List Operation
 clear_both tones legs h cause = clear_with tones recovery_on_timer_expiry h ++ clear_peer tones legs h cause
 
-abbrev pub on_expiry : Tones → Legs → Held → Expiry → List Operation
+abbrev pub on_expiry : Tones → Legs → HeldLeg → Expiry → List Operation
 on_expiry tones legs h expiry.Digits = clear_with tones invalid_number_format h
 on_expiry tones legs h expiry.SetupAgain = send_again h (kept_at legs h.slot)
 on_expiry tones legs h expiry.SetupOver = setup_over tones legs h
@@ -87,11 +87,11 @@ cause_of_expiry _ = no_user_responding
 abbrev pub due_of : Timers → ℕ → Leg → Option Expiry
 due_of timers frame leg = due leg.state leg.resent leg.since frame timers
 
-abbrev pub if_due : Tones → Legs → Held → Option Expiry → List Operation
+abbrev pub if_due : Tones → Legs → HeldLeg → Option Expiry → List Operation
 if_due tones legs h None = []
 if_due tones legs h (Some e) = on_expiry tones legs h e
 
-abbrev pub expire_leg : Setting → ℕ → Legs → Option Held → List Operation
+abbrev pub expire_leg : Setting → ℕ → Legs → Option HeldLeg → List Operation
 expire_leg s frame legs None = []
 expire_leg s frame legs (Some h) = if_due s.tones legs h (due_of s.timers frame h.leg)
 

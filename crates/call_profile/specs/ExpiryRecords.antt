@@ -4,7 +4,7 @@ use Rattle.circuit_model.specs.declared.channel.Slot.{Slot}
 use Rattle.circuit_model.specs.FrameInput.{Input}
 use Rattle.q931_codec.specs.CallStates.{call_delivered}
 use Rattle.q931_codec.specs.Causes.{no_answer_from_user, no_user_responding}
-use Rattle.call_states.specs.declared.leg.Held.{Held}
+use Rattle.call_states.specs.declared.leg.HeldLeg.{HeldLeg}
 use Rattle.call_states.specs.declared.leg.Leg.{Leg}
 use Rattle.exchange_events.specs.declared.record.CallRecord.{CallRecord}
 use Rattle.exchange_events.specs.declared.record.Party.TheVariants as party
@@ -21,14 +21,14 @@ abbrev pub cause_of_silence : Leg → ℕ
 cause_of_silence leg = if leg.state == call_delivered then no_answer_from_user else no_user_responding
 
 -- the call of a caller's leg ended in the frame, in which the timer of its called leg expired, and this is its record
-pub record IsFrameRecord (s : Setting) (w : World) (input : Input) (h : Held) (told : CallRecord) : Type 0 where
+pub record IsFrameRecord (s : Setting) (w : World) (input : Input) (h : HeldLeg) (told : CallRecord) : Type 0 where
   pub ended : HasEnded s.dimensions.external w (outcome_of_frame s w input).making.world h
   pub is : record_of (pass w input) told.cause h ≡ Some told
   pub cause : told.cause ≡ cause_of_silence h.leg
   pub due : (y : Slot) × (leg : Leg) × (told.called ≡ party.Line y) × RunsOut s.timers w.holding.next w.legs y leg
 
 -- the record of the caller's leg is among the frame's records
-abbrev pub IsInFrame : Setting → World → Input → Held → Type 0
+abbrev pub IsInFrame : Setting → World → Input → HeldLeg → Type 0
 IsInFrame s w input h = (told : CallRecord) × IsFrameRecord s w input h told × Contains (outcome_of_frame s w input).recorded told
 
 -- one record's called line comes before the other's

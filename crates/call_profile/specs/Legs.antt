@@ -7,7 +7,7 @@ use Rattle.control_memory.specs.Layout.{number_of}
 use Rattle.call_states.specs.declared.leg.Leg.{Leg}
 use Rattle.call_states.specs.declared.leg.Side.{Side}
 use Rattle.call_states.specs.declared.leg.Side.TheVariants.{Caller, Called}
-use Rattle.call_states.specs.declared.leg.Held.{Held}
+use Rattle.call_states.specs.declared.leg.HeldLeg.{HeldLeg}
 use Rattle.call_states.specs.declared.pending.Pending.{Pending}
 
 -- for each external slot, by its number, the leg that holds it, the number that is pending there, and the octets of the
@@ -30,11 +30,11 @@ abbrev pub kept_at : Legs → Slot → Option (List ℕ)
 kept_at legs x = slice_index_or legs.kept (number_of x) None
 
 -- a leg waits in its state from this frame on, after it gets its slot, and again after a retransmission
-abbrev pub from_frame : ℕ → Leg → Leg
-from_frame next leg = record leg { since = next; resent = false }
+abbrev pub waiting_from : ℕ → Leg → Leg
+waiting_from next leg = record leg { since = next; resent = false }
 
-abbrev pub resent_from : ℕ → Leg → Leg
-resent_from next leg = record leg { since = next; resent = true }
+abbrev pub retransmitted_from : ℕ → Leg → Leg
+retransmitted_from next leg = record leg { since = next; resent = true }
 
 -- the slot is held by this leg, if there is one, with no pending number and no stored message
 abbrev pub with_entry : Legs → Slot → Option Leg → Legs
@@ -71,11 +71,11 @@ unfoldable pub slots_of : ℕ → List Slot
 slots_of line = map (λ place. record { line = line; place = place }) (range_with_len 0 30)
 
 -- the leg of a slot, with the slot
-abbrev pub held_at : Legs → Slot → Option Held
+abbrev pub held_at : Legs → Slot → Option HeldLeg
 held_at legs x = option_map (λ leg. record { slot = x; leg = leg }) (leg_at legs x)
 
 -- the legs of a line, by the places of their slots
-abbrev pub legs_of : Legs → ℕ → List Held
+abbrev pub legs_of : Legs → ℕ → List HeldLeg
 legs_of legs line = filter_map (held_at legs) (slots_of line)
 
 -- the side of the leg for a message with this flag: the side that chose a call reference value sends flag 0 with it, a
@@ -92,17 +92,17 @@ same_side Called Caller = false
 same_side Called Called = true
 
 -- a message with this flag and call reference is for the leg
-abbrev pub is_for : Bool → ℕ → Held → Bool
-is_for flag reference h = same_side (side_named flag) h.leg.side && (h.leg.reference == reference)
+abbrev pub is_addressed_to : Bool → ℕ → HeldLeg → Bool
+is_addressed_to flag reference h = same_side (side_named flag) h.leg.side && (h.leg.reference == reference)
 
 -- the leg of the line that such a message is for
-abbrev pub leg_named : Legs → ℕ → Bool → ℕ → Option Held
-leg_named legs line flag reference = find (is_for flag reference) (legs_of legs line)
+abbrev pub leg_named : Legs → ℕ → Bool → ℕ → Option HeldLeg
+leg_named legs line flag reference = find (is_addressed_to flag reference) (legs_of legs line)
 
 -- the call reference of a new called leg: the lowest from 1 up that no called leg of the line has; a line has 30 slots,
 -- so one of the first 30 is free if a slot is
 abbrev pub is_unused : Legs → ℕ → ℕ → Bool
 is_unused legs line reference = is_none (leg_named legs line true reference)
 
-abbrev pub new_reference : Legs → ℕ → ℕ
-new_reference legs line = 1 + position_or_len (is_unused legs line) (range_with_len 1 30)
+abbrev pub lowest_free_reference : Legs → ℕ → ℕ
+lowest_free_reference legs line = 1 + position_or_len (is_unused legs line) (range_with_len 1 30)

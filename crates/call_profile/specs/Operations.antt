@@ -8,10 +8,10 @@ use Rattle.control_memory.specs.Layout.{Layout}
 use Rattle.control_memory.specs.Connecting.{moved}
 use Rattle.q931_codec.specs.Outgoing.{OutgoingMessage, encoding}
 use Rattle.call_states.specs.declared.leg.Leg.{Leg}
-use Rattle.call_states.specs.declared.leg.Held.{Held}
+use Rattle.call_states.specs.declared.leg.HeldLeg.{HeldLeg}
 use Rattle.call_states.specs.declared.pending.Pending.{Pending}
 use Rattle.exchange_events.specs.declared.signal.Signal.{Signal}
-use Rattle.call_profile.specs.Legs.{Legs, from_frame, resent_from, with_leg, with_waiting, with_kept, without_leg}
+use Rattle.call_profile.specs.Legs.{Legs, waiting_from, retransmitted_from, with_leg, with_waiting, with_kept, without_leg}
 use Rattle.exchange_events.specs.Sizes.{Dimensions}
 use Rattle.call_profile.specs.World.{World, obey, one_way, both_ways}
 
@@ -32,7 +32,7 @@ pub data Operation : Type 0 where
   -- the same, and this message goes to its user, and is stored for retransmission
   Expect : (x : Slot) (leg : Leg) (message : OutgoingMessage) → Operation
   -- the stored message of the leg is retransmitted to its user, and the wait of the leg restarts in the next frame
-  Repeat : (h : Held) (octets : List ℕ) → Operation
+  Repeat : (h : HeldLeg) (octets : List ℕ) → Operation
   -- the slot is held by no leg, with no pending number and no stored message
   Remove : (x : Slot) → Operation
   -- a message goes to the user of a line
@@ -66,7 +66,7 @@ with_legs w legs = record w { legs = legs }
 
 -- a leg as stored in the exchange state: it waits from the next frame on
 abbrev pub begun : World → Leg → Leg
-begun w leg = from_frame w.holding.next leg
+begun w leg = waiting_from w.holding.next leg
 
 abbrev pub making_after : Dimensions → Making → Operation → Making
 making_after d m (Clear x) = record m { world = obey d m.world (Clear_slot x) }
@@ -80,7 +80,7 @@ making_after d m (Expect x leg message) = record m {
   sends = m.sends ++ record { line = x.line; octets = encoding message } ∷ [];
 }
 making_after d m (Repeat h octets) = record m {
-  world = with_legs m.world (with_kept m.world.legs h.slot (resent_from m.world.holding.next h.leg) octets);
+  world = with_legs m.world (with_kept m.world.legs h.slot (retransmitted_from m.world.holding.next h.leg) octets);
   sends = m.sends ++ record { line = h.slot.line; octets = octets } ∷ [];
 }
 making_after d m (Remove x) = record m { world = with_legs m.world (without_leg m.world.legs x) }

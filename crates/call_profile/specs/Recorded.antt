@@ -3,7 +3,7 @@ use Rattle.std.specs.Prelude.{◌≡◌, ℕ, ◌<◌, nat_lt, true, false, List
 use Rattle.circuit_model.specs.Extent.{IsExternal}
 use Rattle.q931_codec.specs.Causes.{temporary_failure}
 use Rattle.call_states.specs.Acts.{act_on, cause_of_act}
-use Rattle.call_states.specs.declared.leg.Held.{Held}
+use Rattle.call_states.specs.declared.leg.HeldLeg.{HeldLeg}
 use Rattle.clearing_rules.specs.declared.scope.Restart.{Restart}
 use Rattle.exchange_events.specs.declared.record.CallRecord.{CallRecord}
 use Rattle.exchange_events.specs.declared.record.Party.{Party}
@@ -25,7 +25,7 @@ pub record Arrive (s : Setting) (w : World) (line : ℕ) (octets : List ℕ) : T
   pub stands : CallsStand s w
 
 -- a caller's leg was in state 3, 4 or 10 before, and is in none of them afterwards, or is removed
-pub record HasEnded (external : ℕ) (before afterwards : World) (h : Held) : Type 0 where
+pub record HasEnded (external : ℕ) (before afterwards : World) (h : HeldLeg) : Type 0 where
   pub within : IsExternal external h.slot
   pub at : leg_at before.legs h.slot ≡ Some h.leg
   pub calls : is_calling (Some h.leg) ≡ true
@@ -40,13 +40,13 @@ cause_of_clearing (Restarts r) = Some temporary_failure
 cause_of_clearing Unanswered = None
 
 -- a call ended with the cause that the message gives, and this is its record
-pub record IsRecordOf (s : Setting) (w : World) (line : ℕ) (octets : List ℕ) (h : Held) (told : CallRecord) : Type 0 where
+pub record IsRecordOf (s : Setting) (w : World) (line : ℕ) (octets : List ℕ) (h : HeldLeg) (told : CallRecord) : Type 0 where
   pub ended : HasEnded s.dimensions.external w (after_message s w line octets) h
   pub cause : cause_of_clearing (request_of w.legs line octets) ≡ Some told.cause
   pub is : record_of w told.cause h ≡ Some told
 
 -- the record of a call is among the records of the answer
-abbrev pub IsRecorded : Setting → World → ℕ → List ℕ → Held → Type 0
+abbrev pub IsRecorded : Setting → World → ℕ → List ℕ → HeldLeg → Type 0
 IsRecorded s w line octets h = (told : CallRecord) × IsRecordOf s w line octets h told × Contains (answer_to s w line octets).records told
 
 -- ---- the order of records

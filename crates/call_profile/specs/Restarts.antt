@@ -6,7 +6,7 @@ use Rattle.q931_codec.specs.Causes.{temporary_failure}
 use Rattle.clearing_rules.specs.declared.scope.Restart.{Restart}
 use Rattle.clearing_rules.specs.Restarting.{is_restarted, acknowledgement}
 use Rattle.tone_rules.specs.declared.tones.Tones.{Tones}
-use Rattle.call_states.specs.declared.leg.Held.{Held}
+use Rattle.call_states.specs.declared.leg.HeldLeg.{HeldLeg}
 use Rattle.exchange_events.specs.declared.record.CallRecord.{CallRecord}
 use Rattle.call_profile.specs.Acts.{peer_of, with_peer, clear_with, remove_leg}
 use Rattle.call_profile.specs.CallRecords.{records}
@@ -23,11 +23,11 @@ restarts_slot r line x = (x.line == line) && is_restarted r x.place
 
 -- the other leg of a call is removed too if its slot is also restarted, and its user is sent nothing; otherwise it is
 -- cleared
-abbrev pub restart_peer : Tones → Restart → ℕ → Held → List Operation
+abbrev pub restart_peer : Tones → Restart → ℕ → HeldLeg → List Operation
 restart_peer tones r line other = if restarts_slot r line other.slot then remove_leg other else clear_with tones temporary_failure other
 
 -- the leg that holds a restarted slot is removed
-abbrev pub restart_leg : Tones → Restart → Legs → Option Held → List Operation
+abbrev pub restart_leg : Tones → Restart → Legs → Option HeldLeg → List Operation
 restart_leg tones r legs None = []
 restart_leg tones r legs (Some h) = remove_leg h ++ with_peer (peer_of legs h.leg.peer) (restart_peer tones r h.slot.line)
 

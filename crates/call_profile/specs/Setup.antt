@@ -26,7 +26,7 @@ use Rattle.number_plan.specs.Plan.{found_for}
 use Rattle.call_profile.specs.Acts.{message_to}
 use Rattle.call_profile.specs.Course.{Course, only}
 use Rattle.call_profile.specs.IdleSlots.{idle, lowest_idle, lowest_idle_beside, hunted}
-use Rattle.call_profile.specs.Legs.{new_reference}
+use Rattle.call_profile.specs.Legs.{lowest_free_reference}
 use Rattle.call_profile.specs.Operations.{Operation, Seat, Put, Wait, Expect, Send}
 use Rattle.exchange_events.specs.Sizes.{Setting, Dimensions}
 use Rattle.call_profile.specs.World.{World, is_full}
@@ -243,8 +243,8 @@ await_digits first own asked x =
     ∷ ask_for_digits first x caller
 
 abbrev pub call : Bool → World → ℕ → Pending → Slot → Found → Option Slot → List Operation
-call first w own asked x (Line line) (Some y) = call_line first own asked x y (new_reference w.legs line)
-call first w own asked x (Lines lines) (Some y) = call_line first own asked x y (new_reference w.legs y.line)
+call first w own asked x (Line line) (Some y) = call_line first own asked x y (lowest_free_reference w.legs line)
+call first w own asked x (Lines lines) (Some y) = call_line first own asked x y (lowest_free_reference w.legs y.line)
 call first w own asked x (Room room) called = call_room first own x room
 call first w own asked x More called = await_digits first own asked x
 call first w own asked x _ _ = []

@@ -27,7 +27,7 @@ ghost use Rattle.call_profile.specs.Fabrics.{without_paths};
 ghost use Rattle.call_profile.specs.IsMade.{IsMade};
 ghost use Rattle.call_profile.specs.KeptMessages.{EachBegan, EachIsKept, NoneElseIsKept};
 ghost use Rattle.call_profile.specs.LegStanding.{CallsStand};
-ghost use Rattle.call_states.specs.declared.leg.Held.{Held};
+ghost use Rattle.call_states.specs.declared.leg.HeldLeg.{HeldLeg};
 ghost use Rattle.exchange_events.specs.Sizes.{Setting};
 ghost use Rattle.exchange_events.specs.Sound.{Fits, IsPlanned};
 ghost use Rattle.call_profile.specs.Refused.{IsRefused, refusal_reply};
@@ -98,7 +98,7 @@ pub fn law_of_paths()
 /// An answered call always gets both paths. Its two slots are silent once the caller's is cleared, whatever else
 /// exists, so that they can be connected, and then they are.
 pub fn law_of_answered_calls()
-    ensures { (s : Setting) (w : World) (line : ℕ) (octets : List ℕ) (h : Held) → IsAnswered s w line octets h → GetsBothPaths s w line octets h }
+    ensures { (s : Setting) (w : World) (line : ℕ) (octets : List ℕ) (h : HeldLeg) → IsAnswered s w line octets h → GetsBothPaths s w line octets h }
 {}
 
 /// Every event, and so every run, preserves the consistency of the legs. Peers refer to each other, in states that go
@@ -146,11 +146,11 @@ pub fn law_of_hunting()
 /// Further digits end no call, so that nothing is recorded.
 pub fn law_of_digits()
     ensures choice { (w : World) (x : Slot) (leg : Leg) (line : ℕ) → leg_at w.legs x ≡ Some leg → lowest_idle_beside w x line ≡ lowest_idle w line }
-    ensures no_slot { (s : Setting) (w : World) (h : Held) (called : List ℕ) (m : Message) → leg_at w.legs h.slot ≡ Some h.leg
+    ensures no_slot { (s : Setting) (w : World) (h : HeldLeg) (called : List ℕ) (m : Message) → leg_at w.legs h.slot ≡ Some h.leg
         → digits_refusal s w h.slot called m ≡ Some no_channel_available → WantsSlot s w (called_with called m) }
     ensures no_port { (s : Setting) (w : World) (x : Slot) (called : List ℕ) (m : Message)
         → digits_refusal s w x called m ≡ Some switching_equipment_congestion → WantsPort s w (called_with called m) }
-    ensures unrecorded { (s : Setting) (w : World) (line : ℕ) (h : Held) (m : Message) → act_on h.leg.state m ≡ act.Digits
+    ensures unrecorded { (s : Setting) (w : World) (line : ℕ) (h : HeldLeg) (m : Message) → act_on h.leg.state m ≡ act.Digits
         → (outcome_for s w line (For_leg h m)).recorded ≡ [] }
 {}
 

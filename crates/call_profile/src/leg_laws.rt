@@ -5,7 +5,7 @@ ghost use Rattle.circuit_model.specs.Extent.{IsExternal};
 ghost use Rattle.circuit_model.specs.FrameInput.{Input};
 ghost use Rattle.q931_codec.specs.declared.message.Message.{Message};
 ghost use Rattle.call_states.specs.declared.act.Act.{Act};
-ghost use Rattle.call_states.specs.declared.leg.Held.{Held};
+ghost use Rattle.call_states.specs.declared.leg.HeldLeg.{HeldLeg};
 ghost use Rattle.call_timers.specs.declared.expiry.Expiry.{Expiry};
 ghost use Rattle.clearing_rules.specs.declared.scope.Restart.{Restart};
 ghost use Rattle.clearing_rules.specs.UnknownReference.{answer_without_call};
@@ -17,7 +17,7 @@ ghost use Rattle.call_profile.specs.Calls.{after_message, answer_back, answer_to
 ghost use Rattle.call_profile.specs.Expiring.{on_expiry, outcome_of_frame};
 ghost use Rattle.call_profile.specs.ExpiryRecords.{IsFrameRecord, IsInFrame, ComeByLine};
 ghost use Rattle.call_profile.specs.LegStanding.{CallsStand};
-ghost use Rattle.call_profile.specs.Legs.{Legs, leg_at, new_reference};
+ghost use Rattle.call_profile.specs.Legs.{Legs, leg_at, lowest_free_reference};
 ghost use Rattle.call_profile.specs.Progress.{TellsOfTones};
 ghost use Rattle.call_profile.specs.Recorded.{Arrive, ComeByPlace, HasEnded, IsRecordOf, IsRecorded, RestartsNothing};
 ghost use Rattle.call_profile.specs.References.{HasReference, HasSlotLeft};
@@ -28,20 +28,20 @@ ghost use Rattle.call_profile.specs.World.{World};
 
 /// The call reference of a new called leg is the lowest from 1 up that no called leg of the line has.
 pub fn law_of_references()
-    ensures unused { (legs : Legs) (line : ℕ) → HasSlotLeft legs line → ¬ HasReference legs line (new_reference legs line) }
-    ensures lower { (legs : Legs) (line reference : ℕ) → 1 ≤ reference → reference < new_reference legs line → HasReference legs line reference }
-    ensures first { (legs : Legs) (line : ℕ) → 1 ≤ new_reference legs line }
+    ensures unused { (legs : Legs) (line : ℕ) → HasSlotLeft legs line → ¬ HasReference legs line (lowest_free_reference legs line) }
+    ensures lower { (legs : Legs) (line reference : ℕ) → 1 ≤ reference → reference < lowest_free_reference legs line → HasReference legs line reference }
+    ensures first { (legs : Legs) (line : ℕ) → 1 ≤ lowest_free_reference legs line }
 {}
 
 /// A user is sent a progress indicator if and only if its slot gets a tone in the same step: by an act, by a SETUP, by
 /// the restart of a slot, by the expiry of a timer, and by the reply to a message on no call, which gives none.
 /// Therefore no retransmitted message has one.
 pub fn law_of_progress()
-    ensures acts { (s : Setting) (w : World) (h : Held) (m : Message) (a : Act) → TellsOfTones (course_of s w h m a).operations }
+    ensures acts { (s : Setting) (w : World) (h : HeldLeg) (m : Message) (a : Act) → TellsOfTones (course_of s w h m a).operations }
     ensures setups { (s : Setting) (w : World) (line : ℕ) (m : Message) → TellsOfTones (course_of_setup s w line m).operations }
     ensures restarts { (tones : Tones) (r : Restart) (legs : Legs) (x : Slot) → TellsOfTones (restart_slot tones r legs x) }
     ensures answers { (line : ℕ) (m : Message) → TellsOfTones (answer_back line (answer_without_call m)) }
-    ensures expiries { (s : Setting) (w : World) (h : Held) (e : Expiry) → CallsStand s w → IsExternal s.dimensions.external h.slot
+    ensures expiries { (s : Setting) (w : World) (h : HeldLeg) (e : Expiry) → CallsStand s w → IsExternal s.dimensions.external h.slot
         → leg_at w.legs h.slot ≡ Some h.leg → TellsOfTones (on_expiry s.tones w.legs h e) }
 {}
 
@@ -63,8 +63,8 @@ pub fn law_of_restarts()
 /// most one record.
 pub fn law_of_records()
     ensures told { (s : Setting) (w : World) (line : ℕ) (octets : List ℕ) → Arrive s w line octets → (told : CallRecord)
-        → Contains (answer_to s w line octets).records told → (h : Held) × IsRecordOf s w line octets h told }
-    ensures ended { (s : Setting) (w : World) (line : ℕ) (octets : List ℕ) → Arrive s w line octets → (h : Held)
+        → Contains (answer_to s w line octets).records told → (h : HeldLeg) × IsRecordOf s w line octets h told }
+    ensures ended { (s : Setting) (w : World) (line : ℕ) (octets : List ℕ) → Arrive s w line octets → (h : HeldLeg)
         → HasEnded s.dimensions.external w (after_message s w line octets) h → IsRecorded s w line octets h }
     ensures order { (s : Setting) (w : World) (line : ℕ) (octets : List ℕ) (r : Restart) → IsRestart s w line octets r
         → ComeByPlace r line (answer_to s w line octets).records }
@@ -77,8 +77,8 @@ pub fn law_of_records()
 /// otherwise 18. The records come by the line of the called slot, lowest first.
 pub fn law_of_frame_records()
     ensures told { (s : Setting) (w : World) (input : Input) → CallsStand s w → (told : CallRecord)
-        → Contains (outcome_of_frame s w input).recorded told → (h : Held) × IsFrameRecord s w input h told }
-    ensures ended { (s : Setting) (w : World) (input : Input) → CallsStand s w → (h : Held)
+        → Contains (outcome_of_frame s w input).recorded told → (h : HeldLeg) × IsFrameRecord s w input h told }
+    ensures ended { (s : Setting) (w : World) (input : Input) → CallsStand s w → (h : HeldLeg)
         → HasEnded s.dimensions.external w (outcome_of_frame s w input).making.world h → IsInFrame s w input h }
     ensures order { (s : Setting) (w : World) (input : Input) → CallsStand s w → ComeByLine (outcome_of_frame s w input).recorded }
 {}

@@ -1,8 +1,8 @@
 //! Defines the rules of calls, in specifications that are read from top to bottom. `Step` gives the reply to each event
 //! and the exchange state after it. `Calls` gives the request of a message, and `ActCourse`, `Digits`, `Setup` and
 //! `Restarts` its list of operations (`Operations`). `Expiring` gives the turn of a frame. A few functions read a leg
-//! or a circuit ([`is_for`], [`from_frame`], [`resent_from`], [`is_calling`], [`party_of`], [`since_of`]). The other
-//! functions are theorems on these definitions:
+//! or a circuit ([`is_addressed_to`], [`waiting_from`], [`retransmitted_from`], [`is_calling`], [`party_of`],
+//! [`first_frame_of`]). The other functions are theorems on these definitions:
 //!
 //! - Every event keeps the legs consistent ([`law_of_legs`]). A number is pending at exactly those legs that wait for
 //!   further digits. The state of a leg determines the circuit by which its slot receives. In release request, the
@@ -41,6 +41,6 @@ pub use laws::{later_frames_change_nothing, law_of_fabrics, worlds_are_made};
 pub use leg_laws::{
     law_of_frame_records, law_of_progress, law_of_records, law_of_references, law_of_restarts,
 };
-pub use legs::{from_frame, is_for, resent_from};
-pub use records::{is_calling, party_of, since_of};
+pub use legs::{is_addressed_to, retransmitted_from, waiting_from};
+pub use records::{first_frame_of, is_calling, party_of};
 pub use worked::{worked_digits, worked_expiries, worked_messages, worked_overlap};

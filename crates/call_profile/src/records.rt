@@ -1,6 +1,6 @@
 //! The parts of a call record that its caller's leg gives.
 ghost use Rattle.std.specs.Prelude.{◌≡◌, Some};
-ghost use Rattle.circuit_model.specs.Circuits.{since_of};
+ghost use Rattle.circuit_model.specs.Circuits.{first_frame_of};
 ghost use Rattle.call_profile.specs.CallRecords.{is_calling, party_of};
 
 use call_states::{Leg, Peer, Side};
@@ -31,8 +31,8 @@ pub fn party_of(peer: Peer) -> Option<Party>
 }
 
 /// Returns the first frame of a circuit.
-pub fn since_of(circuit: Circuit) -> u32
-    ensures { result ≡ since_of circuit }
+pub fn first_frame_of(circuit: Circuit) -> u32
+    ensures { result ≡ first_frame_of circuit }
 {
     match circuit {
         Circuit::Pair { since, .. } | Circuit::Member { since, .. } | Circuit::Tone { since, .. } =>

@@ -27,12 +27,16 @@ pub enum Act {
     ReleaseComplete(u8),
 }
 
-/// Returns the cause of an act: the acts that clear a call have one, the others have none.
-pub fn cause_of_act(act: Act) -> Option<u8>
-    ensures { result ≡ cause_of_act act }
-{
-    match act {
-        Act::Disconnect(cause) | Act::Release(cause) | Act::ReleaseComplete(cause) => Some(cause),
-        _ => None,
+impl Act {
+    /// Returns the cause of the act: the acts that clear a call have one, the others have none.
+    pub fn cause(self) -> Option<u8>
+        ensures { result ≡ cause_of_act self }
+    {
+        match self {
+            Act::Disconnect(cause) | Act::Release(cause) | Act::ReleaseComplete(cause) => Some(
+                cause,
+            ),
+            _ => None,
+        }
     }
 }

@@ -56,7 +56,7 @@ pub struct Leg {
 
 /// A leg and the slot that it holds.
 #[derive(Clone, Copy, Debug, PartialEq, Eq)]
-pub struct Held {
+pub struct HeldLeg {
     /// The slot.
     pub slot: Slot,
     /// The leg.

@@ -3,8 +3,8 @@
 //! The table is a definition in `specs/`, one line for each message type. It is this project's profile of the
 //! recommendation's basic call control.
 //!
-//! - [`on_message`] returns the act of the table, for every message and leg, and [`cause_of_act`] its cause.
-//! - [`status`] and [`unexpected`] return the STATUS that reports a leg's state, with its cause.
+//! - [`on_message`] returns the act of the table, for every message and leg, and [`Act::cause`] its cause.
+//! - [`status_message`] and [`unexpected`] return the STATUS that reports a leg's state, with its cause.
 //!
 //! [`Pending`] stores the contents of a call in overlap sending. Nothing here allocates.
 #![tactic(auto)]
@@ -16,9 +16,9 @@ mod pending;
 mod status_message;
 mod table;
 
-pub use act::{Act, cause_of_act};
+pub use act::Act;
 pub use laws::{law_of_channels, law_of_passed_causes, law_of_status};
-pub use leg::{Held, Leg, Peer, Side};
+pub use leg::{HeldLeg, Leg, Peer, Side};
 pub use pending::{Contents, Pending};
-pub use status_message::{status, unexpected};
+pub use status_message::{status_message, unexpected};
 pub use table::on_message;

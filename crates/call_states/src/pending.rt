@@ -6,11 +6,11 @@ use std::marker::Model;
 
 /// The contents of an information element, of n octets at most. Contracts see their list.
 #[derive(Clone, Debug, Default, Drop)]
-pub struct Contents<const MOST: usize> {
-    octets: ArrayVec<u8, MOST>,
+pub struct Contents<const MAX: usize> {
+    octets: ArrayVec<u8, MAX>,
 }
 
-impl<const MOST: usize> Model for Contents<MOST> {
+impl<const MAX: usize> Model for Contents<MAX> {
     ghost use Rattle.std.specs.Prelude.{List, ℕ};
 
     ghost Value = { List ℕ };
@@ -18,22 +18,22 @@ impl<const MOST: usize> Model for Contents<MOST> {
     ghost view = { λ c. c.octets.items };
 }
 
-impl<const MOST: usize> Contents<MOST> {
+impl<const MAX: usize> Contents<MAX> {
     /// Copies these octets.
-    pub fn of(octets: &[u8]) -> Contents<MOST>
-        requires { length octets.now ≤ MOST }
+    pub fn of(octets: &[u8]) -> Contents<MAX>
+        requires { length octets.now ≤ MAX }
         ensures { result ≡ octets.now }
     {
         let mut contents = Contents {
             octets: ArrayVec::new(),
         };
-        contents.append(octets);
+        contents.extend_from_slice(octets);
         contents
     }
 
     /// Appends these octets.
-    pub fn append(&mut self, octets: &[u8])
-        requires { length self.old + length octets.now ≤ MOST }
+    pub fn extend_from_slice(&mut self, octets: &[u8])
+        requires { length self.old + length octets.now ≤ MAX }
         ensures { self.new ≡ self.old ++ octets.now }
     {
         match self.octets.try_extend_from_slice(octets) {
@@ -45,7 +45,7 @@ impl<const MOST: usize> Contents<MOST> {
     /// Returns the octets in the order in which they were received.
     pub fn as_slice(&self) -> &[u8]
         ensures octets { result.now ≡ self.now }
-        ensures few { length result.now ≤ MOST }
+        ensures few { length result.now ≤ MAX }
     {
         self.octets.as_slice()
     }

@@ -9,7 +9,7 @@ use q931_codec::causes::{MESSAGE_NOT_COMPATIBLE_WITH_CALL_STATE, MESSAGE_TYPE_NO
 use q931_codec::{Message, MessageKind, Outgoing};
 
 /// Returns the STATUS (Q.931, 3.1.16) to a leg with this cause value and the leg's state.
-pub fn status(leg: &Leg, cause: u8) -> Outgoing<'static>
+pub fn status_message(leg: &Leg, cause: u8) -> Outgoing<'static>
     ensures { outgoing_of result ≡ status leg.now cause }
 {
     Outgoing {
@@ -25,7 +25,7 @@ pub fn unexpected(leg: &Leg, message: &Message) -> Outgoing<'static>
     ensures { outgoing_of result ≡ status leg.now (unexpected_cause message.now.kind) }
 {
     match message.kind {
-        MessageKind::Unknown(_) => status(leg, MESSAGE_TYPE_NOT_IMPLEMENTED),
-        _ => status(leg, MESSAGE_NOT_COMPATIBLE_WITH_CALL_STATE),
+        MessageKind::Unknown(_) => status_message(leg, MESSAGE_TYPE_NOT_IMPLEMENTED),
+        _ => status_message(leg, MESSAGE_NOT_COMPATIBLE_WITH_CALL_STATE),
     }
 }

@@ -50,7 +50,7 @@ pub fn due(state: u8, resent: bool, since: u32, frame: u32, timers: &Timers) -> 
 
 /// Returns a frame before which nothing is due at such a leg: the frame in which its timer expires. If no frame below
 /// 2^32 is that one, or the state has no timer, it returns the greatest number.
-pub fn first_due(state: u8, resent: bool, since: u32, timers: &Timers) -> u32
+pub fn next_due_frame(state: u8, resent: bool, since: u32, timers: &Timers) -> u32
     ensures { (frame : ℕ) → frame < result → due state resent since frame timers.now ≡ None }
 {
     match expiry_in(state, resent) {

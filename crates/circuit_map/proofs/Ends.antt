@@ -5,7 +5,7 @@ use Rattle.std.specs.Prelude.{position, is_none, option_map}
 use Rattle.circuit_model.specs.declared.channel.Slot.{Slot}
 use Rattle.circuit_model.specs.declared.circuit.Circuit.TheVariants.{Pair, Member}
 use Rattle.circuit_model.specs.Ports.{port_of, port_numbered, ports_with}
-use Rattle.conference_ports.specs.declared.owner.Owner.{Owner}
+use Rattle.conference_ports.specs.declared.occupant.Occupant.{Occupant}
 use Rattle.conference_ports.specs.Owners.{members}
 use Rattle.control_memory.specs.declared.heard.Heard.{Heard}
 use Rattle.control_memory.specs.Layout.{IsSlot}
@@ -43,7 +43,7 @@ pub record GetsPort (m : Connections) (lines : ℕ) (x p : Slot) : Type 0 where
   pub port : port_of m.external (ports_with x m.ports) x ≡ Some p
 
 -- k is made of a map's parts, and m is what the map shows
-module _ (k m : Connections) (lines first rows : ℕ) (owners : List (Option Owner)) (hearing : List Heard) (sitting : List (Option (ℕ × ℕ))) (is : k ≡ m) (sound : IsSound k lines first rows owners hearing sitting) where
+module _ (k m : Connections) (lines first rows : ℕ) (owners : List (Option Occupant)) (hearing : List Heard) (sitting : List (Option (ℕ × ℕ))) (is : k ≡ m) (sound : IsSound k lines first rows owners hearing sitting) where
   seen : (x : Slot) → IsExternal m x → IsExternal k x
   seen x at = subst (λ (m : Connections). IsExternal m x) (sym is) at
 

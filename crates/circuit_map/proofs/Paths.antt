@@ -7,7 +7,7 @@ use Rattle.circuit_model.specs.Circuits.{heard_by, same_slot}
 use Rattle.circuit_model.specs.Holding.{Holding}
 use Rattle.circuit_model.specs.Ports.{Ports}
 use Rattle.circuit_model.proofs.Slots.{same_slot-refl}
-use Rattle.control_memory.specs.declared.hop.Hop.{Hop}
+use Rattle.control_memory.specs.declared.route.Route.{Route}
 use Rattle.control_memory.specs.Layout.{Path, Layout, IsSlot, Joins, hop_of, path_to}
 use Rattle.control_memory.proofs.Lookups.{path_to_found, finds_path}
 use Rattle.circuit_map.specs.Connections.{Connections, map_lines, hears_at, Represents}
@@ -20,7 +20,7 @@ use Rattle.circuit_map.proofs.Sockets.{port_line}
 pub no_inlet : (layout : Layout) (x : Slot) → ((b : Slot) → Joins layout x b → ⊥) → hop_of layout x ≡ None
 no_inlet layout x never = go (hop_of layout x) refl
   where
-    go : (o : Option Hop) → hop_of layout x ≡ o → o ≡ None
+    go : (o : Option Route) → hop_of layout x ≡ o → o ≡ None
     go None e = refl
     go (Some hop) e = absurd (never hop.to (hop.slot, e))
 

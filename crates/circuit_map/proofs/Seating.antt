@@ -12,7 +12,7 @@ use Rattle.circuit_model.specs.declared.circuit.Circuit.TheVariants.{Pair, Membe
 use Rattle.circuit_model.specs.Circuits.{same_slot, heard_by, is_member, is_idle}
 use Rattle.circuit_model.specs.Holding.{Holding, Valid, Seat, after}
 use Rattle.circuit_model.specs.Ports.{Ports, port_of, port_numbered, has, ports_with}
-use Rattle.conference_ports.specs.declared.owner.Owner.{Owner}
+use Rattle.conference_ports.specs.declared.occupant.Occupant.{Occupant}
 use Rattle.conference_ports.specs.Owners.{members, member_of}
 use Rattle.conference_ports.proofs.Positions.{none_passes}
 use Rattle.circuit_model.proofs.Hearing.{heard_by-one}
@@ -108,30 +108,30 @@ lowest_found : (external : ℕ) (o : Option ℕ) (p : Slot) → option_map (port
 lowest_found external None p e = absurd (cc)
 lowest_found external (Some k) p e = (k, refl, some_slot p (port_numbered external k) (sym e))
 
-same_free : (owner : Option Owner) → is_none (member_of owner) ≡ is_none owner
+same_free : (owner : Option Occupant) → is_none (member_of owner) ≡ is_none owner
 same_free None = refl
 same_free (Some owner) = refl
 
-free_step : (owner : Option Owner) (owners : List (Option Owner)) → position_or_len is_none (members owners) ≡ position_or_len is_none owners → position_or_len is_none (members (owner ∷ owners)) ≡ position_or_len is_none (owner ∷ owners)
+free_step : (owner : Option Occupant) (owners : List (Option Occupant)) → position_or_len is_none (members owners) ≡ position_or_len is_none owners → position_or_len is_none (members (owner ∷ owners)) ≡ position_or_len is_none (owner ∷ owners)
 free_step None owners rest = refl
 free_step (Some owner) owners rest = ap (λ n. 1 + n) rest
 
-free_found : (owners : List (Option Owner)) → position_or_len is_none (members owners) ≡ position_or_len is_none owners
+free_found : (owners : List (Option Occupant)) → position_or_len is_none (members owners) ≡ position_or_len is_none owners
 free_found [] = refl
 free_found (owner ∷ owners) = free_step owner owners (free_found owners)
 
-pub free_in_members : (owners : List (Option Owner)) → position is_none (members owners) ≡ position is_none owners
+pub free_in_members : (owners : List (Option Occupant)) → position is_none (members owners) ≡ position is_none owners
 free_in_members owners =
     ap (λ n. cond (ltb n (length (members owners))) (Some n) None) (free_found owners) ∙ ap (λ n. cond (ltb (position_or_len is_none owners) n) (Some (position_or_len is_none owners)) None) (length-map owners member_of)
 
-pub lowest_port : (external : ℕ) (owners : List (Option Owner)) (p : Slot) → option_map (port_numbered external) (position is_none owners) ≡ Some p → (k : ℕ) × (position is_none (members owners) ≡ Some k) × (p ≡ port_numbered external k)
+pub lowest_port : (external : ℕ) (owners : List (Option Occupant)) (p : Slot) → option_map (port_numbered external) (position is_none owners) ≡ Some p → (k : ℕ) × (position is_none (members owners) ≡ Some k) × (p ≡ port_numbered external k)
 lowest_port external owners p e = let f = lowest_found external (position is_none owners) p e in (f.0, free_in_members owners ∙ f.1, f.2)
 
 pub no_number : (external : ℕ) (o : Option ℕ) → option_map (port_numbered external) o ≡ None → o ≡ None
 no_number external None e = refl
 no_number external (Some k) e = absurd (cc)
 
-pub no_lowest : (external : ℕ) (owners : List (Option Owner)) → option_map (port_numbered external) (position is_none owners) ≡ None → position is_none (members owners) ≡ None
+pub no_lowest : (external : ℕ) (owners : List (Option Occupant)) → option_map (port_numbered external) (position is_none owners) ≡ None → position is_none (members owners) ≡ None
 no_lowest external owners e = free_in_members owners ∙ no_number external (position is_none owners) e
 
 pub idle_portless : (m : Connections) (h : Holding) (ports : Ports) (x : Slot) → Represents m h ports → hears_at m x ≡ None → port_of m.external m.ports x ≡ None
@@ -211,7 +211,7 @@ pub record FreePort (m : Connections) (p : Slot) : Type 0 where
   pub inside : IsSlot (map_lines m) p
   pub far : m.external ≤ p.line
 
-pub free_port : (external : ℕ) (owners : List (Option Owner)) (p : Slot) (m : Connections) → external ≡ m.external → members owners ≡ m.ports → length m.ports ≡ 30 * m.bridges → option_map (port_numbered external) (position is_none owners) ≡ Some p → FreePort m p
+pub free_port : (external : ℕ) (owners : List (Option Occupant)) (p : Slot) (m : Connections) → external ≡ m.external → members owners ≡ m.ports → length m.ports ≡ 30 * m.bridges → option_map (port_numbered external) (position is_none owners) ≡ Some p → FreePort m p
 free_port external owners p m same ports long e =
     let found = lowest_port external owners p e in
     let free : position is_none m.ports ≡ Some found.0 = subst (λ q. position is_none q ≡ Some found.0) ports found.1 in

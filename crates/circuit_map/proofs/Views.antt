@@ -4,7 +4,7 @@ use Rattle.circuit_model.specs.declared.channel.Slot.{Slot}
 use Rattle.circuit_model.specs.declared.circuit.Circuit.{Circuit}
 use Rattle.circuit_model.specs.Holding.{Holding, Command, Clear, after}
 use Rattle.circuit_model.specs.Ports.{Ports, ports_after, ports_with, port_of}
-use Rattle.conference_ports.specs.declared.owner.Owner.{Owner}
+use Rattle.conference_ports.specs.declared.occupant.Occupant.{Occupant}
 use Rattle.control_memory.specs.Layout.{Layout, IsSlot, hop_of, path_to}
 use Rattle.control_memory.specs.Connecting.{connect, moved}
 use Rattle.circuit_map.specs.Connections.{Connections, IsExternal, is_pathless, map_lines, hears_at, hears_after, Represents, Obeys, AreMoves, AreRoomed, both_connected, joined_one, joined_both}
@@ -56,7 +56,7 @@ held_after k m n command is obeys held =
     let old = subst (λ (m : Connections). (h : Holding) × Represents m h m.ports) is held in
     (after old.0 command, own_ports n _ _ (obeys old.0 m.ports old.1))
 
-pub roomed_seen : (k m : Connections) (owners : List (Option Owner)) → k ≡ m → AreRoomed (hears_at k) owners → AreRoomed (hears_at m) owners
+pub roomed_seen : (k m : Connections) (owners : List (Option Occupant)) → k ≡ m → AreRoomed (hears_at k) owners → AreRoomed (hears_at m) owners
 roomed_seen k m owners is roomed = subst (λ (m : Connections). AreRoomed (hears_at m) owners) is roomed
 
 -- the paths there and back

@@ -6,7 +6,7 @@ use Rattle.circuit_model.specs.declared.circuit.Circuit.TheVariants.{Pair, Membe
 use Rattle.circuit_model.specs.Circuits.{same_slot, heard_by, is_member, unless_naming}
 use Rattle.circuit_model.specs.Holding.{Holding, Valid, Command, Connect, Seat, Give_tone, Clear, Frame, after}
 use Rattle.circuit_model.specs.Ports.{Ports, has, ports_after}
-use Rattle.conference_ports.specs.declared.owner.Owner.{Owner}
+use Rattle.conference_ports.specs.declared.occupant.Occupant.{Occupant}
 use Rattle.conference_ports.specs.Owners.{members}
 use Rattle.control_memory.specs.declared.heard.Heard.{Heard}
 use Rattle.control_memory.specs.declared.heard.Heard.TheVariants.{Silent}
@@ -28,7 +28,7 @@ pub record Connections : Type 0 where
   pub layout : Layout
 
 -- the connections of a map that stores the owner of each port, whose member has it
-abbrev pub kept_connections : ℕ → ℕ → ℕ → ℕ → ℕ → List (Option Circuit) → List (Option Owner) → Layout → Connections
+abbrev pub kept_connections : ℕ → ℕ → ℕ → ℕ → ℕ → List (Option Circuit) → List (Option Occupant) → Layout → Connections
 kept_connections external bridges slots bound next heard owners layout = record {
   external = external;
   bridges = bridges;
@@ -110,12 +110,12 @@ pub record IsShown (external bridges : ℕ) (heard : List (Option Circuit)) (por
   pub sits : EachSlot (external + bridges) (λ at. port_entry external sitting at ≡ room_in external heard ports at)
 
 -- the owner of each port is a member of the room in the owner's entry
-abbrev pub AreRoomed : (Slot → Option Circuit) → List (Option Owner) → Type 0
-AreRoomed hears owners = (k : ℕ) (owner : Owner) → slice_index_or owners k None ≡ Some owner → (since : ℕ) × (hears owner.member ≡ Some (Member owner.room owner.member since))
+abbrev pub AreRoomed : (Slot → Option Circuit) → List (Option Occupant) → Type 0
+AreRoomed hears owners = (k : ℕ) (owner : Occupant) → slice_index_or owners k None ≡ Some owner → (since : ℕ) × (hears owner.member ≡ Some (Member owner.room owner.member since))
 
 -- the sizes of the parts; the parts belong to some holding; each port's owner has its room; and the tables for the next
 -- control memory show these
-pub record IsSound (m : Connections) (lines first_line bridge_lines : ℕ) (owners : List (Option Owner)) (hearing : List Heard) (sitting : List (Option (ℕ × ℕ))) : Type 0 where
+pub record IsSound (m : Connections) (lines first_line bridge_lines : ℕ) (owners : List (Option Occupant)) (hearing : List Heard) (sitting : List (Option (ℕ × ℕ))) : Type 0 where
   pub few : map_lines m ≤ 34
   pub width : lines ≡ map_lines m
   pub first : first_line ≡ m.external

@@ -11,7 +11,7 @@ ghost use Rattle.control_memory.specs.Image.{SameSizes as SameImageSizes};
 ghost use Rattle.circuit_map.specs.Connections.{IsExternal, hears_at, hears_after, Represents, Obeys, IsLaid, SameSizes, AreMoves, joined_both, parted, is_pathless};
 
 use crate::both_ways::{connect_both, disconnect_both};
-use circuit_model::{Circuit, Kind, PLACES, Slot};
+use circuit_model::{CHANNELS_PER_LINE, Circuit, Kind, Slot};
 use conference_ports::Ports;
 use control_memory::{Heard, HeardTable, Image, PathMap, port_index};
 use std::alloc::{AllocError, Global};
@@ -73,7 +73,7 @@ impl<P: PathMap + Drop> CircuitMap<P> {
     {
         // Each call of a path map guarantees that its layout is legal.
         let _slots = paths.slots();
-        let places = usize::from(PLACES);
+        let places = usize::from(CHANNELS_PER_LINE);
         Ok(CircuitMap {
             external,
             bridges,
@@ -102,18 +102,18 @@ impl<P: PathMap> CircuitMap<P> {
         ensures silent { result ≡ is_none (hears_at self.now at) }
         ensures idle { (h : Holding) (ports : Members) → Represents self.now h ports → result ≡ is_idle h.circuits at }
     {
-        self.hears(at).is_none()
+        self.circuit_at(at).is_none()
     }
 
     /// Returns the circuit by which an external slot receives: the direction of a connection that ends there, its
     /// membership of a conference room, or its tone. `None` if and only if it is idle.
-    pub fn hears(&self, at: Slot) -> Option<Circuit>
+    pub fn circuit_at(&self, at: Slot) -> Option<Circuit>
         requires external { IsExternal self.now at }
         ensures circuit { result ≡ hears_at self.now at }
         ensures listener { IfSome result (λ circuit. listener circuit ≡ at) }
         ensures stands { (h : Holding) (ports : Members) → Represents self.now h ports → result ≡ heard_by h.circuits at }
     {
-        self.heard[at.number()]
+        self.heard[at.to_index()]
     }
 
     /// Returns whether every conference port is taken: the number of members equals the number of ports.
@@ -135,7 +135,7 @@ impl<P: PathMap> CircuitMap<P> {
         ensures laid { IsLaid self.new }
         ensures sizes { SameSizes self.old self.new }
     {
-        let at = x.number();
+        let at = x.to_index();
         let since = self.next;
         self.heard[at] = Some(Circuit::Tone { kind, to: x, since });
         self.hearing.set(at, Heard::Tone { kind, since });
@@ -161,7 +161,7 @@ impl<P: PathMap> CircuitMap<P> {
         ensures sizes { SameSizes self.old self.new }
     {
         let moves = connect_both(&mut self.paths, x, y);
-        let (at_x, at_y) = (x.number(), y.number());
+        let (at_x, at_y) = (x.to_index(), y.to_index());
         let since = self.next;
         self.heard[at_x] = Some(Circuit::Pair {
             from: y,
@@ -202,7 +202,7 @@ impl<P: PathMap> CircuitMap<P> {
             return Err(NoPort);
         };
         let moves = connect_both(&mut self.paths, x, port);
-        let (at_x, at_port) = (x.number(), port.number());
+        let (at_x, at_port) = (x.to_index(), port.to_index());
         let sits_at = port_index(self.external, port);
         let since = self.next;
         self.heard[at_x] = Some(Circuit::Member { room, at: x, since });
@@ -224,7 +224,7 @@ impl<P: PathMap> CircuitMap<P> {
         ensures laid { IsLaid self.new }
         ensures sizes { SameSizes self.old self.new }
     {
-        match self.hears(x) {
+        match self.circuit_at(x) {
             None => self.silence(x),
             Some(Circuit::Tone { .. }) => self.silence(x),
             Some(Circuit::Pair { from, .. }) => self.release(x, from),
@@ -253,7 +253,7 @@ impl<P: PathMap> CircuitMap<P> {
         ensures sizes { SameSizes self.old self.new }
     {
         let frame = self.next;
-        image.begin(frame, &self.hearing, &self.sitting);
+        image.reset_with(frame, &self.hearing, &self.sitting);
         self.paths.write_tables(image);
         self.next = frame + 1;
         frame
@@ -272,7 +272,7 @@ impl<P: PathMap> CircuitMap<P> {
         ensures laid { IsLaid self.new }
         ensures sizes { SameSizes self.old self.new }
     {
-        let at = x.number();
+        let at = x.to_index();
         self.heard[at] = None;
         self.hearing.set(at, Heard::Silent);
     }
@@ -291,7 +291,7 @@ impl<P: PathMap> CircuitMap<P> {
         ensures sizes { SameSizes self.old self.new }
     {
         disconnect_both(&mut self.paths, x, y);
-        let (at_x, at_y) = (x.number(), y.number());
+        let (at_x, at_y) = (x.to_index(), y.to_index());
         self.heard[at_x] = None;
         self.heard[at_y] = None;
         self.hearing.set(at_x, Heard::Silent);
@@ -316,7 +316,7 @@ impl<P: PathMap> CircuitMap<P> {
         };
         disconnect_both(&mut self.paths, x, port);
         self.ports.give(x);
-        let (at_x, at_port) = (x.number(), port.number());
+        let (at_x, at_port) = (x.to_index(), port.to_index());
         let sits_at = port_index(self.external, port);
         self.heard[at_x] = None;
         self.hearing.set(at_port, Heard::Silent);

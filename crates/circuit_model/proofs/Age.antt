@@ -4,7 +4,7 @@ use Rattle.std.specs.List.{Contains, filter}
 use Rattle.std.proofs.lemmas.List.Elements.{Contains-append_cases}
 use Rattle.circuit_model.specs.declared.circuit.Circuit.{Circuit}
 use Rattle.circuit_model.specs.declared.circuit.Circuit.TheVariants.{Pair, Member, Tone}
-use Rattle.circuit_model.specs.Circuits.{since_of, names}
+use Rattle.circuit_model.specs.Circuits.{first_frame_of, names}
 use Rattle.circuit_model.specs.Holding.{Holding, empty, Command, Connect, Seat, Give_tone, Clear, Frame, after, frames, circuits_of}
 
 -- ---- elements of lists
@@ -30,17 +30,17 @@ within_filtered p (x ∷ xs) y h =
     ] h
 
 -- ---- one command
-same_age : (new c : Circuit) (n : ℕ) → since_of new ≡ n → new ≡ c → since_of c < n → ⊥
-same_age new c n made e older = let age : since_of new ≡ since_of c = ap since_of e in omega (arith, made, age, older)
+same_age : (new c : Circuit) (n : ℕ) → first_frame_of new ≡ n → new ≡ c → first_frame_of c < n → ⊥
+same_age new c n made e older = let age : first_frame_of new ≡ first_frame_of c = ap first_frame_of e in omega (arith, made, age, older)
 
-older_than_one : (h : Holding) (new c : Circuit) → since_of new ≡ h.next → Contains (h.circuits ++ new ∷ []) c → since_of c < h.next → Contains h.circuits c
+older_than_one : (h : Holding) (new c : Circuit) → first_frame_of new ≡ h.next → Contains (h.circuits ++ new ∷ []) c → first_frame_of c < h.next → Contains h.circuits c
 older_than_one h new c made inside older =
     ⊎_elim (λ (old : Contains h.circuits c). old)
     (λ (last : Contains (new ∷ []) c). ⊎_elim (λ (e : new ≡ c). absurd (same_age new c h.next made e older)) (λ (no : Contains [] c). absurd (none_in_nil c no)) (cons_cases new [] c last))
     (Contains-append_cases h.circuits (new ∷ []) c inside)
 
 -- what exists after a command and is older than it existed before
-pub older_stood : (h : Holding) (command : Command) (c : Circuit) → Contains (after h command).circuits c → since_of c < h.next → Contains h.circuits c
+pub older_stood : (h : Holding) (command : Command) (c : Circuit) → Contains (after h command).circuits c → first_frame_of c < h.next → Contains h.circuits c
 older_stood h (Connect x y) c inside older =
     ⊎_elim (λ (old : Contains h.circuits c). old)
     (λ (new : Contains (Pair x y h.next ∷ Pair y x h.next ∷ []) c).
@@ -55,7 +55,7 @@ older_stood h Frame c inside older = inside
 
 -- ---- whole lists of commands
 -- the first frame's circuits that are older than the next frame existed at the beginning
-pub first_frame : (h : Holding) (cs : List Command) (c : Circuit) → Contains (circuits_of (frames h cs) 0) c → since_of c < h.next → Contains h.circuits c
+pub first_frame : (h : Holding) (cs : List Command) (c : Circuit) → Contains (circuits_of (frames h cs) 0) c → first_frame_of c < h.next → Contains h.circuits c
 first_frame h [] c inside older = absurd (none_in_nil c inside)
 first_frame h (Connect x y ∷ cs) c inside older = older_stood h (Connect x y) c (first_frame (after h (Connect x y)) cs c inside older) older
 first_frame h (Seat x room ∷ cs) c inside older = older_stood h (Seat x room) c (first_frame (after h (Seat x room)) cs c inside older) older
@@ -64,7 +64,7 @@ first_frame h (Clear x ∷ cs) c inside older = older_stood h (Clear x) c (first
 first_frame h (Frame ∷ cs) c inside older = inside
 
 -- each later frame's circuits that are older than it existed in the frame before it
-pub later_frame : (h : Holding) (cs : List Command) (k : ℕ) (c : Circuit) → Contains (circuits_of (frames h cs) (suc k)) c → since_of c < h.next + suc k → Contains (circuits_of (frames h cs) k) c
+pub later_frame : (h : Holding) (cs : List Command) (k : ℕ) (c : Circuit) → Contains (circuits_of (frames h cs) (suc k)) c → first_frame_of c < h.next + suc k → Contains (circuits_of (frames h cs) k) c
 later_frame h [] k c inside older = absurd (none_in_nil c inside)
 later_frame h (Connect x y ∷ cs) k c inside older = later_frame (after h (Connect x y)) cs k c inside older
 later_frame h (Seat x room ∷ cs) k c inside older = later_frame (after h (Seat x room)) cs k c inside older
@@ -74,6 +74,6 @@ later_frame h (Frame ∷ cs) zero c inside older = first_frame (after h Frame) c
 later_frame h (Frame ∷ cs) (suc k) c inside older = later_frame (after h Frame) cs k c inside (omega (arith, older))
 
 -- the law of age
-pub age : (cs : List Command) (f : ℕ) (c : Circuit) → Contains (circuits_of (frames empty cs) f) c → since_of c < f → Contains (circuits_of (frames empty cs) (f - 1)) c
+pub age : (cs : List Command) (f : ℕ) (c : Circuit) → Contains (circuits_of (frames empty cs) f) c → first_frame_of c < f → Contains (circuits_of (frames empty cs) (f - 1)) c
 age cs zero c inside older = absurd (omega arith)
 age cs (suc k) c inside older = rw sub-one (later_frame empty cs k c inside (omega (arith, older)))

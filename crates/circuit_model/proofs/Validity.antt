@@ -7,7 +7,7 @@ use Rattle.circuit_model.specs.declared.channel.Slot.{Slot}
 use Rattle.circuit_model.specs.declared.circuit.Kind.{Kind}
 use Rattle.circuit_model.specs.declared.circuit.Circuit.{Circuit}
 use Rattle.circuit_model.specs.declared.circuit.Circuit.TheVariants.{Pair, Member, Tone}
-use Rattle.circuit_model.specs.Circuits.{same_slot, listener, names, is_idle, is_member, since_of, heard_by, unless_naming}
+use Rattle.circuit_model.specs.Circuits.{same_slot, listener, names, is_idle, is_member, first_frame_of, heard_by, unless_naming}
 use Rattle.circuit_model.specs.Holding.{Holding, empty, Command, Connect, Seat, Give_tone, Clear, Frame, after, circuits_naming, Stands, Has_no_circuit, Has_tone, Is_seated, Is_connected, Valid, IsAllowed}
 use Rattle.circuit_model.proofs.Slots.{true_or_false, same_slot-refl, same_slot_cases, same_slot-false, naming-idle, is_idle-naming, heard_by-naming, listener_is_named, filter_filter}
 use Rattle.circuit_model.proofs.Age.{cons_cases, at_head, in_tail, none_in_nil, within_filtered}
@@ -109,7 +109,7 @@ valid-empty bridges = record { young = λ k d h. absurd (omega arith); seated = 
 
 pub valid-connect : (bridges : ℕ) (h : Holding) (x y : Slot) → Valid bridges h → ¬ (x ≡ y) → is_idle h.circuits x ≡ true → is_idle h.circuits y ≡ true → Valid bridges (after h (Connect x y))
 valid-connect bridges h x y v apart idle_x idle_y =
-    let IsYoung : Circuit → Type 0 = λ c. since_of c ≤ h.next in
+    let IsYoung : Circuit → Type 0 = λ c. first_frame_of c ≤ h.next in
     record {
       young = All-append IsYoung h.circuits (Pair x y h.next ∷ Pair y x h.next ∷ []) v.young (All-cons IsYoung (Pair x y h.next) (Pair y x h.next ∷ []) (omega arith) (All-cons IsYoung (Pair y x h.next) [] (omega arith) (All-nil IsYoung)));
       seated = let s = v.seated in omega (arith, count_by-append is_member h.circuits (Pair x y h.next ∷ Pair y x h.next ∷ []));
@@ -118,7 +118,7 @@ valid-connect bridges h x y v apart idle_x idle_y =
 
 pub valid-seat : (bridges : ℕ) (h : Holding) (x : Slot) (room : ℕ) → Valid bridges h → is_idle h.circuits x ≡ true → count_by is_member h.circuits < 30 * bridges → Valid bridges (after h (Seat x room))
 valid-seat bridges h x room v idle free =
-    let IsYoung : Circuit → Type 0 = λ c. since_of c ≤ h.next in
+    let IsYoung : Circuit → Type 0 = λ c. first_frame_of c ≤ h.next in
     record {
       young = All-append IsYoung h.circuits (Member room x h.next ∷ []) v.young (All-cons IsYoung (Member room x h.next) [] (omega arith) (All-nil IsYoung));
       seated = omega (arith, count_by-append is_member h.circuits (Member room x h.next ∷ []));
@@ -127,7 +127,7 @@ valid-seat bridges h x room v idle free =
 
 pub valid-tone : (bridges : ℕ) (h : Holding) (x : Slot) (kind : Kind) → Valid bridges h → is_idle h.circuits x ≡ true → Valid bridges (after h (Give_tone x kind))
 valid-tone bridges h x kind v idle =
-    let IsYoung : Circuit → Type 0 = λ c. since_of c ≤ h.next in
+    let IsYoung : Circuit → Type 0 = λ c. first_frame_of c ≤ h.next in
     record {
       young = All-append IsYoung h.circuits (Tone kind x h.next ∷ []) v.young (All-cons IsYoung (Tone kind x h.next) [] (omega arith) (All-nil IsYoung));
       seated = let s = v.seated in omega (arith, count_by-append is_member h.circuits (Tone kind x h.next ∷ []));
@@ -136,7 +136,7 @@ valid-tone bridges h x kind v idle =
 
 pub valid-clear : (bridges : ℕ) (h : Holding) (x : Slot) → Valid bridges h → Valid bridges (after h (Clear x))
 valid-clear bridges h x v = record {
-  young = All-filter (λ c. not (names x c)) (λ c. since_of c ≤ h.next) h.circuits v.young;
+  young = All-filter (λ c. not (names x c)) (λ c. first_frame_of c ≤ h.next) h.circuits v.young;
   seated = let s = v.seated in omega (arith, count_by-filter is_member (λ c. not (names x c)) h.circuits);
   standing = λ z. stands-clear h.circuits x z (v.standing z);
 }

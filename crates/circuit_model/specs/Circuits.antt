@@ -15,10 +15,10 @@ listener (Member room at since) = at
 listener (Tone kind to since) = to
 
 -- the first frame that the circuit exists in
-abbrev pub since_of : Circuit → ℕ
-since_of (Pair from to since) = since
-since_of (Member room at since) = since
-since_of (Tone kind to since) = since
+abbrev pub first_frame_of : Circuit → ℕ
+first_frame_of (Pair from to since) = since
+first_frame_of (Member room at since) = since
+first_frame_of (Tone kind to since) = since
 
 -- the circuit uses the slot, as receiver or as sender
 abbrev pub names : Slot → Circuit → Bool

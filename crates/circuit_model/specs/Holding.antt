@@ -5,7 +5,7 @@ use Rattle.circuit_model.specs.declared.channel.Slot.{Slot}
 use Rattle.circuit_model.specs.declared.circuit.Kind.{Kind}
 use Rattle.circuit_model.specs.declared.circuit.Circuit.{Circuit}
 use Rattle.circuit_model.specs.declared.circuit.Circuit.TheVariants.{Pair, Member, Tone}
-use Rattle.circuit_model.specs.Circuits.{names, is_idle, is_member, since_of, heard_by}
+use Rattle.circuit_model.specs.Circuits.{names, is_idle, is_member, first_frame_of, heard_by}
 
 -- the circuits that exist, and the number of the next frame; the circuits are a list that is read as a set, since lists
 -- compute and no definition depends on the order of a valid holding (`law_of_one_circuit`)
@@ -96,7 +96,7 @@ pub data Stands (circuits : List Circuit) (x : Slot) : Type 0 where
 -- a holding of an exchange with n bridge lines: no circuit is younger than the next frame, each member finds a port,
 -- and each slot, external or not, is in one state, so that the theorems need no number of external lines
 pub record Valid (bridges : ℕ) (h : Holding) : Type 0 where
-  pub young : All (λ c. since_of c ≤ h.next) h.circuits
+  pub young : All (λ c. first_frame_of c ≤ h.next) h.circuits
   pub seated : count_by is_member h.circuits ≤ 30 * bridges
   pub standing : (x : Slot) → Stands h.circuits x
 

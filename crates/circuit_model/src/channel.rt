@@ -5,7 +5,7 @@ ghost use Rattle.circuit_model.specs.Channels.{place_of, channel_at};
 
 /// The number of bearer channels of a primary rate line: time slots 1 to 15 and 17 to 31 of its 32. Slot 0 carries
 /// framing and slot 16 the D channel (ITU-T G.704, section 2.3; Q.931 numbers the channels by their time slot).
-pub const PLACES: u8 = 30;
+pub const CHANNELS_PER_LINE: u8 = 30;
 
 /// A bearer channel of the exchange: a line, and the place of the channel among the 30 of the line.
 ///
@@ -20,10 +20,10 @@ pub struct Slot {
 
 impl Slot {
     /// Returns the index of the slot among the slots of all lines: 30 places to a line, line after line.
-    pub fn number(self) -> usize
+    pub fn to_index(self) -> usize
         ensures { result ≡ 30 * self.line + self.place }
     {
-        usize::from(PLACES) * usize::from(self.line) + usize::from(self.place)
+        usize::from(CHANNELS_PER_LINE) * usize::from(self.line) + usize::from(self.place)
     }
 }
 

@@ -15,7 +15,7 @@ mod holding_laws;
 mod laws;
 mod port_laws;
 
-pub use channel::{PLACES, Slot, channel_of, slot_of_channel};
+pub use channel::{CHANNELS_PER_LINE, Slot, channel_of, slot_of_channel};
 pub use circuit::{Circuit, IDLE, Kind};
 pub use holding_laws::{
     law_of_commands, law_of_frames, law_of_idle_slots, law_of_one_circuit, law_of_seats,

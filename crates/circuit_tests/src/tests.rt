@@ -110,7 +110,7 @@ fn take<P: PathMap>(rt: &impl Abort, map: &mut CircuitMap<P>, image: &mut Image,
         }
         Step::Circuit(x) => {
             assert!(rt; x.line < 2 && x.place < 30);
-            By(map.hears(x))
+            By(map.circuit_at(x))
         }
         Frame => {
             assert!(rt; map.next_frame() < 1000);

@@ -4,7 +4,7 @@
 //!
 //! - [`unknown_reference`] returns the reply to a message on a call reference without a leg.
 //! - [`restart`] returns the restart that a message requests, and `None` if and only if it is not an accepted RESTART
-//!   (`asked`). [`acknowledgement`] returns the RESTART ACKNOWLEDGE.
+//!   (`asked`). [`restart_acknowledge`] returns the RESTART ACKNOWLEDGE.
 //! - Every such reply can be written ([`law_of_answers`]).
 //!
 //! Nothing here allocates.
@@ -18,6 +18,6 @@ mod unknown_reference_message;
 
 pub use cause::cause_in;
 pub use laws::{law_of_answers, law_of_global_reference, worked_answers, worked_restarts};
-pub use restart_message::{GLOBAL_CALL_REFERENCE, acknowledgement, restart};
+pub use restart_message::{GLOBAL_CALL_REFERENCE, restart, restart_acknowledge};
 pub use scope::Restart;
 pub use unknown_reference_message::unknown_reference;

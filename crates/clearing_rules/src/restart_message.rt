@@ -39,7 +39,7 @@ pub fn restart(message: &Message) -> Option<Restart>
 /// received restart indicator, and the channel if one channel was restarted.
 ///
 /// The place of that channel is below 30, as in each result of [`restart`].
-pub fn acknowledgement(restarted: Restart) -> Outgoing<'static>
+pub fn restart_acknowledge(restarted: Restart) -> Outgoing<'static>
     requires { IsOnLine restarted }
     ensures { outgoing_of result ≡ acknowledgement restarted }
 {

@@ -15,7 +15,7 @@ impl Restart {
     ghost use Rattle.clearing_rules.specs.Restarting.{is_restarted};
 
     /// Returns whether the bearer channel at this place of the line is restarted.
-    pub fn concerns(self, place: u8) -> bool
+    pub fn covers(self, place: u8) -> bool
         ensures { result ≡ is_restarted self place }
     {
         match self {

@@ -9,7 +9,7 @@ use clap::{ArgMatches, Error};
 use std::alloc::Global;
 
 /// The maximum number of calls of a generated trace. Source: this project.
-const MOST_CALLS: u32 = 2000;
+const MAX_CALLS: u32 = 2000;
 
 /// The command of the arguments.
 #[derive(Clone, Copy, Debug, PartialEq, Eq)]
@@ -25,7 +25,7 @@ pub enum Command {
 
 /// The error for arguments without a command.
 #[derive(Clone, Copy, Debug, PartialEq, Eq, thiserror::Error)]
-pub enum WordsFault {
+pub enum CommandError {
     /// An allocation failed.
     #[error("no memory for the words")]
     Memory,
@@ -42,17 +42,17 @@ pub enum WordsFault {
 ///
 /// # Errors
 ///
-/// [`WordsFault::NoCommand`] if the arguments are not a command, and [`WordsFault::Memory`] if an allocation fails.
-pub fn read_command(alloc: Global, words: &[String]) -> Result<Command, WordsFault>
+/// [`CommandError::NoCommand`] if the arguments are not a command, and [`CommandError::Memory`] if an allocation fails.
+pub fn parse_command(alloc: Global, words: &[String]) -> Result<Command, CommandError>
     ensures command { IfOk result (λ c. command_of (map string_bytes words.now) ≡ Some c) }
     ensures calls { IfOk result IsInRange }
-    ensures no_command { IsErrOf result WordsFault.NoCommand → command_of (map string_bytes words.now) ≡ None }
+    ensures no_command { IsErrOf result CommandError.NoCommand → command_of (map string_bytes words.now) ≡ None }
 {
     match name_in(words) {
         Some(Name::Run) => read_run(alloc, words),
         Some(Name::Gen) => read_generation(alloc, words),
         Some(Name::Check) => read_check(alloc, words),
-        None => Err(WordsFault::NoCommand),
+        None => Err(CommandError::NoCommand),
     }
 }
 
@@ -60,23 +60,23 @@ pub fn read_command(alloc: Global, words: &[String]) -> Result<Command, WordsFau
 ///
 /// # Errors
 ///
-/// [`WordsFault::NoCommand`] if the arguments do not request that a trace is followed, and [`WordsFault::Memory`] if an
-/// allocation fails.
-pub fn read_follow(alloc: Global, words: &[String]) -> Result<bool, WordsFault>
+/// [`CommandError::NoCommand`] if the arguments do not request that a trace is followed, and [`CommandError::Memory`]
+/// if an allocation fails.
+pub fn read_follow(alloc: Global, words: &[String]) -> Result<bool, CommandError>
     ensures follow { IfOk result (λ strict. follow_of (map string_bytes words.now) ≡ Some strict) }
-    ensures no_follow { IsErrOf result WordsFault.NoCommand → follow_of (map string_bytes words.now) ≡ None }
+    ensures no_follow { IsErrOf result CommandError.NoCommand → follow_of (map string_bytes words.now) ≡ None }
 {
     if is_follow(words) {
         read_follow_flag(alloc, words)
     } else {
-        Err(WordsFault::NoCommand)
+        Err(CommandError::NoCommand)
     }
 }
 
 // Parses the arguments of `follow` after its name.
-fn read_follow_flag(alloc: Global, words: &[String]) -> Result<bool, WordsFault>
+fn read_follow_flag(alloc: Global, words: &[String]) -> Result<bool, CommandError>
     ensures flag { IfOk result (λ strict. flag_of_follow (map string_bytes words.now) ≡ Some strict) }
-    ensures no_follow { IsErrOf result WordsFault.NoCommand → flag_of_follow (map string_bytes words.now) ≡ None }
+    ensures no_follow { IsErrOf result CommandError.NoCommand → flag_of_follow (map string_bytes words.now) ≡ None }
 {
     match strict_matches(alloc, "follow", words) {
         Ok(matches) => Ok(is_strict(&matches)),
@@ -119,10 +119,10 @@ fn name_in(words: &[String]) -> Option<Name>
 }
 
 // Parses the arguments of `run`.
-fn read_run(alloc: Global, words: &[String]) -> Result<Command, WordsFault>
+fn read_run(alloc: Global, words: &[String]) -> Result<Command, CommandError>
     ensures command { IfOk result (λ c. run_of (map string_bytes words.now) ≡ Some c) }
     ensures calls { IfOk result IsInRange }
-    ensures no_command { IsErrOf result WordsFault.NoCommand → run_of (map string_bytes words.now) ≡ None }
+    ensures no_command { IsErrOf result CommandError.NoCommand → run_of (map string_bytes words.now) ≡ None }
 {
     match strict_matches(alloc, "run", words) {
         Ok(matches) => Ok(Command::Run {
@@ -133,10 +133,10 @@ fn read_run(alloc: Global, words: &[String]) -> Result<Command, WordsFault>
 }
 
 // Parses the arguments of `check`.
-fn read_check(alloc: Global, words: &[String]) -> Result<Command, WordsFault>
+fn read_check(alloc: Global, words: &[String]) -> Result<Command, CommandError>
     ensures command { IfOk result (λ c. check_of (map string_bytes words.now) ≡ Some c) }
     ensures calls { IfOk result IsInRange }
-    ensures no_command { IsErrOf result WordsFault.NoCommand → check_of (map string_bytes words.now) ≡ None }
+    ensures no_command { IsErrOf result CommandError.NoCommand → check_of (map string_bytes words.now) ≡ None }
 {
     match strict_matches(alloc, "check", words) {
         Ok(matches) => Ok(Command::Check {
@@ -157,13 +157,13 @@ fn is_strict(matches: &ArgMatches) -> bool
 }
 
 // Parses the arguments of `gen`.
-fn read_generation(alloc: Global, words: &[String]) -> Result<Command, WordsFault>
+fn read_generation(alloc: Global, words: &[String]) -> Result<Command, CommandError>
     ensures command { IfOk result (λ c. generation_of (map string_bytes words.now) ≡ Some c) }
     ensures calls { IfOk result IsInRange }
-    ensures no_command { IsErrOf result WordsFault.NoCommand → generation_of (map string_bytes words.now) ≡ None }
+    ensures no_command { IsErrOf result CommandError.NoCommand → generation_of (map string_bytes words.now) ≡ None }
 {
     match gen_matches(alloc, words) {
-        Ok(matches) => generation_in(&matches).ok_or(WordsFault::NoCommand),
+        Ok(matches) => generation_in(&matches).ok_or(CommandError::NoCommand),
         Err(error) => Err(fault_of(&error)),
     }
 }
@@ -174,18 +174,18 @@ fn generation_in(matches: &ArgMatches) -> Option<Command>
     ensures texts { result ≡ generation (first_value (found_of matches.now) (codes "SEED")) (first_value (found_of matches.now) (codes "CALLS")) }
 {
     let seed = numeral_within(0, u32::MAX, matches.get_str("SEED")?)?;
-    let calls = numeral_within(1, MOST_CALLS, matches.get_str("CALLS")?)?;
+    let calls = numeral_within(1, MAX_CALLS, matches.get_str("CALLS")?)?;
     Some(Command::Generate { seed, calls })
 }
 
 // Converts clap's error. A failed allocation shows nothing about the arguments, and any other error means that they are
 // not a command.
-fn fault_of(error: &Error) -> WordsFault
-    ensures no_command { result ≡ WordsFault.NoCommand → kind_of error.now ≢ ErrorKind.OutOfMemory }
-    ensures memory { result ≡ WordsFault.Memory → kind_of error.now ≡ ErrorKind.OutOfMemory }
+fn fault_of(error: &Error) -> CommandError
+    ensures no_command { result ≡ CommandError.NoCommand → kind_of error.now ≢ ErrorKind.OutOfMemory }
+    ensures memory { result ≡ CommandError.Memory → kind_of error.now ≡ ErrorKind.OutOfMemory }
 {
     match error.kind() {
-        ErrorKind::OutOfMemory => WordsFault::Memory,
-        _ => WordsFault::NoCommand,
+        ErrorKind::OutOfMemory => CommandError::Memory,
+        _ => CommandError::NoCommand,
     }
 }

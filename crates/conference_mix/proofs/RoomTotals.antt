@@ -5,7 +5,7 @@ use Rattle.std.proofs.lemmas.Bool.{cases_eq, eq-eqb, ne_eqb}
 use Rattle.std.proofs.lemmas.List.{get_or-map, length-map}
 use Rattle.circuit_model.specs.ALaw.{compress}
 use Rattle.circuit_model.proofs.Slots.{true_or_false}
-use Rattle.conference_mix.specs.declared.mixer.Seated.{Seated}
+use Rattle.conference_mix.specs.declared.mixer.RoomMember.{RoomMember}
 use Rattle.conference_mix.specs.Bridge.{value_of, mixed_for}
 use Rattle.conference_mix.specs.Rooms.{counted_in, room_row, room_total, given_to_member, given_at}
 use Rattle.conference_mix.specs.Seats.{value_in}
@@ -14,7 +14,7 @@ use Rattle.conference_mix.proofs.Sums.{sum_of-cons, sum_of_values-others}
 nothing_more : (x : ℤ) → x ≡ x +ℤ pos 0
 nothing_more x = omega (arith, ints)
 
-pub total-added : (totals : List ℤ) (q : ℕ) (member : Seated) (value : ℤ) → member.room < length totals → value ≡ value_of member.octet
+pub total-added : (totals : List ℤ) (q : ℕ) (member : RoomMember) (value : ℤ) → member.room < length totals → value ≡ value_of member.octet
     → get_or (set totals member.room (get_or totals member.room (pos 0) +ℤ value)) q (pos 0) ≡ get_or totals q (pos 0) +ℤ value_of (counted_in q (Some member))
 total-added totals q member value inside is =
     let room = member.room in
@@ -29,13 +29,13 @@ total-added totals q member value inside is =
     ]
 
 -- one place is taken that was free
-pub total-set : (q : ℕ) (places : List (Option Seated)) (k : ℕ) (member : Option Seated) → k < length places → get_or places k None ≡ None
+pub total-set : (q : ℕ) (places : List (Option RoomMember)) (k : ℕ) (member : Option RoomMember) → k < length places → get_or places k None ≡ None
     → room_total q (set places k member) ≡ room_total q places +ℤ value_of (counted_in q member)
 total-set q [] k member inside free = absurd (omega (arith, inside))
 total-set q (place ∷ places) zero member inside free =
     let before = sum_of-cons (counted_in q place) (room_row q places) in
     let after = sum_of-cons (counted_in q member) (room_row q places) in
-    let nothing : value_of (counted_in q place) ≡ pos 0 = ap (λ (o : Option Seated). value_of (counted_in q o)) free in
+    let nothing : value_of (counted_in q place) ≡ pos 0 = ap (λ (o : Option RoomMember). value_of (counted_in q o)) free in
     omega (arith, ints, before, after, nothing)
 total-set q (place ∷ places) (suc k) member inside free =
     let rest = total-set q places k member (omega (arith, inside)) free in
@@ -44,11 +44,11 @@ total-set q (place ∷ places) (suc k) member inside free =
     omega (arith, ints, rest, before, after)
 
 -- a place adds no more to a room than its value
-counted-small : (q : ℕ) (place : Option Seated) → nat_abs (value_in place) ≤ 4032 → nat_abs (value_of (counted_in q place)) ≤ 4032
+counted-small : (q : ℕ) (place : Option RoomMember) → nat_abs (value_in place) ≤ 4032 → nat_abs (value_of (counted_in q place)) ≤ 4032
 counted-small q None small = omega (arith, ints)
 counted-small q (Some member) small = elim (true_or_false (eqb member.room q)) [ inl same ↦ rw same small | inr other ↦ rw other (omega (arith, ints)) ]
 
-pub total-within : (q : ℕ) (places : List (Option Seated)) → ((k : ℕ) → k < length places → nat_abs (value_in (get_or places k None)) ≤ 4032) → nat_abs (room_total q places) ≤ 4032 * length places
+pub total-within : (q : ℕ) (places : List (Option RoomMember)) → ((k : ℕ) → k < length places → nat_abs (value_in (get_or places k None)) ≤ 4032) → nat_abs (room_total q places) ≤ 4032 * length places
 total-within q [] small = omega (arith, ints)
 total-within q (place ∷ places) small =
     let rest = total-within q places (λ k inside. small (suc k) (omega (arith, inside))) in
@@ -57,7 +57,7 @@ total-within q (place ∷ places) small =
     omega (arith, ints, rest, first, whole)
 
 -- a member is given the mix of the others of its room
-pub given_is : (places : List (Option Seated)) (total own : ℤ) (k : ℕ) (member : Seated) → k < length places → get_or places k None ≡ Some member
+pub given_is : (places : List (Option RoomMember)) (total own : ℤ) (k : ℕ) (member : RoomMember) → k < length places → get_or places k None ≡ Some member
     → total ≡ room_total member.room places → own ≡ value_of member.octet → compress (total -ℤ own) ≡ given_at k places
 given_is places total own k member inside is whole adds =
     let row = room_row member.room places in

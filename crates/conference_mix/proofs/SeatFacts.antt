@@ -9,7 +9,7 @@ use Rattle.circuit_model.specs.ALaw.{decision_values, expand, compress}
 use Rattle.circuit_model.specs.FrameInput.{idle_octet}
 use Rattle.circuit_model.proofs.PortSeats.{below_or_not}
 use Rattle.alaw_codec.proofs.Tables.{round_trip}
-use Rattle.conference_mix.specs.declared.mixer.Seated.{Seated}
+use Rattle.conference_mix.specs.declared.mixer.RoomMember.{RoomMember}
 use Rattle.conference_mix.specs.Bridge.{value_of}
 use Rattle.conference_mix.specs.Rooms.{counted_in, room_total, given_to_member, given_at}
 use Rattle.conference_mix.specs.Seats.{octet_kept, seat_kept, seat_at, seats_kept, value_in, IsKept}
@@ -32,7 +32,7 @@ pub kept-octet : (octet : Option ℕ) → IfSome octet (λ o. o < 256) → octet
 kept-octet None near = refl
 kept-octet (Some octet) near = let yes = sounds octet near in rw yes (ap (λ (o : ℕ). Some o) (round_trip octet near))
 
-kept-member : (member : Seated) (value : ℤ) → member.room < 256 → IfSome member.octet (λ o. o < 256) → value ≡ value_of member.octet → seat_kept member.room value ≡ Some member
+kept-member : (member : RoomMember) (value : ℤ) → member.room < 256 → IfSome member.octet (λ o. o < 256) → value ≡ value_of member.octet → seat_kept member.room value ≡ Some member
 kept-member member value near octet is =
     let yes = lt-ltb member.room 256 near in
     rw yes (ap (λ (o : Option ℕ). Some (record { room = member.room; octet = o })) (ap octet_kept is ∙ kept-octet member.octet octet))
@@ -46,7 +46,7 @@ pub seat-of : (ports : ℕ) (rooms : List ℕ) (own : List ℤ) (k : ℕ) → k 
 seat-of ports rooms own k near = get_or-map-range_with_len (seat_at rooms own) 0 ports k k None near (omega arith)
 
 -- a port of the bridge is one of those that are kept
-pub port_near : (ports : ℕ) (rooms : List ℕ) (own : List ℤ) (now : List (Option Seated)) (port : ℕ) → seats_kept ports rooms own ≡ now → port < length now → port < ports
+pub port_near : (ports : ℕ) (rooms : List ℕ) (own : List ℤ) (now : List (Option RoomMember)) (port : ℕ) → seats_kept ports rooms own ≡ now → port < length now → port < ports
 port_near ports rooms own now port is inside = let size = ap length is in let long = seats-length ports rooms own in omega (arith, inside, size, long)
 
 -- ---- every port is free
@@ -82,7 +82,7 @@ kept-free ports n m r few =
 
 -- ---- a port is taken
 
-pub seats-taken : (ports : ℕ) (rooms : List ℕ) (own : List ℤ) (p : ℕ) (member : Seated) (value : ℤ) → p < ports → p < length rooms → p < length own
+pub seats-taken : (ports : ℕ) (rooms : List ℕ) (own : List ℤ) (p : ℕ) (member : RoomMember) (value : ℤ) → p < ports → p < length rooms → p < length own
     → member.room < 256 → IfSome member.octet (λ o. o < 256) → value ≡ value_of member.octet
     → seats_kept ports (set rooms p member.room) (set own p value) ≡ set (seats_kept ports rooms own) p (Some member)
 seats-taken ports rooms own p member value inside in_rooms in_own near octet is =
@@ -104,7 +104,7 @@ seats-taken ports rooms own p member value inside in_rooms in_own near octet is 
           ∙ ap (λ (v : ℤ). seat_kept (get_or rooms k 256) v) (get_or-set_other own p k value (pos 0) other))
     ]))
 
-pub kept-taken : (ports : ℕ) (totals : List ℤ) (rooms : List ℕ) (own : List ℤ) (p : ℕ) (member : Seated) (value : ℤ) → IsKept ports totals rooms own → p < ports → 256 < length totals → p < length rooms → p < length own
+pub kept-taken : (ports : ℕ) (totals : List ℤ) (rooms : List ℕ) (own : List ℤ) (p : ℕ) (member : RoomMember) (value : ℤ) → IsKept ports totals rooms own → p < ports → 256 < length totals → p < length rooms → p < length own
     → member.room < 256 → IfSome member.octet (λ o. o < 256) → value ≡ value_of member.octet → nat_abs value ≤ 4032 → get_or (seats_kept ports rooms own) p None ≡ None
     → IsKept ports (set totals member.room (get_or totals member.room (pos 0) +ℤ value)) (set rooms p member.room) (set own p value)
 kept-taken ports totals rooms own p member value kept inside in_totals in_rooms in_own near octet is little free =
@@ -175,7 +175,7 @@ given-kept ports totals rooms own k kept inside =
     ⊎_elim
     (λ (low : room < 256).
     let yes = lt-ltb room 256 low in
-    let member : Seated = record { room = room; octet = octet_kept value } in
+    let member : RoomMember = record { room = room; octet = octet_kept value } in
     let seat : seat_at rooms own k ≡ Some member = rw yes refl in
     given_is seats (get_or totals room (pos 0)) value k member (omega (arith, inside, size)) (seat-of ports rooms own k inside ∙ seat) (kept.sums room low) (kept.adds k inside ∙ ap value_in seat))
     (λ (last : 256 ≤ room).

@@ -4,8 +4,8 @@ use Rattle.circuit_model.specs.ALaw.{expand, compress}
 use Rattle.circuit_model.specs.Hears.{sum_of_values}
 
 -- the maximum number of members that a bridge mixes: the bearer channels of two bridge lines
-abbrev pub most_members : ℕ
-most_members = 60
+abbrev pub max_members : ℕ
+max_members = 60
 
 -- the octets that are present, in the order of their places
 abbrev pub present_octets : List (Option ℕ) → List ℕ

@@ -12,14 +12,14 @@
 
 ghost use Rattle.std.specs.Prelude.{◌≡◌, ℕ, ◌*◌, ◌≤◌, length, slice_index, map, All, EachIndex, nat_abs};
 ghost use Rattle.circuit_model.specs.Hears.{sum_of_values};
-ghost use Rattle.conference_mix.specs.Bridge.{most_members, present_octets, value_of, mixed_for};
+ghost use Rattle.conference_mix.specs.Bridge.{max_members, present_octets, value_of, mixed_for};
 
 mod laws;
 mod mixer;
 
 use alaw_codec::{compress, expand};
 pub use laws::{law_of_order, law_of_small_rooms};
-pub use mixer::{Mixer, Seated};
+pub use mixer::{Mixer, RoomMember};
 
 /// The maximum number of members that a bridge mixes: the bearer channels of two bridge lines. This project sets the
 /// limit.
@@ -32,7 +32,7 @@ pub const MAX_MEMBERS: usize = 60;
 /// 60 members it stays within 241,920. The values are on the stack, so that nothing allocates on an octet's path.
 pub fn mix(members: &[Option<u8>], out: &mut [u8])
     requires same { length out.old ≡ length members.now }
-    requires few { length members.now ≤ most_members }
+    requires few { length members.now ≤ max_members }
     ensures { EachIndex members.now (λ k. slice_index out.new k ≡ mixed_for k members.now) }
 {
     let mut scratch = [0; MAX_MEMBERS];
@@ -46,11 +46,11 @@ pub fn mix(members: &[Option<u8>], out: &mut [u8])
 /// Writes the summand of each place, and returns the sum over all places.
 fn expand_each(members: &[Option<u8>], values: &mut [i32]) -> i32
     requires same { length values.old ≡ length members.now }
-    requires few { length members.now ≤ most_members }
+    requires few { length members.now ≤ max_members }
     ensures each { values.new ≡ map value_of members.now }
     ensures small { All (λ value. nat_abs value ≤ 4032) values.new }
     ensures total { result ≡ sum_of_values (present_octets members.now) }
-    ensures within { nat_abs result ≤ 4032 * most_members }
+    ensures within { nat_abs result ≤ 4032 * max_members }
 {
     let mut total = 0;
     for (k, member) in members.iter().enumerate() {

@@ -2,7 +2,7 @@
 
 ghost use Rattle.std.specs.Prelude.{◌≡◌, ℕ, ◌≤◌, ◌<◌, None, Some, length, replicate, slice_set, slice_index, slice_index_or, EachIndex};
 ghost use Rattle.circuit_model.specs.ALaw.{compress};
-ghost use Rattle.conference_mix.specs.Bridge.{most_members};
+ghost use Rattle.conference_mix.specs.Bridge.{max_members};
 ghost use Rattle.conference_mix.specs.Rooms.{given_at};
 
 use crate::{MAX_MEMBERS, value_of};
@@ -18,7 +18,7 @@ const ROOMS: usize = 257;
 
 /// A member of a room, at a port of a bridge.
 #[derive(Clone, Copy)]
-pub struct Seated {
+pub struct RoomMember {
     /// The number of its room.
     pub room: u8,
     /// The octet that it sent, or `None` if none of it counts yet.
@@ -40,10 +40,10 @@ pub struct Mixer {
 
 impl Model for Mixer {
     ghost use Rattle.std.specs.Prelude.{List, Option};
-    ghost use Rattle.conference_mix.specs.declared.mixer.Seated.{Seated};
+    ghost use Rattle.conference_mix.specs.declared.mixer.RoomMember.{RoomMember};
     ghost use Rattle.conference_mix.specs.Seats.{seats_kept, IsKept};
 
-    ghost Value = { List (Option Seated) };
+    ghost Value = { List (Option RoomMember) };
 
     ghost view = { λ m. seats_kept m.ports m.rooms m.own };
 
@@ -53,7 +53,7 @@ impl Model for Mixer {
 impl Mixer {
     /// Returns a bridge of n free ports.
     pub fn new(ports: usize) -> Mixer
-        requires { ports ≤ most_members }
+        requires { ports ≤ max_members }
         ensures { result ≡ replicate ports None }
     {
         Mixer {
@@ -65,7 +65,7 @@ impl Mixer {
     }
 
     /// Puts a member at a free port, and adds its value to its room.
-    pub fn seat(&mut self, port: usize, member: Seated)
+    pub fn add(&mut self, port: usize, member: RoomMember)
         requires port { port < length self.old }
         requires free { slice_index_or self.old port None ≡ None }
         ensures { self.new ≡ slice_set self.old port (Some member) }
@@ -86,7 +86,7 @@ impl Mixer {
         ensures { EachIndex self.now (λ k. slice_index out.new k ≡ given_at k self.now) }
     {
         for (port, octet) in out.iter_mut().enumerate() {
-            *octet = codes.code(self.total_without(port));
+            *octet = codes.compress(self.total_without(port));
         }
     }
 

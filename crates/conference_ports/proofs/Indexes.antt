@@ -8,16 +8,16 @@ use Rattle.std.proofs.lemmas.List.{get_or_past, length-map, length-replicate, ge
 use Rattle.circuit_model.specs.declared.channel.Slot.{Slot}
 use Rattle.circuit_model.specs.Ports.{has}
 use Rattle.circuit_model.proofs.Slots.{same_slot-true, same_slot-refl, same_slot-false}
-use Rattle.conference_ports.specs.declared.owner.Owner.{Owner}
+use Rattle.conference_ports.specs.declared.occupant.Occupant.{Occupant}
 use Rattle.conference_ports.specs.Owners.{members, member_of}
 use Rattle.conference_ports.specs.Indexed.{IsIndexed, index_of}
 use Rattle.conference_ports.proofs.Positions.{position-set_other, position-set_here, position-set_gone, position_none}
 
-pub is_free : (o : Option Owner) → is_none o ≡ true → o ≡ None
+pub is_free : (o : Option Occupant) → is_none o ≡ true → o ≡ None
 is_free None e = refl
 is_free (Some owner) e = absurd (cc)
 
-some_owner : (a b : Owner) → Some a ≡ Some b → a ≡ b
+some_owner : (a b : Occupant) → Some a ≡ Some b → a ≡ b
 some_owner a b e = cc
 
 some_number : (a b : ℕ) → Some a ≡ Some b → a ≡ b
@@ -28,7 +28,7 @@ none_at {X} n k =
     ⊎_elim (λ (l : k < n). get_or-replicate n k None None l) (λ (l : n ≤ k). get_or_past (replicate n None) k None (let m = length-replicate n (let x : Option X = None in x) in omega (arith, m, l))) (cases_lt k n)
 
 -- the owner that x has the port of is no other member
-not_mine : (x y : Slot) (o : Option Owner) → has x (member_of o) ≡ true → y ≢ x → has y (member_of o) ≡ false
+not_mine : (x y : Slot) (o : Option Occupant) → has x (member_of o) ≡ true → y ≢ x → has y (member_of o) ≡ false
 not_mine x y None mine apart = refl
 not_mine x y (Some owner) mine apart = same_slot-false y owner.member (λ same. apart (same ∙ sym (same_slot-true x owner.member mine)))
 
@@ -41,10 +41,10 @@ same_index x y a b e =
 pub index_inside : (external : ℕ) (x : Slot) → x.line < external → x.place < 30 → index_of x < 30 * external
 index_inside external x a b = omega (arith, a, b)
 
-pub member_at : (owners : List (Option Owner)) (k : ℕ) → k < length owners → get_or (members owners) k None ≡ member_of (get_or owners k None)
+pub member_at : (owners : List (Option Occupant)) (k : ℕ) → k < length owners → get_or (members owners) k None ≡ member_of (get_or owners k None)
 member_at owners k inside = get_or-map member_of owners k None None inside
 
-members_long : (owners : List (Option Owner)) → length (members owners) ≡ length owners
+members_long : (owners : List (Option Occupant)) → length (members owners) ≡ length owners
 members_long owners = length-map owners member_of
 
 -- no port is owned yet
@@ -61,7 +61,7 @@ all_free external lines few =
     }
 
 -- ---- a port is given
-record Taken (external lines : ℕ) (owners : List (Option Owner)) (ports : List (Option ℕ)) (k : ℕ) (new : Owner) : Type 0 where
+record Taken (external lines : ℕ) (owners : List (Option Occupant)) (ports : List (Option ℕ)) (k : ℕ) (new : Occupant) : Type 0 where
   old : IsIndexed external lines owners ports
   line : new.member.line < external
   place : new.member.place < 30
@@ -69,21 +69,21 @@ record Taken (external lines : ℕ) (owners : List (Option Owner)) (ports : List
   free : get_or owners k None ≡ None
   portless : position (has new.member) (members owners) ≡ None
 
-members_set : (owners : List (Option Owner)) (k : ℕ) (o : Option Owner) → members (set owners k o) ≡ set (members owners) k (member_of o)
+members_set : (owners : List (Option Occupant)) (k : ℕ) (o : Option Occupant) → members (set owners k o) ≡ set (members owners) k (member_of o)
 members_set owners k o = map-set member_of owners k o
 
 -- the places of the other members stay
-others_stay : (external lines : ℕ) (owners : List (Option Owner)) (ports : List (Option ℕ)) (k : ℕ) (new : Owner) → Taken external lines owners ports k new → (x : Slot) → x ≢ new.member → position (has x) (members (set owners k (Some new))) ≡ position (has x) (members owners)
+others_stay : (external lines : ℕ) (owners : List (Option Occupant)) (ports : List (Option ℕ)) (k : ℕ) (new : Occupant) → Taken external lines owners ports k new → (x : Slot) → x ≢ new.member → position (has x) (members (set owners k (Some new))) ≡ position (has x) (members owners)
 others_stay external lines owners ports k new t x apart =
     ap (position (has x)) (members_set owners k (Some new))
     ∙ position-set_other (has x) (members owners) k (Some new.member) None (same_slot-false x new.member apart ∙ sym (ap (has x) (member_at owners k t.inside ∙ ap member_of t.free)))
 
-mine_found : (external lines : ℕ) (owners : List (Option Owner)) (ports : List (Option ℕ)) (k : ℕ) (new : Owner) → Taken external lines owners ports k new → position (has new.member) (members (set owners k (Some new))) ≡ Some k
+mine_found : (external lines : ℕ) (owners : List (Option Occupant)) (ports : List (Option ℕ)) (k : ℕ) (new : Occupant) → Taken external lines owners ports k new → position (has new.member) (members (set owners k (Some new))) ≡ Some k
 mine_found external lines owners ports k new t =
     ap (position (has new.member)) (members_set owners k (Some new))
     ∙ position-set_here (has new.member) (members owners) k (Some new.member) None (let n = members_long owners in let i = t.inside in omega (arith, n, i)) t.portless (same_slot-refl new.member)
 
-taken : (external lines : ℕ) (owners : List (Option Owner)) (ports : List (Option ℕ)) (k : ℕ) (new : Owner) → Taken external lines owners ports k new → IsIndexed external lines (set owners k (Some new)) (set ports (index_of new.member) (Some k))
+taken : (external lines : ℕ) (owners : List (Option Occupant)) (ports : List (Option ℕ)) (k : ℕ) (new : Occupant) → Taken external lines owners ports k new → IsIndexed external lines (set owners k (Some new)) (set ports (index_of new.member) (Some k))
 taken external lines owners ports k new t =
     let old = t.old in
     let room : index_of new.member < length ports = let n = index_inside external new.member t.line t.place in let m = old.indexed in omega (arith, n, m) in
@@ -105,7 +105,7 @@ taken external lines owners ports k new t =
           ⊎_elim
           (λ (e : (eqb j k ≡ true) × (j ≡ k)).
           let is = some_owner new owner (sym (ap (λ n. get_or (set owners k (Some new)) n None) e.1 ∙ get_or-set_same owners k (Some new) None t.inside) ∙ at) in
-          subst (λ (o : Owner). (o.member.line < external) × (o.member.place < 30) × (position (has o.member) (members (set owners k (Some new))) ≡ Some j)) is
+          subst (λ (o : Occupant). (o.member.line < external) × (o.member.place < 30) × (position (has o.member) (members (set owners k (Some new))) ≡ Some j)) is
           (t.line, t.place, mine_found external lines owners ports k new t ∙ ap (λ n. Some n) (sym e.1)))
           (λ (e : (eqb j k ≡ false) × (j ≢ k)).
           let was = old.alone j owner (sym (get_or-set_other owners k j (Some new) None e.1) ∙ at) in
@@ -115,27 +115,27 @@ taken external lines owners ports k new t =
     }
 
 -- by the words of `take`
-pub indexed_taken : (external lines : ℕ) (owners : List (Option Owner)) (ports : List (Option ℕ)) (k : ℕ) (new : Owner) → IsIndexed external lines owners ports → new.member.line < external → new.member.place < 30 → position is_none owners ≡ Some k → position (has new.member) (members owners) ≡ None
+pub indexed_taken : (external lines : ℕ) (owners : List (Option Occupant)) (ports : List (Option ℕ)) (k : ℕ) (new : Occupant) → IsIndexed external lines owners ports → new.member.line < external → new.member.place < 30 → position is_none owners ≡ Some k → position (has new.member) (members owners) ≡ None
     → IsIndexed external lines (set owners k (Some new)) (set ports (index_of new.member) (Some k))
 indexed_taken external lines owners ports k new old line place first portless =
     let p = position-Some is_none owners k None first in
     taken external lines owners ports k new (record { old = old; line = line; place = place; inside = p.0; free = is_free (get_or owners k None) p.1; portless = portless })
 
 -- ---- a port is given back
-other_owner : (external lines : ℕ) (owners : List (Option Owner)) (ports : List (Option ℕ)) (k : ℕ) (x : Slot) → IsIndexed external lines owners ports → position (has x) (members owners) ≡ Some k → (i : ℕ) → i ≢ k → (o : Option Owner) → get_or owners i None ≡ o → has x (member_of o) ≡ false
+other_owner : (external lines : ℕ) (owners : List (Option Occupant)) (ports : List (Option ℕ)) (k : ℕ) (x : Slot) → IsIndexed external lines owners ports → position (has x) (members owners) ≡ Some k → (i : ℕ) → i ≢ k → (o : Option Occupant) → get_or owners i None ≡ o → has x (member_of o) ≡ false
 other_owner external lines owners ports k x old at i apart None e = refl
 other_owner external lines owners ports k x old at i apart (Some owner) e =
     same_slot-false x owner.member (λ same. apart (some_number i k (sym (old.alone i owner e).2 ∙ ap (λ y. position (has y) (members owners)) (sym same) ∙ at)))
 
 -- the member of a port that the index names has that port alone
-pub named_owner : (external lines : ℕ) (owners : List (Option Owner)) (ports : List (Option ℕ)) (k : ℕ) (x : Slot) → IsIndexed external lines owners ports → position (has x) (members owners) ≡ Some k
+pub named_owner : (external lines : ℕ) (owners : List (Option Occupant)) (ports : List (Option ℕ)) (k : ℕ) (x : Slot) → IsIndexed external lines owners ports → position (has x) (members owners) ≡ Some k
     → (k < length owners) × (has x (member_of (get_or owners k None)) ≡ true) × ((i : ℕ) → i < length owners → i ≢ k → has x (member_of (get_or owners i None)) ≡ false)
 named_owner external lines owners ports k x old at =
     let p = position-Some (has x) (members owners) k None at in
     let inside : k < length owners = let i = p.0 in let n = members_long owners in omega (arith, i, n) in
     (inside, ap (has x) (sym (member_at owners k inside)) ∙ p.1, λ i l apart. other_owner external lines owners ports k x old at i apart (get_or owners i None) refl)
 
-pub indexed_given : (external lines : ℕ) (owners : List (Option Owner)) (ports : List (Option ℕ)) (k : ℕ) (x : Slot) → IsIndexed external lines owners ports → x.line < external → x.place < 30 → position (has x) (members owners) ≡ Some k
+pub indexed_given : (external lines : ℕ) (owners : List (Option Occupant)) (ports : List (Option ℕ)) (k : ℕ) (x : Slot) → IsIndexed external lines owners ports → x.line < external → x.place < 30 → position (has x) (members owners) ≡ Some k
     → IsIndexed external lines (set owners k None) (set ports (index_of x) None)
 indexed_given external lines owners ports k x old line place at =
     let n = named_owner external lines owners ports k x old at in

@@ -6,8 +6,8 @@
 //!   `circuit_model/specs/Ports.antt`.
 #![tactic(auto)]
 
-mod owner;
+mod occupant;
 mod ports;
 
-pub use owner::Owner;
+pub use occupant::Occupant;
 pub use ports::Ports;

@@ -3,9 +3,9 @@
 ghost use Rattle.std.specs.Prelude.{◌≡◌, ◌≢◌, ◌+◌, ◌*◌, ◌<◌, ◌≤◌, ℕ, None, Some, IfOk, is_none, position, replicate, option_map, slice_index_or};
 ghost use Rattle.circuit_model.specs.Ports.{port_numbered, port_of as port_of_member, ports_with, ports_without};
 ghost use Rattle.conference_ports.specs.Owners.{Bridges, IsMemberSlot, IsPortSlot, members, owners_with, owners_without, port_number};
-ghost use Rattle.conference_ports.specs.declared.owner.Owner.{Owner};
+ghost use Rattle.conference_ports.specs.declared.occupant.Occupant.{Occupant};
 
-use crate::owner::Owner;
+use crate::occupant::Occupant;
 use circuit_model::Slot;
 use std::alloc::{AllocError, Global};
 use std::marker::Model;
@@ -18,7 +18,7 @@ pub struct Ports {
     external: u8,
     lines: u8,
     // Each port's owner.
-    owners: Vec<Option<Owner>>,
+    owners: Vec<Option<Occupant>>,
     // Each external slot's port.
     ports: Vec<Option<u16>>,
 }
@@ -64,8 +64,8 @@ impl Ports {
         let Some(port) = lowest_free(&self.owners) else {
             return None;
         };
-        self.owners[port] = Some(Owner { room, member });
-        self.ports[member.number()] = Some(port as u16);
+        self.owners[port] = Some(Occupant { room, member });
+        self.ports[member.to_index()] = Some(port as u16);
         Some(port_at(self.external, port))
     }
 
@@ -84,7 +84,7 @@ impl Ports {
         ensures members { members self.new.owners ≡ ports_without member (members self.old.owners) }
         ensures sizes { (self.new.external ≡ self.old.external) × (self.new.lines ≡ self.old.lines) }
     {
-        let index = member.number();
+        let index = member.to_index();
         if let Some(port) = self.ports[index] {
             self.owners[usize::from(port)] = None;
             self.ports[index] = None;
@@ -96,7 +96,7 @@ impl Ports {
         requires { IsMemberSlot self.now member }
         ensures { result ≡ port_of_member self.now.external (members self.now.owners) member }
     {
-        let port = self.ports[member.number()]?;
+        let port = self.ports[member.to_index()]?;
         Some(port_at(self.external, usize::from(port)))
     }
 
@@ -112,7 +112,7 @@ impl Ports {
 }
 
 // Returns the number of the lowest free port.
-fn lowest_free(owners: &[Option<Owner>]) -> Option<usize>
+fn lowest_free(owners: &[Option<Occupant>]) -> Option<usize>
     ensures { result ≡ position is_none owners.now }
 {
     owners.iter().position(|owner| owner.is_none())

@@ -5,7 +5,7 @@ use Rattle.std.proofs.lemmas.Bool.{eqb-true, eq-eqb}
 use Rattle.circuit_model.specs.declared.channel.Slot.{Slot}
 use Rattle.circuit_model.specs.Circuits.{same_slot}
 use Rattle.circuit_model.proofs.Slots.{same_slot-true, same_slot-refl}
-use Rattle.control_memory.specs.Layout.{Hop, Path, Layout, number_of, slot_numbered, paths, paths_from, path_in, path_out, path_to, IsSlot, HasPath, Legal}
+use Rattle.control_memory.specs.Layout.{Route, Path, Layout, number_of, slot_numbered, paths, paths_from, path_in, path_out, path_to, IsSlot, HasPath, Legal}
 
 -- ---- numbers of slots
 pub number_numbered : (n : ℕ) → number_of (slot_numbered n) ≡ n
@@ -25,7 +25,7 @@ pub record IsListed (n : ℕ) (hops : Layout) (p : Path) : Type 0 where
   pub there : slice_index_or hops k None ≡ Some (record { to = p.to; slot = p.slot })
   pub from : p.from ≡ slot_numbered (n + k)
 
-later : (n : ℕ) (hop : Option Hop) (hops : Layout) (p : Path) → IsListed (n + 1) hops p → IsListed n (hop ∷ hops) p
+later : (n : ℕ) (hop : Option Route) (hops : Layout) (p : Path) → IsListed (n + 1) hops p → IsListed n (hop ∷ hops) p
 later n hop hops p s = record {
   k = suc s.k;
   inside = let i = s.inside in omega (arith, i);
@@ -39,10 +39,10 @@ none_some x e = cc
 some_same : {X : Type 0} (x y : X) → Some x ≡ Some y → x ≡ y
 some_same x y e = cc
 
-abbrev path_at : ℕ → Hop → Path
+abbrev path_at : ℕ → Route → Path
 path_at n hop = record { from = slot_numbered n; to = hop.to; slot = hop.slot }
 
-found_here : (test : Path → Bool) (n : ℕ) (hop : Hop) (hops : Layout) (p : Path) (b : Bool) → test (path_at n hop) ≡ b
+found_here : (test : Path → Bool) (n : ℕ) (hop : Route) (hops : Layout) (p : Path) (b : Bool) → test (path_at n hop) ≡ b
     → (find test (paths_from (n + 1) hops) ≡ Some p → IsListed (n + 1) hops p × (test p ≡ true))
     → cond b (Some (path_at n hop)) (find test (paths_from (n + 1) hops)) ≡ Some p → IsListed n (Some hop ∷ hops) p × (test p ≡ true)
 found_here test n hop hops p true passes later_on e =
@@ -63,12 +63,12 @@ found test n (None ∷ hops) p e = let rest = found test (n + 1) hops p e in (la
 found test n (Some hop ∷ hops) p e = found_here test n hop hops p (test (path_at n hop)) refl (found test (n + 1) hops p) e
 
 -- a path of the layout that passes is found, or another one is
-some_here : (test : Path → Bool) (n : ℕ) (hop : Hop) (hops : Layout) (b : Bool) → ((q : Path) × (find test (paths_from (n + 1) hops) ≡ Some q)) ⊎ (b ≡ true)
+some_here : (test : Path → Bool) (n : ℕ) (hop : Route) (hops : Layout) (b : Bool) → ((q : Path) × (find test (paths_from (n + 1) hops) ≡ Some q)) ⊎ (b ≡ true)
     → (q : Path) × (cond b (Some (path_at n hop)) (find test (paths_from (n + 1) hops)) ≡ Some q)
 some_here test n hop hops true either = (path_at n hop, refl)
 some_here test n hop hops false either = ⊎_elim (λ (q : (q : Path) × (find test (paths_from (n + 1) hops) ≡ Some q)). q) (λ (no : false ≡ true). absurd (cc)) either
 
-pub finds : (test : Path → Bool) (n : ℕ) (hops : Layout) (k : ℕ) (hop : Hop) → slice_index_or hops k None ≡ Some hop → test (path_at (n + k) hop) ≡ true → (q : Path) × (find test (paths_from n hops) ≡ Some q)
+pub finds : (test : Path → Bool) (n : ℕ) (hops : Layout) (k : ℕ) (hop : Route) → slice_index_or hops k None ≡ Some hop → test (path_at (n + k) hop) ≡ true → (q : Path) × (find test (paths_from n hops) ≡ Some q)
 finds test n [] k hop there passes = absurd (none_some hop there)
 finds test n (None ∷ hops) zero hop there passes = absurd (none_some hop there)
 finds test n (Some first ∷ hops) zero hop there passes =
@@ -110,8 +110,8 @@ finds_path test layout from to slot within has passes =
     finds test 0 layout (number_of from) (record { to = to; slot = slot }) has
     (ap (λ (f : Slot). test (record { from = f; to = to; slot = slot })) (ap slot_numbered (omega arith) ∙ numbered_number from within) ∙ passes)
 
-pub hops_agree : (h k : Hop) → Some h ≡ Some k → (h.to ≡ k.to) × (h.slot ≡ k.slot)
-hops_agree h k e = let is = some_same h k e in (ap (λ (x : Hop). x.to) is, ap (λ (x : Hop). x.slot) is)
+pub hops_agree : (h k : Route) → Some h ≡ Some k → (h.to ≡ k.to) × (h.slot ≡ k.slot)
+hops_agree h k e = let is = some_same h k e in (ap (λ (x : Route). x.to) is, ap (λ (x : Route). x.slot) is)
 
 -- two paths from one inlet are one
 pub one_hop : (layout : Layout) (from to t : Slot) (slot s : ℕ) → HasPath layout from to slot → HasPath layout from t s → (to ≡ t) × (slot ≡ s)

@@ -6,7 +6,7 @@ use Rattle.std.specs.Prelude.{◌≡◌, ℕ, zero, suc, ◌+◌, ◌*◌, ◌&&
 use Rattle.std.specs.List.{range_with_len}
 use Rattle.circuit_model.specs.declared.channel.Slot.{Slot}
 use Rattle.circuit_model.specs.Circuits.{same_slot}
-use Rattle.control_memory.specs.Layout.{Hop, Path, Layout, number_of, hop_of, path_in, path_out, IsSlot, HasPath}
+use Rattle.control_memory.specs.Layout.{Route, Path, Layout, number_of, hop_of, path_in, path_out, IsSlot, HasPath}
 
 -- the layout with a path from an inlet, which replaces any path that began there, and the layout without one
 abbrev pub with_path : Layout → Slot → Slot → ℕ → Layout
@@ -103,7 +103,7 @@ abbrev pub connect : ℕ → ℕ → Layout → Slot → Slot → Layout
 connect lines slots layout from to = connect_in lines slots layout from to (common_slot slots layout from.line to.line)
 
 -- the number of paths in both layouts that are in different slots
-abbrev pub is_moved : Option Hop → Option Hop → ℕ
+abbrev pub is_moved : Option Route → Option Route → ℕ
 is_moved None other = 0
 is_moved (Some hop) None = 0
 is_moved (Some hop) (Some other) = if same_slot hop.to other.to && not (hop.slot == other.slot) then 1 else 0

@@ -4,7 +4,7 @@
 use Rattle.std.specs.Prelude.{◌≡◌, ℕ, ◌+◌, ◌*◌, ◌/◌, ◌%◌, ◌<◌, ◌&&◌, ◌==◌, List, [], ◌∷◌, length, Option, Some, None, option_map, slice_index_or, find}
 use Rattle.circuit_model.specs.declared.channel.Slot.{Slot}
 use Rattle.circuit_model.specs.Circuits.{same_slot}
-pub use Rattle.control_memory.specs.declared.hop.Hop.{Hop}
+pub use Rattle.control_memory.specs.declared.route.Route.{Route}
 
 -- a path from an inlet to an outlet in an internal slot
 pub record Path : Type 0 where
@@ -21,9 +21,9 @@ slot_numbered n = record { line = n / 30; place = n % 30 }
 
 -- a layout: for each inlet, by its number, the hop of its path, or none if the inlet is free
 abbrev pub Layout : Type 0
-Layout = List (Option Hop)
+Layout = List (Option Route)
 
-abbrev pub hop_of : Layout → Slot → Option Hop
+abbrev pub hop_of : Layout → Slot → Option Route
 hop_of layout from = slice_index_or layout (number_of from) None
 
 -- the paths of a layout whose inlets are numbered from n on

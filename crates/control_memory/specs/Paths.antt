@@ -1,6 +1,6 @@
 -- The paths of a fabric, with the control tables that carry them out. Source: this project.
 use Rattle.std.specs.Prelude.{ℕ, ◌≤◌}
-use Rattle.control_memory.specs.declared.ends.Ends.{Ends}
+use Rattle.control_memory.specs.declared.path_ends.PathEnds.{PathEnds}
 use Rattle.control_memory.specs.Layout.{Path, Layout, Legal}
 use Rattle.control_memory.specs.Tables.{Table, HasSize, HasTables, entry}
 
@@ -10,7 +10,7 @@ pub record Fabric : Type 0 where
   pub slots : ℕ
   pub layout : Layout
 
-abbrev pub ends_of : Path → Ends
+abbrev pub ends_of : Path → PathEnds
 ends_of p = record { from = p.from; to = p.to }
 
 -- the hops are a legal layout, and the three tables encode it

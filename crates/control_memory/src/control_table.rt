@@ -2,7 +2,7 @@
 ghost use Rattle.std.specs.Prelude.{◌≡◌, ℕ, ◌<◌, true, Some, None, IfOk, IfSome};
 ghost use Rattle.control_memory.specs.Tables.{entry, AreBare, HasSize, SameSize, Agree, IsRow, written, nothing};
 
-use circuit_model::PLACES;
+use circuit_model::CHANNELS_PER_LINE;
 use std::alloc::{AllocError, Global};
 use std::marker::Model;
 
@@ -44,9 +44,9 @@ pub(crate) fn bare_tables(
 ) -> Result<(ControlTable, ControlTable, ControlTable), AllocError>
     ensures { IfOk result (λ t. AreBare lines slots t.0 t.1 t.2) }
 {
-    let incoming = ControlTable::new(alloc, lines, slots, PLACES)?;
+    let incoming = ControlTable::new(alloc, lines, slots, CHANNELS_PER_LINE)?;
     let space = ControlTable::new(alloc, lines, slots, lines)?;
-    let outgoing = ControlTable::new(alloc, lines, PLACES, slots)?;
+    let outgoing = ControlTable::new(alloc, lines, CHANNELS_PER_LINE, slots)?;
     Ok((incoming, space, outgoing))
 }
 
@@ -91,7 +91,7 @@ impl ControlTable {
 
     /// Returns true only if a row has no number. The result can be false for a row whose numbers were removed one by
     /// one.
-    pub fn is_bare(&self, row: u8) -> bool
+    pub fn is_known_empty(&self, row: u8) -> bool
         requires { row < self.now.rows }
         ensures { result ≡ true → (column : ℕ) → column < self.now.columns → entry self.now row column ≡ None }
     {

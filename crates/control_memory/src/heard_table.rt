@@ -6,7 +6,7 @@ ghost use Rattle.control_memory.specs.HeardRows.{HearAlike, heard_on, IsSilent};
 
 use crate::heard::Heard;
 use crate::heard_word::HeardWord;
-use circuit_model::{PLACES, Slot};
+use circuit_model::{CHANNELS_PER_LINE, Slot};
 use std::alloc::{AllocError, Global};
 use std::marker::Model;
 
@@ -41,10 +41,10 @@ impl HeardTable {
     pub fn new(alloc: Global, lines: u8) -> Result<HeardTable, AllocError>
         ensures { IfOk result (λ t. t ≡ replicate (30 * lines) Heard.Silent) }
     {
-        let slots = usize::from(PLACES) * usize::from(lines);
+        let slots = usize::from(CHANNELS_PER_LINE) * usize::from(lines);
         Ok(HeardTable {
             lines,
-            words: vec![in alloc; HeardWord::of(Heard::Silent); slots]?,
+            words: vec![in alloc; HeardWord::from(Heard::Silent); slots]?,
             marks: 0,
         })
     }
@@ -54,7 +54,7 @@ impl HeardTable {
         requires { number_of at < length self.now }
         ensures { result ≡ slice_index_or self.now (number_of at) Heard.Silent }
     {
-        self.words[at.number()].heard()
+        self.words[at.to_index()].to_heard()
     }
 
     /// Returns the sources of a line, place by place.
@@ -63,8 +63,8 @@ impl HeardTable {
         ensures size { length result.now ≡ 30 }
         ensures heard { (place : ℕ) → place < 30 → slice_index_or result.now place Heard.Silent ≡ heard_on self.now line place }
     {
-        let start = usize::from(PLACES) * usize::from(line);
-        &self.words[start..start + usize::from(PLACES)]
+        let start = usize::from(CHANNELS_PER_LINE) * usize::from(line);
+        &self.words[start..start + usize::from(CHANNELS_PER_LINE)]
     }
 
     /// Returns true only if a line is silent. The result can be false for a line that was silenced place by place.
@@ -80,8 +80,8 @@ impl HeardTable {
         requires { number < length self.old }
         ensures { self.new ≡ slice_set self.old number heard }
     {
-        let line = number / usize::from(PLACES);
-        self.words[number] = HeardWord::of(heard);
+        let line = number / usize::from(CHANNELS_PER_LINE);
+        self.words[number] = HeardWord::from(heard);
         self.marks |= 1 << (line % 64);
     }
 
@@ -115,7 +115,7 @@ fn silence(words: &mut [HeardWord])
     ensures silent { (k : ℕ) → slice_index_or words.new k Heard.Silent ≡ Heard.Silent }
 {
     for word in words.iter_mut() {
-        *word = HeardWord::of(Heard::Silent);
+        *word = HeardWord::from(Heard::Silent);
     }
 }
 
@@ -143,8 +143,8 @@ fn copy_row(to: &mut Vec<HeardWord>, from: &[HeardWord], line: u8)
     ensures here { (place : ℕ) → place < 30 → heard_on to.new.items line place ≡ heard_on from.now line place }
     ensures others { (l place : ℕ) → (l ≡ line → ⊥) → place < 30 → heard_on to.new.items l place ≡ heard_on to.old.items l place }
 {
-    let start = usize::from(PLACES) * usize::from(line);
-    let end = start + usize::from(PLACES);
+    let start = usize::from(CHANNELS_PER_LINE) * usize::from(line);
+    let end = start + usize::from(CHANNELS_PER_LINE);
     copy_words(&mut to[start..end], &from[start..end]);
 }
 

@@ -42,11 +42,10 @@ impl Clone for HeardWord {
     }
 }
 
-impl HeardWord {
-    /// Returns the word of a source.
-    pub fn of(heard: Heard) -> HeardWord
-        ensures { result ≡ heard }
-    {
+impl From<Heard> for HeardWord {
+    ghost from_gives = { λ heard word. word ≡ heard };
+
+    fn from(heard: Heard) -> HeardWord {
         let number = match heard {
             Heard::Silent => SILENT,
             Heard::Path { since } => u64::from(since),
@@ -61,7 +60,9 @@ impl HeardWord {
         };
         HeardWord { number }
     }
+}
 
+impl HeardWord {
     /// Returns the same word.
     pub(crate) fn copied(&self) -> HeardWord
         ensures { result ≡ self.now }
@@ -72,7 +73,7 @@ impl HeardWord {
     }
 
     /// Returns the source.
-    pub fn heard(&self) -> Heard
+    pub fn to_heard(&self) -> Heard
         ensures { result ≡ self.now }
     {
         if self.number < RINGBACK {

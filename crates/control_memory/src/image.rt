@@ -8,7 +8,7 @@ use crate::control_table::{ControlTable, bare_tables};
 use crate::heard::Heard;
 use crate::heard_table::HeardTable;
 use crate::heard_word::HeardWord;
-use circuit_model::{PLACES, Slot};
+use circuit_model::{CHANNELS_PER_LINE, Slot};
 use std::alloc::{AllocError, Global};
 use std::marker::Model;
 
@@ -68,7 +68,7 @@ impl Image {
         ensures quiet { IfOk result IsQuiet }
     {
         let lines = external + bridges;
-        let places = usize::from(PLACES);
+        let places = usize::from(CHANNELS_PER_LINE);
         let rooms = vec![in alloc; None; places * usize::from(bridges)]?;
         let heard = HeardTable::new(alloc, lines)?;
         let (incoming, space, outgoing) = bare_tables(alloc, lines, slots)?;
@@ -172,28 +172,28 @@ impl Image {
 
     /// Returns true only if an incoming line sends no place. The result can be false for a line whose entries were
     /// removed one by one.
-    pub fn sends_nothing(&self, line: u8) -> bool
+    pub fn is_incoming_known_empty(&self, line: u8) -> bool
         requires { line < lines_of self.now }
         ensures { result ≡ true → (slot : ℕ) → slot < self.now.slots → sent self.now line slot ≡ None }
     {
-        self.incoming.is_bare(line)
+        self.incoming.is_known_empty(line)
     }
 
-    /// Returns true only if an outgoing line gets no octet. The result can be false, as for `sends_nothing`.
-    pub fn gets_nothing(&self, line: u8) -> bool
+    /// Returns true only if an outgoing line gets no octet. The result can be false, as for `is_incoming_known_empty`.
+    pub fn is_space_known_empty(&self, line: u8) -> bool
         requires { line < lines_of self.now }
         ensures { result ≡ true → (slot : ℕ) → slot < self.now.slots → received self.now line slot ≡ None }
     {
-        self.space.is_bare(line)
+        self.space.is_known_empty(line)
     }
 
     /// Returns true only if an outgoing line has no place that reads a slot. The result can be false, as for
-    /// `sends_nothing`.
-    pub fn reads_nothing(&self, line: u8) -> bool
+    /// `is_incoming_known_empty`.
+    pub fn is_outgoing_known_empty(&self, line: u8) -> bool
         requires { line < lines_of self.now }
         ensures { result ≡ true → (place : ℕ) → place < 30 → read self.now line place ≡ None }
     {
-        self.outgoing.is_bare(line)
+        self.outgoing.is_known_empty(line)
     }
 
     /// Returns the source of a slot's octets.
@@ -216,7 +216,7 @@ impl Image {
     }
 
     /// Returns true only if a line is silent. The result can be false for a line that was silenced slot by slot.
-    pub fn hears_nothing(&self, line: u8) -> bool
+    pub fn is_known_silent(&self, line: u8) -> bool
         requires { line < lines_of self.now }
         ensures { result ≡ true → (place : ℕ) → place < 30 → heard_at self.now (record { line = line; place = place }) ≡ Heard.Silent }
     {
@@ -238,7 +238,7 @@ impl Image {
 
     /// Returns the room of the member at each conference port, and its first frame there. A free port has `None`. It
     /// has the places of the bridge lines, line after line.
-    pub fn seats(&self) -> &[Option<(u8, u32)>]
+    pub fn port_members(&self) -> &[Option<(u8, u32)>]
         ensures size { length result.now ≡ 30 * self.now.bridges }
         ensures seats { result.now ≡ self.now.rooms }
     {
@@ -262,7 +262,7 @@ impl Image {
     ///
     /// `hearing` has an entry for every place of every line. `sitting` has one for every conference port, that is for
     /// every place of the bridge lines, line after line.
-    pub fn begin(&mut self, frame: u32, hearing: &HeardTable, sitting: &[Option<(u8, u32)>])
+    pub fn reset_with(&mut self, frame: u32, hearing: &HeardTable, sitting: &[Option<(u8, u32)>])
         requires hearing { length hearing.now ≡ 30 * lines_of self.old }
         requires sitting { length sitting.now ≡ 30 * self.old.bridges }
         ensures frame { self.new.frame ≡ frame }
@@ -343,7 +343,7 @@ impl Image {
         ensures tables { SameTables self.old self.new }
         ensures rooms { self.new.rooms ≡ self.old.rooms }
     {
-        self.heard.set(at.number(), heard);
+        self.heard.set(at.to_index(), heard);
     }
 
     /// Writes the room and the first frame of the member at a conference port.
@@ -368,7 +368,7 @@ pub fn port_index(external: u8, port: Slot) -> usize
     requires { external ≤ port.line }
     ensures { result ≡ port_number external port }
 {
-    usize::from(PLACES) * usize::from(port.line - external) + usize::from(port.place)
+    usize::from(CHANNELS_PER_LINE) * usize::from(port.line - external) + usize::from(port.place)
 }
 
 fn vacate(rooms: &mut [Option<(u8, u32)>])

@@ -10,23 +10,23 @@
 #![tactic(auto)]
 
 mod control_table;
-mod ends;
 mod heard;
 mod heard_table;
 mod heard_word;
-mod hop;
 mod image;
 mod laws;
+mod path_ends;
 mod path_map;
 mod path_table;
+mod route;
 
 pub use control_table::ControlTable;
-pub use ends::Ends;
 pub use heard::Heard;
 pub use heard_table::HeardTable;
 pub use heard_word::HeardWord;
-pub use hop::Hop;
 pub use image::{Image, port_index};
 pub use laws::{tables_carry_their_layout, worked_chains, worked_layouts};
+pub use path_ends::PathEnds;
 pub use path_map::PathMap;
 pub use path_table::PathTable;
+pub use route::Route;

@@ -2,7 +2,7 @@
 ghost use Rattle.std.specs.Prelude.{◌≡◌, ◌↔◌, ◌⊎◌, ◌<◌, ◌≤◌, ℕ, None, is_none};
 ghost use Rattle.std.specs.Option.{option_map};
 ghost use Rattle.circuit_model.specs.declared.channel.Slot.{Slot};
-ghost use Rattle.control_memory.specs.Layout.{Layout, Hop, Legal, IsSlot, HasPath, Joins, hop_of, path_to};
+ghost use Rattle.control_memory.specs.Layout.{Layout, Route, Legal, IsSlot, HasPath, Joins, hop_of, path_to};
 ghost use Rattle.control_memory.specs.Connecting.{connect as joined, without_path, moved};
 ghost use Rattle.control_memory.specs.Image.{lines_of, IsCleared, HasLayout, SameSizes};
 
@@ -67,7 +67,7 @@ pub trait PathMap {
     /// Returns the internal slot of the path that begins at an inlet. `None` if and only if the inlet is free.
     fn slot_of(&self, from: Slot) -> Option<u8>
         requires { IsSlot (width self.now) from }
-        ensures slot { result ≡ option_map (λ (hop : Hop). hop.slot) (hop_of (layout self.now) from) }
+        ensures slot { result ≡ option_map (λ (hop : Route). hop.slot) (hop_of (layout self.now) from) }
         ensures legal { Legal (width self.now) (depth self.now) (layout self.now) };
 
     /// Returns the number of internal slots.

@@ -6,22 +6,22 @@ ghost use Rattle.control_memory.specs.Connecting.{with_path, without_path, IsFre
 ghost use Rattle.control_memory.specs.Paths.{Fabric, ends_of};
 
 use crate::control_table::{ControlTable, bare_tables};
-use crate::ends::Ends;
-use crate::hop::Hop;
 use crate::image::Image;
-use circuit_model::{PLACES, Slot};
+use crate::path_ends::PathEnds;
+use crate::route::Route;
+use circuit_model::{CHANNELS_PER_LINE, Slot};
 use std::alloc::{AllocError, Global};
 use std::marker::Model;
 
-/// The paths of a fabric with any number of internal slots: for each inlet its hop, and the three control tables of the
-/// layout, in the form of a control memory.
+/// The paths of a fabric with any number of internal slots: for each inlet its route, and the three control tables of
+/// the layout, in the form of a control memory.
 ///
 /// Contracts see the layout. It is legal from the first call on, and only `new` allocates.
 #[derive(Drop)]
 pub struct PathTable {
     lines: u8,
     slots: u8,
-    hops: Vec<Option<Hop>>,
+    hops: Vec<Option<Route>>,
     incoming: ControlTable,
     space: ControlTable,
     outgoing: ControlTable,
@@ -46,7 +46,7 @@ impl PathTable {
         ensures bare { IfOk result (λ t. t.layout ≡ replicate (30 * lines) None) }
         ensures legal { IfOk result (λ t. Legal lines slots t.layout) }
     {
-        let hops = vec![in alloc; None; usize::from(PLACES) * usize::from(lines)]?;
+        let hops = vec![in alloc; None; usize::from(CHANNELS_PER_LINE) * usize::from(lines)]?;
         let (incoming, space, outgoing) = bare_tables(alloc, lines, slots)?;
         Ok(PathTable {
             lines,
@@ -60,7 +60,7 @@ impl PathTable {
 
     /// Adds a path in an internal slot that is free in both lines, from a free inlet to a free
     /// outlet.
-    pub fn add(&mut self, from: Slot, to: Slot, slot: u8)
+    pub fn insert(&mut self, from: Slot, to: Slot, slot: u8)
         requires from { IsSlot self.old.lines from }
         requires to { IsSlot self.old.lines to }
         requires slot { slot < self.old.slots }
@@ -70,25 +70,25 @@ impl PathTable {
         ensures slots { self.new.slots ≡ self.old.slots }
         ensures legal { Legal self.new.lines self.new.slots self.new.layout }
     {
-        self.hops[from.number()] = Some(Hop { to, slot });
+        self.hops[from.to_index()] = Some(Route { to, slot });
         self.incoming.set(from.line, slot, from.place);
         self.space.set(to.line, slot, from.line);
         self.outgoing.set(to.line, to.place, slot);
     }
 
-    /// Removes the path that begins at an inlet, whose hop is `hop`.
-    pub fn take(&mut self, from: Slot, hop: Hop)
+    /// Removes the path that begins at an inlet, whose route is `route`.
+    pub fn remove(&mut self, from: Slot, route: Route)
         requires from { IsSlot self.old.lines from }
-        requires stands { HasPath self.old.layout from hop.to hop.slot }
+        requires stands { HasPath self.old.layout from route.to route.slot }
         ensures layout { self.new.layout ≡ without_path self.old.layout from }
         ensures lines { self.new.lines ≡ self.old.lines }
         ensures slots { self.new.slots ≡ self.old.slots }
         ensures legal { Legal self.new.lines self.new.slots self.new.layout }
     {
-        self.hops[from.number()] = None;
-        self.incoming.unset(from.line, hop.slot);
-        self.space.unset(hop.to.line, hop.slot);
-        self.outgoing.unset(hop.to.line, hop.to.place);
+        self.hops[from.to_index()] = None;
+        self.incoming.unset(from.line, route.slot);
+        self.space.unset(route.to.line, route.slot);
+        self.outgoing.unset(route.to.line, route.to.place);
     }
 
     /// Returns the number of internal slots.
@@ -99,17 +99,17 @@ impl PathTable {
         self.slots
     }
 
-    /// Returns the hop of the path that begins at an inlet. `None` if the inlet is free.
-    pub fn hop(&self, from: Slot) -> Option<Hop>
+    /// Returns the route of the path that begins at an inlet. `None` if the inlet is free.
+    pub fn get(&self, from: Slot) -> Option<Route>
         requires { IsSlot self.now.lines from }
         ensures hop { result ≡ hop_of self.now.layout from }
         ensures legal { Legal self.now.lines self.now.slots self.now.layout }
     {
-        self.hops[from.number()]
+        self.hops[from.to_index()]
     }
 
     /// Returns the internal slot of the path that ends at an outlet. `None` if the outlet is free.
-    pub fn read(&self, to: Slot) -> Option<u8>
+    pub fn slot_at_outlet(&self, to: Slot) -> Option<u8>
         requires { IsSlot self.now.lines to }
         ensures slot { result ≡ slot_read self.now.layout to }
         ensures legal { Legal self.now.lines self.now.slots self.now.layout }
@@ -118,7 +118,7 @@ impl PathTable {
     }
 
     /// Removes the path that an incoming line sends in an internal slot, and returns its ends.
-    pub fn lift(&mut self, line: u8, slot: u8) -> Ends
+    pub fn remove_by_slot(&mut self, line: u8, slot: u8) -> PathEnds
         requires line { line < self.old.lines }
         requires slot { slot < self.old.slots }
         requires stands { (p : Path) × (path_in self.old.layout line slot ≡ Some p) }
@@ -132,15 +132,15 @@ impl PathTable {
             unreachable!()
         };
         let from = Slot { line, place };
-        let Some(hop) = self.hop(from) else {
+        let Some(hop) = self.get(from) else {
             unreachable!()
         };
-        self.take(from, hop);
-        Ends { from, to: hop.to }
+        self.remove(from, hop);
+        PathEnds { from, to: hop.to }
     }
 
     /// Writes the layout into a control memory.
-    pub fn write(&self, image: &mut Image)
+    pub fn write_tables(&self, image: &mut Image)
         requires lines { lines_of image.old ≡ self.now.lines }
         requires slots { image.old.slots ≡ self.now.slots }
         ensures tables { HasLayout image.new self.now.layout }

@@ -82,7 +82,7 @@ impl MemSource {
     }
 
     /// Returns the number of failed reads.
-    pub fn faults(&self) -> u64
+    pub fn error_count(&self) -> u64
         ensures { result ≡ self.now.faults }
     {
         self.faults.count()
@@ -185,7 +185,7 @@ impl MemSink {
     }
 
     /// Returns the number of failed writes.
-    pub fn faults(&self) -> u64
+    pub fn error_count(&self) -> u64
         ensures { result ≡ self.now.faults }
     {
         self.faults.count()

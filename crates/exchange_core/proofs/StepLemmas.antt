@@ -13,7 +13,7 @@ use Rattle.circuit_map.specs.Connections.{Connections, Represents, IsLaid as Is_
 use Rattle.exchange_events.specs.declared.trace.Event.{Event}
 use Rattle.exchange_events.specs.declared.trace.Event.TheVariants.{Frame}
 use Rattle.exchange_events.specs.declared.trace.Trace.{Trace}
-use Rattle.call_control.specs.declared.reading_ahead.ReadAhead.{ReadAhead}
+use Rattle.call_control.specs.declared.preparsing.PreparsedMessage.{PreparsedMessage}
 use Rattle.call_control.specs.AtWork.{IsAtWork}
 use Rattle.call_profile.specs.Legs.{Legs, no_legs}
 use Rattle.exchange_events.specs.Orders.{IsEvent, event_at}
@@ -161,16 +161,16 @@ of_each x y n e P same number holds =
 -- ---- what was read of it ahead
 
 -- it is of the event that has the number
-pub read_of : (x y : Working) (n : ℕ) (e : Event) (ahead : Option ReadAhead) → x ≡ y → IsNumbered x.trace n e → IsReadAt y.trace n ahead → IfSome ahead (IsReadOf x.trace.plan e)
+pub read_of : (x y : Working) (n : ℕ) (e : Event) (ahead : Option PreparsedMessage) → x ≡ y → IsNumbered x.trace n e → IsReadAt y.trace n ahead → IfSome ahead (IsReadOf x.trace.plan e)
 read_of x y n e None same number reads = tt
 read_of x y n e (Some known) same number reads = subst (λ (z : Working). IsReadAt z.trace n (Some known)) (sym same) reads e number
 
-pub read_at : (trace : Trace) (n : ℕ) (e : Event) (ahead : Option ReadAhead) → IsNumbered trace n e → IfSome ahead (IsReadOf trace.plan e) → IsReadAt trace n ahead
+pub read_at : (trace : Trace) (n : ℕ) (e : Event) (ahead : Option PreparsedMessage) → IsNumbered trace n e → IfSome ahead (IsReadOf trace.plan e) → IsReadAt trace n ahead
 read_at trace n e None number reads = tt
 read_at trace n e (Some known) number reads = λ f named.
     subst (λ (o : Option Event). IfSome o (λ g. IsReadOf trace.plan g known)) (sym number ∙ named) reads
 
 -- a frame asks for nothing
-pub nothing_read : (trace : Trace) (n : ℕ) (input : Input) (ahead : Option ReadAhead) → IsNumbered trace n (Frame input) → IsReadAt trace n ahead
+pub nothing_read : (trace : Trace) (n : ℕ) (input : Input) (ahead : Option PreparsedMessage) → IsNumbered trace n (Frame input) → IsReadAt trace n ahead
 nothing_read trace n input None number = tt
 nothing_read trace n input (Some known) number = read_at trace n (Frame input) (Some known) number tt

@@ -2,7 +2,7 @@
 -- trace; all seats of a board share one history. Source: this project.
 use Rattle.std.specs.Prelude.{◌≡◌, ℕ, ◌+◌, ◌<◌, IsTrue, List, length}
 use Rattle.circuit_model.specs.FrameInput.{Input}
-use Rattle.seat_history.specs.declared.known.Known.{Known}
+use Rattle.seat_history.specs.declared.seat_knowledge.SeatKnowledge.{SeatKnowledge}
 use Rattle.seat_history.specs.Histories.{Entry, HasNone, StartsWith, before, entries_of, unseen}
 use Rattle.seat_history.specs.Seats.{HasJoinedAll, Settled, after_step}
 use Rattle.exchange_events.specs.declared.reply.Reply.{Reply}
@@ -60,7 +60,7 @@ ShowsAt board history n tool = (e : Event) → IsNumbered board.trace n e → Sh
 -- frame of that history. The knowledge of seat 0 adds up, and if all other seats are joined, no other seat processed an
 -- event in between. The reply is the exchange's after that history, with bounded numbers of moves. If the event is a
 -- frame, the tool shows the exchange state after that history.
-pub record HasTakenTurn (board : Board) (old new : Known) (n event : ℕ) (answer : Reply) (memory : Tool) : Type 0 where
+pub record HasTakenTurn (board : Board) (old new : SeatKnowledge) (n event : ℕ) (answer : Reply) (memory : Tool) : Type 0 where
   pub sound : IsSound board.trace
   pub seat : new ≡ after_step (before n new.seen) event old
   pub place : length new.seen ≡ n + 1

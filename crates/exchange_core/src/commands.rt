@@ -38,7 +38,7 @@ fn may_nail<P: PathMap>(control: &CallControl<P>, x: Slot, y: Slot) -> bool
     ensures may { (d : Dimensions) (w : World) → Holds d control.now.map control.now.legs w → result ≡ may_nail w x y }
     ensures silent { IsTrue result → (hears_at control.now.map x ≡ None) × (hears_at control.now.map y ≡ None) }
 {
-    control.idle(x) && control.idle(y)
+    control.is_idle(x) && control.is_idle(y)
 }
 
 /// Adds a slot to a room if the slot is idle and a conference port is free.
@@ -49,7 +49,7 @@ pub(crate) fn seat<P: PathMap>(control: &mut CallControl<P>, x: Slot, room: u8) 
     ensures few { (o : Outbox) → MovesAtMost control.old.map.bound (reply_of result o) }
     ensures sizes { SameSizes control.old.map control.new.map }
 {
-    if !control.idle(x) {
+    if !control.is_idle(x) {
         return Response::Busy;
     }
     let Ok((there, back)) = control.map.seat(x, room) else {
@@ -66,7 +66,7 @@ pub(crate) fn free<P: PathMap>(control: &mut CallControl<P>, x: Slot) -> Respons
     ensures few { (o : Outbox) → MovesAtMost control.old.map.bound (reply_of result o) }
     ensures sizes { SameSizes control.old.map control.new.map }
 {
-    if control.map.idle(x) || control.legs.at(x).is_some() {
+    if control.map.idle(x) || control.legs.get(x).is_some() {
         return Response::NotNailed;
     }
     control.clear(x);

@@ -1,11 +1,12 @@
 //! The exchange without its octets: the state after each event of a trace, and the reply to it.
 //!
-//! - [`Core`]'s `step` and `work` return the reply that the rules give in the exchange state of the journal (`reply`).
-//!   They replace that state by the next one (`world`), and add an entry to the journal (`journal`). The control memory
-//!   of a frame shows the state before the frame (`shows`). A step moves at most the number of live paths that the
-//!   fabric guarantees (`few`). After each step the paths join exactly the existing circuits (`laid`, `joins`).
-//! - [`Switchboard`] is the interface of an exchange that many callers share. A caller can pass a [`Desk`], at which a
-//!   message is parsed before its turn (`look_ahead`). `shared_exchange` implements the interface.
+//! - [`Core`]'s `step` and `step_into` return the reply that the rules give in the exchange state of the journal
+//!   (`reply`). They replace that state by the next one (`world`), and add an entry to the journal (`journal`). The
+//!   control memory of a frame shows the state before the frame (`shows`). A step moves at most the number of live
+//!   paths that the fabric guarantees (`few`). After each step the paths join exactly the existing circuits (`laid`,
+//!   `joins`).
+//! - [`Switchboard`] is the interface of an exchange that many callers share. A caller can pass a [`StepContext`],
+//!   which stores a message that is parsed before its turn (`preparse`). `shared_exchange` implements the interface.
 //!
 //! After every list of events of a sound trace, the layout of the paths is legal and joins exactly the existing
 //! circuits ([`law_of_layouts`]).
@@ -15,22 +16,22 @@
 #![tactic(auto)]
 
 mod commands;
-mod desk;
 mod laws;
 mod step;
+mod step_context;
 mod switchboard;
 mod tool;
 
-pub use call_control::{DialledNumber, ReadAhead};
+pub use call_control::{DialledNumber, PreparsedMessage};
 pub use call_profile::{
     law_of_answered_calls, law_of_legs, law_of_paths, law_of_refusals, law_of_refused_calls,
 };
-pub use desk::Desk;
 pub use exchange_events::{
     Answer, CallRecord, Encoded, Event, Events, Input, Kept, Octets, Outbox, Party, RecordList,
     Records, Reply, Response, Rows, Segments, Signal, SignalList, Signals, Trace,
 };
 pub use laws::law_of_layouts;
 pub use step::{Core, happen};
+pub use step_context::StepContext;
 pub use switchboard::Switchboard;
 pub use tool::Tool;

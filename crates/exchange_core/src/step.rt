@@ -16,7 +16,7 @@ ghost use Rattle.call_control.specs.Standing.{Holds};
 ghost use Rattle.exchange_events.specs.declared.trace.Event.TheVariants as event;
 
 use crate::commands::{boundary, free, nail, seat};
-use crate::desk::Desk;
+use crate::step_context::StepContext;
 use crate::tool::Tool;
 use call_control::{CallControl, Received};
 use call_timers::Timers;
@@ -107,39 +107,39 @@ impl<'t, P: PathMap> Core<'t, P> {
         ensures shows { (e : An_event) → IsNumbered self.old.trace event e → ShowsWorld (world_of self.old) e tool.new }
         ensures tool { (e : An_event) → IsNumbered self.old.trace event e → IsToolFor (setting self.old).dimensions e tool.new }
     {
-        let mut desk = Desk::new(mem::replace(tool, Tool::Nothing));
-        let response = self.work(by, event, &mut desk);
-        let Desk {
+        let mut context = StepContext::new(mem::replace(tool, Tool::Nothing));
+        let response = self.step_into(by, event, &mut context);
+        let StepContext {
             tool: used,
             out,
             ..
-        } = desk;
+        } = context;
         *tool = used;
-        response.with(out)
+        response.into_reply(out)
     }
 
-    /// Works like [`step`](Core::step), at a desk. The messages and records of the step replace the contents of the
-    /// outbox. A message that was parsed ahead is taken from the desk, and is not parsed again.
+    /// Works like [`step`](Core::step), with a step context. The messages and records of the step replace the contents
+    /// of the outbox. A message that was parsed ahead is taken from the context, and is not parsed again.
     // Every event goes through it, and with more than one caller LLVM would leave it a call.
     #[inline(always)]
-    pub fn work(&mut self, by: u32, event: u32, desk: &mut Desk) -> Response
+    pub fn step_into(&mut self, by: u32, event: u32, context: &mut StepContext) -> Response
         requires known { IsEvent self.old.trace event }
         requires room { length self.old.journal < length self.old.trace.events }
-        requires tool { (e : An_event) → IsNumbered self.old.trace event e → IsToolFor (setting self.old).dimensions e desk.old.tool }
-        requires ahead { IsReadAt self.old.trace event desk.old.ahead }
+        requires tool { (e : An_event) → IsNumbered self.old.trace event e → IsToolFor (setting self.old).dimensions e context.old.tool }
+        requires ahead { IsReadAt self.old.trace event context.old.ahead }
         ensures reply { (e : An_event) → IsNumbered self.old.trace event e
-            → reply_of result desk.new.out ≡ reply (setting self.old) (world_of self.old) e }
+            → reply_of result context.new.out ≡ reply (setting self.old) (world_of self.old) e }
         ensures journal { self.new ≡ record self.old { journal = self.old.journal ++ (by, event) ∷ [] } }
         ensures world { (e : An_event) → IsNumbered self.old.trace event e → world_of self.new ≡ next (setting self.old) (world_of self.old) e }
         ensures laid { IsLaid self.new }
         ensures joins { JoinsItsCircuits self.new }
-        ensures few { MovesAtMost self.old.bound (reply_of result desk.new.out) }
-        ensures shows { (e : An_event) → IsNumbered self.old.trace event e → ShowsWorld (world_of self.old) e desk.new.tool }
-        ensures tool { (e : An_event) → IsNumbered self.old.trace event e → IsToolFor (setting self.old).dimensions e desk.new.tool }
-        // A step consumes the message that was parsed ahead, so the desk can serve any event next.
-        ensures ahead { desk.new.ahead ≡ None }
+        ensures few { MovesAtMost self.old.bound (reply_of result context.new.out) }
+        ensures shows { (e : An_event) → IsNumbered self.old.trace event e → ShowsWorld (world_of self.old) e context.new.tool }
+        ensures tool { (e : An_event) → IsNumbered self.old.trace event e → IsToolFor (setting self.old).dimensions e context.new.tool }
+        // A step consumes the message that was parsed ahead, so the context can serve any event next.
+        ensures ahead { context.new.ahead ≡ None }
     {
-        desk.out.clear();
+        context.out.clear();
         let trace = self.trace;
         let event_done = trace.event(event);
         let response = happen(
@@ -149,9 +149,9 @@ impl<'t, P: PathMap> Core<'t, P> {
             &trace.timers,
             trace.external,
             event_done,
-            desk,
+            context,
         );
-        desk.ahead = None;
+        context.ahead = None;
         show_laid(&self.control.map);
         self.journal.push_reserved((by, event));
         response
@@ -173,7 +173,7 @@ impl<'t, P: PathMap> Core<'t, P> {
     }
 }
 
-/// Processes an event of any kind. A frame's boundary is written into the tool of the desk.
+/// Processes an event of any kind. A frame's boundary is written into the tool of the context.
 #[inline(always)]
 pub fn happen<P: PathMap>(
     control: &mut CallControl<P>,
@@ -182,21 +182,21 @@ pub fn happen<P: PathMap>(
     timers: &Timers,
     external: u8,
     event: &Event,
-    desk: &mut Desk,
+    context: &mut StepContext,
 ) -> Response
-    requires work { SomeGiven plan.now tones.now timers.now control.old.map control.old.legs (λ s w. IsToolFor s.dimensions event.now desk.old.tool) }
+    requires work { SomeGiven plan.now tones.now timers.now control.old.map control.old.legs (λ s w. IsToolFor s.dimensions event.now context.old.tool) }
     requires lines { (external ≡ control.old.map.external) × (external ≤ 32) }
     requires fits { Fits control.old.map.external event.now }
-    requires ahead { IfSome desk.old.ahead (IsReadOf plan.now event.now) }
+    requires ahead { IfSome context.old.ahead (IsReadOf plan.now event.now) }
     requires room { control.old.map.next < 4294967295 }
-    requires fresh { (desk.old.out.sends ≡ []) × (desk.old.out.moved ≡ None) × (desk.old.out.records ≡ []) }
+    requires fresh { (context.old.out.sends ≡ []) × (context.old.out.moved ≡ None) × (context.old.out.records ≡ []) }
     ensures reply { EachGiven plan.now tones.now timers.now control.old.map control.old.legs (λ s w.
-        reply_of result desk.new.out ≡ reply s w event.now) }
+        reply_of result context.new.out ≡ reply s w event.now) }
     ensures world { EachGiven plan.now tones.now timers.now control.old.map control.old.legs (λ s w.
         Holds s.dimensions control.new.map control.new.legs (next s w event.now)) }
-    ensures few { MovesAtMost control.old.map.bound (reply_of result desk.new.out) }
-    ensures shows { (d : Dimensions) (w : World) → Holds d control.old.map control.old.legs w → ShowsWorld w event.now desk.new.tool }
-    ensures tool { (d : Dimensions) → IsToolFor d event.now desk.old.tool → IsToolFor d event.now desk.new.tool }
+    ensures few { MovesAtMost control.old.map.bound (reply_of result context.new.out) }
+    ensures shows { (d : Dimensions) (w : World) → Holds d control.old.map control.old.legs w → ShowsWorld w event.now context.new.tool }
+    ensures tool { (d : Dimensions) → IsToolFor d event.now context.old.tool → IsToolFor d event.now context.new.tool }
     ensures sizes { SameSizes control.old.map control.new.map }
 {
     match event {
@@ -205,9 +205,9 @@ pub fn happen<P: PathMap>(
         Event::Free(x) => free(control, *x),
         Event::Message(line, octets) => {
             let octets = octets.as_slice();
-            let ahead = desk.ahead;
-            control.message(
-                &mut desk.out,
+            let ahead = context.ahead;
+            control.handle_message(
+                &mut context.out,
                 plan,
                 tones,
                 *line,
@@ -221,8 +221,8 @@ pub fn happen<P: PathMap>(
                 tones,
                 timers,
                 external,
-                &mut desk.tool,
-                &mut desk.out,
+                &mut context.tool,
+                &mut context.out,
             );
             Response::Frame(number)
         }
@@ -263,6 +263,6 @@ fn frame<P: PathMap>(
         Tool::Image(image) => boundary(control, image),
         Tool::Nothing => unreachable!(),
     };
-    control.expire(out, tones, timers, external, number);
+    control.handle_timers(out, tones, timers, external, number);
     number
 }

@@ -1,5 +1,5 @@
 ghost use Rattle.std.specs.Prelude.{◌≡◌, ◌+◌, ◌<◌, ◌≤◌, ◌^◌, Bool, false, IsTrue, None};
-ghost use Rattle.seat_history.specs.declared.known.Known.{Known};
+ghost use Rattle.seat_history.specs.declared.seat_knowledge.SeatKnowledge.{SeatKnowledge};
 ghost use Rattle.seat_history.specs.Histories.{StartsWith, before};
 ghost use Rattle.seat_history.specs.Seats.{Settled, after_join, after_split, new_seat};
 ghost use Rattle.exchange_events.specs.Orders.{IsEvent};
@@ -8,7 +8,7 @@ ghost use Rattle.exchange_core.specs.Ahead.{IsReadAt};
 ghost use Rattle.exchange_core.specs.Boards.{Board, HasTakenTurn, IsFrame, IsToolAt, turns_of};
 ghost use Rattle.exchange_events.specs.Sound.{IsSound};
 
-use crate::desk::Desk;
+use crate::step_context::StepContext;
 use crate::tool::Tool;
 use exchange_events::{Reply, Response};
 use std::sync::Wait;
@@ -26,7 +26,7 @@ pub trait Switchboard: Sync {
     ghost board: { Self → Board };
 
     /// The knowledge of a seat.
-    ghost known: { Self.Seat → Known };
+    ghost known: { Self.Seat → SeatKnowledge };
 
     /// Whether a seat has kept the turn.
     ghost keeps: { Self.Seat → Bool };
@@ -69,30 +69,30 @@ pub trait Switchboard: Sync {
         ensures done { HasTakenTurn (board self.now) (known seat.old) (known seat.new) result.0 event result.1 tool.new }
         ensures free { keeps seat.new ≡ false };
 
-    /// Works like [`handle`](Switchboard::handle), with a desk instead of the tool. The messages and records of the
-    /// step replace the contents of the outbox, because a list with capacity for 64 messages is expensive to make for
-    /// each event. A message that was parsed ahead is taken from the desk, and is not parsed again in the turn.
+    /// Works like [`handle`](Switchboard::handle), with a step context instead of the tool. The messages and records of
+    /// the step replace the contents of the outbox, because a list with capacity for 64 messages is expensive to make
+    /// for each event. A message that was parsed ahead is taken from the context, and is not parsed again in the turn.
     ///
     /// If `keep` is true, the seat keeps the turn, and its next event does not wait. No other seat processes an event
     /// until it passes the turn, by an event without `keep` or by [`release`](Switchboard::release).
-    fn work<R: Wait>(
+    fn handle_into<R: Wait>(
         &self,
         rt: &R,
         seat: &mut Self::Seat,
         event: u32,
-        desk: &mut Desk,
+        context: &mut StepContext,
         keep: bool,
     ) -> (u32, Response)
         requires seated { seated self.now seat.old }
         requires known { IsEvent (board self.now).trace event }
         requires turn { 0 < (known seat.old).left }
         requires baton { IsFrame (board self.now).trace event → IsTrue (known seat.old).baton }
-        requires tool { IsToolAt (board self.now) event desk.old.tool }
-        requires ahead { IsReadAt (board self.now).trace event desk.old.ahead }
+        requires tool { IsToolAt (board self.now) event context.old.tool }
+        requires ahead { IsReadAt (board self.now).trace event context.old.ahead }
         ensures seated { seated self.now seat.new }
-        ensures done { HasTakenTurn (board self.now) (known seat.old) (known seat.new) result.0 event (reply_of result.1 desk.new.out) desk.new.tool }
-        // A step consumes the message that was parsed ahead, so the desk can serve any event next.
-        ensures ahead { desk.new.ahead ≡ None }
+        ensures done { HasTakenTurn (board self.now) (known seat.old) (known seat.new) result.0 event (reply_of result.1 context.new.out) context.new.tool }
+        // A step consumes the message that was parsed ahead, so the context can serve any event next.
+        ensures ahead { context.new.ahead ≡ None }
         // No other seat processed an event since this one kept the turn.
         ensures kept { IsTrue (keeps seat.old) → before result.0 (known seat.new).seen ≡ (known seat.old).seen }
         ensures keeps { keeps seat.new ≡ keep };

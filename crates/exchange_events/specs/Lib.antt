@@ -4,4 +4,4 @@ pub mod Sound
 pub mod Orders
 pub mod Responses
 pub mod Kept
-pub mod Held
+pub mod OctetStorage

@@ -9,7 +9,7 @@ use Rattle.number_plan.specs.Plan.{all_targets}
 use Rattle.exchange_events.specs.declared.trace.Event.{Event}
 use Rattle.exchange_events.specs.declared.trace.Event.TheVariants.{Nail, Seat, Free, Message, Frame}
 use Rattle.exchange_events.specs.declared.trace.Trace.{Trace}
-use Rattle.exchange_events.specs.Limits.{most_changes, most_events}
+use Rattle.exchange_events.specs.Limits.{max_changes, max_events}
 use Rattle.exchange_events.specs.Sizes.{Setting}
 
 -- two slots that can be nailed together
@@ -60,7 +60,7 @@ is_between ends count = list_any (λ place. place == count) (0 ∷ ends)
 -- the places at which meters change: each is between segments, and none is before the one in front of it; several
 -- changes can have one place, since each changes one meter
 pub record AreChanges (ends changes : List ℕ) : Type 0 where
-  pub few : length changes ≤ most_changes
+  pub few : length changes ≤ max_changes
   pub rising : AllPairs (λ m n. m ≤ n) changes
   pub between : All (λ count. is_between ends count ≡ true) changes
 
@@ -82,7 +82,7 @@ pub record IsSound (trace : Trace) : Type 0 where
   pub bridges : trace.bridges ≤ 2
   pub processors : (1 ≤ trace.processors) × (trace.processors ≤ 8)
   pub planned : IsTrue (all_targets (is_reached trace.external) trace.plan)
-  pub count : length trace.events ≤ most_events
+  pub count : length trace.events ≤ max_events
   pub events : All (Fits trace.external) trace.events
   pub segments : AreSegments (length trace.events) trace.segments
   pub changes : AreChanges trace.segments trace.changes

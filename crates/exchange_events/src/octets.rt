@@ -6,24 +6,24 @@ use std::marker::Model;
 
 /// The maximum number of octets of a message that is stored without an allocation. Most messages that clear a call or
 /// reply to one are shorter. Source: this project.
-pub const FEW_OCTETS: usize = 16;
+pub const INLINE_OCTETS: usize = 16;
 
 /// The octets of a message from the user of a line. Contracts see their list.
 #[derive(Drop)]
 pub struct Octets {
-    held: Held,
+    held: OctetStorage,
 }
 
 /// The storage of a message's octets: a short message is in the value itself.
 #[derive(Drop)]
-pub enum Held {
-    Few(ArrayVec<u8, FEW_OCTETS>),
-    Many(Vec<u8>),
+pub enum OctetStorage {
+    Inline(ArrayVec<u8, INLINE_OCTETS>),
+    Heap(Vec<u8>),
 }
 
 impl Model for Octets {
     ghost use Rattle.std.specs.Prelude.{List, ℕ};
-    ghost use Rattle.exchange_events.specs.Held.{octets_in};
+    ghost use Rattle.exchange_events.specs.OctetStorage.{octets_in};
 
     ghost Value = { List ℕ };
 
@@ -36,12 +36,12 @@ impl Octets {
         ensures { result ≡ items.items }
     {
         Octets {
-            held: Held::Many(items),
+            held: OctetStorage::Heap(items),
         }
     }
 
-    /// Copies these octets, at most [`FEW_OCTETS`], without an allocation.
-    pub fn few(octets: &[u8]) -> Octets
+    /// Copies these octets, at most [`INLINE_OCTETS`], without an allocation.
+    pub fn from_short_slice(octets: &[u8]) -> Octets
         requires { length octets.now ≤ 16 }
         ensures { result ≡ octets.now }
     {
@@ -50,7 +50,7 @@ impl Octets {
             unreachable!()
         }
         Octets {
-            held: Held::Few(items),
+            held: OctetStorage::Inline(items),
         }
     }
 
@@ -59,8 +59,8 @@ impl Octets {
         ensures { result.now ≡ self.now }
     {
         match &self.held {
-            Held::Few(octets) => octets.as_slice(),
-            Held::Many(octets) => octets.as_slice(),
+            OctetStorage::Inline(octets) => octets.as_slice(),
+            OctetStorage::Heap(octets) => octets.as_slice(),
         }
     }
 }

@@ -60,7 +60,7 @@ pub enum Response {
 
 impl Response {
     /// Returns the reply, with the lists of the outbox.
-    pub fn with(self, out: Outbox) -> Reply
+    pub fn into_reply(self, out: Outbox) -> Reply
         ensures { result ≡ reply_of self out }
     {
         match self {

@@ -1,13 +1,13 @@
 //! The records of calls that ended.
-ghost use Rattle.std.specs.Prelude.{◌≡◌, ◌<◌, [], ◌∷◌, ◌++◌, length};
-ghost use Rattle.exchange_events.specs.Limits.{most_records};
+ghost use Rattle.std.specs.Prelude.{◌≡◌, ◌==◌, ◌<◌, [], ◌∷◌, ◌++◌, length};
+ghost use Rattle.exchange_events.specs.Limits.{max_records};
 
 use arrayvec::ArrayVec;
 use circuit_model::Slot;
 use std::marker::Model;
 
 /// The maximum number of calls that a step ends. Source: this project.
-pub const MOST_RECORDS: usize = 64;
+pub const MAX_RECORDS: usize = 64;
 
 /// The party that a caller was, or was to be, connected with.
 #[derive(Clone, Copy, Debug, PartialEq, Eq)]
@@ -51,7 +51,7 @@ impl Default for CallRecord {
 /// The records of the calls that a step ended, in order, at most 64. Contracts see their list.
 #[derive(Drop)]
 pub struct Records {
-    items: ArrayVec<CallRecord, MOST_RECORDS>,
+    items: ArrayVec<CallRecord, MAX_RECORDS>,
 }
 
 impl Model for Records {
@@ -74,7 +74,7 @@ impl Records {
     }
 
     /// Takes these records.
-    pub fn of(items: ArrayVec<CallRecord, MOST_RECORDS>) -> Records
+    pub fn of(items: ArrayVec<CallRecord, MAX_RECORDS>) -> Records
         ensures { result ≡ items.items }
     {
         Records { items }
@@ -87,6 +87,20 @@ impl Records {
         self.items.as_slice()
     }
 
+    /// Returns the number of records.
+    pub fn len(&self) -> usize
+        ensures { result ≡ length self.now }
+    {
+        self.as_slice().len()
+    }
+
+    /// Returns whether there is no record.
+    pub fn is_empty(&self) -> bool
+        ensures { result ≡ (length self.now == 0) }
+    {
+        self.len() == 0
+    }
+
     /// Removes all records.
     pub fn clear(&mut self)
         ensures { self.new ≡ [] }
@@ -96,7 +110,7 @@ impl Records {
 
     /// Appends a record.
     pub fn push(&mut self, call: CallRecord)
-        requires { length self.old < most_records }
+        requires { length self.old < max_records }
         ensures { self.new ≡ self.old ++ call ∷ [] }
     {
         self.items.push(call);

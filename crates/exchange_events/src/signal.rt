@@ -1,18 +1,18 @@
 //! Messages to the users of lines, as octets.
-ghost use Rattle.std.specs.Prelude.{◌≡◌, ◌<◌, ◌+◌, [], ◌∷◌, ◌++◌, length};
-ghost use Rattle.exchange_events.specs.Limits.{most_sends};
+ghost use Rattle.std.specs.Prelude.{◌≡◌, ◌==◌, ◌<◌, ◌+◌, [], ◌∷◌, ◌++◌, length};
+ghost use Rattle.exchange_events.specs.Limits.{max_sends};
 
 use arrayvec::ArrayVec;
-use q931_elements::LONGEST_MESSAGE;
+use q931_elements::MAX_MESSAGE_LEN;
 use std::marker::Model;
 
 /// The maximum number of messages that a step sends. Source: this project.
-pub const MOST_SENDS: usize = 64;
+pub const MAX_SENDS: usize = 64;
 
 /// The octets of a message that is sent. Contracts see their list.
 #[derive(Clone, Debug, Default, Drop)]
 pub struct Encoded {
-    octets: ArrayVec<u8, LONGEST_MESSAGE>,
+    octets: ArrayVec<u8, MAX_MESSAGE_LEN>,
 }
 
 impl Model for Encoded {
@@ -25,7 +25,7 @@ impl Model for Encoded {
 
 impl Encoded {
     /// Takes these octets.
-    pub fn of(items: ArrayVec<u8, LONGEST_MESSAGE>) -> Encoded
+    pub fn of(items: ArrayVec<u8, MAX_MESSAGE_LEN>) -> Encoded
         ensures { result ≡ items.items }
     {
         Encoded { octets: items }
@@ -39,7 +39,7 @@ impl Encoded {
     }
 
     /// Returns a copy of the octets. It allocates nothing.
-    pub fn copy(&self) -> Encoded
+    pub fn copied(&self) -> Encoded
         ensures { result ≡ self.now }
     {
         let mut copied = Encoded {
@@ -77,7 +77,7 @@ pub struct Signal {
 /// cost as much as writing it.
 #[derive(Drop)]
 pub struct Signals {
-    items: ArrayVec<Signal, MOST_SENDS>,
+    items: ArrayVec<Signal, MAX_SENDS>,
     // The number of messages that count.
     count: usize,
 }
@@ -105,7 +105,7 @@ impl Signals {
     }
 
     /// Takes these messages.
-    pub fn of(items: ArrayVec<Signal, MOST_SENDS>) -> Signals
+    pub fn of(items: ArrayVec<Signal, MAX_SENDS>) -> Signals
         ensures { result ≡ items.items }
     {
         let count = items.len();
@@ -119,6 +119,20 @@ impl Signals {
         &self.items.as_slice()[..self.count]
     }
 
+    /// Returns the number of messages.
+    pub fn len(&self) -> usize
+        ensures { result ≡ length self.now }
+    {
+        self.as_slice().len()
+    }
+
+    /// Returns whether there is no message.
+    pub fn is_empty(&self) -> bool
+        ensures { result ≡ (length self.now == 0) }
+    {
+        self.len() == 0
+    }
+
     /// Removes all messages.
     pub fn clear(&mut self)
         ensures { self.new ≡ [] }
@@ -128,7 +142,7 @@ impl Signals {
 
     /// Appends a message.
     pub fn push(&mut self, signal: Signal)
-        requires { length self.old < most_sends }
+        requires { length self.old < max_sends }
         ensures { self.new ≡ self.old ++ signal ∷ [] }
     {
         if self.count < self.items.len() {

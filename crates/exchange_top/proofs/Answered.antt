@@ -14,7 +14,7 @@ use Rattle.exchange_events.specs.declared.trace.Trace.{Trace}
 use Rattle.exchange_events.specs.Kept.{kept_of}
 use Rattle.exchange_events.specs.Orders.{IsEvent, event_at}
 use Rattle.exchange_events.proofs.EventNumbers.{event_there}
-use Rattle.seat_history.specs.declared.known.Known.{Known}
+use Rattle.seat_history.specs.declared.seat_knowledge.SeatKnowledge.{SeatKnowledge}
 use Rattle.seat_history.specs.Histories.{StartsWith, before, unseen}
 use Rattle.exchange_core.specs.Boards.{Board, AnswersAt, setting_at, world_at}
 use Rattle.exchange_events.specs.Sizes.{Setting}
@@ -139,7 +139,7 @@ module _ (plays : Plays) (tones : Kind → List ℕ) (board : Board) (history : 
 
 -- ---- a run that was answered
 
-module _ (plays : Plays) (tones : Kind → List ℕ) (board : Board) (v w : Known) (answers : List Answer) (answered : AreAnswered plays tones board v w answers) (begins : StartsWith w.seen v.seen)
+module _ (plays : Plays) (tones : Kind → List ℕ) (board : Board) (v w : SeatKnowledge) (answers : List Answer) (answered : AreAnswered plays tones board v w answers) (begins : StartsWith w.seen v.seen)
     (known : All (IsEvent board.trace) (new_events v w)) where
   all_told : AreReplied plays tones board v.seen (new_events v w) answers
   all_told =
@@ -161,7 +161,7 @@ module _ (plays : Plays) (tones : Kind → List ℕ) (board : Board) (v w : Know
 -- ---- what the history grew by
 
 -- few paths were moved, also in these events
-pub few_grown : (board : Board) (v w : Known) → StartsWith w.seen v.seen → MovesFew (fabric_at board) board.trace (order_of v.seen) → GrewFew board v w → MovesFew (fabric_at board) board.trace (order_of w.seen)
+pub few_grown : (board : Board) (v w : SeatKnowledge) → StartsWith w.seen v.seen → MovesFew (fabric_at board) board.trace (order_of v.seen) → GrewFew board v w → MovesFew (fabric_at board) board.trace (order_of w.seen)
 few_grown board v w begins few more =
     let s = setting_at board in
     let old = events_of board.trace.events (order_of v.seen) in

@@ -6,7 +6,7 @@ use Rattle.std.specs.Io.KnownBytes.{Appends, Consumes, IsAtEnd}
 use Rattle.std.proofs.KnownBytes.{Appends-trans}
 use Rattle.trace_text.specs.declared.fault.Reason.{Reason}
 use Rattle.exchange_events.specs.declared.trace.Trace.{Trace}
-use Rattle.trace_text.specs.TraceGrammar.{IsTrace, IsRefused, most_bytes}
+use Rattle.trace_text.specs.TraceGrammar.{IsTrace, IsRefused, max_bytes}
 use Rattle.call_processor.specs.Frames.{Carrying, Plays}
 use Rattle.exchange_events.specs.Sizes.{Dimensions}
 use Rattle.command_words.specs.Words.{command_of}
@@ -17,14 +17,14 @@ use Rattle.line_list.specs.declared.listing.Listing.TheVariants as listing
 use Rattle.exchange_top.specs.declared.ending.Ending.{Ending}
 use Rattle.exchange_top.specs.declared.ending.Ending.TheVariants as ended
 use Rattle.exchange_top.specs.Outcomes.{Fabric, HandsOut, IsIdle, IsRunWhole, IsRunWritten, Parties, Runs, SumsUp}
-use Rattle.exchange_top.specs.Checking.{Checks, Said, Not_read, No_memory, Finds, IsChecked, IsUnchecked, Too_much, No_trace, most_checked}
+use Rattle.exchange_top.specs.Checking.{Checks, Said, Not_read, No_memory, Finds, IsChecked, IsUnchecked, Too_much, No_trace, max_checked}
 use Rattle.exchange_top.specs.Inputs.{IsInputWithin}
 use Rattle.exchange_top.specs.Streams.{AppendsFront, ConsumesAtMost, IsUntouched, IsWritten, Stream}
 use Rattle.exchange_top.specs.Story.{story}
 use Rattle.exchange_top.specs.Summary.{summary_text}
 use Rattle.exchange_top.specs.Telling.{MeterStory}
 use Rattle.exchange_top.specs.Refusals.{Says, Told_so, Untold, line_of}
-use Rattle.exchange_top.specs.Commands.{most_read, most_read_by, IsCheck, IsCheckOn, IsReading, IsRun, IsGeneration, IsNoCommand, fabric_of}
+use Rattle.exchange_top.specs.Commands.{max_read, max_read_by, IsCheck, IsCheckOn, IsReading, IsRun, IsGeneration, IsNoCommand, fabric_of}
 use Rattle.exchange_top.specs.Endings.{status_of, IsTraceRead, IsTraceGenerated, IsFound, For_run, For_check, Reported, Summed, Found_valid, In_line, In_report, In_generation, In_summary, At_once, In_run, In_generated, Before_summary, HasEnded, IsDue, Arguments_decide, Trace_decides, Line_decides, Seed_decides, Report_decides, EndsAs}
 use Rattle.trace_text.proofs.TraceReadings.{never_both}
 use Rattle.exchange_top.proofs.Dues.{finds_one}
@@ -73,9 +73,9 @@ read_known limit known bytes (Some rest) input =
       | inr few ↦ inl (few, sym (input.front ∙ ap (λ xs. bytes ++ xs) (input.whole few) ∙ append-nil bytes))
     ]
 
-not_down : (t : Trace) (known bytes : List ℕ) (new : Option (List ℕ)) {number : ℕ} {why : Reason} → IsRefused bytes number why → IsInputWithin most_bytes (Some known) new bytes → IsTrace known t → ⊥
+not_down : (t : Trace) (known bytes : List ℕ) (new : Option (List ℕ)) {number : ℕ} {why : Reason} → IsRefused bytes number why → IsInputWithin max_bytes (Some known) new bytes → IsTrace known t → ⊥
 not_down t known bytes new {number} {why} refused input is =
-    elim (read_known most_bytes known bytes new input) [
+    elim (read_known max_bytes known bytes new input) [
       | inl whole ↦ never_both known t number why is (rw whole.1 at refused)
       | inr long ↦ let few = is.few in absurd (omega (arith, few, long.1))
     ]
@@ -88,9 +88,9 @@ whole_trace known bytes old (Some rest) t left front ended is =
     subst (λ (b : List ℕ). IsTrace b t) (sym (all ∙ ap (λ xs. bytes ++ xs) ended ∙ append-nil bytes)) is
 
 -- where the input is known, what is found of it
-module _ (known bytes : List ℕ) (left new : Option (List ℕ)) (is_left : left ≡ Some known) (input : IsInputWithin most_checked left new bytes) where
-  known_now : ((length bytes ≤ most_checked) × (bytes ≡ known)) ⊎ ((most_checked < length bytes) × (most_checked < length known))
-  known_now = read_known most_checked known bytes new (rw is_left at input)
+module _ (known bytes : List ℕ) (left new : Option (List ℕ)) (is_left : left ≡ Some known) (input : IsInputWithin max_checked left new bytes) where
+  known_now : ((length bytes ≤ max_checked) × (bytes ≡ known)) ⊎ ((max_checked < length bytes) × (max_checked < length known))
+  known_now = read_known max_checked known bytes new (rw is_left at input)
 
   -- an input that has a trace is read whole
   checked_now : (report : List ℕ) (t : Trace) → IsChecked known t report → IsChecked bytes t report
@@ -122,9 +122,9 @@ module _ (known bytes : List ℕ) (left new : Option (List ℕ)) (is_left : left
 
 -- ---- what is read
 
-pub stops_by : (words : List (List ℕ)) (asked : Option Command) (old new : Option (List ℕ)) → command_of words ≡ asked → ConsumesAtMost (most_read_by asked) old new
-    → ConsumesAtMost (most_read words) old new
-stops_by words asked old new is stops = subst (λ (o : Option Command). ConsumesAtMost (most_read_by o) old new) (sym is) stops
+pub stops_by : (words : List (List ℕ)) (asked : Option Command) (old new : Option (List ℕ)) → command_of words ≡ asked → ConsumesAtMost (max_read_by asked) old new
+    → ConsumesAtMost (max_read words) old new
+stops_by words asked old new is stops = subst (λ (o : Option Command). ConsumesAtMost (max_read_by o) old new) (sym is) stops
 
 pub nothing_read : (most : ℕ) (known : Option (List ℕ)) → ConsumesAtMost most known known
 nothing_read most None = ([], omega arith, search rules)
@@ -184,7 +184,7 @@ module _ (arguments : List (List ℕ)) (input : Stream) (x : Parties) where
   ends_line found ending line is same (Untold so failed part) idle =
       ends_so ended.WriteFailed ending so (record { failed = failed; writing = In_line found is (subst (AppendsFront x.output.old x.output.new) same part) idle })
 
-  found_is : (strict : Bool) (bytes : List ℕ) (found : Ending) → IsCheckOn arguments strict → IsInputWithin most_checked input.old input.new bytes → Finds strict bytes found → IsFound arguments input found
+  found_is : (strict : Bool) (bytes : List ℕ) (found : Ending) → IsCheckOn arguments strict → IsInputWithin max_checked input.old input.new bytes → Finds strict bytes found → IsFound arguments input found
   found_is strict bytes ended.Completed asked read is =
       record { strict = strict; asked = asked; bytes = bytes; read = record { front = read.front; ended = read.whole is.2.few }; trace = is.0; report = is.1; checked = is.2; valid = is.3 }
   found_is strict bytes (ended.Refused line reason) asked read is = For_check (strict, asked) bytes read is
@@ -241,7 +241,7 @@ module _ {E : Type 0} (plays : Plays) (sizes : E → Dimensions) (carries : Carr
 
 module _ (arguments : List (List ℕ)) (input : Stream) (x : Parties) where
   -- what is found of a report
-  found_due : (strict flag : Bool) (bytes known : List ℕ) (found due : Ending) → IsCheckOn arguments flag → IsCheckOn arguments strict → IsInputWithin most_checked input.old input.new bytes → input.old ≡ Some known
+  found_due : (strict flag : Bool) (bytes known : List ℕ) (found due : Ending) → IsCheckOn arguments flag → IsCheckOn arguments strict → IsInputWithin max_checked input.old input.new bytes → input.old ≡ Some known
       → Finds flag bytes found → Finds strict known due → EndsAs due (status_of found)
   found_due strict flag bytes known found due asked is read left one other =
       let here = subst (λ (b : Bool). Finds b bytes found) (same_check arguments flag strict asked is) one in

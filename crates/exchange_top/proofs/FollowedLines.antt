@@ -11,7 +11,7 @@ use Rattle.trace_text.specs.declared.said.Said.TheVariants.{Nothing, Header, Num
 use Rattle.trace_text.specs.TraceGrammar.{EachSays, so_far, events_in, changes_in}
 use Rattle.trace_text.specs.TraceLines.{SoFar, joins, line_limits, reads, says, trace_limits}
 use Rattle.trace_text.proofs.SoundLemmas.{passed_first}
-use Rattle.exchange_top.specs.Following.{EachFollows, follows, most_line, most_lines}
+use Rattle.exchange_top.specs.Following.{EachFollows, follows, max_line, max_lines}
 
 -- ---- the last checks of a line
 

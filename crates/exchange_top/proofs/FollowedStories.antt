@@ -24,7 +24,7 @@ use Rattle.trace_text.specs.TraceGrammar.{IsTrace, IsWhatLinesSay, changes_after
 use Rattle.circuit_model.specs.Hears.{Plays}
 use Rattle.circuit_model.proofs.Slots.{true_or_false}
 use Rattle.tone_rules.specs.Tables.{table_of}
-use Rattle.exchange_top.specs.Following.{EachFollows, most_line, setting_said, steps_said, story_by, story_said}
+use Rattle.exchange_top.specs.Following.{EachFollows, max_line, setting_said, steps_said, story_by, story_said}
 use Rattle.line_list.specs.declared.listing.Listing.TheVariants as listing
 use Rattle.exchange_top.specs.Story.{event_steps, story}
 use Rattle.exchange_top.proofs.FollowedLines.{each_followed, each_same}
@@ -158,7 +158,7 @@ lines_few (octet ∷ octets) =
       | inr other ↦ rw other (let few = first_few octet (lines octets) (length octets) rest in omega (arith, few))
     ]
 
-pub trace_followed : (bytes : List ℕ) (t : Trace) → IsTrace bytes t → All (λ line. length line ≤ most_line) (lines bytes)
+pub trace_followed : (bytes : List ℕ) (t : Trace) → IsTrace bytes t → All (λ line. length line ≤ max_line) (lines bytes)
     → (told : List Said) × EachFollows [] (lines bytes) told × IsWhatLinesSay t told
 trace_followed bytes t is short =
     let few = lines_few bytes in

@@ -1,11 +1,11 @@
--- The lines of answers that a keeper of lines keeps.
+-- The lines of answers that an answer sink of lines has.
 use Rattle.std.proofs.Common.{◌≡◌, ℕ, ◌≤◌, List, [], ◌∷◌, ◌++◌, length, map, drop, refl, sym, ap, subst, ◌∙◌, arith, append_assoc, length-append}
 use Rattle.std.proofs.lemmas.List.{drop_at, map-append}
 use Rattle.std.specs.Prelude.{All}
 use Rattle.exchange_events.specs.declared.record.CallRecord.{CallRecord}
 use Rattle.exchange_events.specs.declared.trace.Trace.{Trace}
 use Rattle.exchange_events.specs.Orders.{IsEvent}
-use Rattle.seat_history.specs.declared.known.Known.{Known}
+use Rattle.seat_history.specs.declared.seat_knowledge.SeatKnowledge.{SeatKnowledge}
 use Rattle.exchange_core.specs.Boards.{Board}
 use Rattle.tone_rules.specs.Tables.{table_of}
 use Rattle.call_processor.specs.Frames.{Plays}
@@ -51,7 +51,7 @@ module _ (l : Listing) (before after : List Line) (kept answers : List Placed) (
   pub calls_added : calls_of after ≡ calls_of before ++ calls_answered (map (λ (p : Placed). p.answer) answers)
   calls_added = ap calls_of grown ∙ calls_append before (map (line_of l) answers) ∙ ap (λ (rs : List CallRecord). calls_of before ++ rs) (calls_answers l answers)
 
-pub added : (plays : Plays) (l : Listing) (board : Board) (trace : Trace) (segment : ℕ) (v w : Known) (before after : List Line) → trace ≡ board.trace → Ran trace segment v w → AreOfAnswers l before
+pub added : (plays : Plays) (l : Listing) (board : Board) (trace : Trace) (segment : ℕ) (v w : SeatKnowledge) (before after : List Line) → trace ≡ board.trace → Ran trace segment v w → AreOfAnswers l before
     → ((kept : List Placed) → before ≡ map (line_of l) kept → AddsAnswers (λ (ls : List Line) (ps : List Placed). ls ≡ map (line_of l) ps) plays (table_of trace.tones) board v w kept after)
     → IsAdded plays l board v w before after
 added plays l board trace segment v w before after same ran are adds =
@@ -67,7 +67,7 @@ added plays l board trace segment v w before after same ran are adds =
       calls = calls_added l before after are.0 a.answers are.1 a.held ∙ ap (λ (rs : List CallRecord). calls_of before ++ rs) (calls_told_of plays tones board v w answers answered ran.begins known);
     }
 
-module _ (plays : Plays) (l : Listing) (board : Board) (v w : Known) (before after : List Line) (a : IsAdded plays l board v w before after) (told : ℕ) (count : told ≡ length (calls_of before)) where
+module _ (plays : Plays) (l : Listing) (board : Board) (v w : SeatKnowledge) (before after : List Line) (a : IsAdded plays l board v w before after) (told : ℕ) (count : told ≡ length (calls_of before)) where
   -- behind the records that were noted before come the calls that ended since
   pub told_behind : drop told (calls_of after) ≡ grown_calls board v w
   told_behind = ap (drop told) a.calls ∙ drop_at (calls_of before) (grown_calls board v w) told (sym count)

@@ -6,7 +6,7 @@ use Rattle.exchange_events.specs.declared.trace.Trace.{Trace}
 use Rattle.exchange_events.specs.Orders.{IsEvent}
 use Rattle.exchange_events.specs.Sizes.{Dimensions}
 use Rattle.exchange_events.specs.Sound.{IsSound}
-use Rattle.seat_history.specs.declared.known.Known.{Known}
+use Rattle.seat_history.specs.declared.seat_knowledge.SeatKnowledge.{SeatKnowledge}
 use Rattle.seat_history.specs.Seats.{first_seat}
 use Rattle.exchange_core.specs.Boards.{Board, turns_of}
 use Rattle.exchange_core.specs.Working.{order_of}
@@ -46,25 +46,25 @@ module _ {M : Type 0} {stands : M → List CallRecord → Type 0} {text : M → 
       (subst (λ (t : List ℕ). AreChangesDone stands text changes place meters spare t now now_spare all cursor) silent d))
 
 module _ {M : Type 0} (stands : M → List CallRecord → Type 0) (text : M → List CallRecord → List ℕ) (old spare : List M) (plays : Plays) (l : Listing) (board : Board) where
-  abbrev story_of : Known → List Step
+  abbrev story_of : SeatKnowledge → List Step
   story_of v = story plays l board.slots board.trace (order_of v.seen)
 
   abbrev first : Metering M
   first = handed_in old spare
 
   -- the first k segments were done, with the changes behind them, and these are the meters then
-  pub record AreOn (k : ℕ) (v : Known) (meters spares : List M) (cursor : ℕ) : Type 0 where
+  pub record AreOn (k : ℕ) (v : SeatKnowledge) (meters spares : List M) (cursor : ℕ) : Type 0 where
     pub left : AreLeft stands text old spare meters spares (story_of v)
     pub past : IsPast board.trace.changes cursor (place_of board.trace.segments k)
 
   -- ---- before the first segment
 
-  module _ (v : Known) (fresh : v ≡ first_seat (turns_of board)) (now now_spare : List M) (all : List ℕ) where
+  module _ (v : SeatKnowledge) (fresh : v ≡ first_seat (turns_of board)) (now now_spare : List M) (all : List ℕ) where
     pub changed_first : (cursor : ℕ) → AreChangesDone stands text board.trace.changes 0 old spare [] now now_spare all cursor → AreOn 0 v now now_spare cursor
     changed_first cursor d =
         let left = d.made.left first (metered-first stands text old spare) in
         let is : story_of v ≡ replicate d.count Meters_changed =
-        ap (λ (u : Known). story_of u) fresh ∙ (append-nil (changes_at board.trace.changes 0) ∙ d.are) in
+        ap (λ (u : SeatKnowledge). story_of u) fresh ∙ (append-nil (changes_at board.trace.changes 0) ∙ d.are) in
         record {
           left = subst (λ (steps : List Step). AreMetered stands text (after_steps steps first) now now_spare) (sym is) left;
           past = d.past;
@@ -76,7 +76,7 @@ module _ {M : Type 0} (stands : M → List CallRecord → Type 0) (text : M → 
 
   -- ---- a segment more
 
-  module _ (k : ℕ) (v w : Known) (meters spares : List M) (cursor : ℕ) (sound : IsSound board.trace) (within : k < length board.trace.segments) (done : IsDoneBelow board.trace k (order_of v.seen))
+  module _ (k : ℕ) (v w : SeatKnowledge) (meters spares : List M) (cursor : ℕ) (sound : IsSound board.trace) (within : k < length board.trace.segments) (done : IsDoneBelow board.trace k (order_of v.seen))
       (on : AreOn k v meters spares cursor) (ran : Ran board.trace k v w) where
     abbrev grown : List Step
     grown = grown_steps plays l board v w
@@ -199,7 +199,7 @@ joined before grown all said after silent is =
 
 module _ {M : Type 0} {stands : M → List CallRecord → Type 0} {text : M → List CallRecord → List ℕ} {old spare : List M} {plays : Plays} {l : Listing} {board : Board} where
   -- writing what is pending failed
-  pub unwritten_here : {k : ℕ} {v : Known} {meters spares : List M} {cursor : ℕ} {before now : Option (List ℕ)} {pending said : List ℕ}
+  pub unwritten_here : {k : ℕ} {v : SeatKnowledge} {meters spares : List M} {cursor : ℕ} {before now : Option (List ℕ)} {pending said : List ℕ}
       → IsUnderway plays l board (λ steps. steps_text text steps (handed_in old spare)) k v before now pending said → AreOn stands text old spare plays l board k v meters spares cursor
       → {handed : Dimensions → World → Type 0} {no_engine : Type 0} {new : Option (List ℕ)} {errors after : ℕ} → AppendsFront now new pending → no_engine
       → IsRunUnwritten (party plays handed no_engine (meter_story stands text old spare meters spares) (order_of v.seen) before new errors after) l board.slots board.trace
@@ -208,11 +208,11 @@ module _ {M : Type 0} {stands : M → List CallRecord → Type 0} {text : M → 
 
 module _ {M : Type 0} (stands : M → List CallRecord → Type 0) (text : M → List CallRecord → List ℕ) (old spare : List M) (plays : Plays) (l : Listing) (board : Board) where
   -- memory ran out in the changes before the first segment
-  pub interrupted_first : {v : Known} → v ≡ first_seat (turns_of board) → {now now_spare : List M} → (now ≡ old) × (now_spare ≡ spare)
+  pub interrupted_first : {v : SeatKnowledge} → v ≡ first_seat (turns_of board) → {now now_spare : List M} → (now ≡ old) × (now_spare ≡ spare)
       → {handed : Dimensions → World → Type 0} {no_engine : Type 0} {known : Option (List ℕ)} {errors after : ℕ} → no_engine
       → IsRunInterrupted (party plays handed no_engine (meter_story stands text old spare now now_spare) (order_of v.seen) known known errors after) l board.slots board.trace
   interrupted_first {v} fresh {now} {now_spare} kept {handed} {no_engine} {known} {errors} {after} engine =
-      begun_none plays l board.slots handed no_engine (meter_story stands text old spare now now_spare) board.trace (order_of v.seen) known errors after (ap (λ (s : Known). order_of s.seen) fresh) refl
+      begun_none plays l board.slots handed no_engine (meter_story stands text old spare now now_spare) board.trace (order_of v.seen) known errors after (ap (λ (s : SeatKnowledge). order_of s.seen) fresh) refl
       (rw (kept.0, kept.1) (none_beyond stands text old spare)) engine
 
   module _ (trace : Trace) (changes : List ℕ) (same : trace ≡ board.trace) (changes_are : changes ≡ trace.changes) where
@@ -220,7 +220,7 @@ module _ {M : Type 0} (stands : M → List CallRecord → Type 0) (text : M → 
     same_changes = changes_are ∙ ap (λ (t : Trace). t.changes) same
 
     -- before the first segment, where no line is kept
-    module _ (v : Known) (fresh : v ≡ first_seat (turns_of board)) (said : List ℕ) (silent : said ≡ []) (now now_spare : List M) (all : List ℕ) (cursor : ℕ)
+    module _ (v : SeatKnowledge) (fresh : v ≡ first_seat (turns_of board)) (said : List ℕ) (silent : said ≡ []) (now now_spare : List M) (all : List ℕ) (cursor : ℕ)
         (d : AreChangesDone stands text changes 0 old spare said now now_spare all cursor) where
       changed : AreChangesDone stands text board.trace.changes 0 old spare [] now now_spare all cursor
       changed = done_moved changes board.trace.changes 0 0 said same_changes refl silent d
@@ -235,7 +235,7 @@ module _ {M : Type 0} (stands : M → List CallRecord → Type 0) (text : M → 
           (said_first stands text old spare plays l board v fresh now now_spare all cursor changed ∙ sym only) refl (λ quiet. only ∙ quiet)
 
     -- a segment more
-    module _ (ends : List ℕ) (ends_are : ends ≡ trace.segments) (sound : IsSound trace) (k : ℕ) (v : Known) (meters spares : List M) (cursor : ℕ) (before then : Option (List ℕ)) (pending said : List ℕ) (inside : k < length ends)
+    module _ (ends : List ℕ) (ends_are : ends ≡ trace.segments) (sound : IsSound trace) (k : ℕ) (v : SeatKnowledge) (meters spares : List M) (cursor : ℕ) (before then : Option (List ℕ)) (pending said : List ℕ) (inside : k < length ends)
         (so_far : IsUnderway plays l board (λ steps. steps_text text steps (handed_in old spare)) k v before then pending said) (on : AreOn stands text old spare plays l board k v meters spares cursor) (silent : said ≡ []) where
       same_ends : ends ≡ board.trace.segments
       same_ends = ends_are ∙ ap (λ (t : Trace). t.segments) same
@@ -255,7 +255,7 @@ module _ {M : Type 0} (stands : M → List CallRecord → Type 0) (text : M → 
           (subst (λ (n : ℕ). IsAt board.trace.changes cursor n) (sym same_place)
           (at_next board.trace.segments board.trace.changes (length board.trace.events) k sound_there.segments sound_there.changes within cursor on.past))
 
-      module _ (w : Known) (ran : Ran trace k v w) where
+      module _ (w : SeatKnowledge) (ran : Ran trace k v w) where
         ran_there : Ran board.trace k v w
         ran_there = subst (λ (t : Trace). Ran t k v w) same ran
 

@@ -14,7 +14,7 @@ use Rattle.line_list.specs.Lines.{listed}
 use Rattle.exchange_events.specs.declared.trace.Trace.{Trace}
 use Rattle.exchange_events.specs.Orders.{IsEvent}
 use Rattle.exchange_events.specs.Sound.{setting_of}
-use Rattle.seat_history.specs.declared.known.Known.{Known}
+use Rattle.seat_history.specs.declared.seat_knowledge.SeatKnowledge.{SeatKnowledge}
 use Rattle.seat_history.specs.Histories.{StartsWith}
 use Rattle.exchange_core.specs.Boards.{Board, setting_at, world_at}
 use Rattle.exchange_core.specs.Working.{order_of}
@@ -84,7 +84,7 @@ lines-at (count ∷ changes) n = by_test (count == n) (lines-at changes n)
 
 -- ---- the story of a run
 
-module _ (plays : Plays) (l : Listing) (board : Board) (v w : Known) where
+module _ (plays : Plays) (l : Listing) (board : Board) (v w : SeatKnowledge) where
   -- the steps of the events that the history grew by
   abbrev pub grown_steps : List Step
   grown_steps = event_steps (plays (table_of board.trace.tones)) l (setting_at board) (world_at board v.seen) (new_events v w) (events_of board.trace.events (new_events v w))

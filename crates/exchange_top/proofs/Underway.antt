@@ -7,7 +7,7 @@ use Rattle.std.proofs.lemmas.List.Elements.{All-nil}
 use Rattle.exchange_events.specs.declared.record.CallRecord.{CallRecord}
 use Rattle.exchange_events.specs.declared.trace.Trace.{Trace}
 use Rattle.exchange_events.specs.Sizes.{Dimensions}
-use Rattle.seat_history.specs.declared.known.Known.{Known}
+use Rattle.seat_history.specs.declared.seat_knowledge.SeatKnowledge.{SeatKnowledge}
 use Rattle.seat_history.specs.Seats.{first_seat}
 use Rattle.exchange_core.specs.Boards.{Board, turns_of}
 use Rattle.exchange_events.specs.Sound.{IsSound, setting_of}
@@ -24,8 +24,8 @@ use Rattle.meters.specs.Changing.{Step, changes_at, lines_of, records_of}
 use Rattle.exchange_top.specs.Story.{story}
 use Rattle.exchange_top.specs.Telling.{MeterStory}
 use Rattle.call_profile.specs.CallsTold.{calls_told}
-use Rattle.exchange_top.specs.declared.run.RunFault.{RunFault}
-use Rattle.exchange_top.specs.declared.run.RunFault.TheVariants.{Memory, Write}
+use Rattle.exchange_top.specs.declared.run.RunError.{RunError}
+use Rattle.exchange_top.specs.declared.run.RunError.TheVariants.{Memory, Write}
 use Rattle.exchange_top.specs.Running.{GrewFew, ending_of, engine_of, fabric_at}
 use Rattle.exchange_top.specs.Streams.{AppendsFront}
 use Rattle.exchange_top.proofs.Answered.{few_grown}
@@ -48,7 +48,7 @@ pub record IsPending (plays : Plays) (l : Listing) (slots : ℕ) (trace : Trace)
   pub quiet : said ≡ [] → pending ≡ lines_of more
 
 -- the first k segments were done by what seat 0 knows, and of their story all is written but what is pending
-pub record IsUnderway (plays : Plays) (l : Listing) (board : Board) (written : Writing) (k : ℕ) (seat : Known) (old now : Option (List ℕ)) (pending said : List ℕ) : Type 0 where
+pub record IsUnderway (plays : Plays) (l : Listing) (board : Board) (written : Writing) (k : ℕ) (seat : SeatKnowledge) (old now : Option (List ℕ)) (pending said : List ℕ) : Type 0 where
   pub chief : IsChief (turns_of board) seat
   pub numbers : seat.made ≤ 9 * k
   pub done : IsDoneBelow board.trace k (order_of seat.seen)
@@ -99,7 +99,7 @@ module _ (plays : Plays) (l : Listing) (slots : ℕ) (handed : Dimensions → Wo
 
 module _ (plays : Plays) (l : Listing) (board : Board) (written : Writing) where
   -- before the first segment
-  pub underway_first : (seat : Known) (known : Option (List ℕ)) (pending said : List ℕ) → seat ≡ first_seat (turns_of board) → written (story plays l board.slots board.trace []) ≡ pending
+  pub underway_first : (seat : SeatKnowledge) (known : Option (List ℕ)) (pending said : List ℕ) → seat ≡ first_seat (turns_of board) → written (story plays l board.slots board.trace []) ≡ pending
       → written [] ≡ [] → (said ≡ [] → pending ≡ []) → IsUnderway plays l board written 0 seat known known pending said
   underway_first seat known pending said fresh all silent none = rw fresh (record {
     chief = first_chief (turns_of board);
@@ -117,12 +117,12 @@ module _ (plays : Plays) (l : Listing) (board : Board) (written : Writing) where
     few = All-nil _;
   })
 
-  module _ (k : ℕ) (v : Known) (old now : Option (List ℕ)) (pending said : List ℕ) (so_far : IsUnderway plays l board written k v old now pending said) where
+  module _ (k : ℕ) (v : SeatKnowledge) (old now : Option (List ℕ)) (pending said : List ℕ) (so_far : IsUnderway plays l board written k v old now pending said) where
     abbrev story_so_far : List Step
     story_so_far = story plays l board.slots board.trace (order_of v.seen)
 
     -- one segment more was done, with the changes behind it, and what is written of it is pending too
-    pub underway_more : (w : Known) (steps : List Step) (after more all : List ℕ) → said ≡ [] → IsChief (turns_of board) w → Ran board.trace k v w → RanWhole board.trace k v w
+    pub underway_more : (w : SeatKnowledge) (steps : List Step) (after more all : List ℕ) → said ≡ [] → IsChief (turns_of board) w → Ran board.trace k v w → RanWhole board.trace k v w
         → story plays l board.slots board.trace (order_of w.seen) ≡ story_so_far ++ steps → written (story plays l board.slots board.trace (order_of w.seen)) ≡ written story_so_far ++ more
         → after ≡ pending ++ more → (all ≡ [] → more ≡ lines_of steps) → GrewFew board v w → IsUnderway plays l board written (k + 1) w old now after all
     underway_more w steps after more all silent chief ran whole is lines same none few =
@@ -178,13 +178,13 @@ module _ (plays : Plays) (l : Listing) (board : Board) (written : Writing) where
     pub all_written : (new : Option (List ℕ)) → Appends now new pending → Appends old new (written story_so_far)
     all_written new done = whole_pending old now new (written so_far.text.front) pending (written story_so_far) so_far.text.rest so_far.text.text done
 
-module _ (plays : Plays) (l : Listing) (board : Board) (handed : Dimensions → World → Type 0) (no_engine : Type 0) (m : MeterStory) (k : ℕ) (v : Known) (old now : Option (List ℕ)) (before after : ℕ) (pending said : List ℕ)
+module _ (plays : Plays) (l : Listing) (board : Board) (handed : Dimensions → World → Type 0) (no_engine : Type 0) (m : MeterStory) (k : ℕ) (v : SeatKnowledge) (old now : Option (List ℕ)) (before after : ℕ) (pending said : List ℕ)
     (so_far : IsUnderway plays l board m.written k v old now pending said) where
   abbrev story_before : List Step
   story_before = story plays l board.slots board.trace (order_of v.seen)
 
   -- memory ran out behind these segments: the meters took some steps more, of which nothing but lines is written
-  pub begun_segment : (w : Known) (steps others : List Step) (noted : List CallRecord) → said ≡ [] → Ran board.trace k v w → story plays l board.slots board.trace (order_of w.seen) ≡ (story_before ++ steps) ++ others
+  pub begun_segment : (w : SeatKnowledge) (steps others : List Step) (noted : List CallRecord) → said ≡ [] → Ran board.trace k v w → story plays l board.slots board.trace (order_of w.seen) ≡ (story_before ++ steps) ++ others
       → m.written (story_before ++ steps) ≡ m.written story_before ++ lines_of steps → records_of (story_before ++ steps) ≡ calls_told board.slots board.trace (order_of v.seen) ++ noted
       → m.left_beyond (story_before ++ steps) (records_of others) → no_engine → IsRunInterrupted (party plays handed no_engine m (order_of w.seen) old now before after) l board.slots board.trace
   begun_segment w steps others noted silent ran are says calls left engine =
@@ -242,14 +242,14 @@ module _ (plays : Plays) (l : Listing) (board : Board) (handed : Dimensions → 
 
 -- ---- what came of a run
 
-pub ending_memory : {C : Type 0} (r : Result C RunFault) → IsErrAnd r (λ fault. fault ≡ Memory) → ending_of r ≡ ended.OutOfMemory
+pub ending_memory : {C : Type 0} (r : Result C RunError) → IsErrAnd r (λ fault. fault ≡ Memory) → ending_of r ≡ ended.OutOfMemory
 ending_memory {C} (Ok e) is = absurd is
-ending_memory {C} (Err f) is = ap (λ (fault : RunFault). ending_of {C = C} (Err fault)) is
+ending_memory {C} (Err f) is = ap (λ (fault : RunError). ending_of {C = C} (Err fault)) is
 
-pub ending_write : {C : Type 0} (r : Result C RunFault) → IsErrAnd r (λ fault. fault ≡ Write) → ending_of r ≡ ended.WriteFailed
+pub ending_write : {C : Type 0} (r : Result C RunError) → IsErrAnd r (λ fault. fault ≡ Write) → ending_of r ≡ ended.WriteFailed
 ending_write {C} (Ok e) is = absurd is
-ending_write {C} (Err f) is = ap (λ (fault : RunFault). ending_of {C = C} (Err fault)) is
+ending_write {C} (Err f) is = ap (λ (fault : RunError). ending_of {C = C} (Err fault)) is
 
-pub no_engine_of : {C : Type 0} (P : RunFault → Type 0) (r : Result C RunFault) → IsErrAnd r P → engine_of r ≡ None
+pub no_engine_of : {C : Type 0} (P : RunError → Type 0) (r : Result C RunError) → IsErrAnd r P → engine_of r ≡ None
 no_engine_of P (Ok e) is = absurd is
 no_engine_of P (Err f) is = refl

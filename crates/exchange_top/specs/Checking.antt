@@ -15,8 +15,8 @@ use Rattle.exchange_top.specs.declared.ending.Ending.TheVariants as ended
 -- ---- a trace and its report in one input
 
 -- the maximum number of bytes in a trace and a report together, with the line between them
-abbrev pub most_checked : ℕ
-most_checked = 268435456
+abbrev pub max_checked : ℕ
+max_checked = 268435456
 
 -- the line that divides a trace from a report
 abbrev pub divider : List ℕ
@@ -41,15 +41,15 @@ pub data IsDivided (bytes trace report : List ℕ) : Type 0 where
 
 -- the input has a trace and a report
 pub record IsChecked (bytes : List ℕ) (t : Trace) (report : List ℕ) : Type 0 where
-  pub few : length bytes ≤ most_checked
+  pub few : length bytes ≤ max_checked
   pub trace : List ℕ
   pub divided : IsDivided bytes trace report
   pub is_trace : IsTrace trace t
 
 -- the input has no trace and report: it is too long, which is line 0, or its trace is refused
 pub data IsUnchecked (bytes : List ℕ) (number : ℕ) (why : Reason) : Type 0 where
-  Too_much : most_checked < length bytes → number ≡ 0 → why ≡ reason.Limit → IsUnchecked bytes number why
-  No_trace : length bytes ≤ most_checked → (trace report : List ℕ) → IsDivided bytes trace report → IsRefused trace number why → IsUnchecked bytes number why
+  Too_much : max_checked < length bytes → number ≡ 0 → why ≡ reason.Limit → IsUnchecked bytes number why
+  No_trace : length bytes ≤ max_checked → (trace report : List ℕ) → IsDivided bytes trace report → IsRefused trace number why → IsUnchecked bytes number why
 
 -- ---- the verdict
 
@@ -71,7 +71,7 @@ Finds strict bytes (ended.Invalid line) = (t : Trace) × (report : List ℕ) × 
 -- the ending of a check of an input: the finding was reported, or its write failed; a read failed; or an allocation
 -- failed
 pub data Checks (strict : Bool) (input output : Stream) (ending : Ending) : Type 0 where
-  Said : (bytes : List ℕ) → IsInputWithin most_checked input.old input.new bytes → (found : Ending) → Finds strict bytes found → Says found (line_of found) ending output
+  Said : (bytes : List ℕ) → IsInputWithin max_checked input.old input.new bytes → (found : Ending) → Finds strict bytes found → Says found (line_of found) ending output
       → Checks strict input output ending
   Not_read : ending ≡ ended.ReadFailed → HasFailed input → IsUntouched output → Checks strict input output ending
   No_memory : ending ≡ ended.OutOfMemory → IsUntouched output → Checks strict input output ending

@@ -2,14 +2,14 @@
 use Rattle.std.specs.Prelude.{ℕ, Bool, true, false, List, Some, None, String, map, string_bytes, ◌+◌, ◌≡◌, ◌⊎◌}
 use Rattle.std.specs.declared.option.Option.{Option}
 use Rattle.exchange_events.specs.declared.trace.Trace.{Trace}
-use Rattle.fabric_map.specs.Map.{most_moves}
-use Rattle.strict_map.specs.Strict.{most_moves as most_strict_moves}
-use Rattle.trace_text.specs.TraceGrammar.{most_bytes}
+use Rattle.fabric_map.specs.Map.{max_moves}
+use Rattle.strict_map.specs.Strict.{max_moves as max_strict_moves}
+use Rattle.trace_text.specs.TraceGrammar.{max_bytes}
 use Rattle.command_words.specs.Words.{command_of}
 use Rattle.command_words.specs.declared.command.Command.{Command}
 use Rattle.command_words.specs.declared.command.Command.TheVariants.{Run, Generate, Check}
-use Rattle.exchange_top.specs.Checking.{most_checked, slots_of}
-use Rattle.exchange_top.specs.Inputs.{most_of}
+use Rattle.exchange_top.specs.Checking.{max_checked, slots_of}
+use Rattle.exchange_top.specs.Inputs.{max_bytes_read}
 use Rattle.exchange_top.specs.Outcomes.{Fabric}
 
 -- ---- the commands
@@ -48,22 +48,22 @@ texts words = map string_bytes words
 
 -- the maximum number of bytes that a command reads: the maximum for a trace, or for a trace and a report, and one piece
 -- more
-abbrev pub most_read_by : Option Command → ℕ
-most_read_by None = 0
-most_read_by (Some (Run strict)) = most_of most_bytes
-most_read_by (Some (Generate seed calls)) = 0
-most_read_by (Some (Check strict)) = most_of most_checked
+abbrev pub max_read_by : Option Command → ℕ
+max_read_by None = 0
+max_read_by (Some (Run strict)) = max_bytes_read max_bytes
+max_read_by (Some (Generate seed calls)) = 0
+max_read_by (Some (Check strict)) = max_bytes_read max_checked
 
-abbrev pub most_read : List (List ℕ) → ℕ
-most_read words = most_read_by (command_of words)
+abbrev pub max_read : List (List ℕ) → ℕ
+max_read words = max_read_by (command_of words)
 
 -- the maximum number of live paths that a new path moves on a fabric of n lines
 abbrev pub moves_of : Bool → ℕ → ℕ
-moves_of true = most_strict_moves
-moves_of false = most_moves
+moves_of true = max_strict_moves
+moves_of false = max_moves
 
 -- the fabric for a trace, and the maximum number of live paths that a new path moves: 59 internal slots and no move for
 -- a strict one, and 30 internal slots otherwise
 abbrev pub fabric_of : Bool → Trace → Fabric
-fabric_of true trace = record { slots = slots_of true; most_moves = most_strict_moves (trace.external + trace.bridges) }
-fabric_of false trace = record { slots = slots_of false; most_moves = most_moves (trace.external + trace.bridges) }
+fabric_of true trace = record { slots = slots_of true; max_moves = max_strict_moves (trace.external + trace.bridges) }
+fabric_of false trace = record { slots = slots_of false; max_moves = max_moves (trace.external + trace.bridges) }

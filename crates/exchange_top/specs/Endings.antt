@@ -3,13 +3,13 @@ use Rattle.std.specs.Prelude.{ℕ, Bool, false, List, [], Some, String, ◌≡�
 use Rattle.std.specs.declared.option.Option.{Option}
 use Rattle.exchange_events.specs.declared.trace.Trace.{Trace}
 use Rattle.trace_text.specs.declared.fault.Reason.{Reason}
-use Rattle.trace_text.specs.TraceGrammar.{IsTrace, IsRefused, most_bytes}
+use Rattle.trace_text.specs.TraceGrammar.{IsTrace, IsRefused, max_bytes}
 use Rattle.generated_trace.specs.Generated.{IsTrafficOf}
 use Rattle.run_verifier.specs.Verdicts.{IsInvalidAt, IsValid}
 use Rattle.line_list.specs.declared.listing.Listing.TheVariants as listing
 use Rattle.exchange_top.specs.declared.ending.Ending.{Ending}
 use Rattle.exchange_top.specs.declared.ending.Ending.TheVariants as ended
-use Rattle.exchange_top.specs.Checking.{Finds, IsChecked, IsUnchecked, most_checked, slots_of}
+use Rattle.exchange_top.specs.Checking.{Finds, IsChecked, IsUnchecked, max_checked, slots_of}
 use Rattle.exchange_top.specs.Commands.{IsCheck, IsCheckOn, IsGeneration, IsNoCommand, IsReading, IsRun, IsRunOn, fabric_of, texts}
 use Rattle.exchange_top.specs.Inputs.{IsInputWithin, IsWholeInput}
 use Rattle.exchange_top.specs.Outcomes.{IsIdle, IsHandedOut, IsRunInterrupted, IsRunUnwritten, IsRunWhole, IsRunWritten, Part, Parties, Whole}
@@ -70,8 +70,8 @@ pub record IsReportInvalid (arguments : List (List ℕ)) (input : Stream) (line 
 -- the input of `run` is not a trace, or the input of `check` has none: this is its first line that fails, for this
 -- reason
 pub data IsNoTrace (arguments : List (List ℕ)) (input : Stream) (line : ℕ) (reason : Reason) : Type 0 where
-  For_run : IsRun arguments → (bytes : List ℕ) → IsInputWithin most_bytes input.old input.new bytes → IsRefused bytes line reason → IsNoTrace arguments input line reason
-  For_check : IsCheck arguments → (bytes : List ℕ) → IsInputWithin most_checked input.old input.new bytes → IsUnchecked bytes line reason → IsNoTrace arguments input line reason
+  For_run : IsRun arguments → (bytes : List ℕ) → IsInputWithin max_bytes input.old input.new bytes → IsRefused bytes line reason → IsNoTrace arguments input line reason
+  For_check : IsCheck arguments → (bytes : List ℕ) → IsInputWithin max_checked input.old input.new bytes → IsUnchecked bytes line reason → IsNoTrace arguments input line reason
 
 -- the finding on an input, by the ending of the call that reports it
 abbrev pub IsFound : List (List ℕ) → Stream → Ending → Type 0
@@ -189,7 +189,7 @@ RunEnds strict input p = (arguments : List (List ℕ)) → IsRunOn arguments str
 
 abbrev pub InputEnds : Bool → List ℕ → Part → Type 0
 InputEnds strict bytes p =
-    (arguments : List (List ℕ)) (input : Stream) → IsRunOn arguments strict → IsInputWithin most_bytes input.old input.new bytes → PartEnds arguments input p
+    (arguments : List (List ℕ)) (input : Stream) → IsRunOn arguments strict → IsInputWithin max_bytes input.old input.new bytes → PartEnds arguments input p
 
 abbrev pub GenerationEnds : ℕ → ℕ → Part → Type 0
 GenerationEnds seed calls p = (arguments : List (List ℕ)) (input : Stream) → IsGeneration arguments seed calls → PartEnds arguments input p

@@ -33,19 +33,19 @@ use Rattle.exchange_top.specs.Telling.{MeterStory, meter_story}
 -- ---- lines that follow one another
 
 -- the maximum number of octets in a line
-abbrev pub most_line : ℕ
-most_line = 65535
+abbrev pub max_line : ℕ
+max_line = 65535
 
 -- the maximum number of lines
-abbrev pub most_lines : ℕ
-most_lines = 4294967294
+abbrev pub max_lines : ℕ
+max_lines = 4294967294
 
 -- the content of a line after the lines with these contents, or the reason for which it is refused: it is too long,
 -- there are too many lines before it, or a check of it fails
 abbrev pub follows : List Said → List ℕ → Result Said Reason
 follows told line =
-    if nat_lt most_line (length line) then Err reason.Limit
-    else if nat_lt (length told) most_lines then says line_limits (so_far told) line
+    if nat_lt max_line (length line) then Err reason.Limit
+    else if nat_lt (length told) max_lines then says line_limits (so_far told) line
     else Err reason.Limit
 
 -- each line follows the lines before it, and has the content in its place

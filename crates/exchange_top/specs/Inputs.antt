@@ -4,8 +4,8 @@ use Rattle.std.specs.Io.KnownBytes.{Consumes, IsAtEnd}
 use Rattle.std.specs.declared.option.Option.{Option}
 
 -- the maximum number of bytes that are read from an input with this limit: one piece of 65,536 more
-abbrev pub most_of : ℕ → ℕ
-most_of limit = limit + 65536
+abbrev pub max_bytes_read : ℕ → ℕ
+max_bytes_read limit = limit + 65536
 
 -- these bytes are all that were left, and they were read
 pub record IsWholeInput (old new : Option (List ℕ)) (bytes : List ℕ) : Type 0 where
@@ -16,4 +16,4 @@ pub record IsWholeInput (old new : Option (List ℕ)) (bytes : List ℕ) : Type 
 pub record IsInputWithin (limit : ℕ) (old new : Option (List ℕ)) (bytes : List ℕ) : Type 0 where
   pub front : Consumes old new bytes
   pub whole : length bytes ≤ limit → IsAtEnd new
-  pub few : length bytes ≤ most_of limit
+  pub few : length bytes ≤ max_bytes_read limit

@@ -24,11 +24,11 @@ use Rattle.meters.specs.Changing.{Step, lines_of, records_of}
 use Rattle.exchange_top.specs.Borrowed.{Borrowed}
 use Rattle.ex_io.specs.declared.ends.Sink.{Ghosts as SinkMembers}
 use Rattle.frame_engine.specs.declared.carrier.Carrier.{Ghosts as CarrierMembers}
-use Rattle.exchange_top.specs.declared.call.Ended.{Ended}
+use Rattle.exchange_top.specs.declared.call.CallEnd.{CallEnd}
 use Rattle.exchange_top.specs.declared.call.Outcome.{Outcome}
 use Rattle.exchange_top.specs.declared.ending.Ending.{Ending}
 use Rattle.exchange_top.specs.declared.ending.Ending.TheVariants as ended
-use Rattle.exchange_top.specs.declared.setting.Metering.{Metering}
+use Rattle.exchange_top.specs.declared.call_context.Metering.{Metering}
 use Rattle.exchange_top.specs.Story.{story}
 use Rattle.exchange_top.specs.Streams.{HasFailed, IsWritten, IsWrittenInPart, Stream, output}
 use Rattle.exchange_top.specs.Telling.{AreLeft, AreTold, MeterStory, metered, metered_together}
@@ -37,11 +37,11 @@ use Rattle.call_profile.specs.CallsTold.{calls_told}
 -- the fabric for a trace: the number of internal slots, and the maximum number of live paths that a new path moves
 pub record Fabric : Type 0 where
   pub slots : ℕ
-  pub most_moves : ℕ
+  pub max_moves : ℕ
 
 -- in a run of these events no new path moved more than n live paths
 abbrev pub MovesFew : Fabric → Trace → List ℕ → Type 0
-MovesFew fabric trace order = let s = setting_of fabric.slots trace in All (MovesAtMost fabric.most_moves) (run s (start s.dimensions) (events_of trace.events order))
+MovesFew fabric trace order = let s = setting_of fabric.slots trace in All (MovesAtMost fabric.max_moves) (run s (start s.dimensions) (events_of trace.events order))
 
 -- an answer reports no moved path in either direction
 abbrev pub TellsNoMoves : Reply → Type 0
@@ -97,7 +97,7 @@ pub record Part : Type 1 where
   pub ending : Ending
 
 -- the part of a call that ended so, with its sink and its meters
-abbrev pub part : {E K V : Type 0} {F : V → Type 0} → CarrierMembers E → Ended E → SinkMembers K → Borrowed K
+abbrev pub part : {E K V : Type 0} {F : V → Type 0} → CarrierMembers E → CallEnd E → SinkMembers K → Borrowed K
     → (DynBox V Global F → List CallRecord → Type 0) → (DynBox V Global F → List CallRecord → List ℕ) → Borrowed (Metering V F) → Part
 part carrier ended members sink stands text metering = record {
   parties = parties carrier ended.engine ended.order.items (metered_together stands text metering) (output members sink);

@@ -11,7 +11,7 @@ use Rattle.exchange_events.specs.declared.record.CallRecord.{CallRecord}
 use Rattle.call_profile.specs.CallsTold.{calls_kept}
 use Rattle.meters.specs.Changing.{Metering, Step, after_steps, handed_in, steps_text, AreMetered}
 use Rattle.meters.specs.Telling.{IsTold, IsToldFront}
-use Rattle.exchange_top.specs.declared.setting.Metering.{Metering as Meters}
+use Rattle.exchange_top.specs.declared.call_context.Metering.{Metering as Meters}
 
 -- the calls of these answers, in order
 abbrev pub calls_answered : List Answer → List CallRecord

@@ -2,12 +2,12 @@ ghost use Rattle.std.specs.Prelude.{◌≡◌, ◌+◌, ◌≤◌, ◌⊎◌, �
 ghost use Rattle.std.specs.List.{concat};
 ghost use Rattle.exchange_events.specs.Sound.{IsSound};
 ghost use Rattle.exchange_core.specs.Beginnings.{IsUnused};
-ghost use Rattle.trace_text.specs.TraceGrammar.{most_bytes};
+ghost use Rattle.trace_text.specs.TraceGrammar.{max_bytes};
 ghost use Rattle.exchange_top.specs.declared.ending.Ending.{Ending};
 ghost use Rattle.exchange_top.specs.declared.ending.Ending.TheVariants.{Completed, ReadFailed, WriteFailed};
-ghost use Rattle.exchange_top.specs.Commands.{IsReading, most_read, texts};
+ghost use Rattle.exchange_top.specs.Commands.{IsReading, max_read, texts};
 ghost use Rattle.exchange_top.specs.Endings.{Ends, EndsAs, GenerationEnds, HasEnded, InputEnds, IsDue, RunEnds, status_of};
-ghost use Rattle.exchange_top.specs.Inputs.{most_of};
+ghost use Rattle.exchange_top.specs.Inputs.{max_bytes_read};
 ghost use Rattle.exchange_top.specs.Outcomes.{SumsUp, part, parties, whole};
 ghost use Rattle.exchange_top.specs.Refusals.{Says};
 ghost use Rattle.exchange_top.specs.Running.{RunsOn, board_for, board_on};
@@ -15,21 +15,21 @@ ghost use Rattle.exchange_top.specs.Streams.{ConsumesAtMost, input, output, stre
 ghost use Rattle.exchange_top.specs.Summary.{summary_text};
 ghost use Rattle.exchange_top.specs.Telling.{meter_story};
 
+use crate::call_context::{CallContext, Metering, PendingText};
 use crate::checking::check;
 use crate::ending::Ending;
 use crate::refusals::{refusal, say};
-use crate::run::{RunFault, run};
-use crate::setting::{Metering, Pending, Setting};
-use crate::streams::{ReadFault, read_all, write_all};
+use crate::run::{RunError, run};
+use crate::streams::{ReadError, read_all, write_all};
 use crate::summary::summary;
-use command_words::{Command, WordsFault, read_command};
+use command_words::{Command, CommandError, parse_command};
 use control_memory::PathMap;
 use ex_io::{Sink, Source};
 use exchange_events::Trace;
 use fabric_map::FabricMap;
 use frame_engine::Carrier;
 use gate::Gate;
-use generated_trace::generated;
+use generated_trace::generate_trace;
 use line_list::{LineList, ListingKind, NoLines, ReportLines};
 use meters::Meter;
 use std::alloc::Global;
@@ -38,7 +38,7 @@ use std::mem;
 use std::sync::Wait;
 use std::thread::Threads;
 use strict_map::StrictMap;
-use trace_text::{MOST_BYTES, TraceFault, read_trace};
+use trace_text::{MAX_BYTES, TraceFault, read_trace};
 
 /// The ending of a call of the exchange.
 #[derive(Drop)]
@@ -55,19 +55,19 @@ pub struct Outcome<C: Carrier> {
 
 // The ending of a part of a call, the numbers of the processed events, and the engine that is returned.
 #[derive(Drop)]
-struct Ended<C: Carrier> {
+struct CallEnd<C: Carrier> {
     ending: Ending,
     order: Vec<u32>,
     engine: Option<C>,
 }
 
 // Returns the end of a part that processed no event.
-fn idle<C: Carrier>(alloc: Global, ending: Ending) -> Ended<C>
+fn idle<C: Carrier>(alloc: Global, ending: Ending) -> CallEnd<C>
     ensures ending { result.ending ≡ ending }
     ensures none { result.order.items ≡ [] }
     ensures engine { result.engine ≡ None }
 {
-    Ended {
+    CallEnd {
         ending,
         order: Vec::new(alloc),
         engine: None,
@@ -75,7 +75,12 @@ fn idle<C: Carrier>(alloc: Global, ending: Ending) -> Ended<C>
 }
 
 // Writes a line, and ends with the given ending unless the write fails.
-fn refuse<K: Sink, C: Carrier>(alloc: Global, sink: &mut K, line: &[u8], ending: Ending) -> Ended<C>
+fn refuse<K: Sink, C: Carrier>(
+    alloc: Global,
+    sink: &mut K,
+    line: &[u8],
+    ending: Ending,
+) -> CallEnd<C>
     ensures none { result.order.items ≡ [] }
     ensures engine { result.engine ≡ None }
     ensures answer { Says ending line.now result.ending (output K.Sink sink) }
@@ -94,13 +99,13 @@ fn run_on<
     L: ListingKind + Send + Drop,
     R: Threads + Wait + Sync,
 >(
-    setting: &Setting<'_, R, G>,
+    context: &CallContext<'_, R, G>,
     trace: &Trace,
     map: P,
-    pending: &mut Pending<L>,
+    pending: &mut PendingText<L>,
     sink: &mut K,
     metering: &mut Metering,
-) -> Ended<C>
+) -> CallEnd<C>
     requires sound { IsSound trace.now }
     requires paths { IsUnused (trace.now.external + trace.now.bridges) (P.width map) (P.depth map) (P.layout map) }
     requires blank { pending.old.lines ≡ [] }
@@ -109,22 +114,22 @@ fn run_on<
         (board_on P.PathMap map trace.now) }
     ensures writes { (result.ending ≡ WriteFailed) ⊎ (K.faults sink.new ≡ K.faults sink.old) }
 {
-    let alloc = setting.alloc;
+    let alloc = context.alloc;
     let Ok(mut order) = Vec::with_capacity(alloc, trace.events.as_slice().len()) else {
         return idle(alloc, Ending::OutOfMemory);
     };
-    match run(setting, trace, map, &mut order, pending, sink, metering) {
-        Ok(engine) => Ended {
+    match run(context, trace, map, &mut order, pending, sink, metering) {
+        Ok(engine) => CallEnd {
             ending: Ending::Completed,
             order,
             engine: Some(engine),
         },
-        Err(RunFault::Write) => Ended {
+        Err(RunError::Write) => CallEnd {
             ending: Ending::WriteFailed,
             order,
             engine: None,
         },
-        Err(RunFault::Memory) => Ended {
+        Err(RunError::Memory) => CallEnd {
             ending: Ending::OutOfMemory,
             order,
             engine: None,
@@ -134,29 +139,29 @@ fn run_on<
 
 // Runs a trace on the requested fabric.
 fn run_trace<K: Sink, G: Gate, C: Carrier, L: ListingKind + Send + Drop, R: Threads + Wait + Sync>(
-    setting: &Setting<'_, R, G>,
+    context: &CallContext<'_, R, G>,
     trace: &Trace,
     strict: bool,
-    pending: &mut Pending<L>,
+    pending: &mut PendingText<L>,
     sink: &mut K,
     metering: &mut Metering,
-) -> Ended<C>
+) -> CallEnd<C>
     requires sound { IsSound trace.now }
     requires blank { pending.old.lines ≡ [] }
     requires silent { pending.old.said.items ≡ [] }
     ensures runs { RunsOn (part C.Carrier result K.Sink sink stands text metering) L.listing (board_for strict trace.now) }
     ensures writes { (result.ending ≡ WriteFailed) ⊎ (K.faults sink.new ≡ K.faults sink.old) }
 {
-    let alloc = setting.alloc;
+    let alloc = context.alloc;
     let width = trace.external + trace.bridges;
     if strict {
         match StrictMap::new(alloc, width) {
-            Ok(paths) => run_on(setting, trace, paths, pending, sink, metering),
+            Ok(paths) => run_on(context, trace, paths, pending, sink, metering),
             Err(_) => idle(alloc, Ending::OutOfMemory),
         }
     } else {
         match FabricMap::new(alloc, width) {
-            Ok(paths) => run_on(setting, trace, paths, pending, sink, metering),
+            Ok(paths) => run_on(context, trace, paths, pending, sink, metering),
             Err(_) => idle(alloc, Ending::OutOfMemory),
         }
     }
@@ -164,24 +169,24 @@ fn run_trace<K: Sink, G: Gate, C: Carrier, L: ListingKind + Send + Drop, R: Thre
 
 // Parses the bytes and runs their trace, or refuses them.
 fn run_bytes<K: Sink, G: Gate, C: Carrier, R: Threads + Wait + Sync>(
-    setting: &Setting<'_, R, G>,
+    context: &CallContext<'_, R, G>,
     bytes: Vec<u8>,
     strict: bool,
     sink: &mut K,
     metering: &mut Metering,
-) -> Ended<C>
+) -> CallEnd<C>
     ensures ends { InputEnds strict bytes.items (part C.Carrier result K.Sink sink stands text metering) }
     ensures writes { (result.ending ≡ WriteFailed) ⊎ (K.faults sink.new ≡ K.faults sink.old) }
 {
-    let alloc = setting.alloc;
+    let alloc = context.alloc;
     match read_trace(alloc, bytes.as_slice()) {
         Ok(trace) => {
             // The lines reuse the memory of the input, so that its pages need not be mapped again.
-            let mut pending: Pending<ReportLines> = Pending {
+            let mut pending: PendingText<ReportLines> = PendingText {
                 lines: LineList::new(alloc, bytes),
                 said: Vec::new(alloc),
             };
-            run_trace(setting, &trace, strict, &mut pending, sink, metering)
+            run_trace(context, &trace, strict, &mut pending, sink, metering)
         }
         Err(TraceFault::Memory) => idle(alloc, Ending::OutOfMemory),
         Err(TraceFault::Line { number, reason }) => match refusal(alloc, number, reason) {
@@ -200,30 +205,30 @@ fn run_bytes<K: Sink, G: Gate, C: Carrier, R: Threads + Wait + Sync>(
 fn sum_up<K: Sink, C: Carrier>(
     alloc: Global,
     trace: &Trace,
-    ended: Ended<C>,
+    ended: CallEnd<C>,
     sink: &mut K,
     meters: &[Box<dyn Meter>],
-) -> Ended<C>
+) -> CallEnd<C>
     ensures order { result.order ≡ ended.order }
     ensures sums { SumsUp (output K.Sink sink) (summary_text trace.now (concat (map (λ m. text m []) meters.now)))
         ended.engine result.engine result.ending }
     ensures writes { (result.ending ≡ WriteFailed) ⊎ (K.faults sink.new ≡ K.faults sink.old) }
 {
-    let Ended { order, engine, .. } = ended;
+    let CallEnd { order, engine, .. } = ended;
     let Ok(text) = summary(alloc, trace, meters) else {
-        return Ended {
+        return CallEnd {
             ending: Ending::OutOfMemory,
             order,
             engine: None,
         };
     };
     match write_all(sink, text.as_slice()) {
-        Ok(()) => Ended {
+        Ok(()) => CallEnd {
             ending: Ending::Completed,
             order,
             engine,
         },
-        Err(_) => Ended {
+        Err(_) => CallEnd {
             ending: Ending::WriteFailed,
             order,
             engine: None,
@@ -233,26 +238,26 @@ fn sum_up<K: Sink, C: Carrier>(
 
 // Runs the trace generated from a seed with n calls, on 30 internal slots, and writes its summary.
 fn run_generated<K: Sink, G: Gate, C: Carrier, R: Threads + Wait + Sync>(
-    setting: &Setting<'_, R, G>,
+    context: &CallContext<'_, R, G>,
     seed: u32,
     calls: u32,
     sink: &mut K,
     metering: &mut Metering,
-) -> Ended<C>
+) -> CallEnd<C>
     requires some { 1 ≤ calls }
     requires most { calls ≤ 2000 }
     ensures ends { GenerationEnds seed calls (part C.Carrier result K.Sink sink stands text metering) }
     ensures writes { (result.ending ≡ WriteFailed) ⊎ (K.faults sink.new ≡ K.faults sink.old) }
 {
-    let alloc = setting.alloc;
-    let Ok(trace) = generated(alloc, u64::from(seed), calls) else {
+    let alloc = context.alloc;
+    let Ok(trace) = generate_trace(alloc, u64::from(seed), calls) else {
         return idle(alloc, Ending::OutOfMemory);
     };
-    let mut pending: Pending<NoLines> = Pending {
+    let mut pending: PendingText<NoLines> = PendingText {
         lines: LineList::new(alloc, Vec::new(alloc)),
         said: Vec::new(alloc),
     };
-    let ended = run_trace(setting, &trace, false, &mut pending, sink, metering);
+    let ended = run_trace(context, &trace, false, &mut pending, sink, metering);
     match ended.ending {
         Ending::Completed => sum_up(alloc, &trace, ended, sink, metering.on.as_slice()),
         _ => ended,
@@ -261,55 +266,55 @@ fn run_generated<K: Sink, G: Gate, C: Carrier, R: Threads + Wait + Sync>(
 
 // Reads the input, and runs it.
 fn run_input<S: Source, K: Sink, G: Gate, C: Carrier, R: Threads + Wait + Sync>(
-    setting: &Setting<'_, R, G>,
+    context: &CallContext<'_, R, G>,
     strict: bool,
     source: &mut S,
     sink: &mut K,
     metering: &mut Metering,
-) -> Ended<C>
+) -> CallEnd<C>
     ensures ends { RunEnds strict (input S.Source source) (part C.Carrier result K.Sink sink stands text metering) }
-    ensures stops { ConsumesAtMost (most_of most_bytes) (S.left source.old) (S.left source.new) }
+    ensures stops { ConsumesAtMost (max_bytes_read max_bytes) (S.left source.old) (S.left source.new) }
     ensures reads { (result.ending ≡ ReadFailed) ⊎ (S.faults source.new ≡ S.faults source.old) }
     ensures writes { (result.ending ≡ WriteFailed) ⊎ (K.faults sink.new ≡ K.faults sink.old) }
 {
-    let alloc = setting.alloc;
-    match read_all(alloc, source, MOST_BYTES) {
-        Ok(bytes) => run_bytes(setting, bytes, strict, sink, metering),
-        Err(ReadFault::Read) => idle(alloc, Ending::ReadFailed),
-        Err(ReadFault::Memory) => idle(alloc, Ending::OutOfMemory),
+    let alloc = context.alloc;
+    match read_all(alloc, source, MAX_BYTES) {
+        Ok(bytes) => run_bytes(context, bytes, strict, sink, metering),
+        Err(ReadError::Read) => idle(alloc, Ending::ReadFailed),
+        Err(ReadError::Memory) => idle(alloc, Ending::OutOfMemory),
     }
 }
 
 // Executes the command of the arguments.
 fn answer_words<S: Source, K: Sink, G: Gate, C: Carrier, R: Threads + Wait + Sync>(
-    setting: &Setting<'_, R, G>,
+    context: &CallContext<'_, R, G>,
     words: &[String],
     source: &mut S,
     sink: &mut K,
     metering: &mut Metering,
-) -> Ended<C>
+) -> CallEnd<C>
     ensures ends { HasEnded (texts words.now) (stream S.left S.faults source.old source.new)
         (parties C.Carrier result.engine result.order.items (meter_story (λ m. stands m) (λ m. text m)
         metering.old.on.items metering.old.spare.items metering.new.on.items metering.new.spare.items)
         (stream K.written K.faults sink.old sink.new)) result.ending }
     ensures unread { ¬ IsReading (texts words.now) → source.new ≡ source.old }
-    ensures stops { ConsumesAtMost (most_read (texts words.now)) (S.left source.old) (S.left source.new) }
+    ensures stops { ConsumesAtMost (max_read (texts words.now)) (S.left source.old) (S.left source.new) }
     ensures reads { (result.ending ≡ ReadFailed) ⊎ (S.faults source.new ≡ S.faults source.old) }
     ensures writes { (result.ending ≡ WriteFailed) ⊎ (K.faults sink.new ≡ K.faults sink.old) }
 {
-    let alloc = setting.alloc;
-    match read_command(alloc, words) {
-        Ok(Command::Run { strict }) => run_input(setting, strict, source, sink, metering),
+    let alloc = context.alloc;
+    match parse_command(alloc, words) {
+        Ok(Command::Run { strict }) => run_input(context, strict, source, sink, metering),
         Ok(Command::Generate { seed, calls }) => run_generated(
-            setting, seed, calls, sink, metering,
+            context, seed, calls, sink, metering,
         ),
         Ok(Command::Check { strict }) => {
-            idle(alloc, check(setting.rt, alloc, strict, source, sink))
+            idle(alloc, check(context.rt, alloc, strict, source, sink))
         }
-        Err(WordsFault::NoCommand) => {
+        Err(CommandError::NoCommand) => {
             refuse(alloc, sink, b"refused words\n", Ending::WrongArguments)
         }
-        Err(WordsFault::Memory) => idle(alloc, Ending::OutOfMemory),
+        Err(CommandError::Memory) => idle(alloc, Ending::OutOfMemory),
     }
 }
 
@@ -358,15 +363,15 @@ pub fn exchange<S: Source, K: Sink, G: Gate, C: Carrier, R: Threads + Wait + Syn
     ensures reads { (result.status ≡ status_of ReadFailed) ⊎ (S.faults source.new ≡ S.faults source.old) }
     ensures writes { (result.status ≡ status_of WriteFailed) ⊎ (K.faults sink.new ≡ K.faults sink.old) }
     // No more of the input is read than the command's limit and one piece; only `run` and `check` read any.
-    ensures stops { ConsumesAtMost (most_read (texts words.now)) (S.left source.old) (S.left source.new) }
+    ensures stops { ConsumesAtMost (max_read (texts words.now)) (S.left source.old) (S.left source.new) }
     ensures unread { ¬ IsReading (texts words.now) → source.new ≡ source.old }
 {
-    let setting = Setting { rt, alloc, gate };
+    let context = CallContext { rt, alloc, gate };
     let mut metering = Metering {
         on: mem::replace(meters, Vec::new(alloc)),
         spare: mem::replace(spare, VecDeque::new(alloc)),
     };
-    let ended = answer_words(&setting, words, source, sink, &mut metering);
+    let ended = answer_words(&context, words, source, sink, &mut metering);
     *meters = metering.on;
     *spare = metering.spare;
     Outcome {

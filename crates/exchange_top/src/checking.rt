@@ -1,14 +1,14 @@
 //! A report that is read with its trace, and verified against it.
 ghost use Rattle.std.specs.Prelude.{◌≡◌, ◌⊎◌, IfOk};
 ghost use Rattle.exchange_top.specs.declared.ending.Ending.TheVariants.{ReadFailed, Refused, WriteFailed};
-ghost use Rattle.exchange_top.specs.Checking.{Checks, Finds, IsDivided, IsFirstLine, most_checked, slots_of};
-ghost use Rattle.exchange_top.specs.Inputs.{most_of};
+ghost use Rattle.exchange_top.specs.Checking.{Checks, Finds, IsDivided, IsFirstLine, max_checked, slots_of};
+ghost use Rattle.exchange_top.specs.Inputs.{max_bytes_read};
 ghost use Rattle.exchange_top.specs.Refusals.{invalid_line, line_of};
 ghost use Rattle.exchange_top.specs.Streams.{ConsumesAtMost, stream};
 
 use crate::ending::Ending;
 use crate::refusals::{refusal, say};
-use crate::streams::{ReadFault, read_all};
+use crate::streams::{ReadError, read_all};
 use ex_io::{Sink, Source};
 use itoa::Buffer;
 use memchr::memchr;
@@ -19,7 +19,7 @@ use trace_text::Reason;
 
 // The maximum number of bytes in a trace and a report together, with the line between them: 256 MiB (defined by this
 // project). It is four times the longest trace, enough for all but the longest reports.
-const MOST_CHECKED: usize = 268_435_456;
+const MAX_CHECKED: usize = 268_435_456;
 
 // The line that divides a trace from a report.
 const DIVIDER: &[u8] = b"report";
@@ -36,14 +36,14 @@ pub fn check<S: Source, K: Sink, R: Threads + Sync>(
 ) -> Ending
     ensures ends { Checks strict
         (stream S.left S.faults source.old source.new) (stream K.written K.faults sink.old sink.new) result }
-    ensures stops { ConsumesAtMost (most_of most_checked) (S.left source.old) (S.left source.new) }
+    ensures stops { ConsumesAtMost (max_bytes_read max_checked) (S.left source.old) (S.left source.new) }
     ensures reads { (result ≡ ReadFailed) ⊎ (S.faults source.new ≡ S.faults source.old) }
     ensures writes { (result ≡ WriteFailed) ⊎ (K.faults sink.new ≡ K.faults sink.old) }
 {
-    let bytes = match read_all(alloc, source, MOST_CHECKED) {
+    let bytes = match read_all(alloc, source, MAX_CHECKED) {
         Ok(bytes) => bytes,
-        Err(ReadFault::Read) => return Ending::ReadFailed,
-        Err(ReadFault::Memory) => return Ending::OutOfMemory,
+        Err(ReadError::Read) => return Ending::ReadFailed,
+        Err(ReadError::Memory) => return Ending::OutOfMemory,
     };
     match found(rt, alloc, bytes.as_slice(), strict) {
         Ok((ending, line)) => say(sink, line.as_slice(), ending),
@@ -61,7 +61,7 @@ fn found<R: Threads + Sync>(
 ) -> Result<(Ending, Vec<u8>), AllocError>
     ensures { IfOk result (λ found. Finds strict bytes.now found.0 × (found.1.items ≡ line_of found.0)) }
 {
-    if bytes.len() > MOST_CHECKED {
+    if bytes.len() > MAX_CHECKED {
         return refused(alloc, 0, Reason::Limit);
     }
     let (trace, report) = divided(bytes);

@@ -28,11 +28,11 @@ pub trait Fabric: PathMap + Sized + Drop {
 }
 
 impl Fabric for FabricMap {
-    ghost use Rattle.fabric_map.specs.Map.{most_moves};
+    ghost use Rattle.fabric_map.specs.Map.{max_moves};
 
     ghost slots = { 30 };
 
-    ghost moves = { most_moves };
+    ghost moves = { max_moves };
 
     fn unused(alloc: Global, lines: u8) -> Result<FabricMap, AllocError> {
         FabricMap::new(alloc, lines)
@@ -40,11 +40,11 @@ impl Fabric for FabricMap {
 }
 
 impl Fabric for StrictMap {
-    ghost use Rattle.strict_map.specs.Strict.{most_moves};
+    ghost use Rattle.strict_map.specs.Strict.{max_moves};
 
     ghost slots = { 59 };
 
-    ghost moves = { most_moves };
+    ghost moves = { max_moves };
 
     fn unused(alloc: Global, lines: u8) -> Result<StrictMap, AllocError> {
         StrictMap::new(alloc, lines)

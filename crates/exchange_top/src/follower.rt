@@ -3,10 +3,10 @@ ghost use Rattle.std.specs.Prelude.{◌≡◌, ◌<◌, ◌≤◌, ◌++◌, len
 ghost use Rattle.line_follower.specs.declared.handler.Stop.TheVariants.{OutOfMemory, Refused};
 ghost use Rattle.exchange_top.specs.Refusals.{refusal};
 
+use crate::call_context::Metering;
 use crate::changing::change_once;
 use crate::fabrics::Fabric;
 use crate::refusals::refusal;
-use crate::setting::Metering;
 use crate::stepping::{advance, ready};
 use control_memory::PathMap;
 use frame_engine::Carrier;
@@ -15,13 +15,13 @@ use lone_exchange::LoneExchange;
 use meters::Meter;
 use std::alloc::{AllocError, Global};
 use std::thread::Threads;
-use trace_text::{Happening, Heading, Limits, LineFault, Reason};
+use trace_text::{Happening, Heading, Limits, LineError, Reason};
 
 // The maximum number of octets in a line.
-const MOST_LINE: usize = 65_535;
+const MAX_LINE: usize = 65_535;
 
 // The maximum number of lines.
-const MOST_LINES: u32 = 4_294_967_294;
+const MAX_LINES: u32 = 4_294_967_294;
 
 /// An exchange that processes the lines of a trace in sequence.
 #[derive(Drop)]
@@ -96,7 +96,7 @@ impl<'a, P: Fabric, C: Carrier, R: Threads + Sync> TraceFollower<'a, P, C, R> {
         ensures stranded { IsErrOf result Stop.OutOfMemory → StrandsAt ⟦<dyn Meter as Meter>⟧ C.Carrier P.Fabric.own
             self.old self.new line.now out.old out.new }
     {
-        if line.len() > MOST_LINE || self.lines >= MOST_LINES {
+        if line.len() > MAX_LINE || self.lines >= MAX_LINES {
             return Err(refuse(self.alloc, self.lines + 1, Reason::Limit, out));
         }
         match self
@@ -107,8 +107,8 @@ impl<'a, P: Fabric, C: Carrier, R: Threads + Sync> TraceFollower<'a, P, C, R> {
                 Ok(()) => Ok(()),
                 Err(_) => Err(Stop::OutOfMemory),
             },
-            Err(LineFault::Memory) => Err(Stop::OutOfMemory),
-            Err(LineFault::Refused(reason)) => {
+            Err(LineError::Memory) => Err(Stop::OutOfMemory),
+            Err(LineError::Refused(reason)) => {
                 Err(refuse(self.alloc, self.lines + 1, reason, out))
             }
         }

@@ -8,10 +8,10 @@ ghost use Rattle.exchange_top.specs.Followers.{FollowEnds, ReliesBy, parties_by}
 ghost use Rattle.exchange_top.specs.Handling.{engine_returned};
 ghost use Rattle.exchange_top.specs.Following.{FollowsTo, followed_status};
 
+use crate::call_context::Metering;
 use crate::fabrics::Fabric;
 use crate::follow_loop::follow_lines;
 use crate::follower::TraceFollower;
-use crate::setting::Metering;
 use control_memory::PathMap;
 use fabric_map::FabricMap;
 use frame_engine::Carrier;
@@ -28,7 +28,7 @@ use trace_text::Heading;
 
 /// The result of a call of [`follow`].
 #[derive(Drop)]
-pub struct Followed<C: Carrier> {
+pub struct FollowOutcome<C: Carrier> {
     /// 0: all lines were processed. 1: a line was refused, or there is no header. 3: a read failed. 4: a write failed.
     /// 5: an allocation failed.
     pub status: u8,
@@ -38,7 +38,7 @@ pub struct Followed<C: Carrier> {
 
 // The result of a call on one kind of fabric: its ending, and the engine that is returned.
 #[derive(Drop)]
-struct Ended<C: Carrier> {
+struct CallEnd<C: Carrier> {
     ending: Following,
     engine: Option<C>,
 }
@@ -80,7 +80,7 @@ fn follow_on<W: Wire, P: Fabric, C: Carrier, R: Threads + Sync>(
     wire: &mut W,
     meters: &mut Vec<Box<dyn Meter>>,
     spare: &mut VecDeque<Box<dyn Meter>>,
-) -> Ended<C>
+) -> CallEnd<C>
     requires fresh { W.stands wire.old [] [] }
     requires promise { ReliesBy ⟦<dyn Meter as Meter>⟧ C.Carrier P.slots meters.old.items spare.old.items W.relies }
     ensures ends { FollowsTo (parties_by ⟦<dyn Meter as Meter>⟧ C.Carrier P.slots P.moves result.engine
@@ -109,7 +109,7 @@ fn follow_on<W: Wire, P: Fabric, C: Carrier, R: Threads + Sync>(
     let Metering { on, spare: left } = metering;
     *meters = on;
     *spare = left;
-    Ended {
+    CallEnd {
         ending,
         engine: engine_of(ending, exchange),
     }
@@ -134,7 +134,7 @@ pub fn follow<W: Wire, C: Carrier, R: Threads + Sync>(
     wire: &mut W,
     meters: &mut Vec<Box<dyn Meter>>,
     spare: &mut VecDeque<Box<dyn Meter>>,
-) -> Followed<C>
+) -> FollowOutcome<C>
     requires fresh { W.stands wire.old [] [] }
     // At each read the other side may rely on the output: it is exactly the text of the lines so far.
     requires promise { ReliesBy ⟦<dyn Meter as Meter>⟧ C.Carrier (slots_of strict)
@@ -149,7 +149,7 @@ pub fn follow<W: Wire, C: Carrier, R: Threads + Sync>(
     } else {
         follow_on::<W, FabricMap, C, R>(rt, alloc, wire, meters, spare)
     };
-    Followed {
+    FollowOutcome {
         status: status_of(ended.ending),
         engine: ended.engine,
     }

@@ -12,7 +12,7 @@ ghost use Rattle.meters.specs.Changing.{handed_in, steps_text};
 ghost use Rattle.trace_text.specs.declared.said.Said.{Said};
 ghost use Rattle.trace_text.specs.TraceGrammar.{IsTrace, IsWhatLinesSay};
 ghost use Rattle.trace_text.specs.TraceWords.{lines};
-ghost use Rattle.exchange_top.specs.Following.{EachFollows, HasValidStories, most_line, story_said};
+ghost use Rattle.exchange_top.specs.Following.{EachFollows, HasValidStories, max_line, story_said};
 ghost use Rattle.exchange_top.specs.Checking.{IsDivided};
 ghost use Rattle.exchange_top.specs.Commands.{fabric_of};
 ghost use Rattle.exchange_top.specs.Outcomes.{MovesFew, MovesNone, NotesAll};
@@ -45,7 +45,7 @@ pub fn followed_traces_are_runs<M: Meter>()
 
 /// Each trace whose lines have at most 65,535 octets is followed.
 pub fn traces_are_followed()
-    ensures { (bytes : List ℕ) (t : Trace) → IsTrace bytes t → All (λ line. length line ≤ most_line) (lines bytes)
+    ensures { (bytes : List ℕ) (t : Trace) → IsTrace bytes t → All (λ line. length line ≤ max_line) (lines bytes)
         → (told : List Said) × EachFollows [] (lines bytes) told × IsWhatLinesSay t told }
 {}
 

@@ -33,6 +33,7 @@
 #![tactic(auto)]
 
 mod call;
+mod call_context;
 mod changing;
 mod checking;
 mod ending;
@@ -44,7 +45,6 @@ mod laws;
 mod refusals;
 mod run;
 mod segments;
-mod setting;
 mod stepping;
 mod streams;
 mod summary;
@@ -52,7 +52,7 @@ mod telling;
 
 pub use call::{Outcome, exchange};
 pub use ending::Ending;
-pub use following::{Followed, follow};
+pub use following::{FollowOutcome, follow};
 pub use laws::{
     followed_traces_are_runs, law_of_divisions, law_of_unchanged_meters, strict_runs_move_nothing,
     traces_are_followed,

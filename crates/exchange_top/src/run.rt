@@ -1,5 +1,5 @@
 ghost use Rattle.std.specs.Prelude.{◌≡◌, ◌⊎◌, ◌+◌, ◌≤◌, ◌++◌, ℕ, [], length, vec_capacity, IfOk};
-ghost use Rattle.exchange_top.specs.declared.run.RunFault.TheVariants.{Memory, Write};
+ghost use Rattle.exchange_top.specs.declared.run.RunError.TheVariants.{Memory, Write};
 ghost use Rattle.exchange_events.specs.Sound.{IsSound};
 ghost use Rattle.exchange_core.specs.Beginnings.{IsUnused};
 ghost use Rattle.exchange_core.specs.Working.{order_of};
@@ -9,8 +9,8 @@ ghost use Rattle.call_processor.specs.Frames.{IsReady};
 ghost use Rattle.exchange_top.specs.declared.ending.Ending.TheVariants.{WriteFailed};
 ghost use Rattle.exchange_top.specs.Running.{RunsOn, board_on, ending_of, run_part};
 
-use crate::segments::{Carried, report_segments};
-use crate::setting::{Metering, Pending, Setting};
+use crate::call_context::{CallContext, Metering, PendingText};
+use crate::segments::{SegmentResources, report_segments};
 use call_processor::{Machine, RunContext};
 use control_memory::{Image, PathMap};
 use ex_io::{Failed, Sink};
@@ -19,7 +19,7 @@ use exchange_events::Trace;
 use frame_engine::Carrier;
 use gate::Gate;
 use line_list::{LineList, ListingKind};
-use segment_run::Workroom;
+use segment_run::BufferPool;
 use shared_exchange::{Seat, SharedExchange};
 use std::alloc::{AllocError, Global};
 use std::sync::Wait;
@@ -27,26 +27,26 @@ use std::thread::Threads;
 
 /// The error that interrupted a run (defined by this project).
 #[derive(Clone, Copy)]
-pub enum RunFault {
+pub enum RunError {
     /// An allocation failed.
     Memory,
     /// A write of the report failed.
     Write,
 }
 
-impl From<AllocError> for RunFault {
+impl From<AllocError> for RunError {
     ghost from_gives = { λ _ fault. fault ≡ Memory };
 
-    fn from(_: AllocError) -> RunFault {
-        RunFault::Memory
+    fn from(_: AllocError) -> RunError {
+        RunError::Memory
     }
 }
 
-impl From<Failed> for RunFault {
+impl From<Failed> for RunError {
     ghost from_gives = { λ _ fault. fault ≡ Write };
 
-    fn from(_: Failed) -> RunFault {
-        RunFault::Write
+    fn from(_: Failed) -> RunError {
+        RunError::Write
     }
 }
 
@@ -57,7 +57,7 @@ impl From<Failed> for RunFault {
 ///
 /// # Errors
 ///
-/// [`RunFault::Write`] if a write failed and the error count of the sink rose. [`RunFault::Memory`] if an allocation
+/// [`RunError::Write`] if a write failed and the error count of the sink rose. [`RunError::Memory`] if an allocation
 /// failed and no write did. A prefix of the report of the completed segments was written. After a failed allocation it
 /// ends with a segment.
 pub fn run<
@@ -68,14 +68,14 @@ pub fn run<
     L: ListingKind + Send + Drop,
     R: Threads + Wait + Sync,
 >(
-    setting: &Setting<'_, R, G>,
+    context: &CallContext<'_, R, G>,
     trace: &Trace,
     paths: P,
     order: &mut Vec<u32>,
-    pending: &mut Pending<L>,
+    pending: &mut PendingText<L>,
     sink: &mut K,
     metering: &mut Metering,
-) -> Result<C, RunFault>
+) -> Result<C, RunError>
     requires sound { IsSound trace.now }
     requires paths { IsUnused (trace.now.external + trace.now.bridges) (P.width paths) (P.depth paths) (P.layout paths) }
     requires empty { order.old.items ≡ [] }
@@ -86,14 +86,14 @@ pub fn run<
         (board_on P.PathMap paths trace.now) }
     ensures writes { (ending_of result ≡ WriteFailed) ⊎ (K.faults sink.new ≡ K.faults sink.old) }
 {
-    let (board, mut seat, carried) = equipped(setting.alloc, trace, paths, &pending.lines)?;
+    let (board, mut seat, carried) = equipped(context.alloc, trace, paths, &pending.lines)?;
     let mut carried = Some(carried);
     let cx = RunContext {
-        rt: setting.rt,
-        alloc: setting.alloc,
+        rt: context.rt,
+        alloc: context.alloc,
         board: &board,
         trace,
-        gate: setting.gate,
+        gate: context.gate,
     };
     let done = report_segments(&cx, &mut seat, &mut carried, pending, sink, metering);
     drop(cx);
@@ -102,7 +102,7 @@ pub fn run<
 }
 
 // Makes the parts of a run before its first event: the exchange that its workers share, with its seat 0, the engine, a
-// control memory, and a workroom.
+// control memory, and a buffer pool.
 fn equipped<'t, P: PathMap + Drop, C: Carrier, L: ListingKind + Send + Drop>(
     alloc: Global,
     trace: &'t Trace,
@@ -112,7 +112,7 @@ fn equipped<'t, P: PathMap + Drop, C: Carrier, L: ListingKind + Send + Drop>(
     (
         SharedExchange<'t, P>,
         Seat<'t, P>,
-        Carried<Seat<'t, P>, C, L>,
+        SegmentResources<Seat<'t, P>, C, L>,
     ),
     AllocError,
 >
@@ -120,7 +120,7 @@ fn equipped<'t, P: PathMap + Drop, C: Carrier, L: ListingKind + Send + Drop>(
     requires paths { IsUnused (trace.now.external + trace.now.bridges) (P.width paths) (P.depth paths) (P.layout paths) }
     ensures board { IfOk result (λ r. r.0.setting ≡ record { trace = trace.now; slots = P.depth paths; bound = P.bound paths }) }
     ensures seat { IfOk result (λ r. IsSeated r.0 r.1 × (r.1.known ≡ first_seat (length trace.now.events))) }
-    ensures ready { IfOk result (λ r. IsReady C.carries C.next C.sizes r.0.setting [] r.2.machine.value.engine r.2.machine.value.desk.tool) }
+    ensures ready { IfOk result (λ r. IsReady C.carries C.next C.sizes r.0.setting [] r.2.machine.value.engine r.2.machine.value.context.tool) }
 {
     let slots = paths.slots();
     let core = Core::new(alloc, trace, paths)?;
@@ -129,27 +129,27 @@ fn equipped<'t, P: PathMap + Drop, C: Carrier, L: ListingKind + Send + Drop>(
     Ok((board, seat, carried))
 }
 
-// Makes the input of the first segment: the engine, a control memory, and a workroom. It is separate from the exchange,
-// because each value that an early return drops is slow to prove.
+// Makes the input of the first segment: the engine, a control memory, and a buffer pool. It is separate from the
+// exchange, because each value that an early return drops is slow to prove.
 fn carried_first<T: Drop, C: Carrier, L: ListingKind + Send + Drop>(
     alloc: Global,
     trace: &Trace,
     slots: u8,
     lines: &LineList<L>,
-) -> Result<Carried<T, C, L>, AllocError>
+) -> Result<SegmentResources<T, C, L>, AllocError>
     requires sound { IsSound trace.now }
     requires slots { 1 ≤ slots × (slots ≤ 59) }
     ensures ready { IfOk result (λ r. (bound : ℕ)
-        → IsReady C.carries C.next C.sizes (record { trace = trace.now; slots = slots; bound = bound }) [] r.machine.value.engine r.machine.value.desk.tool) }
+        → IsReady C.carries C.next C.sizes (record { trace = trace.now; slots = slots; bound = bound }) [] r.machine.value.engine r.machine.value.context.tool) }
 {
     let (external, bridges) = (trace.external, trace.bridges);
-    let workroom = Workroom::new(alloc, lines)?;
+    let buffer_pool = BufferPool::new(alloc, lines)?;
     let image = Image::new(alloc, external, bridges, slots)?;
     let engine = C::new(alloc, external, bridges, slots)?;
     let machine = Machine::new(alloc, engine, Tool::Image(image));
-    Ok(Carried {
+    Ok(SegmentResources {
         machine: Box::new(alloc, machine)?,
-        workroom,
+        buffer_pool,
     })
 }
 

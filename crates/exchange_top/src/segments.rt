@@ -15,12 +15,12 @@ ghost use Rattle.exchange_top.specs.Running.{AreOfAnswers, GrowthIsTold, HasMach
 ghost use Rattle.exchange_top.specs.Streams.{AppendsFront};
 ghost use Rattle.exchange_top.specs.Telling.{AreTold, AreToldFront};
 
+use crate::call_context::{Metering, PendingText};
 use crate::changing::change_at;
-use crate::run::RunFault;
-use crate::setting::{Metering, Pending};
+use crate::run::RunError;
 use crate::streams::write_all;
 use crate::telling::tell;
-use call_processor::{Keeper, Machine, RunContext};
+use call_processor::{AnswerSink, Machine, RunContext};
 use ex_io::{Failed, Sink};
 use exchange_core::Switchboard;
 use exchange_events::CallRecord;
@@ -28,7 +28,7 @@ use frame_engine::Carrier;
 use gate::Gate;
 use line_list::{LineList, ListingKind};
 use meters::Meter;
-use segment_run::{Workroom, run_segment_with};
+use segment_run::{BufferPool, run_segment_with};
 use std::alloc::AllocError;
 use std::sync::Wait;
 use std::thread::Threads;
@@ -36,14 +36,14 @@ use std::thread::Threads;
 // The number of bytes of a report that are gathered before a write. The lines of a segment stay together.
 const PIECE: usize = 65_536;
 
-/// The values that pass from one segment to the next: the machine and the workroom. `T` is the type of the workers'
+/// The values that pass from one segment to the next: the machine and the buffer pool. `T` is the type of the workers'
 /// seats, and `L` states the listing.
 #[derive(Drop)]
-pub struct Carried<T, C, L> {
+pub struct SegmentResources<T, C, L> {
     /// The machine, which has carried the frames so far.
     pub machine: Box<Machine<C>>,
     /// The buffers of the workers.
-    pub workroom: Workroom<T, LineList<L>>,
+    pub buffer_pool: BufferPool<T, LineList<L>>,
 }
 
 /// Runs the segments of a board's trace in sequence, writes the listed text, and records the ended calls on the meters.
@@ -60,11 +60,11 @@ pub fn report_segments<
 >(
     cx: &RunContext<'_, B, G, R>,
     seat: &mut B::Seat,
-    carried: &mut Option<Carried<B::Seat, C, L>>,
-    pending: &mut Pending<L>,
+    carried: &mut Option<SegmentResources<B::Seat, C, L>>,
+    pending: &mut PendingText<L>,
     sink: &mut K,
     metering: &mut Metering,
-) -> Result<C, RunFault>
+) -> Result<C, RunError>
     requires blank { pending.old.lines ≡ [] }
     requires silent { pending.old.said.items ≡ [] }
     requires seated { B.seated cx.now.board.now seat.old }
@@ -136,7 +136,7 @@ fn report_segment<
     cx: &RunContext<'_, B, G, R>,
     seat: &mut B::Seat,
     segment: u32,
-    carried: &mut Option<Carried<B::Seat, C, L>>,
+    carried: &mut Option<SegmentResources<B::Seat, C, L>>,
     lines: &mut LineList<L>,
     meters: &mut Vec<Box<dyn Meter>>,
 ) -> Result<(), AllocError>
@@ -160,12 +160,15 @@ fn report_segment<
         (B.board cx.now.board.now) (B.known seat.old) (B.known seat.new)) }
     ensures ready { OnOk result (HasMachine C.Carrier (B.board cx.now.board.now) (B.known seat.new).seen carried.new) }
 {
-    let Carried { machine, workroom } = taken(carried);
+    let SegmentResources {
+        machine,
+        buffer_pool,
+    } = taken(carried);
     let told = lines.records().len();
-    let done = run_segment_with(cx, seat, segment, machine, workroom, lines)?;
-    *carried = Some(Carried {
+    let done = run_segment_with(cx, seat, segment, machine, buffer_pool, lines)?;
+    *carried = Some(SegmentResources {
         machine: done.machine,
-        workroom: done.workroom,
+        buffer_pool: done.buffer_pool,
     });
     tell(meters, records_behind(lines, told))
 }
@@ -181,7 +184,7 @@ fn records_behind<L>(lines: &LineList<L>, told: usize) -> &[CallRecord]
 // Writes the pending text if it is a whole piece, or if a meter added its summary. If nothing is listed, there is none.
 fn flush_full<K: Sink, L: ListingKind + Send + Drop>(
     sink: &mut K,
-    pending: &mut Pending<L>,
+    pending: &mut PendingText<L>,
 ) -> Result<(), Failed>
     ensures flushed { OnOk result (IsFlushed (K.written sink.old) (K.written sink.new)
         (text_of pending.old.lines ++ pending.old.said.items) (text_of pending.new.lines ++ pending.new.said.items) pending.old.said.items) }
@@ -202,7 +205,7 @@ fn flush_full<K: Sink, L: ListingKind + Send + Drop>(
 // Writes all pending text: the lines, and then the summaries of the meters.
 fn flush<K: Sink, L: ListingKind + Send + Drop>(
     sink: &mut K,
-    pending: &mut Pending<L>,
+    pending: &mut PendingText<L>,
 ) -> Result<(), Failed>
     ensures whole { OnOk result (Appends (K.written sink.old) (K.written sink.new) (text_of pending.old.lines ++ pending.old.said.items)) }
     ensures empty { OnOk result ((pending.new.lines ≡ []) × (pending.new.said.items ≡ [])) }

@@ -137,7 +137,7 @@ fn process<P: PathMap, C: Carrier, R: Threads + Sync>(
 {
     let timers = heading.timers();
     let response = exchange.happen(rt, heading.plan(), heading.tones(), &timers, event);
-    tell(meters, records_in(response, &exchange.desk.out))?;
+    tell(meters, records_in(response, &exchange.context.out))?;
     exchange.append_line(out, heading.event_count(), response)
 }
 

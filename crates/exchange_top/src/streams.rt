@@ -3,7 +3,7 @@ ghost use Rattle.std.specs.Prelude.{◌≡◌, ◌+◌, ◌≤◌, length, IfOk,
 ghost use Rattle.std.specs.Io.KnownBytes.{Appends, Consumes, IsAtEnd};
 ghost use Rattle.ex_io.specs.Ends.{Rose};
 ghost use Rattle.exchange_top.specs.Streams.{ConsumesAtMost, AppendsFront};
-ghost use Rattle.exchange_top.specs.declared.streams.ReadFault.TheVariants.{Memory, Read};
+ghost use Rattle.exchange_top.specs.declared.streams.ReadError.TheVariants.{Memory, Read};
 
 use ex_io::{Failed, Sink, Source};
 use std::alloc::{AllocError, Global};
@@ -13,26 +13,26 @@ const PIECE: usize = 65_536;
 
 /// The error of a failed input (defined by this project).
 #[derive(Clone, Copy)]
-pub enum ReadFault {
+pub enum ReadError {
     /// An allocation for the bytes failed.
     Memory,
     /// A read failed.
     Read,
 }
 
-impl From<AllocError> for ReadFault {
+impl From<AllocError> for ReadError {
     ghost from_gives = { λ _ fault. fault ≡ Memory };
 
-    fn from(_: AllocError) -> ReadFault {
-        ReadFault::Memory
+    fn from(_: AllocError) -> ReadError {
+        ReadError::Memory
     }
 }
 
-impl From<Failed> for ReadFault {
+impl From<Failed> for ReadError {
     ghost from_gives = { λ _ fault. fault ≡ Read };
 
-    fn from(_: Failed) -> ReadFault {
-        ReadFault::Read
+    fn from(_: Failed) -> ReadError {
+        ReadError::Read
     }
 }
 
@@ -41,21 +41,21 @@ impl From<Failed> for ReadFault {
 ///
 /// # Errors
 ///
-/// [`ReadFault::Read`] if a read failed and the error count of the source rose. [`ReadFault::Memory`] if an allocation
+/// [`ReadError::Read`] if a read failed and the error count of the source rose. [`ReadError::Memory`] if an allocation
 /// failed and no read did. The bytes read so far are dropped, because the caller has no use for them.
 pub fn read_all<S: Source>(
     alloc: Global,
     source: &mut S,
     limit: usize,
-) -> Result<Vec<u8>, ReadFault>
+) -> Result<Vec<u8>, ReadError>
     ensures front { IfOk result (λ bytes. Consumes (S.left source.old) (S.left source.new) bytes.items) }
     ensures whole { IfOk result (λ bytes. length bytes.items ≤ limit → IsAtEnd (S.left source.new)) }
     ensures most { IfOk result (λ bytes. length bytes.items ≤ limit + 65536) }
     ensures steady { OnOk result (S.faults source.new ≡ S.faults source.old) }
 
     ensures lost { OnErr result (ConsumesAtMost (limit + 65536) (S.left source.old) (S.left source.new)) }
-    ensures cause { IsErrOf result ReadFault.Read → Rose (S.faults source.old) (S.faults source.new) }
-    ensures no_fault { IsErrOf result ReadFault.Memory → S.faults source.new ≡ S.faults source.old }
+    ensures cause { IsErrOf result ReadError.Read → Rose (S.faults source.old) (S.faults source.new) }
+    ensures no_fault { IsErrOf result ReadError.Memory → S.faults source.new ≡ S.faults source.old }
 {
     let mut bytes = Vec::new(alloc);
     let mut piece = [0u8; PIECE];

@@ -7,7 +7,7 @@ use Rattle.control_memory.proofs.Lookups.{path_to_is}
 use Rattle.paull_matrix.specs.Matrix.{Matrix, row_slot, column_slot, paths_of_row, paths_of_column}
 use Rattle.rearrange_chain.specs.declared.moves.Move.{Move}
 use Rattle.rearrange_chain.specs.Chain.{slot_for, moves_for, exchanged}
-use Rattle.control_memory.specs.declared.ends.Ends.{Ends}
+use Rattle.control_memory.specs.declared.path_ends.PathEnds.{PathEnds}
 use Rattle.control_memory.specs.Paths.{Fabric}
 use Rattle.path_memory.specs.Memory.{IsPathMemory, CanConnect}
 use Rattle.path_memory.proofs.MatrixOfLayout.{free_by_matrix}
@@ -45,12 +45,12 @@ free_in lines slots after layout from to moves slot legal inlet outlet inside be
     row column
 
 -- ---- the steps, as the code names them
-pub readied_is : (layout lifted_layout laid_layout : Layout) (moves first second : List Move) (es : List Ends) → first ≡ moves → second ≡ moves → es ≡ taken_by layout first → lifted_layout ≡ without_all layout (taken_by layout first) → laid_layout ≡ laid lifted_layout es second → laid_layout ≡ readied layout moves
+pub readied_is : (layout lifted_layout laid_layout : Layout) (moves first second : List Move) (es : List PathEnds) → first ≡ moves → second ≡ moves → es ≡ taken_by layout first → lifted_layout ≡ without_all layout (taken_by layout first) → laid_layout ≡ laid lifted_layout es second → laid_layout ≡ readied layout moves
 readied_is layout lifted_layout laid_layout moves first second es of_first of_second of_es of_lifted of_laid =
     of_laid ∙ ap (λ l. laid l es second) (of_lifted ∙ ap (λ v. without_all layout (taken_by layout v)) of_first) ∙ ap (λ e. laid (without_all layout (taken_by layout moves)) e second) (of_es ∙ ap (taken_by layout) of_first)
     ∙ ap (laid (without_all layout (taken_by layout moves)) (taken_by layout moves)) of_second
 
-pub can_lay_is : (lines slots l s : ℕ) (layout lifted_layout : Layout) (moves first second : List Move) (es : List Ends) → l ≡ lines → s ≡ slots → first ≡ moves → second ≡ moves → es ≡ taken_by layout first → lifted_layout ≡ without_all layout (taken_by layout first)
+pub can_lay_is : (lines slots l s : ℕ) (layout lifted_layout : Layout) (moves first second : List Move) (es : List PathEnds) → l ≡ lines → s ≡ slots → first ≡ moves → second ≡ moves → es ≡ taken_by layout first → lifted_layout ≡ without_all layout (taken_by layout first)
     → CanLay lines slots (without_all layout (taken_by layout moves)) (taken_by layout moves) moves → CanLay l s lifted_layout es second
 can_lay_is lines slots l s layout lifted_layout moves first second es of_l of_s of_first of_second of_es of_lifted can =
     subst (λ n. CanLay n s lifted_layout es second) (sym of_l)
@@ -69,7 +69,7 @@ pub record IsReadied (m : Matrix) (f : Fabric) (from to : Slot) (after : Matrix)
   pub beside : Beside f.lines f.slots after (readied f.layout (moves_for m from.line to.line))
   pub free : IsFree f.lines (readied f.layout (moves_for m from.line to.line)) from to slot
 
-pub is_readied : (m : Matrix) (f now : Fabric) (from to : Slot) (after : Matrix) (lifted_layout layout : Layout) (moves first second : List Move) (es : List Ends) (slot : ℕ) → f ≡ now → IsPathMemory m f → now.slots ≡ 30
+pub is_readied : (m : Matrix) (f now : Fabric) (from to : Slot) (after : Matrix) (lifted_layout layout : Layout) (moves first second : List Move) (es : List PathEnds) (slot : ℕ) → f ≡ now → IsPathMemory m f → now.slots ≡ 30
     → IsSlot now.lines from → IsSlot now.lines to → hop_of now.layout from ≡ None → path_to now.layout to ≡ None → after ≡ exchanged m moves → moves ≡ moves_for m from.line to.line
     → first ≡ moves → second ≡ moves → es ≡ taken_by f.layout first → lifted_layout ≡ without_all f.layout (taken_by f.layout first) → layout ≡ laid lifted_layout es second
     → row_slot after from.line slot ≡ None → column_slot after to.line slot ≡ None → IsReadied m f from to after layout slot

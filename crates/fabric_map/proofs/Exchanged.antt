@@ -9,7 +9,7 @@ use Rattle.control_memory.specs.Layout.{Path, Layout, number_of, path_in, IsSlot
 use Rattle.control_memory.specs.Connecting.{Side, across, path_at, far_line, chain, exchanged, with_path, without_path, moved, is_moved}
 use Rattle.control_memory.proofs.Lookups.{IsPathOf, path_in_found, path_in_is, one_hop}
 use Rattle.control_memory.proofs.Steps.{same_number, number_inside, was_there, hop_here, hop_else, IsNew, new_or_old}
-use Rattle.control_memory.specs.declared.ends.Ends.{Ends}
+use Rattle.control_memory.specs.declared.path_ends.PathEnds.{PathEnds}
 use Rattle.fabric_map.specs.Rearranging.{without_all, AreTaken, laid}
 use Rattle.control_memory.specs.Paths.{ends_of}
 use Rattle.path_memory.proofs.Added.{same_hop, not_moved, moved_set}
@@ -36,7 +36,7 @@ chain_stands lines slots layout legal (suc n) side line x y =
 some_path : (p q : Path) → Some p ≡ Some q → p ≡ q
 some_path p q e = cc
 
-pub taken_chain : (lines slots : ℕ) (whole : Layout) (a b : ℕ) → Legal lines slots whole → (ps : List Path) (layout : Layout) (es : List Ends) → length layout ≡ 30 * lines → AllStand lines whole ps
+pub taken_chain : (lines slots : ℕ) (whole : Layout) (a b : ℕ) → Legal lines slots whole → (ps : List Path) (layout : Layout) (es : List PathEnds) → length layout ≡ 30 * lines → AllStand lines whole ps
     → ((x y : Slot) (s : ℕ) → IsSlot lines x → HasPath layout x y s → HasPath whole x y s) → AreTaken layout (map (moved_by a b) ps) es → es ≡ map ends_of ps
 taken_chain lines slots whole a b legal [] layout [] size stand below taken = refl
 taken_chain lines slots whole a b legal [] layout (e ∷ es) size stand below taken = absurd taken
@@ -49,13 +49,13 @@ taken_chain lines slots whole a b legal (p ∷ ps) layout (e ∷ es) size stand 
     let p_at = path_in_is lines slots whole p.from p.to p.slot legal stand.0.inlet stand.0.path in
     let same : q ≡ p = some_path q p (sym q_at ∙ p_at) in
     let here : e ≡ ends_of p = sym taken.0.2 ∙ ap ends_of same in
-    let inside : IsSlot lines e.from = subst (λ (x : Ends). IsSlot lines x.from) (sym here) stand.0.inlet in
+    let inside : IsSlot lines e.from = subst (λ (x : PathEnds). IsSlot lines x.from) (sym here) stand.0.inlet in
     let tail = taken_chain lines slots whole a b legal ps (without_path layout e.from) es (length-set layout (number_of e.from) None ∙ size) stand.1
     (λ x y s in_x has. below x y s in_x (was_there lines layout e.from size inside x y s in_x has).1) taken.1 in
     λ i. here i ∷ tail i
 
 -- ---- lifted and laid again
-abbrev pub AllApart : List Ends → Type 0
+abbrev pub AllApart : List PathEnds → Type 0
 AllApart [] = ⊤
 AllApart (e ∷ es) = Apart e es × AllApart es
 
@@ -63,7 +63,7 @@ numbers_apart : (x y : Slot) → x.place < 30 → y.place < 30 → x ≢ y → n
 numbers_apart x y a b apart same = apart (same_number x y a b same)
 
 -- a path can be laid before others are lifted
-laid_before : (lines : ℕ) (layout : Layout) (e : Ends) (slot : ℕ) (es : List Ends) → e.from.place < 30 → AllSlots lines es → Apart e es → with_path (without_all layout es) e.from e.to slot ≡ without_all (with_path layout e.from e.to slot) es
+laid_before : (lines : ℕ) (layout : Layout) (e : PathEnds) (slot : ℕ) (es : List PathEnds) → e.from.place < 30 → AllSlots lines es → Apart e es → with_path (without_all layout es) e.from e.to slot ≡ without_all (with_path layout e.from e.to slot) es
 laid_before lines layout e slot [] place slots apart = refl
 laid_before lines layout e slot (o ∷ es) place slots apart =
     laid_before lines (without_path layout o.from) e slot es place slots.1 apart.1

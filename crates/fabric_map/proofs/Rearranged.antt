@@ -3,7 +3,7 @@ use Rattle.std.proofs.Common.{◌≡◌, ◌≢◌, ℕ, ◌*◌, ◌<◌, Optio
 use Rattle.std.specs.Prelude.{⊤, option_map}
 use Rattle.circuit_model.specs.declared.channel.Slot.{Slot}
 use Rattle.control_memory.specs.Layout.{Layout, number_of, hop_of, path_in, IsSlot, HasPath, Joins, Legal}
-use Rattle.control_memory.specs.declared.hop.Hop.{Hop}
+use Rattle.control_memory.specs.declared.route.Route.{Route}
 use Rattle.control_memory.specs.Connecting.{with_path, without_path}
 use Rattle.control_memory.proofs.Lookups.{path_in_found}
 use Rattle.control_memory.proofs.Steps.{IsNew, new_or_old, legal_with, legal_without, hop_else, was_there}
@@ -12,7 +12,7 @@ use Rattle.paull_matrix.proofs.Laws.{legal_without as legal_matrix_without, lega
 use Rattle.rearrange_chain.specs.declared.moves.Move.{Move}
 use Rattle.rearrange_chain.specs.Chain.{lifted, placed}
 use Rattle.rearrange_chain.specs.InTurn.{CanLift, CanPlace}
-use Rattle.control_memory.specs.declared.ends.Ends.{Ends}
+use Rattle.control_memory.specs.declared.path_ends.PathEnds.{PathEnds}
 use Rattle.path_memory.specs.Matching.{IsMatrixOf}
 use Rattle.fabric_map.specs.Rearranging.{without_all, AreTaken, laid, CanLay}
 use Rattle.control_memory.specs.Paths.{ends_of}
@@ -22,12 +22,12 @@ use Rattle.path_memory.proofs.CommonSlot.{Beside}
 some_line : (a b : ℕ) → Some a ≡ Some b → a ≡ b
 some_line a b e = cc
 
-by_hop : (o : Option Hop) → ((h : Hop) → o ≡ Some (record { to = h.to; slot = h.slot }) → ⊥) → o ≡ None
+by_hop : (o : Option Route) → ((h : Route) → o ≡ Some (record { to = h.to; slot = h.slot }) → ⊥) → o ≡ None
 by_hop None nothing = refl
 by_hop (Some h) nothing = absurd (nothing h refl)
 
 -- the ends are slots of n lines
-abbrev pub AllSlots : ℕ → List Ends → Type 0
+abbrev pub AllSlots : ℕ → List PathEnds → Type 0
 AllSlots lines [] = ⊤
 AllSlots lines (e ∷ es) = (IsSlot lines e.from × IsSlot lines e.to) × AllSlots lines es
 
@@ -35,13 +35,13 @@ size_without : (layout : Layout) (from : Slot) → length (without_path layout f
 size_without layout from = length-set layout (number_of from) None
 
 -- paths that are left by lifting were there before
-pub stood : (lines : ℕ) (es : List Ends) (layout : Layout) → length layout ≡ 30 * lines → AllSlots lines es → (x y : Slot) (s : ℕ) → IsSlot lines x → HasPath (without_all layout es) x y s → HasPath layout x y s
+pub stood : (lines : ℕ) (es : List PathEnds) (layout : Layout) → length layout ≡ 30 * lines → AllSlots lines es → (x y : Slot) (s : ℕ) → IsSlot lines x → HasPath (without_all layout es) x y s → HasPath layout x y s
 stood lines [] layout size slots x y s inside has = has
 stood lines (e ∷ es) layout size slots x y s inside has =
     (was_there lines layout e.from size slots.0.0 x y s inside (stood lines es (without_path layout e.from) (size_without layout e.from ∙ size) slots.1 x y s inside has)).1
 
 -- what a path asks of the layout that it comes back to: its move's row and column, a free inlet and a free outlet
-pub record Fits (lines : ℕ) (layout : Layout) (e : Ends) (v : Move) : Type 0 where
+pub record Fits (lines : ℕ) (layout : Layout) (e : PathEnds) (v : Move) : Type 0 where
   pub row : v.row ≡ e.from.line
   pub column : v.column ≡ e.to.line
   pub from : IsSlot lines e.from
@@ -50,30 +50,30 @@ pub record Fits (lines : ℕ) (layout : Layout) (e : Ends) (v : Move) : Type 0 w
   pub outlet : (x : Slot) (s : ℕ) → IsSlot lines x → HasPath layout x e.to s → ⊥
 
 -- no other of the ends is one of these
-abbrev pub Apart : Ends → List Ends → Type 0
+abbrev pub Apart : PathEnds → List PathEnds → Type 0
 Apart e [] = ⊤
 Apart e (o ∷ es) = ((o.from ≢ e.from) × (o.to ≢ e.to)) × Apart e es
 
-abbrev pub Ready : ℕ → Layout → List Ends → List Move → Type 0
+abbrev pub Ready : ℕ → Layout → List PathEnds → List Move → Type 0
 Ready lines layout [] [] = ⊤
 Ready lines layout [] (v ∷ moves) = ⊥
 Ready lines layout (e ∷ es) [] = ⊥
 Ready lines layout (e ∷ es) (v ∷ moves) = Fits lines layout e v × Apart e es × Ready lines layout es moves
 
 -- each of the ends is joined in the layout
-abbrev pub AllJoined : Layout → List Ends → Type 0
+abbrev pub AllJoined : Layout → List PathEnds → Type 0
 AllJoined layout [] = ⊤
 AllJoined layout (e ∷ es) = Joins layout e.from e.to × AllJoined layout es
 
 pub no_hop : (layout : Layout) (x : Slot) → ((y : Slot) (s : ℕ) → HasPath layout x y s → ⊥) → hop_of layout x ≡ None
 no_hop layout x nothing = by_hop (hop_of layout x) (λ h e. nothing h.to h.slot e)
 
-joined_before : (lines : ℕ) (layout : Layout) (from : Slot) (es : List Ends) → length layout ≡ 30 * lines → IsSlot lines from → AllSlots lines es → AllJoined (without_path layout from) es → AllJoined layout es
+joined_before : (lines : ℕ) (layout : Layout) (from : Slot) (es : List PathEnds) → length layout ≡ 30 * lines → IsSlot lines from → AllSlots lines es → AllJoined (without_path layout from) es → AllJoined layout es
 joined_before lines layout from [] size inside slots joined = tt
 joined_before lines layout from (e ∷ es) size inside slots joined =
     ((joined.0.0, (was_there lines layout from size inside e.from e.to joined.0.0 slots.0.0 joined.0.1).1), joined_before lines layout from es size inside slots.1 joined.1)
 
-apart_from : (lines slots : ℕ) (layout : Layout) (e : Ends) (slot : ℕ) (es : List Ends) → Legal lines slots layout → IsSlot lines e.from → HasPath layout e.from e.to slot → AllSlots lines es → AllJoined (without_path layout e.from) es → Apart e es
+apart_from : (lines slots : ℕ) (layout : Layout) (e : PathEnds) (slot : ℕ) (es : List PathEnds) → Legal lines slots layout → IsSlot lines e.from → HasPath layout e.from e.to slot → AllSlots lines es → AllJoined (without_path layout e.from) es → Apart e es
 apart_from lines slots layout e slot [] legal inside has within joined = tt
 apart_from lines slots layout e slot (o ∷ es) legal inside has within joined =
     let was = was_there lines layout e.from legal.inlets inside o.from o.to joined.0.0 within.0.0 joined.0.1 in (
@@ -84,7 +84,7 @@ apart_from lines slots layout e slot (o ∷ es) legal inside has within joined =
 -- ---- lifting
 -- the moves that the matrix can lift are of paths of the layout, and the two stay side by side
 pub record Lifts (lines slots : ℕ) (m : Matrix) (layout : Layout) (moves : List Move) : Type 0 where
-  pub ends : List Ends
+  pub ends : List PathEnds
   pub taken : AreTaken layout moves ends
   pub within : AllSlots lines ends
   pub joined : AllJoined layout ends
@@ -127,7 +127,7 @@ lifts lines slots (v ∷ moves) m layout b can =
 
 -- ---- laying
 -- one path that comes back is in nobody's way
-still_fits : (lines : ℕ) (layout : Layout) (e o : Ends) (slot : ℕ) (v : Move) → length layout ≡ 30 * lines → IsSlot lines e.from → (o.from ≢ e.from) × (o.to ≢ e.to) → Fits lines layout o v → Fits lines (with_path layout e.from e.to slot) o v
+still_fits : (lines : ℕ) (layout : Layout) (e o : PathEnds) (slot : ℕ) (v : Move) → length layout ≡ 30 * lines → IsSlot lines e.from → (o.from ≢ e.from) × (o.to ≢ e.to) → Fits lines layout o v → Fits lines (with_path layout e.from e.to slot) o v
 still_fits lines layout e o slot v size inside apart fits = record {
   row = fits.row;
   column = fits.column;
@@ -139,18 +139,18 @@ still_fits lines layout e o slot v size inside apart fits = record {
       (new_or_old lines layout e.from e.to slot size inside x o.to s in_x has);
 }
 
-still_ready : (lines : ℕ) (layout : Layout) (e : Ends) (slot : ℕ) (es : List Ends) (moves : List Move) → length layout ≡ 30 * lines → IsSlot lines e.from → Apart e es → Ready lines layout es moves → Ready lines (with_path layout e.from e.to slot) es moves
+still_ready : (lines : ℕ) (layout : Layout) (e : PathEnds) (slot : ℕ) (es : List PathEnds) (moves : List Move) → length layout ≡ 30 * lines → IsSlot lines e.from → Apart e es → Ready lines layout es moves → Ready lines (with_path layout e.from e.to slot) es moves
 still_ready lines layout e slot [] [] size inside apart ready = tt
 still_ready lines layout e slot [] (v ∷ moves) size inside apart ready = absurd ready
 still_ready lines layout e slot (o ∷ es) [] size inside apart ready = absurd ready
 still_ready lines layout e slot (o ∷ es) (v ∷ moves) size inside apart ready =
     (still_fits lines layout e o slot v size inside apart.0 ready.0, ready.1, still_ready lines layout e slot es moves size inside apart.1 ready.2)
 
-pub record Lays (lines slots : ℕ) (m : Matrix) (layout : Layout) (es : List Ends) (moves : List Move) : Type 0 where
+pub record Lays (lines slots : ℕ) (m : Matrix) (layout : Layout) (es : List PathEnds) (moves : List Move) : Type 0 where
   pub can : CanLay lines slots layout es moves
   pub beside : Beside lines slots (placed m moves) (laid layout es moves)
 
-pub lays : (lines slots : ℕ) (es : List Ends) (moves : List Move) (m : Matrix) (layout : Layout) → m.lines ≡ lines → m.slots ≡ slots → Beside lines slots m layout → Ready lines layout es moves → CanPlace m moves → Lays lines slots m layout es moves
+pub lays : (lines slots : ℕ) (es : List PathEnds) (moves : List Move) (m : Matrix) (layout : Layout) → m.lines ≡ lines → m.slots ≡ slots → Beside lines slots m layout → Ready lines layout es moves → CanPlace m moves → Lays lines slots m layout es moves
 lays lines slots [] [] m layout of_lines of_slots b ready can = record { can = tt; beside = b }
 lays lines slots [] (v ∷ moves) m layout of_lines of_slots b ready can = absurd ready
 lays lines slots (e ∷ es) [] m layout of_lines of_slots b ready can = absurd ready

@@ -14,7 +14,7 @@ use Rattle.rearrange_chain.specs.Chain.{Column, slot_for, slot_by, moves_for, mo
 use Rattle.rearrange_chain.proofs.Exchange.{IsExchange, exchange_lifts, exchange_places, lifted_lines}
 use Rattle.rearrange_chain.proofs.Freed.{chain_exchanges, Ways, ways}
 use Rattle.rearrange_chain.proofs.Closed.{turned_round}
-use Rattle.control_memory.specs.declared.ends.Ends.{Ends}
+use Rattle.control_memory.specs.declared.path_ends.PathEnds.{PathEnds}
 use Rattle.fabric_map.specs.Rearranging.{without_all, AreTaken, taken_by, laid, CanLay}
 use Rattle.control_memory.specs.Paths.{ends_of}
 use Rattle.path_memory.proofs.CommonSlot.{Beside, common_is}
@@ -57,7 +57,7 @@ other_second : (a b : ℕ) → a ≡ other a b b
 other_second a b =
     ⊎_elim (λ (e : (eqb b a ≡ true) × (b ≡ a)). sym (ap (λ t. cond t b a) e.0 ∙ e.1)) (λ (e : (eqb b a ≡ false) × (b ≢ a)). sym (ap (λ t. cond t b a) e.0)) (eqb_tells b a)
 
-ready_apart : (lines : ℕ) (layout : Layout) (es : List Ends) (moves : List Move) → Ready lines layout es moves → AllApart es
+ready_apart : (lines : ℕ) (layout : Layout) (es : List PathEnds) (moves : List Move) → Ready lines layout es moves → AllApart es
 ready_apart lines layout [] moves ready = tt
 ready_apart lines layout (e ∷ es) [] ready = absurd ready
 ready_apart lines layout (e ∷ es) (v ∷ moves) ready = (ready.1, ready_apart lines layout es moves ready.2)
@@ -70,14 +70,14 @@ all_were : (lines : ℕ) (layout : Layout) (ps : List Path) → AllStand lines l
 all_were lines layout [] stand = tt
 all_were lines layout (p ∷ ps) stand = (stand.0.path, all_were lines layout ps stand.1)
 
-taken_same : (moves : List Move) (layout : Layout) (es : List Ends) → AreTaken layout moves es → length es ≡ length moves
+taken_same : (moves : List Move) (layout : Layout) (es : List PathEnds) → AreTaken layout moves es → length es ≡ length moves
 taken_same [] layout [] taken = refl
 taken_same [] layout (e ∷ es) taken = absurd taken
 taken_same (v ∷ moves) layout [] taken = absurd taken
 taken_same (v ∷ moves) layout (e ∷ es) taken = ap (λ n. suc n) (taken_same moves (without_path layout e.from) es taken.1)
 
 -- the same, by the ends that were taken
-record MadeWith (lines slots : ℕ) (m : Matrix) (layout : Layout) (from to : Slot) (moves : List Move) (slot : ℕ) (es : List Ends) : Type 0 where
+record MadeWith (lines slots : ℕ) (m : Matrix) (layout : Layout) (from to : Slot) (moves : List Move) (slot : ℕ) (es : List PathEnds) : Type 0 where
   taken : AreTaken layout moves es
   same : length es ≡ length moves
   room : CanLay lines slots (without_all layout es) es moves
@@ -108,7 +108,7 @@ made_by lines slots m layout from to a b t moves ps of_lines of_slots beside ins
     ap (λ v. laid (without_all layout lift.ends) lift.ends v) are ∙ ap (λ es. laid (without_all layout es) es (map (moved_by a b) ps)) ends ∙ laid_is lines a b ps layout slots_in apart in
     let were = all_were lines layout ps stand in
     let turn = all_turn a b ps (λ k v e. exchange.turns k v (subst (λ ms. slice_get ms k ≡ Some v) (sym are) e)) in
-    let Whole : List Ends → Type 0 = λ es. MadeWith lines slots m layout from to moves t es in
+    let Whole : List PathEnds → Type 0 = λ es. MadeWith lines slots m layout from to moves t es in
     made_with lines slots m layout from to moves t
     (subst Whole is (record {
       taken = lift.taken;

@@ -3,15 +3,15 @@ ghost use Rattle.std.specs.Prelude.{◌≡◌, ◌↔◌, ◌⊎◌, ℕ, ◌*�
 ghost use Rattle.circuit_model.specs.declared.channel.Slot.{Slot};
 ghost use Rattle.control_memory.specs.Layout.{Layout, Legal, IsSlot, Joins, hop_of, path_to};
 ghost use Rattle.control_memory.specs.Connecting.{connect as joined, moved};
-ghost use Rattle.fabric_map.specs.Map.{most_moves};
+ghost use Rattle.fabric_map.specs.Map.{max_moves};
 ghost use Rattle.rearrange_chain.specs.declared.moves.Move.{Move};
-ghost use Rattle.control_memory.specs.declared.ends.Ends.{Ends};
+ghost use Rattle.control_memory.specs.declared.path_ends.PathEnds.{PathEnds};
 ghost use Rattle.control_memory.specs.Paths.{Fabric};
 ghost use Rattle.fabric_map.specs.Rearranging.{without_all, AreTaken, taken_by, laid, CanLay};
 
 use arrayvec::ArrayVec;
 use circuit_model::Slot;
-use control_memory::{Ends, Image, PathMap, PathTable};
+use control_memory::{Image, PathEnds, PathMap, PathTable};
 use path_memory::PathMemory;
 use paull_matrix::Steps;
 use rearrange_chain::{Move, make_room};
@@ -21,7 +21,7 @@ use std::sync::ledger::{Blank, Ledger};
 
 /// The number of internal slots of a frame of a line in this fabric. The number of places of a line is enough
 /// (Slepian-Duguid).
-pub const SLOTS: u8 = 30;
+pub const INTERNAL_SLOTS: u8 = 30;
 
 /// The live map of a rearrangeable fabric: 30 internal slots, one for each place of a line.
 ///
@@ -51,7 +51,7 @@ impl FabricMap {
         ensures bare { IfOk result (λ m. m.layout ≡ replicate (30 * lines) None) }
     {
         Ok(FabricMap {
-            memory: PathMemory::new(alloc, lines, SLOTS)?,
+            memory: PathMemory::new(alloc, lines, INTERNAL_SLOTS)?,
         })
     }
 }
@@ -68,7 +68,7 @@ fn connect_by_moves<L: Ledger>(memory: &mut PathMemory, from: Slot, to: Slot, bl
     ensures layout { memory.new.layout ≡ joined memory.old.lines memory.old.slots memory.old.layout from to }
     ensures pairs { (x y : Slot) → IsSlot memory.old.lines x → Joins memory.new.layout x y ↔ (Joins memory.old.layout x y ⊎ ((x ≡ from) × (y ≡ to))) }
     ensures moves { result ≡ moved memory.old.layout memory.new.layout }
-    ensures few { result ≤ most_moves memory.old.lines }
+    ensures few { result ≤ max_moves memory.old.lines }
     ensures lines { memory.new.lines ≡ memory.old.lines }
     ensures slots { memory.new.slots ≡ memory.old.slots }
     ensures legal { Legal memory.new.lines memory.new.slots memory.new.layout }
@@ -86,12 +86,12 @@ fn connect_by_moves<L: Ledger>(memory: &mut PathMemory, from: Slot, to: Slot, bl
     lift_all(&mut memory.paths, &moves, &mut lifted);
     lay_all(&mut memory.paths, &moves, &lifted);
     memory.matrix.place(from.line, to.line, freed);
-    memory.paths.add(from, to, freed);
+    memory.paths.insert(from, to, freed);
     moves.len() as u32
 }
 
 // Removes the paths that move from the layout, and lists their ends.
-fn lift_all(paths: &mut PathTable, moves: &[Move], lifted: &mut ArrayVec<Ends, 66>)
+fn lift_all(paths: &mut PathTable, moves: &[Move], lifted: &mut ArrayVec<PathEnds, 66>)
     requires taken { AreTaken paths.old.layout moves.now (taken_by paths.old.layout moves.now) }
     requires legal { Legal paths.old.lines paths.old.slots paths.old.layout }
     requires few { length moves.now ≤ 66 }
@@ -102,12 +102,12 @@ fn lift_all(paths: &mut PathTable, moves: &[Move], lifted: &mut ArrayVec<Ends, 6
     ensures slots { paths.new.slots ≡ paths.old.slots }
 {
     for moved in moves {
-        lifted.push(paths.lift(moved.row, moved.old));
+        lifted.push(paths.remove_by_slot(moved.row, moved.old));
     }
 }
 
 // Sets the paths up again, each in the slot of its move.
-fn lay_all(paths: &mut PathTable, moves: &[Move], lifted: &[Ends])
+fn lay_all(paths: &mut PathTable, moves: &[Move], lifted: &[PathEnds])
     requires same { length lifted.now ≡ length moves.now }
     requires room { CanLay paths.old.lines paths.old.slots paths.old.layout lifted.now moves.now }
     ensures layout { paths.new.layout ≡ laid paths.old.layout lifted.now moves.now }
@@ -116,18 +116,18 @@ fn lay_all(paths: &mut PathTable, moves: &[Move], lifted: &[Ends])
 {
     for i in 0..lifted.len() {
         let ends = lifted[i];
-        paths.add(ends.from, ends.to, moves[i].new);
+        paths.insert(ends.from, ends.to, moves[i].new);
     }
 }
 
 impl PathMap for FabricMap {
-    ghost use Rattle.fabric_map.specs.Map.{most_moves};
+    ghost use Rattle.fabric_map.specs.Map.{max_moves};
 
     ghost width = { λ m. m.lines };
 
     ghost depth = { λ m. m.slots };
 
-    ghost bound = { λ m. most_moves m.lines };
+    ghost bound = { λ m. max_moves m.lines };
 
     ghost layout = { λ m. m.layout };
 

@@ -12,4 +12,4 @@
 
 mod fabric;
 
-pub use fabric::{FabricMap, SLOTS};
+pub use fabric::{FabricMap, INTERNAL_SLOTS};

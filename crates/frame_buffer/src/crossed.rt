@@ -80,7 +80,7 @@ impl Crossed {
     }
 
     /// Returns the octets of all lines, line after line, for writing.
-    pub fn parts(&mut self) -> &mut [u8]
+    pub fn rows_mut(&mut self) -> &mut [u8]
         ensures* writes_back { sem 𝓛 (Lends the_row (Array octet_row 0) self.entry result (highways_with self.old)) }
         ensures octets { result.now ≡ self.old.octets }
         ensures size { length result.now ≡ self.old.lines * self.old.slots }

@@ -4,4 +4,4 @@
 ///
 /// Starting and joining a thread takes the time of a stage for some 40,000 octets, as `bench/README.md` measures it. No
 /// highway is that large: it has at most 255 lines of 255 octets.
-pub const LEAST_HALF: usize = 65_536;
+pub const MIN_HALF_OCTETS: usize = 65_536;

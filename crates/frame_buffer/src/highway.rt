@@ -84,7 +84,7 @@ impl Highway {
     }
 
     /// Returns the octets of all lines, line after line, for writing.
-    pub fn parts(&mut self) -> &mut [u8]
+    pub fn rows_mut(&mut self) -> &mut [u8]
         ensures* writes_back { sem 𝓛 (Lends the_row (Array octet_row 0) self.entry result (highways_with self.old)) }
         ensures octets { result.now ≡ self.old.octets }
         ensures size { length result.now ≡ self.old.lines * self.old.slots }
@@ -94,7 +94,7 @@ impl Highway {
     }
 
     /// Returns a row of idle octets, followed by the octets of all lines, line after line.
-    pub fn rows_behind_idle(&self) -> &[u8]
+    pub fn rows_with_idle_first(&self) -> &[u8]
         ensures size { length result.now ≡ (self.now.lines + 1) * self.now.slots }
         ensures idle { (slot : ℕ) → slot < self.now.slots → slice_index result.now slot ≡ idle_octet }
         ensures lines { (line slot : ℕ) → slot < self.now.slots → slice_index result.now ((line + 1) * self.now.slots + slot) ≡ octet_on self.now line slot }

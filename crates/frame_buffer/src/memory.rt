@@ -7,8 +7,8 @@ ghost use Rattle.circuit_model.specs.FrameInput.{idle_octet};
 ghost use Rattle.frame_buffer.specs.Speech.{Speech, octet_in_half, AllIdle, PutsLine, speech_with};
 ghost use Rattle.frame_buffer.specs.contracts.memory.FrameBuffer.{the_row};
 
-use crate::idle::make_idle;
-use circuit_model::{IDLE, PLACES, Slot};
+use crate::idle::fill_idle;
+use circuit_model::{CHANNELS_PER_LINE, IDLE, Slot};
 use std::alloc::{AllocError, Global};
 use std::marker::Model;
 use std::mem;
@@ -39,7 +39,7 @@ impl FrameBuffer {
         ensures filled { IfOk result (λ b. AllIdle lines b.filled) }
         ensures readable { IfOk result (λ b. AllIdle lines b.readable) }
     {
-        let octets = usize::from(lines) * usize::from(PLACES);
+        let octets = usize::from(lines) * usize::from(CHANNELS_PER_LINE);
         Ok(FrameBuffer {
             lines,
             filled: vec![in alloc; IDLE; octets]?,
@@ -65,7 +65,7 @@ impl FrameBuffer {
     }
 
     /// Writes the idle octet over all places of n lines, from line 0 on, in the half that is filled.
-    pub fn make_lines_idle(&mut self, lines: u8)
+    pub fn fill_lines_idle(&mut self, lines: u8)
         requires { lines ≤ self.old.lines }
         ensures lines { self.new.lines ≡ self.old.lines }
         ensures idle { (at : Slot) → at.line < lines → at.place < 30 → octet_in_half self.new.filled at ≡ idle_octet }
@@ -76,7 +76,7 @@ impl FrameBuffer {
     }
 
     /// Returns the octets of the half that is filled, line after line and 30 to a line, for writing.
-    pub fn filled(&mut self) -> &mut [u8]
+    pub fn filling_half_mut(&mut self) -> &mut [u8]
         ensures* writes_back { sem 𝓛 (Lends the_row (Array octet_row 0) self.entry result (speech_with self.old)) }
         ensures octets { result.now ≡ self.old.filled }
         ensures size { length result.now ≡ self.old.lines * 30 }
@@ -90,8 +90,8 @@ impl FrameBuffer {
         ensures size { length result.now ≡ 30 }
         ensures octets { (place : ℕ) → place < 30 → slice_index result.now place ≡ octet_in_half self.now.readable (record { line = line; place = place }) }
     {
-        let start = usize::from(line) * usize::from(PLACES);
-        &self.readable[start..start + usize::from(PLACES)]
+        let start = usize::from(line) * usize::from(CHANNELS_PER_LINE);
+        &self.readable[start..start + usize::from(CHANNELS_PER_LINE)]
     }
 
     /// Returns the octets of all lines from one on, line after line and 30 to a line, in the half that is read.
@@ -100,7 +100,7 @@ impl FrameBuffer {
         ensures size { length result.now ≡ (self.now.lines - line) * 30 }
         ensures octets { (k : ℕ) → slice_index result.now k ≡ slice_index self.now.readable (line * 30 + k) }
     {
-        &self.readable[usize::from(line) * usize::from(PLACES)..]
+        &self.readable[usize::from(line) * usize::from(CHANNELS_PER_LINE)..]
     }
 
     /// Returns the octet of a slot in the half that is read.
@@ -109,7 +109,7 @@ impl FrameBuffer {
         requires place { at.place < 30 }
         ensures { result ≡ octet_in_half self.now.readable at }
     {
-        self.readable[usize::from(at.line) * usize::from(PLACES) + usize::from(at.place)]
+        self.readable[usize::from(at.line) * usize::from(CHANNELS_PER_LINE) + usize::from(at.place)]
     }
 
     /// Exchanges the halves: the filled half is read from now on, and the read half is filled.
@@ -125,8 +125,8 @@ fn put_row(octets: &mut [u8], line: u8, row: &[u8; 30])
     requires { line * 30 + 30 ≤ length octets.old }
     ensures { PutsLine line row.now octets.old octets.new }
 {
-    let start = usize::from(line) * usize::from(PLACES);
-    octets[start..start + usize::from(PLACES)].copy_from_slice(row);
+    let start = usize::from(line) * usize::from(CHANNELS_PER_LINE);
+    octets[start..start + usize::from(CHANNELS_PER_LINE)].copy_from_slice(row);
 }
 
 // Writes the idle octet over the rows of n lines, from the first on.
@@ -136,6 +136,6 @@ fn make_rows_idle(octets: &mut [u8], lines: u8)
     ensures idle { (i : ℕ) → i < lines * 30 → slice_index octets.new i ≡ idle_octet }
     ensures others { (i : ℕ) → lines * 30 ≤ i → slice_index octets.new i ≡ slice_index octets.old i }
 {
-    let end = usize::from(lines) * usize::from(PLACES);
-    make_idle(&mut octets[..end]);
+    let end = usize::from(lines) * usize::from(CHANNELS_PER_LINE);
+    fill_idle(&mut octets[..end]);
 }

@@ -11,7 +11,7 @@ use Rattle.circuit_model.specs.declared.circuit.Kind.{Kind}
 use Rattle.circuit_model.specs.declared.circuit.Circuit.{Circuit}
 use Rattle.circuit_model.specs.declared.circuit.Circuit.TheVariants.{Pair, Member, Tone}
 use Rattle.circuit_model.specs.FrameInput.{Input, arrives, octet_in}
-use Rattle.circuit_model.specs.Circuits.{listener, since_of, heard_by}
+use Rattle.circuit_model.specs.Circuits.{listener, first_frame_of, heard_by}
 use Rattle.circuit_model.specs.Holding.{Command, empty, frames, circuits_of, Stands}
 use Rattle.circuit_model.specs.Extent.{IsExternal, NamesWithin}
 use Rattle.circuit_model.specs.Hears.{mix, is_through, heard_through, hears}
@@ -103,7 +103,7 @@ module _ (e : Stages) (m : Control) (out : List ℕ) (is : IsAt e m out) (inputs
   named_within c inside = frames_within e.external empty cs n (λ d nothing. absurd (none_in_nil d nothing)) come.within c (subst (λ (ds : List Circuit). Contains ds c) circuits_now inside)
 
   -- a circuit older than a frame existed in the frame before
-  stood : (f : ℕ) (c : Circuit) → Contains (circuits_of (frames empty cs) f) c → since_of c < f → Contains (circuits_of (frames empty cs) (f - 1)) c
+  stood : (f : ℕ) (c : Circuit) → Contains (circuits_of (frames empty cs) f) c → first_frame_of c < f → Contains (circuits_of (frames empty cs) (f - 1)) c
   stood f c inside older = age cs f c inside older
 
   -- ---- what was read out
@@ -145,9 +145,9 @@ module _ (e : Stages) (m : Control) (out : List ℕ) (is : IsAt e m out) (inputs
       cond-true (nat_lt x.line e.external) _ _ (lt-ltb x.line e.external external.0)
       ∙ sym (arrives-earlier inputs input k x before) ∙ ap (λ f. arrives (inputs ++ input ∷ []) f x) two
 
-  stood_then : (t : Through) (c : Circuit) → Contains circuits c → is_through (since_of c) n ≡ true → Contains (circuits_of (frames empty cs) (n - 1)) c × (since_of c ≤ t.k)
+  stood_then : (t : Through) (c : Circuit) → Contains circuits c → is_through (first_frame_of c) n ≡ true → Contains (circuits_of (frames empty cs) (n - 1)) c × (first_frame_of c ≤ t.k)
   stood_then t c inside old =
-      let young = leb-true (since_of c + 2) n old in
+      let young = leb-true (first_frame_of c + 2) n old in
       let now = t.now in
       (stood n c (subst (λ (ds : List Circuit). Contains ds c) circuits_now inside) (omega (arith, young)), omega (arith, young, now))
 
@@ -178,14 +178,14 @@ module _ (e : Stages) (m : Control) (out : List ℕ) (is : IsAt e m out) (inputs
   joined f k room since y owned = port_of-owner e.external (ports_at f) k y owned (λ j other. alone_in e.bridges cs f j k y (recorded e.bridges cs f come.allowed) other owned)
 
   -- the member of a port that is two frames old, in the two frames before
-  record Seated (t : Through) (k room since : ℕ) (y : Slot) : Type 0 where
+  record RoomMember (t : Through) (k room since : ℕ) (y : Slot) : Type 0 where
     low : k < 30 * e.bridges
     last : Contains (circuits_of held (suc t.k)) (Member room y since)
     port : port_of e.external (ports_of ports (suc t.k)) y ≡ Some (port_numbered e.external k)
     had : owner_of (ports_of ports t.k) k ≡ Some y
     heard : heard_by (circuits_of held t.k) y ≡ Some (Member room y since)
 
-  seated : (t : Through) (k room since : ℕ) (y : Slot) → Contains circuits (Member room y since) → is_through since n ≡ true → owner_of seats k ≡ Some y → Seated t k room since y
+  seated : (t : Through) (k room since : ℕ) (y : Slot) → Contains circuits (Member room y since) → is_through since n ≡ true → owner_of seats k ≡ Some y → RoomMember t k room since y
   seated t k room since y inside old owned =
       let now = t.now in
       let c : Circuit = Member room y since in
@@ -228,7 +228,7 @@ module _ (e : Stages) (m : Control) (out : List ℕ) (is : IsAt e m out) (inputs
       ∙ arrived t.k y t.now named
 
   -- what was brought to the port of a member two frames before
-  mixed_then : (t : Through) (k room since : ℕ) (y : Slot) → Seated t k room since y → octet_brought e.external inputs held ports t.k (port_numbered e.external k) ≡ mix (inputs ++ input ∷ []) (circuits_of (held ++ circuits ∷ []) (n - 2)) room y (n - 2)
+  mixed_then : (t : Through) (k room since : ℕ) (y : Slot) → RoomMember t k room since y → octet_brought e.external inputs held ports t.k (port_numbered e.external k) ≡ mix (inputs ++ input ∷ []) (circuits_of (held ++ circuits ∷ []) (n - 2)) room y (n - 2)
   mixed_then t k room since y s =
       let now = t.now in
       let two : t.k ≡ n - 2 = omega (arith, now) in

@@ -7,7 +7,7 @@ use Rattle.circuit_model.specs.declared.channel.Slot.{Slot}
 use Rattle.circuit_model.specs.FrameInput.{idle_octet}
 use Rattle.circuit_model.specs.Ports.{port_numbered}
 use Rattle.control_memory.specs.Image.{Control, room_at}
-use Rattle.conference_mix.specs.declared.mixer.Seated.{Seated}
+use Rattle.conference_mix.specs.declared.mixer.RoomMember.{RoomMember}
 use Rattle.conference_mix.specs.Bridge.{mixed_for}
 use Rattle.conference_mix.specs.Rooms.{counted_in, room_row, given_to_member}
 use Rattle.frame_engine.specs.Ports.{seated_by, member_in, members_in_ports, given_to}
@@ -49,5 +49,5 @@ pub members-length : (m : Control) (octet : Slot → ℕ) → length (members_in
 members-length m octet = length-map (range_with_len 0 (30 * m.bridges)) (member_in m octet) ∙ length-range_with_len 0 (30 * m.bridges)
 
 -- places that were taken one by one
-pub members-seated : (m : Control) (octet : Slot → ℕ) (places : List (Option Seated)) → length places ≡ 30 * m.bridges → ((k : ℕ) → k < 30 * m.bridges → get_or places k None ≡ member_in m octet k) → places ≡ members_in_ports m octet
+pub members-seated : (m : Control) (octet : Slot → ℕ) (places : List (Option RoomMember)) → length places ≡ 30 * m.bridges → ((k : ℕ) → k < 30 * m.bridges → get_or places k None ≡ member_in m octet k) → places ≡ members_in_ports m octet
 members-seated m octet places size each = fill_by_all (member_in m octet) places (30 * m.bridges) None size each

@@ -93,7 +93,7 @@ fn highways(alloc: Global, lines: u8, slots: u8) -> Result<(Highway, Crossed), A
 impl Engine {
     /// Sets the maximum number of halvings in each stage, if the halves are large enough. With 0 no stage is divided
     /// among threads. A new engine has three. The output does not depend on it.
-    pub fn halve_stages(&mut self, levels: u8)
+    pub fn set_halving_levels(&mut self, levels: u8)
         requires levels { levels ≤ 3 }
         ensures same { self.new ≡ self.old }
     {

@@ -17,7 +17,7 @@ pub(crate) fn take_in(input: &[Option<[u8; 30]>], external: u8, speech: &mut Fra
     ensures others { (at : Slot) → external ≤ at.line → at.place < 30 → octet_in_half speech.new.filled at ≡ octet_in_half speech.old.filled at }
     ensures readable { speech.new.readable ≡ speech.old.readable }
 {
-    speech.make_lines_idle(external);
+    speech.fill_lines_idle(external);
     for line in 0..external {
         if let Some(octets) = &input[usize::from(line)] {
             put_row(speech, line, octets);

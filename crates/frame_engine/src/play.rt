@@ -36,7 +36,7 @@ fn play_line(read: &[u8], image: &Image, line: u8, tones: &Tones, octets: &mut [
     requires tones { TonesGiven tones.now image.now }
     ensures { HasLine line (played_at (table_of tones.now) image.now (λ at. slice_index read.now at.place)) octets.new }
 {
-    if image.hears_nothing(line) {
+    if image.is_known_silent(line) {
         *octets = IDLE_LINE;
     } else {
         play_heard(read, image.heard_row(line), tones, image.frame(), octets);
@@ -88,7 +88,7 @@ fn play_tones(heard: &[HeardWord], tones: &Tones, frame: u32, octets: &mut [u8; 
     ensures { EachPlace (λ place heard. with_tone (table_of tones.now) frame (slice_index octets.old place) heard) heard.now octets.new }
 {
     for (place, octet) in octets.iter_mut().enumerate() {
-        if let Heard::Tone { kind, since } = heard[place].heard() {
+        if let Heard::Tone { kind, since } = heard[place].to_heard() {
             *octet = tone_octet(tones, kind, frame.saturating_sub(since));
         }
     }

@@ -7,8 +7,8 @@ ghost use Rattle.frame_engine.specs.Ports.{octet_that_counts, members_in_ports, 
 
 use crate::age::is_through;
 use alaw_codec::CodeTable;
-use circuit_model::{IDLE, PLACES};
-use conference_mix::{MAX_MEMBERS, Mixer, Seated};
+use circuit_model::{CHANNELS_PER_LINE, IDLE};
+use conference_mix::{MAX_MEMBERS, Mixer, RoomMember};
 use control_memory::Image;
 use frame_buffer::FrameBuffer;
 
@@ -57,7 +57,7 @@ fn mix_all(read: &FrameBuffer, image: &Image, codes: &CodeTable, octets: &mut [u
     requires read { read.now.lines ≡ lines_of image.now }
     ensures { (k : ℕ) → k < 30 * image.now.bridges → slice_index octets.new k ≡ given_to image.now (octet_in_half read.now.readable) k }
 {
-    let ports = usize::from(image.bridges() * PLACES);
+    let ports = usize::from(image.bridges() * CHANNELS_PER_LINE);
     let mut mixer = Mixer::new(ports);
     seat_members(read, image, &mut mixer);
     mixer.mix(codes, &mut octets[..ports]);
@@ -71,10 +71,10 @@ fn seat_members(read: &FrameBuffer, image: &Image, mixer: &mut Mixer)
 {
     let octets = read.rows_from(image.external());
     let frame = image.frame();
-    for (port, seat) in image.seats().iter().enumerate() {
+    for (port, seat) in image.port_members().iter().enumerate() {
         if let Some((room, since)) = *seat {
             let octet = octet_that_counts(octets[port], since, frame);
-            mixer.seat(port, Seated { room, octet });
+            mixer.add(port, RoomMember { room, octet });
         }
     }
 }
@@ -95,7 +95,7 @@ fn line_of(octets: &[u8; MAX_MEMBERS], bridge: u8) -> [u8; 30]
     requires bridge { bridge < 2 }
     ensures { (place : ℕ) → place < 30 → slice_index result place ≡ slice_index octets.now (30 * bridge + place) }
 {
-    let start = usize::from(bridge * PLACES);
+    let start = usize::from(bridge * CHANNELS_PER_LINE);
     let mut line = [IDLE; 30];
     line.copy_from_slice(&octets[start..start + 30]);
     line

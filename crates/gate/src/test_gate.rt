@@ -26,11 +26,11 @@ pub struct TestGate {
 impl TestGate {
     /// Makes a gate for the turn at this event, counted from 1, and the crossing of this frame, counted from 0.
     pub fn new(event: u32, frame: u32) -> TestGate {
-        TestGate::patient(event, frame, LOOKS)
+        TestGate::with_spin_limit(event, frame, LOOKS)
     }
 
     /// Makes a gate whose holds end after n loads of a flag.
-    pub fn patient(event: u32, frame: u32, looks: u32) -> TestGate {
+    pub fn with_spin_limit(event: u32, frame: u32, looks: u32) -> TestGate {
         TestGate {
             event,
             frame,

@@ -15,7 +15,7 @@ use traffic_gen::generate;
 /// # Errors
 ///
 /// [`AllocError`] if an allocation fails.
-pub fn generated(alloc: Global, seed: u64, calls: u32) -> Result<Trace, AllocError>
+pub fn generate_trace(alloc: Global, seed: u64, calls: u32) -> Result<Trace, AllocError>
     requires some { 1 ≤ calls }
     requires most { calls ≤ 2000 }
     ensures { IfOk result (λ t. IsTrafficOf seed calls t) }

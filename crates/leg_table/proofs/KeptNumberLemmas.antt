@@ -13,24 +13,24 @@ use Rattle.call_profile.specs.Legs.{Legs, no_legs, pending_at, kept_at, with_leg
 use Rattle.call_states.specs.Status.{FitsMessages}
 use Rattle.leg_table.specs.LegKeys.{key_of, key_on, leg_on, no_key, AreKeysOf}
 use Rattle.leg_table.specs.KeptNumbers.{number_in, message_in, counting, keeping, shown_all, counting_all, keeping_all, legs_kept}
-use Rattle.leg_table.specs.declared.notes.Note.{Note}
-use Rattle.leg_table.specs.declared.notes.Note.TheVariants.{Number, Message}
+use Rattle.leg_table.specs.declared.notes.SlotData.{SlotData}
+use Rattle.leg_table.specs.declared.notes.SlotData.TheVariants.{Number, Message}
 use Rattle.call_states.specs.Acts.{is_among}
 use Rattle.call_profile.specs.KeptMessages.{awaiting_answer}
 use Rattle.call_profile.proofs.KeptMessageLemmas.{digits_keep_none}
 
 -- ---- which states count
 
-pub quiet : (leg : Leg) (note : Note) → leg.state ≢ overlap_sending → counting (Some leg) note ≡ None
+pub quiet : (leg : Leg) (note : SlotData) → leg.state ≢ overlap_sending → counting (Some leg) note ≡ None
 quiet leg note apart = rw (ne_eqb leg.state overlap_sending apart) refl
 
-pub waiting : (leg : Leg) (note : Note) → leg.state ≡ overlap_sending → counting (Some leg) note ≡ number_in note
+pub waiting : (leg : Leg) (note : SlotData) → leg.state ≡ overlap_sending → counting (Some leg) note ≡ number_in note
 waiting leg note is = rw (eq-eqb leg.state overlap_sending is) refl
 
-pub unkept : (leg : Leg) (note : Note) → is_among awaiting_answer leg.state ≡ false → keeping (Some leg) note ≡ None
+pub unkept : (leg : Leg) (note : SlotData) → is_among awaiting_answer leg.state ≡ false → keeping (Some leg) note ≡ None
 unkept leg note none = rw none refl
 
-pub keeps : (leg : Leg) (note : Note) → is_among awaiting_answer leg.state ≡ true → keeping (Some leg) note ≡ message_in note
+pub keeps : (leg : Leg) (note : SlotData) → is_among awaiting_answer leg.state ≡ true → keeping (Some leg) note ≡ message_in note
 keeps leg note is = rw is refl
 
 -- no leg is in both
@@ -39,19 +39,19 @@ answer_no_digits state among is = let wrong : true ≡ false = sym among ∙ dig
 
 -- ---- what counts at each slot
 
-module _ (X : Type 0) (shown : Option Leg → Note → Option X) where
-  abbrev all : List (Option Leg) → List Note → List (Option X)
+module _ (X : Type 0) (shown : Option Leg → SlotData → Option X) where
+  abbrev all : List (Option Leg) → List SlotData → List (Option X)
   all legs notes = shown_all X shown legs notes
 
   -- where no leg is, nothing counts
-  counts_none : ((note : Note) → shown None note ≡ None) → (n : ℕ) (ps : List Note) → all (replicate n None) ps ≡ replicate n None
+  counts_none : ((note : SlotData) → shown None note ≡ None) → (n : ℕ) (ps : List SlotData) → all (replicate n None) ps ≡ replicate n None
   unfolding shown_all
   counts_none nobody zero ps = refl
   counts_none nobody (suc n) [] = ap (λ os. None ∷ os) (counts_none nobody n [])
   counts_none nobody (suc n) (p ∷ ps) = (λ i. nobody p i ∷ all (replicate n None) ps) ∙ ap (λ os. None ∷ os) (counts_none nobody n ps)
 
   -- another leg, or none, for which nothing counts
-  counts_quiet : (os : List (Option Leg)) (ps : List Note) (n : ℕ) (o : Option Leg) → ((note : Note) → shown o note ≡ None) → all (set os n o) ps ≡ set (all os ps) n None
+  counts_quiet : (os : List (Option Leg)) (ps : List SlotData) (n : ℕ) (o : Option Leg) → ((note : SlotData) → shown o note ≡ None) → all (set os n o) ps ≡ set (all os ps) n None
   unfolding shown_all
   counts_quiet [] ps n o none = refl
   counts_quiet (q ∷ os) [] zero o none = refl
@@ -60,7 +60,7 @@ module _ (X : Type 0) (shown : Option Leg → Note → Option X) where
   counts_quiet (q ∷ os) (p ∷ ps) (suc n) o none = ap (λ cs. shown q p ∷ cs) (counts_quiet os ps n o none)
 
   -- a leg for which something else is kept
-  counts_noted : (os : List (Option Leg)) (ps : List Note) (n : ℕ) (o : Option Leg) (note : Note) → length ps ≡ length os → all (set os n o) (set ps n note) ≡ set (all os ps) n (shown o note)
+  counts_noted : (os : List (Option Leg)) (ps : List SlotData) (n : ℕ) (o : Option Leg) (note : SlotData) → length ps ≡ length os → all (set os n o) (set ps n note) ≡ set (all os ps) n (shown o note)
   unfolding shown_all
   counts_noted [] [] n o note size = refl
   counts_noted [] (r ∷ ps) n o note size = absurd (omega (arith, size))
@@ -69,7 +69,7 @@ module _ (X : Type 0) (shown : Option Leg → Note → Option X) where
   counts_noted (q ∷ os) (r ∷ ps) (suc n) o note size = ap (λ cs. shown q r ∷ cs) (counts_noted os ps n o note (omega (arith, size)))
 
   -- what counts at a place, by the leg that is there
-  pub counts_none_at : ((note : Note) → shown None note ≡ None) → (os : List (Option Leg)) (ps : List Note) (n : ℕ) → get_or os n None ≡ None → get_or (all os ps) n None ≡ None
+  pub counts_none_at : ((note : SlotData) → shown None note ≡ None) → (os : List (Option Leg)) (ps : List SlotData) (n : ℕ) → get_or os n None ≡ None → get_or (all os ps) n None ≡ None
   unfolding shown_all
   counts_none_at nobody [] ps n at = refl
   counts_none_at nobody (q ∷ os) [] zero at = refl
@@ -77,7 +77,7 @@ module _ (X : Type 0) (shown : Option Leg → Note → Option X) where
   counts_none_at nobody (q ∷ os) [] (suc n) at = counts_none_at nobody os [] n at
   counts_none_at nobody (q ∷ os) (p ∷ ps) (suc n) at = counts_none_at nobody os ps n at
 
-  pub counts_leg_at : (os : List (Option Leg)) (ps : List Note) (n : ℕ) (leg : Leg) (d : Note) → get_or os n None ≡ Some leg → n < length ps → get_or (all os ps) n None ≡ shown (Some leg) (get_or ps n d)
+  pub counts_leg_at : (os : List (Option Leg)) (ps : List SlotData) (n : ℕ) (leg : Leg) (d : SlotData) → get_or os n None ≡ Some leg → n < length ps → get_or (all os ps) n None ≡ shown (Some leg) (get_or ps n d)
   unfolding shown_all
   counts_leg_at [] ps n leg d at inside = absurd cc
   counts_leg_at (q ∷ os) [] n leg d at inside = absurd (omega (arith, inside))
@@ -85,30 +85,30 @@ module _ (X : Type 0) (shown : Option Leg → Note → Option X) where
   counts_leg_at (q ∷ os) (p ∷ ps) (suc n) leg d at inside = counts_leg_at os ps n leg d at (omega (arith, inside))
 
 -- a message that is kept at a slot is the note there
-message_by : (note : Note) (octets : List ℕ) → message_in note ≡ Some octets → note ≡ Message octets
+message_by : (note : SlotData) (octets : List ℕ) → message_in note ≡ Some octets → note ≡ Message octets
 message_by (Number p) octets is = absurd cc
 message_by (Message os) octets is = let same : os ≡ octets = cc in ap (λ (list : List ℕ). Message list) same
 
-message_is : (o : Option Leg) (note : Note) (octets : List ℕ) → keeping o note ≡ Some octets → note ≡ Message octets
+message_is : (o : Option Leg) (note : SlotData) (octets : List ℕ) → keeping o note ≡ Some octets → note ≡ Message octets
 message_is None note octets is = absurd cc
 message_is (Some leg) note octets is = elim (true_or_false (is_among awaiting_answer leg.state)) [
   | inl waits ↦ let e : message_in note ≡ Some octets = rw waits at is in message_by note octets e
   | inr other ↦ let e : None ≡ Some octets = rw other at is in absurd cc
 ]
 
-note_stays : (os : List (Option Leg)) (ps : List Note) (n : ℕ) (octets : List ℕ) → get_or (keeping_all os ps) n None ≡ Some octets → set ps n (Message octets) ≡ ps
+note_stays : (os : List (Option Leg)) (ps : List SlotData) (n : ℕ) (octets : List ℕ) → get_or (keeping_all os ps) n None ≡ Some octets → set ps n (Message octets) ≡ ps
 unfolding shown_all
 note_stays [] ps n octets at = absurd cc
 note_stays (q ∷ os) [] n octets at = refl
-note_stays (q ∷ os) (p ∷ ps) zero octets at = ap (λ (r : Note). r ∷ ps) (sym (message_is q p octets at))
-note_stays (q ∷ os) (p ∷ ps) (suc n) octets at = ap (λ (rs : List Note). p ∷ rs) (note_stays os ps n octets at)
+note_stays (q ∷ os) (p ∷ ps) zero octets at = ap (λ (r : SlotData). r ∷ ps) (sym (message_is q p octets at))
+note_stays (q ∷ os) (p ∷ ps) (suc n) octets at = ap (λ (rs : List SlotData). p ∷ rs) (note_stays os ps n octets at)
 
-pub no_note : Note
+pub no_note : SlotData
 no_note = Message []
 
 -- what counts at the slot of a leg, by the note that is there
-pub counts_by : (X : Type 0) (shown : Option Leg → Note → Option X) (os : List (Option Leg)) (ps : List Note) (n : ℕ) (o : Option Leg) (leg : Leg) (d note : Note) (counted : Note → Option X)
-    → o ≡ get_or os n None → o ≡ Some leg → IfSome o (λ _. n < length os) → length ps ≡ length os → get_or ps n d ≡ note → ((m : Note) → shown (Some leg) m ≡ counted m) → counted note ≡ get_or (shown_all X shown os ps) n None
+pub counts_by : (X : Type 0) (shown : Option Leg → SlotData → Option X) (os : List (Option Leg)) (ps : List SlotData) (n : ℕ) (o : Option Leg) (leg : Leg) (d note : SlotData) (counted : SlotData → Option X)
+    → o ≡ get_or os n None → o ≡ Some leg → IfSome o (λ _. n < length os) → length ps ≡ length os → get_or ps n d ≡ note → ((m : SlotData) → shown (Some leg) m ≡ counted m) → counted note ≡ get_or (shown_all X shown os ps) n None
 counts_by X shown os ps n o leg d note counted found is within same at counts =
     let inside : n < length os = subst (λ (q : Option Leg). IfSome q (λ _. n < length os)) is within in
     sym (counts_leg_at X shown os ps n leg d (sym found ∙ is) (omega (arith, inside, same)) ∙ ap (shown (Some leg)) at ∙ counts note)
@@ -118,7 +118,7 @@ counts_by X shown os ps n o leg d note counted found is within same at counts =
 abbrev entry : List (Option Leg) → List (Option Pending) → List (Option (List ℕ)) → Option Leg → Option Pending → Option (List ℕ) → ℕ → Legs
 entry legs pending kept o p k n = record { held = set legs n o; pending = set pending n p; kept = set kept n k }
 
-module _ (legs : List (Option Leg)) (notes : List Note) (now : Legs) (view : legs_kept legs notes ≡ now) (n : ℕ) (x : Slot) (at : n ≡ number_of x) where
+module _ (legs : List (Option Leg)) (notes : List SlotData) (now : Legs) (view : legs_kept legs notes ≡ now) (n : ℕ) (x : Slot) (at : n ≡ number_of x) where
   -- what the table shows there
   pub pending_shown : pending_at now x ≡ get_or (counting_all legs notes) n None
   pending_shown = sym (ap (λ (k : ℕ). get_or (counting_all legs notes) k None) at ∙ ap (λ (ls : Legs). pending_at ls x) view)
@@ -127,14 +127,14 @@ module _ (legs : List (Option Leg)) (notes : List Note) (now : Legs) (view : leg
   kept_shown = sym (ap (λ (k : ℕ). get_or (keeping_all legs notes) k None) at ∙ ap (λ (ls : Legs). kept_at ls x) view)
 
   -- nothing counts there any more
-  dropped : (o : Option Leg) → ((note : Note) → counting o note ≡ None) → ((note : Note) → keeping o note ≡ None) → legs_kept (set legs n o) notes ≡ entry now.held now.pending now.kept o None None (number_of x)
+  dropped : (o : Option Leg) → ((note : SlotData) → counting o note ≡ None) → ((note : SlotData) → keeping o note ≡ None) → legs_kept (set legs n o) notes ≡ entry now.held now.pending now.kept o None None (number_of x)
   dropped o no_number no_message =
       (λ i. record { held = set legs n o; pending = counts_quiet Pending counting legs notes n o no_number i; kept = counts_quiet (List ℕ) keeping legs notes n o no_message i })
       ∙ ap (entry legs (counting_all legs notes) (keeping_all legs notes) o None None) at
       ∙ ap (λ (ls : Legs). entry ls.held ls.pending ls.kept o None None (number_of x)) view
 
   -- something else is kept there
-  noted : (leg : Leg) (note : Note) → length notes ≡ length legs
+  noted : (leg : Leg) (note : SlotData) → length notes ≡ length legs
       → legs_kept (set legs n (Some leg)) (set notes n note) ≡ entry now.held now.pending now.kept (Some leg) (counting (Some leg) note) (keeping (Some leg) note) (number_of x)
   noted leg note size =
       (λ i. record { held = set legs n (Some leg); pending = counts_noted Pending counting legs notes n (Some leg) note size i; kept = counts_noted (List ℕ) keeping legs notes n (Some leg) note size i })
@@ -160,10 +160,10 @@ module _ (legs : List (Option Leg)) (notes : List Note) (now : Legs) (view : leg
   -- the message that was kept there is kept on
   pub kept_still : (leg : Leg) (octets : List ℕ) → is_among awaiting_answer leg.state ≡ true → length notes ≡ length legs → kept_at now x ≡ Some octets → legs_kept (set legs n (Some leg)) notes ≡ with_kept now x leg octets
   kept_still leg octets is size keeps =
-      ap (λ (rs : List Note). legs_kept (set legs n (Some leg)) rs) (sym (note_stays legs notes n octets (sym kept_shown ∙ keeps)))
+      ap (λ (rs : List SlotData). legs_kept (set legs n (Some leg)) rs) (sym (note_stays legs notes n octets (sym kept_shown ∙ keeps)))
       ∙ kept_expect leg octets is size
 
-pub kept_none : (legs : List (Option Leg)) (notes : List Note) (n external : ℕ) → legs ≡ replicate n None → n ≡ 30 * external → legs_kept legs notes ≡ no_legs external
+pub kept_none : (legs : List (Option Leg)) (notes : List SlotData) (n external : ℕ) → legs ≡ replicate n None → n ≡ 30 * external → legs_kept legs notes ≡ no_legs external
 kept_none legs notes n external is size =
     ap (λ os. legs_kept os notes) is
     ∙ (λ i. record { held = replicate n None; pending = counts_none Pending counting (λ note. refl) n notes i; kept = counts_none (List ℕ) keeping (λ note. refl) n notes i })

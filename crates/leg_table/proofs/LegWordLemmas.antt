@@ -8,9 +8,9 @@ use Rattle.std.proofs.lemmas.Nat.Bits.{bit_at-zero, bit_at-lt, bit_at_not, bit_a
 use Rattle.call_states.specs.declared.leg.Leg.{Leg}
 use Rattle.call_states.specs.declared.leg.Side.{Side}
 use Rattle.call_states.specs.declared.leg.Side.TheVariants.{Caller, Called}
-use Rattle.call_states.specs.declared.leg.Held.{Held}
+use Rattle.call_states.specs.declared.leg.HeldLeg.{HeldLeg}
 use Rattle.call_states.specs.Status.{FitsMessages}
-use Rattle.call_profile.specs.Legs.{Legs, held_at, leg_named, is_unused, new_reference}
+use Rattle.call_profile.specs.Legs.{Legs, held_at, leg_named, is_unused, lowest_free_reference}
 use Rattle.call_profile.proofs.LineLemmas.{unused_from, unused_all, unused_end, unused_here, unused_other}
 use Rattle.call_profile.proofs.VacantSlotLemmas.{none_named}
 use Rattle.leg_table.specs.LegKeys.{key_named, key_by, key_of, leg_on, hit, IsRowOf, HasKey, LacksKey}
@@ -133,7 +133,7 @@ module _ (legs : Legs) (line : ℕ) (row : List ℕ) (of : IsRowOf legs.held lin
       let is = called_key leg.side leg.reference reference (tell.reference) e in
       none_named legs line true reference none (record { line = line; place = place }) leg (refl, within) at is.0 is.1
 
-  not_none : (reference : ℕ) (o : Option Held) → (o ≡ None → ⊥) → is_none o ≡ false
+  not_none : (reference : ℕ) (o : Option HeldLeg) → (o ≡ None → ⊥) → is_none o ≡ false
   not_none reference None some = absurd (some refl)
   not_none reference (Some h) some = refl
 
@@ -194,7 +194,7 @@ module _ (legs : Legs) (line : ℕ) (row : List ℕ) (of : IsRowOf legs.held lin
         let next : 1 + count + 1 ≡ 1 + suc count = omega arith in
         omega (arith, here, before, ap (unused_from legs line) next)
 
-    pub lowest_left : (first < 32) × (first ≡ new_reference legs line)
+    pub lowest_left : (first < 32) × (first ≡ lowest_free_reference legs line)
     lowest_left =
         let lowest = bit_at-trailing_zeros w32 free free_some fits in
         let near : first < 32 = lowest.0 in

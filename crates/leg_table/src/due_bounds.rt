@@ -4,8 +4,8 @@ ghost use Rattle.leg_table.specs.DueBounds.{AreLower, IsNotDue};
 ghost use Rattle.leg_table.specs.LegKeys.{leg_on};
 
 use call_states::Leg;
-use call_timers::{Timers, first_due};
-use circuit_model::PLACES;
+use call_timers::{Timers, next_due_frame};
+use circuit_model::CHANNELS_PER_LINE;
 
 /// The number of places of a line.
 pub(crate) const BOUNDS: usize = 30;
@@ -17,7 +17,7 @@ pub(crate) const NEVER: u32 = u32::MAX;
 pub(crate) fn due_from(leg: Leg, timers: &Timers) -> u32
     ensures { (frame : ℕ) → frame < result → IsNotDue timers.now frame (Some leg) }
 {
-    first_due(leg.state, leg.resent, leg.since, timers)
+    next_due_frame(leg.state, leg.resent, leg.since, timers)
 }
 
 /// Lowers the bound of a place to this frame, if the bound is later.
@@ -41,7 +41,7 @@ pub(crate) fn due_from_at(legs: &[Option<Leg>], lines: u8, place: u8, timers: &T
 {
     let mut first = NEVER;
     for line in 0..lines {
-        let number = usize::from(PLACES) * usize::from(line) + usize::from(place);
+        let number = usize::from(CHANNELS_PER_LINE) * usize::from(line) + usize::from(place);
         if let Some(leg) = legs[number] {
             first = first.min(due_from(leg, timers));
         }

@@ -9,7 +9,7 @@ use crate::due_bounds::{BOUNDS, NEVER, due_from, due_from_at, lower};
 use crate::leg_keys::{NO_KEY, ROW, key_of};
 use call_states::Leg;
 use call_timers::Timers;
-use circuit_model::{PLACES, Slot};
+use circuit_model::{CHANNELS_PER_LINE, Slot};
 use std::alloc::{AllocError, Global};
 use std::marker::Model;
 
@@ -50,7 +50,7 @@ impl KeyedLegs {
         let lines = usize::from(external);
         Ok(KeyedLegs {
             lines: external,
-            legs: vec![in alloc; None; usize::from(PLACES) * lines]?,
+            legs: vec![in alloc; None; usize::from(CHANNELS_PER_LINE) * lines]?,
             keys: vec![in alloc; NO_KEY; ROW * lines]?,
             timers,
             bounds: [NEVER; BOUNDS],
@@ -58,7 +58,7 @@ impl KeyedLegs {
     }
 
     /// Returns the leg that holds the slot with a number.
-    pub(crate) fn at(&self, number: usize) -> Option<Leg>
+    pub(crate) fn get(&self, number: usize) -> Option<Leg>
         ensures found { result ≡ slice_index_or self.now number None }
         ensures inside { IfSome result (λ _. number < length self.now) }
         ensures told { IfSome result FitsMessages }
@@ -78,7 +78,7 @@ impl KeyedLegs {
         ensures { self.new ≡ slice_set self.old (number_of x) (Some leg) }
     {
         lower(&mut self.bounds, x.place, due_from(leg, &self.timers));
-        self.legs[x.number()] = Some(leg);
+        self.legs[x.to_index()] = Some(leg);
         self.keys[key_index(x)] = key_of(leg);
     }
 
@@ -88,7 +88,7 @@ impl KeyedLegs {
         requires place { x.place < 30 }
         ensures { self.new ≡ slice_set self.old (number_of x) None }
     {
-        self.legs[x.number()] = None;
+        self.legs[x.to_index()] = None;
         self.keys[key_index(x)] = NO_KEY;
     }
 
@@ -104,7 +104,7 @@ impl KeyedLegs {
     }
 
     /// Scans the legs at a place, and records the first frame in which one of them may be due.
-    pub(crate) fn settle(&mut self, place: u8)
+    pub(crate) fn update_due_frame(&mut self, place: u8)
         requires place { place < 30 }
         ensures { self.new ≡ self.old }
     {

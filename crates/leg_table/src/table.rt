@@ -9,15 +9,15 @@ ghost use Rattle.call_profile.specs.KeptMessages.{awaiting_answer};
 ghost use Rattle.leg_table.specs.KeptNumbers.{counting_all, keeping_all};
 ghost use Rattle.leg_table.specs.DueBounds.{NoneDue};
 ghost use Rattle.leg_table.specs.LegKeys.{IsRowOf};
-ghost use Rattle.call_profile.specs.Legs.{no_legs, leg_at, pending_at, kept_at, with_leg, with_waiting, with_kept, without_leg, leg_named, held_at, new_reference};
-ghost use Rattle.leg_table.specs.declared.notes.Note.TheVariants as A_note;
+ghost use Rattle.call_profile.specs.Legs.{no_legs, leg_at, pending_at, kept_at, with_leg, with_waiting, with_kept, without_leg, leg_named, held_at, lowest_free_reference};
+ghost use Rattle.leg_table.specs.declared.notes.SlotData.TheVariants as A_datum;
 
 use crate::keyed_legs::KeyedLegs;
 use crate::leg_keys::{key_named, places_with, references_in};
-use crate::notes::Note;
-use call_states::{Held, Leg, Pending};
+use crate::notes::SlotData;
+use call_states::{HeldLeg, Leg, Pending};
 use call_timers::Timers;
-use circuit_model::{PLACES, Slot};
+use circuit_model::{CHANNELS_PER_LINE, Slot};
 use exchange_events::Encoded;
 use q931_codec::states::{CALL_PRESENT, OVERLAP_SENDING, RELEASE_REQUEST};
 use std::alloc::{AllocError, Global};
@@ -30,7 +30,7 @@ pub struct LegTable {
     legs: KeyedLegs,
     // The data of each slot, whose space is reserved before the first event. It counts by the state of the slot's leg,
     // so a leg that leaves the state clears nothing.
-    notes: Vec<Note>,
+    notes: Vec<SlotData>,
 }
 
 impl Model for LegTable {
@@ -50,34 +50,34 @@ impl LegTable {
     pub fn new(alloc: Global, external: u8, timers: Timers) -> Result<LegTable, AllocError>
         ensures { IfOk result (λ t. t ≡ no_legs external) }
     {
-        let slots = usize::from(PLACES) * usize::from(external);
+        let slots = usize::from(CHANNELS_PER_LINE) * usize::from(external);
         Ok(LegTable {
             legs: KeyedLegs::new(alloc, external, timers)?,
-            notes: vec![in alloc; Note::Number(Pending::default()); slots]?,
+            notes: vec![in alloc; SlotData::Number(Pending::default()); slots]?,
         })
     }
 
     /// Returns the leg that holds a slot.
-    pub fn at(&self, x: Slot) -> Option<Leg>
+    pub fn get(&self, x: Slot) -> Option<Leg>
         ensures found { result ≡ leg_at self.now x }
         ensures inside { IfSome result (λ _. number_of x < length self.now.held) }
         ensures told { IfSome result FitsMessages }
     {
-        self.legs.at(x.number())
+        self.legs.get(x.to_index())
     }
 
     /// Returns the number that is pending at a slot.
     pub fn pending(&self, x: Slot) -> Option<&Pending>
         ensures { option_copied result ≡ pending_at self.now x }
     {
-        number_at(&self.legs, &self.notes, x.number())
+        number_at(&self.legs, &self.notes, x.to_index())
     }
 
     /// Returns the message that is stored at a slot for retransmission.
-    pub fn kept(&self, x: Slot) -> Option<&Encoded>
+    pub fn kept_message(&self, x: Slot) -> Option<&Encoded>
         ensures { option_copied result ≡ kept_at self.now x }
     {
-        message_at(&self.legs, &self.notes, x.number())
+        message_at(&self.legs, &self.notes, x.to_index())
     }
 
     /// Stores a leg at a slot, instead of any other. No number is pending there then, and no message stored.
@@ -93,19 +93,19 @@ impl LegTable {
     }
 
     /// Stores a leg at a slot, instead of any other, which waits there with its number.
-    pub fn wait(&mut self, x: Slot, leg: Leg, pending: Pending)
+    pub fn put_pending(&mut self, x: Slot, leg: Leg, pending: Pending)
         requires inside { number_of x < length self.old.held }
         requires place { x.place < 30 }
         requires told { FitsMessages leg }
         requires state { leg.state ≡ overlap_sending }
         ensures { self.new ≡ with_waiting self.old x leg pending }
     {
-        keep(&mut self.notes, x, Note::Number(pending));
+        keep(&mut self.notes, x, SlotData::Number(pending));
         self.legs.put(x, leg);
     }
 
     /// Stores a leg at a slot, instead of any other, with the message whose reply it waits for.
-    pub fn expect(&mut self, x: Slot, leg: Leg, message: &Encoded)
+    pub fn put_awaiting(&mut self, x: Slot, leg: Leg, message: &Encoded)
         requires inside { number_of x < length self.old.held }
         requires place { x.place < 30 }
         requires told { FitsMessages leg }
@@ -118,7 +118,7 @@ impl LegTable {
 
     /// Stores a leg at a slot, instead of any other, which still waits for the reply to the message that is stored
     /// there.
-    pub fn expect_still(&mut self, x: Slot, leg: Leg)
+    pub fn restart_wait(&mut self, x: Slot, leg: Leg)
         requires inside { number_of x < length self.old.held }
         requires place { x.place < 30 }
         requires told { FitsMessages leg }
@@ -147,15 +147,15 @@ impl LegTable {
 
     /// Scans the legs at a place, and records the first frame in which one of them may be due. Before it no leg is
     /// examined.
-    pub fn settle(&mut self, place: u8)
+    pub fn update_due_frame(&mut self, place: u8)
         requires place { place < 30 }
         ensures { self.new ≡ self.old }
     {
-        self.legs.settle(place);
+        self.legs.update_due_frame(place);
     }
 
     /// Returns the leg of a line that a message with this flag and call reference value is for.
-    pub fn named(&self, line: u8, flag: bool, reference: u16) -> Option<Held>
+    pub fn find(&self, line: u8, flag: bool, reference: u16) -> Option<HeldLeg>
         requires line { 30 * line + 30 ≤ length self.now.held }
         ensures { result ≡ leg_named self.now line flag reference }
     {
@@ -168,19 +168,19 @@ impl LegTable {
     }
 
     // Returns the leg that holds a slot, with the slot.
-    fn held(&self, slot: Slot) -> Option<Held>
+    fn held(&self, slot: Slot) -> Option<HeldLeg>
         ensures { result ≡ held_at self.now slot }
     {
-        let leg = self.at(slot)?;
-        Some(Held { slot, leg })
+        let leg = self.get(slot)?;
+        Some(HeldLeg { slot, leg })
     }
 
     /// Returns the call reference value of a new called leg of a line: the lowest from 1 up that none of the line's
     /// called legs has. It finds the values in use from the keys, once a call. A stored list would need a search for
     /// another leg with the same value whenever a leg goes.
-    pub fn new_reference(&self, line: u8) -> u16
+    pub fn lowest_free_reference(&self, line: u8) -> u16
         requires line { 30 * line + 30 ≤ length self.now.held }
-        ensures reference { result ≡ new_reference self.now line }
+        ensures reference { result ≡ lowest_free_reference self.now line }
         ensures few { result ≤ 31 }
     {
         let used = references_in(self.row(line));
@@ -199,32 +199,32 @@ impl LegTable {
 }
 
 // Returns the number that is pending at the slot with this number. Its data counts in overlap sending only.
-fn number_at<'a>(legs: &KeyedLegs, notes: &'a [Note], number: usize) -> Option<&'a Pending>
+fn number_at<'a>(legs: &KeyedLegs, notes: &'a [SlotData], number: usize) -> Option<&'a Pending>
     requires { length notes.now ≡ length legs.now }
     ensures { option_copied result ≡ slice_index_or (counting_all legs.now notes.now) number None }
 {
-    let leg = legs.at(number)?;
+    let leg = legs.get(number)?;
     if leg.state != OVERLAP_SENDING {
         return None;
     }
     match &notes[number] {
-        Note::Number(pending) => Some(pending),
-        Note::Message(_) => None,
+        SlotData::Number(pending) => Some(pending),
+        SlotData::Message(_) => None,
     }
 }
 
 // Returns the message that is stored at the slot with this number. It counts if the leg waits for the reply to it.
-fn message_at<'a>(legs: &KeyedLegs, notes: &'a [Note], number: usize) -> Option<&'a Encoded>
+fn message_at<'a>(legs: &KeyedLegs, notes: &'a [SlotData], number: usize) -> Option<&'a Encoded>
     requires { length notes.now ≡ length legs.now }
     ensures { option_copied result ≡ slice_index_or (keeping_all legs.now notes.now) number None }
 {
-    let leg = legs.at(number)?;
+    let leg = legs.get(number)?;
     if !awaits_answer(leg.state) {
         return None;
     }
     match &notes[number] {
-        Note::Message(octets) => Some(octets),
-        Note::Number(_) => None,
+        SlotData::Message(octets) => Some(octets),
+        SlotData::Number(_) => None,
     }
 }
 
@@ -236,23 +236,23 @@ fn awaits_answer(state: u8) -> bool
 }
 
 // Stores the data of a slot.
-fn keep(notes: &mut Vec<Note>, x: Slot, note: Note)
+fn keep(notes: &mut Vec<SlotData>, x: Slot, note: SlotData)
     requires { number_of x < length notes.old.items }
     ensures items { notes.new.items ≡ slice_set notes.old.items (number_of x) note }
     ensures count { length notes.new.items ≡ length notes.old.items }
 {
-    notes[x.number()] = note;
+    notes[x.to_index()] = note;
 }
 
 // Stores a message at a slot. It overwrites an earlier message, because a new one would move the capacity of the
 // longest message.
-fn keep_message(notes: &mut Vec<Note>, x: Slot, message: &Encoded)
+fn keep_message(notes: &mut Vec<SlotData>, x: Slot, message: &Encoded)
     requires { number_of x < length notes.old.items }
-    ensures items { notes.new.items ≡ slice_set notes.old.items (number_of x) (A_note.Message message.now) }
+    ensures items { notes.new.items ≡ slice_set notes.old.items (number_of x) (A_datum.Message message.now) }
     ensures count { length notes.new.items ≡ length notes.old.items }
 {
-    match &mut notes[x.number()] {
-        Note::Message(kept) => kept.copy_from(message),
-        other => *other = Note::Message(message.copy()),
+    match &mut notes[x.to_index()] {
+        SlotData::Message(kept) => kept.copy_from(message),
+        other => *other = SlotData::Message(message.copied()),
     }
 }

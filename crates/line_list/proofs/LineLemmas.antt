@@ -6,29 +6,29 @@ use Rattle.std.proofs.lemmas.List.Elements.{All-nil, All-cons, All-head, All-mor
 use Rattle.exchange_events.specs.declared.record.CallRecord.{CallRecord}
 use Rattle.call_processor.specs.declared.worked.Placed.{Placed}
 use Rattle.call_processor.specs.Keeping.{HandsOn, first_place}
-use Rattle.line_list.specs.declared.lines.Mark.{Mark}
+use Rattle.line_list.specs.declared.lines.LineEntry.{LineEntry}
 use Rattle.line_list.specs.declared.lines.Extent.{Extent}
 use Rattle.line_list.specs.Lines.{HandsLines, Line, calls_of, first_line, text_of}
-use Rattle.line_list.specs.Marks.{AreBefore, AreMarked, BeginFrom, lines_in, lines_left, mark_of, octets_in, records_in}
+use Rattle.line_list.specs.Entries.{AreBefore, AreMarked, BeginFrom, lines_in, lines_left, entry_of, octets_in, records_in}
 
 -- ---- sums over lines
 
-pub lines_long : (t : List ℕ) (r : List CallRecord) (ms : List Mark) → length (lines_in t r ms) ≡ length ms
+pub lines_long : (t : List ℕ) (r : List CallRecord) (ms : List LineEntry) → length (lines_in t r ms) ≡ length ms
 lines_long t r [] = refl
 lines_long t r (m ∷ ms) = ap suc (lines_long (drop m.octets t) (drop m.records r) ms)
 
-pub octets_append : (ms ns : List Mark) → octets_in (ms ++ ns) ≡ octets_in ms + octets_in ns
+pub octets_append : (ms ns : List LineEntry) → octets_in (ms ++ ns) ≡ octets_in ms + octets_in ns
 octets_append [] ns = omega arith
 octets_append (m ∷ ms) ns = let rest = octets_append ms ns in omega (arith, rest)
 
-pub records_append : (ms ns : List Mark) → records_in (ms ++ ns) ≡ records_in ms + records_in ns
+pub records_append : (ms ns : List LineEntry) → records_in (ms ++ ns) ≡ records_in ms + records_in ns
 records_append [] ns = omega arith
 records_append (m ∷ ms) ns = let rest = records_append ms ns in omega (arith, rest)
 
-pub octets_split : (n : ℕ) (ms : List Mark) → octets_in ms ≡ octets_in (take n ms) + octets_in (drop n ms)
+pub octets_split : (n : ℕ) (ms : List LineEntry) → octets_in ms ≡ octets_in (take n ms) + octets_in (drop n ms)
 octets_split n ms = ap octets_in (sym (take-append-drop n ms)) ∙ octets_append (take n ms) (drop n ms)
 
-pub records_split : (n : ℕ) (ms : List Mark) → records_in ms ≡ records_in (take n ms) + records_in (drop n ms)
+pub records_split : (n : ℕ) (ms : List LineEntry) → records_in ms ≡ records_in (take n ms) + records_in (drop n ms)
 records_split n ms = ap records_in (sym (take-append-drop n ms)) ∙ records_append (take n ms) (drop n ms)
 
 -- a part of a list is as long as it is said to be
@@ -41,7 +41,7 @@ part_long xs t a b n is within part =
 
 -- ---- lines behind others
 
-pub lines_append : (t u : List ℕ) (r s : List CallRecord) (ms ns : List Mark) → length t ≡ octets_in ms → length r ≡ records_in ms
+pub lines_append : (t u : List ℕ) (r s : List CallRecord) (ms ns : List LineEntry) → length t ≡ octets_in ms → length r ≡ records_in ms
     → lines_in (t ++ u) (r ++ s) (ms ++ ns) ≡ lines_in t r ms ++ lines_in u s ns
 lines_append t u r s [] ns long many = (λ i. lines_in (nil_from_length t long i ++ u) (nil_from_length r many i ++ s) ns)
 lines_append t u r s (m ∷ ms) ns long many =
@@ -55,7 +55,7 @@ lines_append t u r s (m ∷ ms) ns long many =
     ∙ ap (λ (ls : List Line). one ∷ ls) (lines_append (drop m.octets t) u (drop m.records r) s ms ns left fewer)
 
 -- the first n lines, and the others
-pub lines_split : (n : ℕ) (t : List ℕ) (r : List CallRecord) (ms : List Mark) → length t ≡ octets_in ms → length r ≡ records_in ms
+pub lines_split : (n : ℕ) (t : List ℕ) (r : List CallRecord) (ms : List LineEntry) → length t ≡ octets_in ms → length r ≡ records_in ms
     → lines_in t r ms ≡ lines_in (take (octets_in (take n ms)) t) (take (records_in (take n ms)) r) (take n ms)
     ++ lines_in (drop (octets_in (take n ms)) t) (drop (records_in (take n ms)) r) (drop n ms)
 lines_split n t r ms long many =
@@ -67,17 +67,17 @@ lines_split n t r ms long many =
     ∙ lines_append (take a t) (drop a t) (take b r) (drop b r) (take n ms) (drop n ms) front calls
 
 -- one line by itself
-pub one_line : (l : Line) → lines_in l.text l.records (mark_of l ∷ []) ≡ l ∷ []
+pub one_line : (l : Line) → lines_in l.text l.records (entry_of l ∷ []) ≡ l ∷ []
 one_line l = (λ i. record { place = l.place; text = take_all (length l.text) l.text (omega arith) i; records = take_all (length l.records) l.records (omega arith) i } ∷ [])
 
 -- the text of all lines is the text, and their records are the records
-pub text_whole : (t : List ℕ) (r : List CallRecord) (ms : List Mark) → length t ≡ octets_in ms → text_of (lines_in t r ms) ≡ t
+pub text_whole : (t : List ℕ) (r : List CallRecord) (ms : List LineEntry) → length t ≡ octets_in ms → text_of (lines_in t r ms) ≡ t
 text_whole t r [] long = sym (nil_from_length t long)
 text_whole t r (m ∷ ms) long =
     ap (λ (l : List ℕ). take m.octets t ++ l) (text_whole (drop m.octets t) (drop m.records r) ms (omega (arith, long, length-drop m.octets t)))
     ∙ take-append-drop m.octets t
 
-pub calls_whole : (t : List ℕ) (r : List CallRecord) (ms : List Mark) → length r ≡ records_in ms → calls_of (lines_in t r ms) ≡ r
+pub calls_whole : (t : List ℕ) (r : List CallRecord) (ms : List LineEntry) → length r ≡ records_in ms → calls_of (lines_in t r ms) ≡ r
 calls_whole t r [] many = sym (nil_from_length r many)
 calls_whole t r (m ∷ ms) many =
     ap (λ (l : List CallRecord). take m.records r ++ l) (calls_whole (drop m.octets t) (drop m.records r) ms (omega (arith, many, length-drop m.records r)))
@@ -85,42 +85,42 @@ calls_whole t r (m ∷ ms) many =
 
 -- ---- places
 
-pub first_left : (t : List ℕ) (r : List CallRecord) (m : Mark) (ms : List Mark) → first_line (lines_in t r (m ∷ ms)) ≡ Some m.place
+pub first_left : (t : List ℕ) (r : List CallRecord) (m : LineEntry) (ms : List LineEntry) → first_line (lines_in t r (m ∷ ms)) ≡ Some m.place
 first_left t r m ms = refl
 
 -- one line more of a run, which comes before a place unless it is the first
-pub before_more : (below i : ℕ) (ms : List Mark) (d : Mark) → i < length ms → (0 < i → (get_or ms i d).place < below) → AreBefore below (drop 1 (take i ms)) → AreBefore below (drop 1 (take (i + 1) ms))
+pub before_more : (below i : ℕ) (ms : List LineEntry) (d : LineEntry) → i < length ms → (0 < i → (get_or ms i d).place < below) → AreBefore below (drop 1 (take i ms)) → AreBefore below (drop 1 (take (i + 1) ms))
 before_more below i ms d inside low so_far = subst (λ (n : ℕ). AreBefore below (drop 1 (take n ms))) (sym (add-one i)) (go i ms inside low so_far)
   where
-    go : (i : ℕ) (ms : List Mark) → i < length ms → (0 < i → (get_or ms i d).place < below) → AreBefore below (drop 1 (take i ms)) → AreBefore below (drop 1 (take (suc i) ms))
+    go : (i : ℕ) (ms : List LineEntry) → i < length ms → (0 < i → (get_or ms i d).place < below) → AreBefore below (drop 1 (take i ms)) → AreBefore below (drop 1 (take (suc i) ms))
     go zero [] inside low so_far = absurd (omega arith)
-    go zero (x ∷ xs) inside low so_far = All-nil (λ (m : Mark). m.place < below)
+    go zero (x ∷ xs) inside low so_far = All-nil (λ (m : LineEntry). m.place < below)
     go (suc i) [] inside low so_far = absurd (omega arith)
     go (suc i) (x ∷ xs) inside low so_far =
-        subst (λ (n : ℕ). AreBefore below (take n xs)) (add-one i) (All-more (λ (m : Mark). m.place < below) xs i d (omega (arith, inside)) so_far (low (omega arith)))
+        subst (λ (n : ℕ). AreBefore below (take n xs)) (add-one i) (All-more (λ (m : LineEntry). m.place < below) xs i d (omega (arith, inside)) so_far (low (omega arith)))
 
--- what is left of the lines begins as what is left of the marks
-begin_lines : (below : ℕ) (t : List ℕ) (r : List CallRecord) (ms : List Mark) → BeginFrom below ms → (place : ℕ) → first_line (lines_in t r ms) ≡ Some place → below ≤ place
+-- what is left of the lines begins as what is left of the entries
+begin_lines : (below : ℕ) (t : List ℕ) (r : List CallRecord) (ms : List LineEntry) → BeginFrom below ms → (place : ℕ) → first_line (lines_in t r ms) ≡ Some place → below ≤ place
 begin_lines below t r [] far place is = absurd (cc is)
 begin_lines below t r (m ∷ ms) far place is =
     let same : m.place ≡ place = cc is in
-    subst (λ (n : ℕ). below ≤ n) same (All-head (λ (m : Mark). below ≤ m.place) m [] far)
+    subst (λ (n : ℕ). below ≤ n) same (All-head (λ (m : LineEntry). below ≤ m.place) m [] far)
 
-before_lines : (below : ℕ) (t : List ℕ) (r : List CallRecord) (ms : List Mark) → AreBefore below ms → All (λ (l : Line). l.place < below) (lines_in t r ms)
+before_lines : (below : ℕ) (t : List ℕ) (r : List CallRecord) (ms : List LineEntry) → AreBefore below ms → All (λ (l : Line). l.place < below) (lines_in t r ms)
 before_lines below t r [] low = All-nil (λ (l : Line). l.place < below)
 before_lines below t r (m ∷ ms) low =
     All-cons (λ (l : Line). l.place < below) (record { place = m.place; text = take m.octets t; records = take m.records r }) (lines_in (drop m.octets t) (drop m.records r) ms)
-    (All-head (λ (m : Mark). m.place < below) m ms low) (before_lines below (drop m.octets t) (drop m.records r) ms (All-tail (λ (m : Mark). m.place < below) m ms low))
+    (All-head (λ (m : LineEntry). m.place < below) m ms low) (before_lines below (drop m.octets t) (drop m.records r) ms (All-tail (λ (m : LineEntry). m.place < below) m ms low))
 
-pub before_run : (below : ℕ) (t : List ℕ) (r : List CallRecord) (ms : List Mark) → AreBefore below (drop 1 ms) → All (λ (l : Line). l.place < below) (drop 1 (lines_in t r ms))
+pub before_run : (below : ℕ) (t : List ℕ) (r : List CallRecord) (ms : List LineEntry) → AreBefore below (drop 1 ms) → All (λ (l : Line). l.place < below) (drop 1 (lines_in t r ms))
 before_run below t r [] low = All-nil (λ (l : Line). l.place < below)
 before_run below t r (m ∷ ms) low = before_lines below (drop m.octets t) (drop m.records r) ms low
 
 -- ---- lines of which some were handed on
 
-module _ (text : List ℕ) (records : List CallRecord) (marks : List Mark) (handed : Extent) (are : AreMarked text records marks handed) where
-  abbrev left : List Mark
-  left = drop handed.lines marks
+module _ (text : List ℕ) (records : List CallRecord) (entries : List LineEntry) (handed : Extent) (are : AreMarked text records entries handed) where
+  abbrev left : List LineEntry
+  left = drop handed.lines entries
 
   pub left_long : length (drop handed.octets text) ≡ octets_in left
   left_long = let o = are.octets in omega (arith, o, length-drop handed.octets text)
@@ -128,61 +128,61 @@ module _ (text : List ℕ) (records : List CallRecord) (marks : List Mark) (hand
   pub left_many : length (drop handed.records records) ≡ records_in left
   left_many = let c = are.calls in omega (arith, c, length-drop handed.records records)
 
-  pub left_count : length (lines_left text records marks handed) ≡ length marks - handed.lines
-  left_count = lines_long (drop handed.octets text) (drop handed.records records) left ∙ length-drop handed.lines marks
+  pub left_count : length (lines_left text records entries handed) ≡ length entries - handed.lines
+  left_count = lines_long (drop handed.octets text) (drop handed.records records) left ∙ length-drop handed.lines entries
 
-  pub text_left : drop handed.octets text ≡ text_of (lines_left text records marks handed)
+  pub text_left : drop handed.octets text ≡ text_of (lines_left text records entries handed)
   text_left = sym (text_whole (drop handed.octets text) (drop handed.records records) left left_long)
 
-  pub calls_left : drop handed.records records ≡ calls_of (lines_left text records marks handed)
+  pub calls_left : drop handed.records records ≡ calls_of (lines_left text records entries handed)
   calls_left = sym (calls_whole (drop handed.octets text) (drop handed.records records) left left_many)
 
   -- more lines were put behind them
-  pub marked_more : (u : List ℕ) (s : List CallRecord) (ns : List Mark) (text' : List ℕ) (records' : List CallRecord) (marks' : List Mark) → text' ≡ text ++ u → records' ≡ records ++ s → marks' ≡ marks ++ ns
-      → length u ≡ octets_in ns → length s ≡ records_in ns → AreMarked text' records' marks' handed
-  marked_more u s ns text' records' marks' a b c long many =
+  pub marked_more : (u : List ℕ) (s : List CallRecord) (ns : List LineEntry) (text' : List ℕ) (records' : List CallRecord) (entries' : List LineEntry) → text' ≡ text ++ u → records' ≡ records ++ s → entries' ≡ entries ++ ns
+      → length u ≡ octets_in ns → length s ≡ records_in ns → AreMarked text' records' entries' handed
+  marked_more u s ns text' records' entries' a b c long many =
       let lines = are.lines in
       let o = are.octets in
       let k = are.calls in
-      let seam : drop handed.lines (marks ++ ns) ≡ left ++ ns = drop-append-le handed.lines marks ns lines in
+      let seam : drop handed.lines (entries ++ ns) ≡ left ++ ns = drop-append-le handed.lines entries ns lines in
       let octets = ap octets_in seam ∙ octets_append left ns in
       let calls = ap records_in seam ∙ records_append left ns in
       rw (a, b, c) (record {
-        lines = omega (arith, lines, length-append marks ns);
+        lines = omega (arith, lines, length-append entries ns);
         octets = omega (arith, o, long, octets, length-append text u);
         calls = omega (arith, k, many, calls, length-append records s);
       })
 
-  pub left_more : (u : List ℕ) (s : List CallRecord) (ns : List Mark) (text' : List ℕ) (records' : List CallRecord) (marks' : List Mark) → text' ≡ text ++ u → records' ≡ records ++ s → marks' ≡ marks ++ ns
-      → lines_left text' records' marks' handed ≡ lines_left text records marks handed ++ lines_in u s ns
-  left_more u s ns text' records' marks' a b c =
+  pub left_more : (u : List ℕ) (s : List CallRecord) (ns : List LineEntry) (text' : List ℕ) (records' : List CallRecord) (entries' : List LineEntry) → text' ≡ text ++ u → records' ≡ records ++ s → entries' ≡ entries ++ ns
+      → lines_left text' records' entries' handed ≡ lines_left text records entries handed ++ lines_in u s ns
+  left_more u s ns text' records' entries' a b c =
       let lines = are.lines in
       let o = are.octets in
       let k = are.calls in
       (λ i. lines_left (a i) (b i) (c i) handed)
-      ∙ (λ i. lines_in (drop-append-le handed.octets text u (omega (arith, o)) i) (drop-append-le handed.records records s (omega (arith, k)) i) (drop-append-le handed.lines marks ns lines i))
+      ∙ (λ i. lines_in (drop-append-le handed.octets text u (omega (arith, o)) i) (drop-append-le handed.records records s (omega (arith, k)) i) (drop-append-le handed.lines entries ns lines i))
       ∙ lines_append (drop handed.octets text) u (drop handed.records records) s left ns left_long left_many
 
   -- after a call that put more behind them, or else left all as it was
-  pub marked_after : {A E : Type 0} (r : Result A E) (u : List ℕ) (s : List CallRecord) (ns : List Mark) (text' : List ℕ) (records' : List CallRecord) (marks' : List Mark)
-      → OnOk r (text' ≡ text ++ u) → OnOk r (records' ≡ records ++ s) → OnOk r (marks' ≡ marks ++ ns) → OnErr r ((text' ≡ text) × (records' ≡ records) × (marks' ≡ marks))
-      → length u ≡ octets_in ns → length s ≡ records_in ns → AreMarked text' records' marks' handed
-  marked_after (Ok x) u s ns text' records' marks' a b c none long many = marked_more u s ns text' records' marks' a b c long many
-  marked_after (Err e) u s ns text' records' marks' a b c none long many = rw (none.0, none.1, none.2) are
+  pub marked_after : {A E : Type 0} (r : Result A E) (u : List ℕ) (s : List CallRecord) (ns : List LineEntry) (text' : List ℕ) (records' : List CallRecord) (entries' : List LineEntry)
+      → OnOk r (text' ≡ text ++ u) → OnOk r (records' ≡ records ++ s) → OnOk r (entries' ≡ entries ++ ns) → OnErr r ((text' ≡ text) × (records' ≡ records) × (entries' ≡ entries))
+      → length u ≡ octets_in ns → length s ≡ records_in ns → AreMarked text' records' entries' handed
+  marked_after (Ok x) u s ns text' records' entries' a b c none long many = marked_more u s ns text' records' entries' a b c long many
+  marked_after (Err e) u s ns text' records' entries' a b c none long many = rw (none.0, none.1, none.2) are
 
-  pub left_after : {A E : Type 0} (r : Result A E) (u : List ℕ) (s : List CallRecord) (ns : List Mark) (text' : List ℕ) (records' : List CallRecord) (marks' : List Mark)
-      → OnOk r (text' ≡ text ++ u) → OnOk r (records' ≡ records ++ s) → OnOk r (marks' ≡ marks ++ ns)
-      → OnOk r (lines_left text' records' marks' handed ≡ lines_left text records marks handed ++ lines_in u s ns)
-  left_after (Ok x) u s ns text' records' marks' a b c = left_more u s ns text' records' marks' a b c
-  left_after (Err e) u s ns text' records' marks' a b c = tt
+  pub left_after : {A E : Type 0} (r : Result A E) (u : List ℕ) (s : List CallRecord) (ns : List LineEntry) (text' : List ℕ) (records' : List CallRecord) (entries' : List LineEntry)
+      → OnOk r (text' ≡ text ++ u) → OnOk r (records' ≡ records ++ s) → OnOk r (entries' ≡ entries ++ ns)
+      → OnOk r (lines_left text' records' entries' handed ≡ lines_left text records entries handed ++ lines_in u s ns)
+  left_after (Ok x) u s ns text' records' entries' a b c = left_more u s ns text' records' entries' a b c
+  left_after (Err e) u s ns text' records' entries' a b c = tt
 
-  pub left_kept : {A E : Type 0} (r : Result A E) (text' : List ℕ) (records' : List CallRecord) (marks' : List Mark) → OnErr r ((text' ≡ text) × (records' ≡ records) × (marks' ≡ marks))
-      → OnErr r (lines_left text' records' marks' handed ≡ lines_left text records marks handed)
-  left_kept (Ok x) text' records' marks' none = tt
-  left_kept (Err e) text' records' marks' none = (λ i. lines_left (none.0 i) (none.1 i) (none.2 i) handed)
+  pub left_kept : {A E : Type 0} (r : Result A E) (text' : List ℕ) (records' : List CallRecord) (entries' : List LineEntry) → OnErr r ((text' ≡ text) × (records' ≡ records) × (entries' ≡ entries))
+      → OnErr r (lines_left text' records' entries' handed ≡ lines_left text records entries handed)
+  left_kept (Ok x) text' records' entries' none = tt
+  left_kept (Err e) text' records' entries' none = (λ i. lines_left (none.0 i) (none.1 i) (none.2 i) handed)
 
   -- what some of the lines that are left take up is no more than there is
-  module _ (l : List Mark) (is : l ≡ left) (n : ℕ) where
+  module _ (l : List LineEntry) (is : l ≡ left) (n : ℕ) where
     pub run_octets : handed.octets + octets_in (take n l) ≤ length text
     run_octets = let o = are.octets in let same = ap octets_in is in omega (arith, o, same, octets_split n l)
 
@@ -197,8 +197,8 @@ module _ (text : List ℕ) (records : List CallRecord) (marks : List Mark) (hand
       place_is : end.lines ≡ handed.lines + n
       place_is = omega (arith, lines_are, length-take-le n l within)
 
-      rest_is : drop end.lines marks ≡ drop n l
-      rest_is = ap (λ (k : ℕ). drop k marks) place_is ∙ sym (drop-drop n handed.lines marks) ∙ ap (drop n) (sym is)
+      rest_is : drop end.lines entries ≡ drop n l
+      rest_is = ap (λ (k : ℕ). drop k entries) place_is ∙ sym (drop-drop n handed.lines entries) ∙ ap (drop n) (sym is)
 
       l_long : length (drop handed.octets text) ≡ octets_in l
       l_long = left_long ∙ ap octets_in (sym is)
@@ -207,19 +207,19 @@ module _ (text : List ℕ) (records : List CallRecord) (marks : List Mark) (hand
       l_many = left_many ∙ ap records_in (sym is)
 
       -- they are handed on
-      pub handed_marked : AreMarked text records marks end
+      pub handed_marked : AreMarked text records entries end
       handed_marked =
           let lines = are.lines in
           let o = are.octets in
           let k = are.calls in
           let size = ap length is in
           record {
-            lines = omega (arith, lines, within, place_is, size, length-drop handed.lines marks);
+            lines = omega (arith, lines, within, place_is, size, length-drop handed.lines entries);
             octets = let same = ap octets_in rest_is in let all = ap octets_in is in omega (arith, o, octets_are, same, all, octets_split n l);
             calls = let same = ap records_in rest_is in let all = ap records_in is in omega (arith, k, records_are, same, all, records_split n l);
           }
 
-      pub handed_left : lines_left text records marks handed ≡ run ++ lines_left text records marks end
+      pub handed_left : lines_left text records entries handed ≡ run ++ lines_left text records entries end
       handed_left =
           ap (lines_in (drop handed.octets text) (drop handed.records records)) (sym is)
           ∙ lines_split n (drop handed.octets text) (drop handed.records records) l l_long l_many
@@ -232,7 +232,7 @@ module _ (text : List ℕ) (records : List CallRecord) (marks : List Mark) (hand
       -- others get them
       pub hands_run : (below : ℕ) (others to : List Line) (t : List ℕ) (r : List CallRecord) → t ≡ take (end.octets - handed.octets) (drop handed.octets text)
           → r ≡ take (end.records - handed.records) (drop handed.records records) → (0 < length l → 0 < n) → AreBefore below (drop 1 (take n l)) → BeginFrom below (drop n l) → to ≡ others ++ lines_in t r (take n l)
-          → HandsLines below (lines_left text records marks handed) others (lines_left text records marks end) to
+          → HandsLines below (lines_left text records entries handed) others (lines_left text records entries end) to
       hands_run below others to t r t_is r_is some low far got =
           let octets : end.octets - handed.octets ≡ octets_in (take n l) = omega (arith, octets_are) in
           let calls : end.records - handed.records ≡ records_in (take n l) = omega (arith, records_are) in
@@ -243,39 +243,39 @@ module _ (text : List ℕ) (records : List CallRecord) (marks : List Mark) (hand
             parts = handed_left;
             some = λ any. let more = some (omega (arith, any, count, size)) in omega (arith, more, run_long);
             before = before_run below _ _ (take n l) low;
-            stops = begin_lines below _ _ (drop end.lines marks) (subst (BeginFrom below) (sym rest_is) far);
+            stops = begin_lines below _ _ (drop end.lines entries) (subst (BeginFrom below) (sym rest_is) far);
             got = got ∙ (λ i. others ++ lines_in ((t_is ∙ ap (λ (k : ℕ). take k (drop handed.octets text)) octets) i) ((r_is ∙ ap (λ (k : ℕ). take k (drop handed.records records)) calls) i) (take n l));
           }
 
       -- they alone are kept
-      kept_marks : drop handed.lines (take end.lines marks) ≡ take n l
-      kept_marks = ap (λ (k : ℕ). drop handed.lines (take k marks)) place_is ∙ drop-take handed.lines n marks ∙ ap (take n) (sym is)
+      kept_marks : drop handed.lines (take end.lines entries) ≡ take n l
+      kept_marks = ap (λ (k : ℕ). drop handed.lines (take k entries)) place_is ∙ drop-take handed.lines n entries ∙ ap (take n) (sym is)
 
-      pub cut_marked : AreMarked (take end.octets text) (take end.records records) (take end.lines marks) handed
+      pub cut_marked : AreMarked (take end.octets text) (take end.records records) (take end.lines entries) handed
       cut_marked =
           let lines = are.lines in
           let size = ap length is in
-          let inside : end.lines ≤ length marks = omega (arith, lines, within, place_is, size, length-drop handed.lines marks) in
+          let inside : end.lines ≤ length entries = omega (arith, lines, within, place_is, size, length-drop handed.lines entries) in
           let octets : end.octets ≤ length text = omega (arith, octets_are, run_octets) in
           let calls : end.records ≤ length records = omega (arith, records_are, run_records) in
           record {
-            lines = omega (arith, place_is, length-take-le end.lines marks inside);
+            lines = omega (arith, place_is, length-take-le end.lines entries inside);
             octets = let same = ap octets_in kept_marks in omega (arith, octets_are, same, length-take-le end.octets text octets);
             calls = let same = ap records_in kept_marks in omega (arith, records_are, same, length-take-le end.records records calls);
           }
 
-      pub cut_left : lines_left (take end.octets text) (take end.records records) (take end.lines marks) handed ≡ take n (lines_left text records marks handed)
+      pub cut_left : lines_left (take end.octets text) (take end.records records) (take end.lines entries) handed ≡ take n (lines_left text records entries handed)
       cut_left =
           (λ i. lines_in ((ap (λ (k : ℕ). drop handed.octets (take k text)) octets_are ∙ drop-take handed.octets (octets_in (take n l)) text) i)
           ((ap (λ (k : ℕ). drop handed.records (take k records)) records_are ∙ drop-take handed.records (records_in (take n l)) records) i) (kept_marks i))
-          ∙ sym (ap (take n) handed_left ∙ take_at run (lines_left text records marks end) n run_long)
+          ∙ sym (ap (take n) handed_left ∙ take_at run (lines_left text records entries end) n run_long)
 
     -- none are cut off where there are no more
-    pub kept_all : length l ≤ n → lines_left text records marks handed ≡ take n (lines_left text records marks handed)
+    pub kept_all : length l ≤ n → lines_left text records entries handed ≡ take n (lines_left text records entries handed)
     kept_all few =
         let count = lines_long (drop handed.octets text) (drop handed.records records) left in
         let size = ap length is in
-        sym (take_all n (lines_left text records marks handed) (omega (arith, few, count, size)))
+        sym (take_all n (lines_left text records entries handed) (omega (arith, few, count, size)))
 
 -- ---- lines of answers
 

@@ -1,9 +1,9 @@
 //! A list of report lines and call records, one for each processed event.
 //!
-//! A [`LineList`] is a `Keeper` (of `call_processor`). It formats the line of an event directly from the response and
-//! the outbox of the step, and appends it to one text. It copies nothing into an answer, and it allocates only when a
-//! buffer grows. It stores the position, the line and the records of each answer (`line_of`). A run of lines moves to
-//! another list with one copy of its text, of its records and of its marks.
+//! A [`LineList`] is an `AnswerSink` (of `call_processor`). It formats the line of an event directly from the response
+//! and the outbox of the step, and appends it to one text. It copies nothing into an answer, and it allocates only when
+//! a buffer grows. It stores the position, the line and the records of each answer (`line_of`). A run of lines moves to
+//! another list with one copy of its text, of its records and of its entries.
 //!
 //! Its type states the contents that it lists ([`ListingKind`]): with [`ReportLines`] it has lines, and with
 //! [`NoLines`] it has only records. [`LineList::text`] returns the text of its lines and [`LineList::records`] their
@@ -14,6 +14,6 @@ mod lines;
 mod list;
 mod listing;
 
-pub use lines::{Buffers, Extent, Lines, Mark};
+pub use lines::{Buffers, Extent, LineEntry, Lines};
 pub use list::LineList;
 pub use listing::{Listing, ListingKind, NoLines, ReportLines};

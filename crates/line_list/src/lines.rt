@@ -6,7 +6,7 @@ ghost use Rattle.report_text.specs.Report.{response_line};
 ghost use Rattle.call_processor.specs.Keeping.{placed};
 ghost use Rattle.line_list.specs.Lines.{HandsLines, calls_of, first_line, line_of, listed, text_of};
 ghost use Rattle.call_profile.specs.CallsTold.{calls_kept};
-ghost use Rattle.line_list.specs.Marks.{AreBefore, BeginFrom, lines_in, mark_of, octets_in, records_in};
+ghost use Rattle.line_list.specs.Entries.{AreBefore, BeginFrom, lines_in, entry_of, octets_in, records_in};
 
 use crate::listing::Listing;
 use exchange_events::{CallRecord, Outbox, Response};
@@ -14,9 +14,9 @@ use report_text::append_line;
 use std::alloc::{AllocError, Global};
 use std::marker::Model;
 
-/// The mark of a line: the position of its event in the history, and the number of its octets and of its records.
+/// The entry of a line: the position of its event in the history, and the number of its octets and of its records.
 #[derive(Clone, Copy, Debug, PartialEq, Eq)]
-pub struct Mark {
+pub struct LineEntry {
     /// The position of its event in the history.
     pub place: u32,
     /// The number of octets of the line.
@@ -43,21 +43,21 @@ const NONE: Extent = Extent {
     records: 0,
 };
 
-/// The text of lines, their records of calls and their marks, each in sequence.
+/// The text of lines, their records of calls and their entries, each in sequence.
 #[derive(Drop)]
 pub struct Buffers {
     /// The text of the lines.
     pub text: Vec<u8>,
     /// Their records.
     pub records: Vec<CallRecord>,
-    /// Their marks.
-    pub marks: Vec<Mark>,
+    /// Their entries.
+    pub entries: Vec<LineEntry>,
 }
 
 /// Lines, each with its position in the history and with the records of the calls that ended. The model is their list.
 #[derive(Drop)]
 pub struct Lines {
-    // The lines that were moved to another list, and then the others. A mark has the length of its line, not its end,
+    // The lines that were moved to another list, and then the others. An entry has the length of its line, not its end,
     // so a run is appended unchanged, and nothing is shifted.
     buffers: Buffers,
     // The extent of the lines that were moved.
@@ -67,13 +67,13 @@ pub struct Lines {
 impl Model for Lines {
     ghost use Rattle.std.specs.Prelude.{List};
     ghost use Rattle.line_list.specs.Lines.{Line};
-    ghost use Rattle.line_list.specs.Marks.{AreMarked, lines_left};
+    ghost use Rattle.line_list.specs.Entries.{AreMarked, lines_left};
 
     ghost Value = { List Line };
 
-    ghost view = { λ s. lines_left s.buffers.text.items s.buffers.records.items s.buffers.marks.items s.handed };
+    ghost view = { λ s. lines_left s.buffers.text.items s.buffers.records.items s.buffers.entries.items s.handed };
 
-    ghost invariant = { λ s. AreMarked s.buffers.text.items s.buffers.records.items s.buffers.marks.items s.handed };
+    ghost invariant = { λ s. AreMarked s.buffers.text.items s.buffers.records.items s.buffers.entries.items s.handed };
 }
 
 impl Lines {
@@ -86,7 +86,7 @@ impl Lines {
             buffers: Buffers {
                 text,
                 records: Vec::new(alloc),
-                marks: Vec::new(alloc),
+                entries: Vec::new(alloc),
             },
             handed: NONE,
         }
@@ -98,7 +98,7 @@ impl Lines {
     {
         self.buffers.text.clear();
         self.buffers.records.clear();
-        self.buffers.marks.clear();
+        self.buffers.entries.clear();
         self.handed = NONE;
     }
 
@@ -132,31 +132,31 @@ impl Lines {
     }
 
     /// Returns the number of lines.
-    pub fn count(&self) -> usize
+    pub fn len(&self) -> usize
         ensures { result ≡ length self.now }
     {
-        self.buffers.marks.len() - self.handed.lines
+        self.buffers.entries.len() - self.handed.lines
     }
 
     /// Removes all lines but the first n.
     pub fn truncate(&mut self, count: usize)
         ensures { self.new ≡ take count self.old }
     {
-        let left = marks_left(&self.buffers.marks, self.handed.lines);
+        let left = entries_left(&self.buffers.entries, self.handed.lines);
         if count >= left.len() {
             return;
         }
         let end = behind(self.handed, &left[..count]);
         self.buffers.text.truncate(end.octets);
         self.buffers.records.truncate(end.records);
-        self.buffers.marks.truncate(end.lines);
+        self.buffers.entries.truncate(end.lines);
     }
 
     /// Returns the position of the first line.
     pub fn first_place(&self) -> Option<u32>
         ensures { result ≡ first_line self.now }
     {
-        match self.buffers.marks.get(self.handed.lines) {
+        match self.buffers.entries.get(self.handed.lines) {
             Some(first) => Some(first.place),
             None => None,
         }
@@ -167,16 +167,16 @@ impl Lines {
     /// # Errors
     ///
     /// [`AllocError`] if an allocation fails. The others are then unchanged.
-    pub fn hand_on(&mut self, to: &mut Lines, below: u32) -> Result<(), AllocError>
+    pub fn move_before(&mut self, to: &mut Lines, below: u32) -> Result<(), AllocError>
         ensures handed { OnOk result (HandsLines below self.old to.old self.new to.new) }
         ensures refused { OnErr result (to.new ≡ to.old) }
     {
-        let left = marks_left(&self.buffers.marks, self.handed.lines);
-        let marks = &left[..run_length(left, below)];
-        let end = behind(self.handed, marks);
+        let left = entries_left(&self.buffers.entries, self.handed.lines);
+        let entries = &left[..run_length(left, below)];
+        let end = behind(self.handed, entries);
         let text = between(&self.buffers.text, self.handed.octets, end.octets);
         let records = between(&self.buffers.records, self.handed.records, end.records);
-        append_run(&mut to.buffers, text, records, marks)?;
+        append_run(&mut to.buffers, text, records, entries)?;
         self.handed = end;
         Ok(())
     }
@@ -196,7 +196,7 @@ impl Lines {
     }
 }
 
-// Appends the line of an event if lines are listed, and its records and its mark. An error leaves the buffers
+// Appends the line of an event if lines are listed, and its records and its entry. An error leaves the buffers
 // unchanged.
 fn append_event(
     buffers: &mut Buffers,
@@ -209,18 +209,18 @@ fn append_event(
 ) -> Result<(), AllocError>
     ensures text { OnOk result (buffers.new.text.items ≡ buffers.old.text.items ++ listed listing (response_line octets.now event response outbox.now)) }
     ensures records { OnOk result (buffers.new.records.items ≡ buffers.old.records.items ++ calls_kept (kept_of (reply_of response outbox.now))) }
-    ensures mark { OnOk result (buffers.new.marks.items ≡ buffers.old.marks.items ++ mark_of (line_of listing (placed place event response outbox.now octets.now)) ∷ []) }
-    ensures kept { OnErr result ((buffers.new.text.items ≡ buffers.old.text.items) × (buffers.new.records.items ≡ buffers.old.records.items) × (buffers.new.marks.items ≡ buffers.old.marks.items)) }
+    ensures entry { OnOk result (buffers.new.entries.items ≡ buffers.old.entries.items ++ entry_of (line_of listing (placed place event response outbox.now octets.now)) ∷ []) }
+    ensures kept { OnErr result ((buffers.new.text.items ≡ buffers.old.text.items) × (buffers.new.records.items ≡ buffers.old.records.items) × (buffers.new.entries.items ≡ buffers.old.entries.items)) }
 {
     let start = buffers.text.len();
     append_listed(&mut buffers.text, listing, event, response, outbox, octets)?;
     let calls = records_told(response, outbox);
-    let mark = Mark {
+    let entry = LineEntry {
         place,
         octets: buffers.text.len() - start,
         records: calls.len(),
     };
-    let done = append_one(&mut buffers.records, &mut buffers.marks, calls, mark);
+    let done = append_one(&mut buffers.records, &mut buffers.entries, calls, entry);
     if done.is_err() {
         buffers.text.truncate(start);
     }
@@ -232,16 +232,16 @@ fn append_run(
     buffers: &mut Buffers,
     more: &[u8],
     calls: &[CallRecord],
-    known: &[Mark],
+    known: &[LineEntry],
 ) -> Result<(), AllocError>
     ensures text { OnOk result (buffers.new.text.items ≡ buffers.old.text.items ++ more.now) }
     ensures records { OnOk result (buffers.new.records.items ≡ buffers.old.records.items ++ calls.now) }
-    ensures marks { OnOk result (buffers.new.marks.items ≡ buffers.old.marks.items ++ known.now) }
-    ensures kept { OnErr result ((buffers.new.text.items ≡ buffers.old.text.items) × (buffers.new.records.items ≡ buffers.old.records.items) × (buffers.new.marks.items ≡ buffers.old.marks.items)) }
+    ensures entries { OnOk result (buffers.new.entries.items ≡ buffers.old.entries.items ++ known.now) }
+    ensures kept { OnErr result ((buffers.new.text.items ≡ buffers.old.text.items) × (buffers.new.records.items ≡ buffers.old.records.items) × (buffers.new.entries.items ≡ buffers.old.entries.items)) }
 {
     let before = buffers.text.len();
     buffers.text.extend_from_slice(more)?;
-    let done = append_marked(&mut buffers.records, &mut buffers.marks, calls, known);
+    let done = append_entries(&mut buffers.records, &mut buffers.entries, calls, known);
     if done.is_err() {
         buffers.text.truncate(before);
     }
@@ -277,37 +277,37 @@ fn records_told(response: Response, outbox: &Outbox) -> &[CallRecord]
     }
 }
 
-// Appends the records of a line and its mark. Most lines have no records. An error leaves both unchanged.
+// Appends the records of a line and its entry. Most lines have no records. An error leaves both unchanged.
 fn append_one(
     records: &mut Vec<CallRecord>,
-    marks: &mut Vec<Mark>,
+    entries: &mut Vec<LineEntry>,
     calls: &[CallRecord],
-    mark: Mark,
+    entry: LineEntry,
 ) -> Result<(), AllocError>
     ensures records { OnOk result (records.new.items ≡ records.old.items ++ calls.now) }
-    ensures marks { OnOk result (marks.new.items ≡ marks.old.items ++ mark ∷ []) }
-    ensures kept { OnErr result ((records.new.items ≡ records.old.items) × (marks.new.items ≡ marks.old.items)) }
+    ensures entries { OnOk result (entries.new.items ≡ entries.old.items ++ entry ∷ []) }
+    ensures kept { OnErr result ((records.new.items ≡ records.old.items) × (entries.new.items ≡ entries.old.items)) }
 {
     if calls.is_empty() {
-        return Ok(marks.push(mark)?);
+        return Ok(entries.push(entry)?);
     }
-    append_marked(records, marks, calls, &[mark])
+    append_entries(records, entries, calls, &[entry])
 }
 
-// Appends records and marks. An error leaves both unchanged.
-fn append_marked(
+// Appends records and entries. An error leaves both unchanged.
+fn append_entries(
     records: &mut Vec<CallRecord>,
-    marks: &mut Vec<Mark>,
+    entries: &mut Vec<LineEntry>,
     more: &[CallRecord],
-    known: &[Mark],
+    known: &[LineEntry],
 ) -> Result<(), AllocError>
     ensures records { OnOk result (records.new.items ≡ records.old.items ++ more.now) }
-    ensures marks { OnOk result (marks.new.items ≡ marks.old.items ++ known.now) }
-    ensures kept { OnErr result ((records.new.items ≡ records.old.items) × (marks.new.items ≡ marks.old.items)) }
+    ensures entries { OnOk result (entries.new.items ≡ entries.old.items ++ known.now) }
+    ensures kept { OnErr result ((records.new.items ≡ records.old.items) × (entries.new.items ≡ entries.old.items)) }
 {
     let start = records.len();
     records.extend_from_slice(more)?;
-    let done = marks.extend_from_slice(known);
+    let done = entries.extend_from_slice(known);
     if done.is_err() {
         records.truncate(start);
     }
@@ -323,24 +323,24 @@ fn between<T>(items: &Vec<T>, start: usize, end: usize) -> &[T]
     &items.as_slice()[start..end]
 }
 
-// Returns the marks of the lines after those that were moved.
-fn marks_left(marks: &Vec<Mark>, handed: usize) -> &[Mark]
-    requires { handed ≤ length marks.now.items }
-    ensures { result.now ≡ drop handed marks.now.items }
+// Returns the entries of the lines after those that were moved.
+fn entries_left(entries: &Vec<LineEntry>, handed: usize) -> &[LineEntry]
+    requires { handed ≤ length entries.now.items }
+    ensures { result.now ≡ drop handed entries.now.items }
 {
-    &marks.as_slice()[handed..]
+    &entries.as_slice()[handed..]
 }
 
 // Returns the length of the first run: the first line, and the next ones as long as they come before a position.
-fn run_length(marks: &[Mark], below: u32) -> usize
-    ensures within { result ≤ length marks.now }
-    ensures some { 0 < length marks.now → 0 < result }
-    ensures before { AreBefore below (drop 1 (take result marks.now)) }
-    ensures stops { BeginFrom below (drop result marks.now) }
+fn run_length(entries: &[LineEntry], below: u32) -> usize
+    ensures within { result ≤ length entries.now }
+    ensures some { 0 < length entries.now → 0 < result }
+    ensures before { AreBefore below (drop 1 (take result entries.now)) }
+    ensures stops { BeginFrom below (drop result entries.now) }
 {
     let mut count = 0;
-    for mark in marks {
-        if count > 0 && mark.place >= below {
+    for entry in entries {
+        if count > 0 && entry.place >= below {
             return count;
         }
         count += 1;
@@ -349,19 +349,19 @@ fn run_length(marks: &[Mark], below: u32) -> usize
 }
 
 // Returns the extent of lines together with those before them.
-fn behind(front: Extent, marks: &[Mark]) -> Extent
-    requires lines { front.lines + length marks.now < 2 ^ 64 }
-    requires octets { front.octets + octets_in marks.now < 2 ^ 64 }
-    requires records { front.records + records_in marks.now < 2 ^ 64 }
-    ensures lines { result.lines ≡ front.lines + length marks.now }
-    ensures octets { result.octets ≡ front.octets + octets_in marks.now }
-    ensures records { result.records ≡ front.records + records_in marks.now }
+fn behind(front: Extent, entries: &[LineEntry]) -> Extent
+    requires lines { front.lines + length entries.now < 2 ^ 64 }
+    requires octets { front.octets + octets_in entries.now < 2 ^ 64 }
+    requires records { front.records + records_in entries.now < 2 ^ 64 }
+    ensures lines { result.lines ≡ front.lines + length entries.now }
+    ensures octets { result.octets ≡ front.octets + octets_in entries.now }
+    ensures records { result.records ≡ front.records + records_in entries.now }
 {
     let mut end = front;
-    for mark in marks {
+    for entry in entries {
         end.lines += 1;
-        end.octets += mark.octets;
-        end.records += mark.records;
+        end.octets += entry.octets;
+        end.records += entry.records;
     }
     end
 }

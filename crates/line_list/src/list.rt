@@ -1,15 +1,15 @@
-//! The keeper of lines, by its listing.
+//! The answer sink that stores lines, by its listing.
 ghost use Rattle.std.specs.Prelude.{◌≡◌, [], map};
 ghost use Rattle.line_list.specs.Lines.{calls_of, line_of, text_of};
 
 use crate::lines::Lines;
 use crate::listing::ListingKind;
-use call_processor::Keeper;
+use call_processor::AnswerSink;
 use exchange_events::{CallRecord, Outbox, Response};
 use std::alloc::{AllocError, Global};
 use std::marker::{Model, PhantomData};
 
-/// A keeper of lines. Its model is their list. `L` states whether it has the lines of the report.
+/// An answer sink that stores lines. Its model is their list. `L` states whether it has the lines of the report.
 #[derive(Drop)]
 pub struct LineList<L> {
     lines: Lines,
@@ -51,10 +51,10 @@ impl<L> LineList<L> {
     }
 }
 
-impl<L: ListingKind + Send + Drop> Keeper for LineList<L> {
+impl<L: ListingKind + Send + Drop> AnswerSink for LineList<L> {
     ghost holds = { λ k answers. k ≡ map (line_of L.listing) answers };
 
-    fn another(&self, alloc: Global) -> LineList<L> {
+    fn new_empty(&self, alloc: Global) -> LineList<L> {
         LineList::new(alloc, Vec::new(alloc))
     }
 
@@ -62,7 +62,7 @@ impl<L: ListingKind + Send + Drop> Keeper for LineList<L> {
         self.lines.clear();
     }
 
-    fn keep(
+    fn push(
         &mut self,
         alloc: Global,
         place: u32,
@@ -75,11 +75,11 @@ impl<L: ListingKind + Send + Drop> Keeper for LineList<L> {
             .push(L::listing(), place, event, response, outbox, octets)
     }
 
-    fn count(&self) -> usize {
-        self.lines.count()
+    fn len(&self) -> usize {
+        self.lines.len()
     }
 
-    fn cut(&mut self, count: usize) {
+    fn truncate(&mut self, count: usize) {
         self.lines.truncate(count);
     }
 
@@ -87,7 +87,7 @@ impl<L: ListingKind + Send + Drop> Keeper for LineList<L> {
         self.lines.first_place()
     }
 
-    fn hand_on(&mut self, to: &mut Self, below: u32) -> Result<(), AllocError> {
-        self.lines.hand_on(&mut to.lines, below)
+    fn move_before(&mut self, to: &mut Self, below: u32) -> Result<(), AllocError> {
+        self.lines.move_before(&mut to.lines, below)
     }
 }

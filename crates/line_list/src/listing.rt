@@ -1,4 +1,4 @@
-//! The listing of a keeper of lines: the report, or nothing.
+//! The listing of an answer sink of lines: the report, or nothing.
 ghost use Rattle.std.specs.Prelude.{◌≡◌};
 ghost use Rattle.line_list.specs.declared.listing.Listing.{Listing};
 ghost use Rattle.line_list.specs.declared.listing.Listing.TheVariants as listed;
@@ -12,7 +12,7 @@ pub enum Listing {
     Nothing,
 }
 
-/// A listing as a type, not a field: lines move from one keeper to another, and two keepers of one type list the same.
+/// A listing as a type, not a field: lines move from one sink to another, and two sinks of one type list the same.
 pub trait ListingKind {
     /// The listing.
     ghost listing: { Listing };

@@ -67,5 +67,5 @@ bit true = 1
 bit false = 0
 
 -- N201: the maximum number of octets in an information field (5.9.3)
-abbrev pub longest_information : ℕ
-longest_information = 260
+abbrev pub max_information_len : ℕ
+max_information_len = 260

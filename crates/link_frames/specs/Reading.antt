@@ -6,7 +6,7 @@ use Rattle.link_frames.specs.declared.frame.Supervisory.TheVariants.{Rr, Rnr, Re
 use Rattle.link_frames.specs.declared.frame.Control.{Control}
 use Rattle.link_frames.specs.declared.frame.Control.TheVariants as control
 use Rattle.link_frames.specs.declared.frame.Frame.{Frame}
-use Rattle.link_frames.specs.Fields.{address_octet, tei_octet, supervisory_octet, sabme, disc, ua, dm, frmr, ui, xid, modifier, poll_final, receive_number, last_bit, longest_information}
+use Rattle.link_frames.specs.Fields.{address_octet, tei_octet, supervisory_octet, sabme, disc, ua, dm, frmr, ui, xid, modifier, poll_final, receive_number, last_bit, max_information_len}
 
 -- N(R) is a number modulo 128, if the frame has one
 abbrev pub IsNumbered : Control → Type 0
@@ -25,7 +25,7 @@ command_of sender octet =
 abbrev pub numbered_information : Bool → ℕ → List ℕ → Control
 numbered_information command first [] = control.Invalid
 numbered_information command first (last ∷ information) =
-    if command && nat_le (length information) longest_information
+    if command && nat_le (length information) max_information_len
     then control.Information (last_bit last) (first / 2) (receive_number last) information
     else control.Invalid
 

@@ -4,11 +4,11 @@ use Rattle.link_frames.specs.declared.frame.Sender.{Sender}
 use Rattle.link_frames.specs.declared.frame.Control.{Control}
 use Rattle.link_frames.specs.declared.frame.Control.TheVariants as control
 use Rattle.link_frames.specs.declared.frame.Frame.{Frame}
-use Rattle.link_frames.specs.Fields.{address_octet, tei_octet, supervisory_octet, sabme, disc, ua, dm, bit, longest_information}
+use Rattle.link_frames.specs.Fields.{address_octet, tei_octet, supervisory_octet, sabme, disc, ua, dm, bit, max_information_len}
 
 -- a control field that can be written, in a command or in a response (table 5)
 abbrev pub IsWritable : Bool → Control → Type 0
-IsWritable true (control.Information poll ns nr information) = (ns < 128) × (nr < 128) × (length information ≤ longest_information)
+IsWritable true (control.Information poll ns nr information) = (ns < 128) × (nr < 128) × (length information ≤ max_information_len)
 IsWritable command (control.Supervisory kind pf nr) = nr < 128
 IsWritable true (control.Sabme pf) = Unit {0}
 IsWritable true (control.Disc pf) = Unit {0}

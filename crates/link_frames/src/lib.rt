@@ -22,4 +22,4 @@ pub use frame::{Control, Frame, Sender, Supervisory};
 pub use information::Information;
 pub use laws::law_of_reading;
 pub use reading::read;
-pub use writing::{FrameOctets, LONGEST_FRAME, LONGEST_MESSAGE, write};
+pub use writing::{FrameOctets, MAX_FRAME_LEN, MAX_MESSAGE_LEN, write};

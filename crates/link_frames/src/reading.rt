@@ -8,7 +8,7 @@ use crate::frame::{Control, Frame, Sender, Supervisory};
 use crate::information::Information;
 
 // N201: the maximum number of octets of an information field (Q.921, 5.9.3).
-const LONGEST_INFORMATION: usize = 260;
+const MAX_INFORMATION_LEN: usize = 260;
 
 /// Returns the frame of these octets from `sender`. `None` if they are discarded (Q.921, 2.9): fewer than three octets,
 /// another SAPI or TEI, or a wrong EA bit.
@@ -60,7 +60,7 @@ fn numbered_information(command: bool, first: u8, rest: &[u8]) -> Control<'_>
     ensures numbered { spec.IsNumbered result }
 {
     match rest {
-        [last, information @ ..] if command && information.len() <= LONGEST_INFORMATION =>
+        [last, information @ ..] if command && information.len() <= MAX_INFORMATION_LEN =>
             Control::Information {
                 poll: *last % 2 == 1,
                 send: first / 2,

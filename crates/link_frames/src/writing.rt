@@ -11,15 +11,15 @@ use arrayvec::ArrayVec;
 use std::marker::Model;
 
 /// The maximum number of octets of a message that a written frame carries. Source: this project.
-pub const LONGEST_MESSAGE: usize = 112;
+pub const MAX_MESSAGE_LEN: usize = 112;
 
 /// The maximum number of octets of a written frame.
-pub const LONGEST_FRAME: usize = 116;
+pub const MAX_FRAME_LEN: usize = 116;
 
 /// The octets of a written frame. A contract views them as a list.
 #[derive(Clone, Debug, Default, Drop)]
 pub struct FrameOctets {
-    octets: ArrayVec<u8, LONGEST_FRAME>,
+    octets: ArrayVec<u8, MAX_FRAME_LEN>,
 }
 
 impl Model for FrameOctets {
@@ -54,7 +54,7 @@ pub fn write(sender: Sender, frame: &Frame) -> FrameOctets
 }
 
 #[tactic(auto, unfolding(crate::specs::Writing::encoding))]
-fn octets_of(sender: Sender, frame: &Frame) -> ArrayVec<u8, LONGEST_FRAME>
+fn octets_of(sender: Sender, frame: &Frame) -> ArrayVec<u8, MAX_FRAME_LEN>
     requires writable { IsWritable frame.now.command frame.now.control }
     requires room { length (information_in frame.now.control) ≤ 112 }
     ensures encoded { result.items ≡ encoding sender frame.now }

@@ -4,7 +4,7 @@ use Rattle.link_frames.specs.declared.frame.Control.TheVariants as control
 use Rattle.link_procedures.specs.declared.state.State.TheVariants as state
 use Rattle.link_procedures.specs.declared.state.Indication.{Indication}
 use Rattle.link_procedures.specs.declared.state.Indication.TheVariants as indication
-use Rattle.link_procedures.specs.Links.{SendQueue, DataLink, Step, step, emptied, renumbered, longest_queue, is_up, is_awaiting, t200, t203}
+use Rattle.link_procedures.specs.Links.{SendQueue, DataLink, Step, step, emptied, renumbered, max_queue_len, is_up, is_awaiting, t200, t203}
 use Rattle.link_procedures.specs.Sending.{command, sends, flushes}
 
 -- the result of a received frame or an expiry: the link, the frames sent, and the indication to layer 3
@@ -77,5 +77,5 @@ queued message q = record { waiting = q.waiting ++ message ∷ []; sent = q.sent
 unfoldable pub submitted : List ℕ → ℕ → Step → Step
 submitted message at s =
     if not (is_up s.link) then s
-    else if nat_le longest_queue (length s.link.queue.waiting) then overflows at s
+    else if nat_le max_queue_len (length s.link.queue.waiting) then overflows at s
     else flushes at (step (record s.link { queue = queued message s.link.queue }) s.out)

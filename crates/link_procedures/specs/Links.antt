@@ -37,8 +37,8 @@ abbrev pub window : ℕ
 window = 7
 
 -- the maximum number of messages that are not acknowledged
-abbrev pub longest_queue : ℕ
-longest_queue = 64
+abbrev pub max_queue_len : ℕ
+max_queue_len = 64
 
 -- V(S)
 unfoldable pub next_number : SendQueue → ℕ

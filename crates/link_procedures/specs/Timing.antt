@@ -13,8 +13,8 @@ use Rattle.link_procedures.specs.Sending.{command, sends, enquires}
 use Rattle.link_procedures.specs.Establishment.{Outcome, quietly, indicating, establishes, releases}
 
 -- N200: the maximum number of retransmissions (5.9.2)
-abbrev pub most_retries : ℕ
-most_retries = 3
+abbrev pub max_retries : ℕ
+max_retries = 3
 
 abbrev pub frames_to : Timers → Running → ℕ
 frames_to timers T200 = timers.t200
@@ -44,14 +44,14 @@ first_retries T203 = 0
 
 -- SABME is retransmitted, or the link is released after N200 retransmissions
 unfoldable pub calls_or_releases : ℕ → Step → Outcome
-calls_or_releases at s = if s.link.retries == most_retries then releases at s else quietly (calls_again at s)
+calls_or_releases at s = if s.link.retries == max_retries then releases at s else quietly (calls_again at s)
 
 unfoldable pub on_expiry : State → ℕ → Step → Outcome
 on_expiry state.TeiAssigned at s = quietly (establishes true at s)
 on_expiry state.AwaitingEstablishment at s = calls_or_releases at s
 on_expiry state.MultipleFrameEstablished at s = quietly (enquires_at (first_retries s.link.timer.running) at s)
 on_expiry state.TimerRecovery at s =
-    if s.link.retries == most_retries then quietly (establishes false at s)
+    if s.link.retries == max_retries then quietly (establishes false at s)
     else quietly (enquires_at (s.link.retries + 1) at s)
 
 -- layer 3 is informed of a loss; the timer waits for the next turn

@@ -23,6 +23,6 @@ mod turning;
 
 pub use link::Link;
 pub use message::Message;
-pub use outbox::{MOST_FRAMES, Outbox};
-pub use queue::{LONGEST_QUEUE, Queue};
+pub use outbox::{MAX_FRAMES, Outbox};
+pub use queue::{MAX_QUEUE_LEN, Queue};
 pub use state::{Indication, Running, State, Timer, Timers};

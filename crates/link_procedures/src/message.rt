@@ -2,13 +2,13 @@
 ghost use Rattle.std.specs.Prelude.{◌≡◌, ◌≤◌, length};
 
 use arrayvec::ArrayVec;
-use link_frames::LONGEST_MESSAGE;
+use link_frames::MAX_MESSAGE_LEN;
 use std::marker::Model;
 
 /// The octets of a message of layer 3, at most 112. A contract views them as a list.
 #[derive(Clone, Debug, Default, Drop)]
 pub struct Message {
-    octets: ArrayVec<u8, LONGEST_MESSAGE>,
+    octets: ArrayVec<u8, MAX_MESSAGE_LEN>,
 }
 
 impl Model for Message {

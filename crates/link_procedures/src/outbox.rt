@@ -8,12 +8,12 @@ use link_frames::{Frame, FrameOctets, Sender, write};
 use std::marker::Model;
 
 /// The maximum number of frames in an outbox. Source: this project.
-pub const MOST_FRAMES: usize = 80;
+pub const MAX_FRAMES: usize = 80;
 
 /// The octets of the frames that were sent, in order. A contract views them as a list of lists.
 #[derive(Drop)]
 pub struct Outbox {
-    frames: ArrayVec<FrameOctets, MOST_FRAMES>,
+    frames: ArrayVec<FrameOctets, MAX_FRAMES>,
 }
 
 impl Model for Outbox {

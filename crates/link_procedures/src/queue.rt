@@ -9,7 +9,7 @@ use arrayvec::ArrayVec;
 use std::marker::Model;
 
 /// The maximum number of messages that are not acknowledged. Source: this project.
-pub const LONGEST_QUEUE: usize = 64;
+pub const MAX_QUEUE_LEN: usize = 64;
 
 // k: the maximum number of sent I frames that are not acknowledged (Q.921, 5.9.5).
 const WINDOW: u8 = 7;
@@ -17,7 +17,7 @@ const WINDOW: u8 = 7;
 /// The messages that are not acknowledged, in order, the number of them that are sent, and V(A) (Q.921, 3.5.2).
 #[derive(Drop)]
 pub struct Queue {
-    waiting: ArrayVec<Message, LONGEST_QUEUE>,
+    waiting: ArrayVec<Message, MAX_QUEUE_LEN>,
     sent: u8,
     acknowledged: u8,
 }
@@ -49,7 +49,7 @@ impl Queue {
     pub fn is_full(&self) -> bool
         ensures { result ≡ nat_le 64 (length self.now.waiting) }
     {
-        self.waiting.len() >= LONGEST_QUEUE
+        self.waiting.len() >= MAX_QUEUE_LEN
     }
 
     /// Returns the number of messages that are sent and not acknowledged.

@@ -9,7 +9,7 @@ use crate::state::{Indication, Running, State, Timers};
 use link_frames::{Control, Frame};
 
 // N200: the maximum number of retransmissions (Q.921, 5.9.2).
-const MOST_RETRIES: u8 = 3;
+const MAX_RETRIES: u8 = 3;
 
 impl Link {
     /// Processes the turn of the link in a frame of the exchange, and returns the indication to layer 3: a loss, or the
@@ -61,7 +61,7 @@ impl Link {
                 None
             }
             State::TimerRecovery => {
-                if self.retries == MOST_RETRIES {
+                if self.retries == MAX_RETRIES {
                     self.establish(false, at, out);
                 } else {
                     self.enquire(self.retries + 1, at, out);
@@ -80,7 +80,7 @@ impl Link {
         ensures indication { result ≡ (spec.calls_or_releases at (step self.old out.old)).indication }
         ensures few { length out.new ≤ length out.old + 1 }
     {
-        if self.retries == MOST_RETRIES {
+        if self.retries == MAX_RETRIES {
             self.release(at);
             return Some(Indication::Released);
         }

@@ -62,7 +62,7 @@ work_after map map_after legs legs_after s w e work fits holds = record {
 -- it leaves the engine at its frame
 pub command_at : {P E : Type 0} (carries : Carrying E) (frames : E → ℕ) (sizes : E → Dimensions) (x y : LoneExchange P E) (s : Setting) (w : World) (e : Event)
     → IsAt carries frames sizes x s w → Fits x.control.map.external e → ((input : Input) → e ≡ Frame input → ⊥)
-    → Holds s.dimensions y.control.map y.control.legs (next s w e) → y.engine ≡ x.engine → y.desk.tool ≡ x.desk.tool → y.octets ≡ x.octets
+    → Holds s.dimensions y.control.map y.control.legs (next s w e) → y.engine ≡ x.engine → y.context.tool ≡ x.context.tool → y.octets ≡ x.octets
     → IsAt carries frames sizes y s (next s w e)
 command_at carries frames sizes x y s w e at fits other holds engine tools octets =
     let same = quiet s w e other in
@@ -121,7 +121,7 @@ next_frame carried image d tones w made shown carries = record {
 -- it takes the engine to its next frame
 pub frame_at : {P E : Type 0} (carries : Carrying E) (frames : E → ℕ) (sizes : E → Dimensions) (x y : LoneExchange P E) (s : Setting) (w : World) (e : Event) (input : Input) (image later : Control)
     → IsAt carries frames sizes x s w → e ≡ Frame input → Fits x.control.map.external e
-    → Holds s.dimensions y.control.map y.control.legs (next s w e) → IsOfSize s.dimensions image → SameSizes image later → y.desk.tool ≡ tool.Image later
+    → Holds s.dimensions y.control.map y.control.legs (next s w e) → IsOfSize s.dimensions image → SameSizes image later → y.context.tool ≡ tool.Image later
     → carries y.engine (w.inputs ++ input ∷ []) (w.held ++ w.holding.circuits ∷ []) (w.seated ++ w.ports ∷ [])
     → frames y.engine ≡ frames x.engine + 1 → sizes y.engine ≡ sizes x.engine → length y.octets.items ≡ length x.octets.items
     → IsAt carries frames sizes y s (next s w e)

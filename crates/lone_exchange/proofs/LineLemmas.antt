@@ -45,8 +45,8 @@ module _ (plays : Plays) (s : Setting) (w : World) (e : Event) (n : ℕ) (octets
   due r is = ap (λ (q : Reply). report_line rows n (kept_of q)) is ∙ same_line rows n s w sent (λ f. e ≡ f) frame_rows e refl
 
 pub line_is : {P E : Type 0} (plays : Plays) (s : Setting) (w : World) (e : Event) (n : ℕ) (response : Response) (y : LoneExchange P E) → HasReplied s w e response y → HasPlayed plays s w e y
-    → response_line y.octets.items n response y.desk.out ≡ event_line (plays (table_of s.tones)) s w n e
-line_is plays s w e n response y replied played = due plays s w e n y.octets.items played (reply_of response y.desk.out) replied
+    → response_line y.octets.items n response y.context.out ≡ event_line (plays (table_of s.tones)) s w n e
+line_is plays s w e n response y replied played = due plays s w e n y.octets.items played (reply_of response y.context.out) replied
 
 -- what was appended, if memory lasts
 pub appended : {E : Type 0} (r : Result (Unit {0}) E) (before after line due : List ℕ) → line ≡ due → OnOk r (after ≡ before ++ line) → OnOk r (after ≡ before ++ due)

@@ -50,7 +50,7 @@ pub record IsAt {P E : Type 0} (carries : Carrying E) (frames : E → ℕ) (size
   pub carried : carries x.engine w.inputs w.held w.seated
   pub number : frames x.engine ≡ w.holding.next
   pub sized : sizes x.engine ≡ s.dimensions
-  pub image : IsFrameTool s.dimensions x.desk.tool
+  pub image : IsFrameTool s.dimensions x.context.tool
   pub lines : length x.octets.items ≡ s.dimensions.external
 
 -- ---- before the first event
@@ -99,7 +99,7 @@ Passes carries frames sizes plan tones timers e x y =
 
 -- the response and the outbox are the reply of the event in this state
 abbrev pub HasReplied : {P E : Type 0} → Setting → World → Event → Response → LoneExchange P E → Type 0
-HasReplied s w e response y = reply_of response y.desk.out ≡ reply s w e
+HasReplied s w e response y = reply_of response y.context.out ≡ reply s w e
 
 abbrev pub Replies : {P E : Type 0} → Carrying E → (E → ℕ) → (E → Dimensions) → List Number → Tones → Timers → Event → LoneExchange P E → Response → LoneExchange P E → Type 0
 Replies carries frames sizes plan tones timers e x response y =

@@ -15,7 +15,7 @@ use crate::opening::{frame_parts, lines_of};
 use call_control::CallControl;
 use call_timers::Timers;
 use control_memory::PathMap;
-use exchange_core::{Desk, Tool, happen};
+use exchange_core::{StepContext, Tool, happen};
 use exchange_events::{Event, Input, Response};
 use frame_engine::Carrier;
 use number_plan::Plan;
@@ -35,7 +35,7 @@ pub struct LoneExchange<P: PathMap, C: Carrier> {
     /// The engine, which carries the frames.
     pub engine: C,
     /// The control memory of the next frame, and the messages and records of the last event.
-    pub desk: Desk,
+    pub context: StepContext,
     /// The octets of each external line in the last frame.
     pub octets: Vec<[u8; 30]>,
 }
@@ -66,7 +66,7 @@ impl<P: PathMap + Drop, C: Carrier> LoneExchange<P, C> {
         Ok(LoneExchange {
             control,
             engine,
-            desk: Desk::new(tool),
+            context: StepContext::new(tool),
             octets,
         })
     }
@@ -74,7 +74,7 @@ impl<P: PathMap + Drop, C: Carrier> LoneExchange<P, C> {
 
 impl<P: PathMap, C: Carrier> LoneExchange<P, C> {
     /// Processes one event, with the number plan, the tones and the timers of the setting. The messages and records of
-    /// the event replace the content of the outbox of the desk.
+    /// the event replace the content of the outbox of the context.
     pub fn happen<R: Threads + Sync>(
         &mut self,
         rt: &R,
@@ -89,7 +89,7 @@ impl<P: PathMap, C: Carrier> LoneExchange<P, C> {
         ensures world { Passes C.carries C.next C.sizes plan.now tones.now timers.now event.now self.old self.new }
         ensures reply { Replies C.carries C.next C.sizes plan.now tones.now timers.now
             event.now self.old result self.new }
-        ensures few { MovesAtMost self.old.control.map.bound (reply_of result self.new.desk.out) }
+        ensures few { MovesAtMost self.old.control.map.bound (reply_of result self.new.context.out) }
         ensures bound { self.new.control.map.bound ≡ self.old.control.map.bound }
         ensures played { PlaysDue C.carries C.next C.sizes C.plays plan.now tones.now timers.now
             event.now self.old self.new }
@@ -120,18 +120,18 @@ impl<P: PathMap, C: Carrier> LoneExchange<P, C> {
         ensures world { Passes C.carries C.next C.sizes plan.now tones.now timers.now event.now self.old self.new }
         ensures reply { Replies C.carries C.next C.sizes plan.now tones.now timers.now
             event.now self.old result self.new }
-        ensures few { MovesAtMost self.old.control.map.bound (reply_of result self.new.desk.out) }
+        ensures few { MovesAtMost self.old.control.map.bound (reply_of result self.new.context.out) }
         ensures bound { self.new.control.map.bound ≡ self.old.control.map.bound }
         ensures played { PlaysDue C.carries C.next C.sizes C.plays plan.now tones.now timers.now
             event.now self.old self.new }
     {
         let external = self.octets.len() as u8;
-        self.desk.out.clear();
-        self.desk.ahead = None;
+        self.context.out.clear();
+        self.context.ahead = None;
         let control = &mut self.control;
-        let desk = &mut self.desk;
-        let response = happen(control, plan, tones, timers, external, event, desk);
-        let Tool::Image(image) = &mut self.desk.tool else {
+        let context = &mut self.context;
+        let response = happen(control, plan, tones, timers, external, event, context);
+        let Tool::Image(image) = &mut self.context.tool else {
             unreachable!()
         };
         let octets = self.octets.as_mut_slice();
@@ -149,17 +149,17 @@ impl<P: PathMap, C: Carrier> LoneExchange<P, C> {
         ensures world { Passes C.carries C.next C.sizes plan.now tones.now timers.now event.now self.old self.new }
         ensures reply { Replies C.carries C.next C.sizes plan.now tones.now timers.now
             event.now self.old result self.new }
-        ensures few { MovesAtMost self.old.control.map.bound (reply_of result self.new.desk.out) }
+        ensures few { MovesAtMost self.old.control.map.bound (reply_of result self.new.context.out) }
         ensures bound { self.new.control.map.bound ≡ self.old.control.map.bound }
     {
         let external = self.octets.len() as u8;
-        self.desk.out.clear();
-        self.desk.ahead = None;
-        let tool = mem::replace(&mut self.desk.tool, Tool::Nothing);
+        self.context.out.clear();
+        self.context.ahead = None;
+        let tool = mem::replace(&mut self.context.tool, Tool::Nothing);
         let control = &mut self.control;
-        let desk = &mut self.desk;
-        let response = happen(control, plan, tones, timers, external, event, desk);
-        self.desk.tool = tool;
+        let context = &mut self.context;
+        let response = happen(control, plan, tones, timers, external, event, context);
+        self.context.tool = tool;
         response
     }
 
@@ -184,7 +184,7 @@ impl<P: PathMap, C: Carrier> LoneExchange<P, C> {
             text,
             number,
             response,
-            &self.desk.out,
+            &self.context.out,
             self.octets.as_slice(),
         )
     }

@@ -2,10 +2,10 @@
 use Rattle.std.proofs.Common.{◌≡◌, ◌+◌, ◌-◌, ◌^◌, ◌≤◌, max, if◌then◌else◌, List, [], ◌∷◌, ◌++◌, length, length-append, ap, ◌∙◌, arith}
 use Rattle.std.proofs.lemmas.List.Sums.{sum_by-append}
 use Rattle.exchange_events.specs.declared.record.CallRecord.{CallRecord}
-use Rattle.meters.specs.Registers.{Held, Pegs, ArePegsOf, IsHeldBy, register_value, frames_held, total_held, longest_held, answered_calls, peg_line, holding_line, peg_text, peg_text_with, holding_text, holding_text_with}
+use Rattle.meters.specs.Registers.{Held, Pegs, ArePegsOf, IsHeldBy, register_value, frames_held, total_held, max_frames_held, answered_calls, peg_line, holding_line, peg_text, peg_text_with, holding_text, holding_text_with}
 
 -- the longest of two lists of calls
-pub longest-append : (calls more : List CallRecord) → longest_held (calls ++ more) ≡ max (longest_held calls) (longest_held more)
+pub longest-append : (calls more : List CallRecord) → max_frames_held (calls ++ more) ≡ max (max_frames_held calls) (max_frames_held more)
 longest-append [] more = omega arith
 longest-append (call ∷ calls) more = let e = longest-append calls more in omega (arith, e)
 
@@ -31,5 +31,5 @@ pub holding_law : (held : Held) (calls more : List CallRecord) → IsHeldBy call
 holding_law held calls more is =
     let sums = sum_by-append frames_held calls more in
     let most = longest-append calls more in
-    ap (λ n. holding_line n (register_value (max held.longest (longest_held more)))) (omega (arith, sums, is.total_is))
+    ap (λ n. holding_line n (register_value (max held.longest (max_frames_held more)))) (omega (arith, sums, is.total_is))
     ∙ ap (λ n. holding_line (register_value (total_held (calls ++ more))) n) (omega (arith, most, is.longest_is))

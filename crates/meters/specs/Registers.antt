@@ -22,9 +22,9 @@ abbrev pub total_held : List CallRecord → ℕ
 total_held calls = sum_by frames_held calls
 
 -- the number of frames in which the longest of the calls held its circuits, or 0 without a call
-abbrev pub longest_held : List CallRecord → ℕ
-longest_held [] = 0
-longest_held (call ∷ calls) = max (frames_held call) (longest_held calls)
+abbrev pub max_frames_held : List CallRecord → ℕ
+max_frames_held [] = 0
+max_frames_held (call ∷ calls) = max (frames_held call) (max_frames_held calls)
 
 -- the text of a peg count
 abbrev pub peg_line : ℕ → ℕ → List ℕ
@@ -40,7 +40,7 @@ peg_text calls = peg_line (register_value (length calls)) (register_value (answe
 
 -- the holding time of a list of calls: the total and the longest
 abbrev pub holding_text : List CallRecord → List ℕ
-holding_text calls = holding_line (register_value (total_held calls)) (register_value (longest_held calls))
+holding_text calls = holding_line (register_value (total_held calls)) (register_value (max_frames_held calls))
 
 -- the registers of a peg count
 pub record Pegs : Type 0 where
@@ -64,8 +64,8 @@ pub record Held : Type 0 where
 -- the registers represent a list of calls
 pub record IsHeldBy (calls : List CallRecord) (held : Held) : Type 0 where
   pub total_is : held.total ≡ register_value (total_held calls)
-  pub longest_is : held.longest ≡ register_value (longest_held calls)
+  pub longest_is : held.longest ≡ register_value (max_frames_held calls)
 
 -- the text of a holding time after further calls
 abbrev pub holding_text_with : Held → List CallRecord → List ℕ
-holding_text_with held more = holding_line (register_value (held.total + total_held more)) (register_value (max held.longest (longest_held more)))
+holding_text_with held more = holding_line (register_value (held.total + total_held more)) (register_value (max held.longest (max_frames_held more)))

@@ -3,7 +3,7 @@ ghost use Rattle.std.specs.Prelude.{◌≡◌, ◌++◌, length, take, codes, de
 ghost use Rattle.circuit_model.specs.Channels.{channel_at};
 ghost use Rattle.meters.specs.Details.{slot_text, party_text, figure, call_line};
 
-use circuit_model::{PLACES, Slot, channel_of};
+use circuit_model::{CHANNELS_PER_LINE, Slot, channel_of};
 use exchange_events::{CallRecord, Party};
 use itoa::Buffer;
 use std::alloc::AllocError;
@@ -114,7 +114,7 @@ fn put_slot(out: &mut Vec<u8>, at: Slot) -> Result<(), AllocError>
 fn channel_number(place: u8) -> u64
     ensures { result ≡ channel_at place }
 {
-    if place < PLACES {
+    if place < CHANNELS_PER_LINE {
         u64::from(channel_of(place))
     } else {
         u64::from(place) + 2

@@ -5,13 +5,13 @@ use std::cmp::Ordering;
 use std::marker::Model;
 
 /// The maximum number of digits of a number. Source: this project.
-pub const LONGEST_NUMBER: usize = 20;
+pub const MAX_DIGITS: usize = 20;
 
 /// The digits of a number, as IA5 characters (ITU-T Q.931, 4.5.8), the form of a called party number and of a trace. A
 /// contract views them as a list.
 #[derive(Debug, Drop)]
 pub struct Digits {
-    octets: ArrayVec<u8, LONGEST_NUMBER>,
+    octets: ArrayVec<u8, MAX_DIGITS>,
 }
 
 impl Model for Digits {
@@ -26,7 +26,7 @@ impl Digits {
     ghost use Rattle.std.specs.Prelude.{◌≡◌, ◌≤◌, length};
 
     /// Returns a copy of these digits.
-    pub fn of(digits: &[u8]) -> Digits
+    pub fn from_slice(digits: &[u8]) -> Digits
         requires { length digits.now ≤ 20 }
         ensures { result ≡ digits.now }
     {
@@ -54,7 +54,7 @@ ghost use Rattle.number_plan.specs.Plan.{is_number, side_by_side};
 pub fn is_number(digits: &[u8]) -> bool
     ensures { result ≡ is_number digits.now }
 {
-    !digits.is_empty() && digits.len() <= LONGEST_NUMBER && are_decimal(digits)
+    !digits.is_empty() && digits.len() <= MAX_DIGITS && are_decimal(digits)
 }
 
 fn are_decimal(digits: &[u8]) -> bool

@@ -16,8 +16,8 @@ mod line_list;
 mod plan;
 mod target;
 
-pub use digits::{Digits, LONGEST_NUMBER, is_number};
+pub use digits::{Digits, MAX_DIGITS, is_number};
 pub use laws::{law_of_order, law_of_targets};
 pub use line_list::{LineList, MAX_LINES};
-pub use plan::{MOST_NUMBERS, Number, Plan, PlanFault};
+pub use plan::{MAX_NUMBERS, Number, Plan, PlanFault};
 pub use target::{Found, Target};

@@ -8,7 +8,7 @@ use std::marker::Model;
 use thiserror::Error;
 
 /// The maximum number of numbers of a plan. Source: this project.
-pub const MOST_NUMBERS: usize = 256;
+pub const MAX_NUMBERS: usize = 256;
 
 /// A number and its target.
 #[derive(Debug, Drop)]
@@ -95,9 +95,9 @@ impl Plan {
     {
         match self.search(digits) {
             Ok(_) => Err(PlanFault::Prefix),
-            Err(_) if self.numbers.len() == MOST_NUMBERS => Err(PlanFault::TooMany),
+            Err(_) if self.numbers.len() == MAX_NUMBERS => Err(PlanFault::TooMany),
             Err(place) => {
-                let digits = Digits::of(digits);
+                let digits = Digits::from_slice(digits);
                 Ok(self.insert(place, Number { digits, target })?)
             }
         }

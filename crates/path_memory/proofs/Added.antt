@@ -5,17 +5,17 @@ use Rattle.std.proofs.lemmas.Bool.{eq-eqb}
 use Rattle.circuit_model.specs.declared.channel.Slot.{Slot}
 use Rattle.circuit_model.specs.Circuits.{same_slot}
 use Rattle.circuit_model.proofs.Slots.{same_slot-refl}
-use Rattle.control_memory.specs.declared.hop.Hop.{Hop}
+use Rattle.control_memory.specs.declared.route.Route.{Route}
 use Rattle.control_memory.specs.Layout.{Layout, number_of, hop_of, IsSlot, HasPath, Joins}
 use Rattle.control_memory.specs.Connecting.{with_path, connect, connect_in, common_slot, moved, is_moved}
 use Rattle.control_memory.specs.Paths.{Fabric}
 use Rattle.control_memory.proofs.Steps.{number_inside, IsNew, new_or_old, hop_here, hop_else}
 
 -- ---- how many paths have moved
-pub same_hop : (h k : Hop) (b c : Bool) → same_slot h.to k.to ≡ b → (h.slot == k.slot) ≡ c → is_moved (Some h) (Some k) ≡ cond (b && not c) 1 0
+pub same_hop : (h k : Route) (b c : Bool) → same_slot h.to k.to ≡ b → (h.slot == k.slot) ≡ c → is_moved (Some h) (Some k) ≡ cond (b && not c) 1 0
 same_hop h k b c to slot = ap (λ t. cond (t && not (h.slot == k.slot)) 1 0) to ∙ ap (λ t. cond (b && not t) 1 0) slot
 
-pub not_moved : (h : Hop) → is_moved (Some h) (Some h) ≡ 0
+pub not_moved : (h : Route) → is_moved (Some h) (Some h) ≡ 0
 not_moved h = same_hop h h true true (same_slot-refl h.to) (eq-eqb h.slot h.slot refl)
 
 pub moved_same : (layout : Layout) → moved layout layout ≡ 0
@@ -24,7 +24,7 @@ moved_same (None ∷ hops) = ap (λ n. 0 + n) (moved_same hops)
 moved_same (Some h ∷ hops) = ap (λ n. n + moved hops hops) (not_moved h) ∙ ap (λ n. 0 + n) (moved_same hops)
 
 -- one hop is written
-pub moved_set : (before after : Layout) (n : ℕ) (v : Option Hop) → length before ≡ length after → n < length after → moved before (set after n v) + is_moved (get_or before n None) (get_or after n None) ≡ moved before after + is_moved (get_or before n None) v
+pub moved_set : (before after : Layout) (n : ℕ) (v : Option Route) → length before ≡ length after → n < length after → moved before (set after n v) + is_moved (get_or before n None) (get_or after n None) ≡ moved before after + is_moved (get_or before n None) v
 moved_set [] [] n v same inside = absurd (omega (arith, inside))
 moved_set [] (a ∷ rest) n v same inside = absurd (omega (arith, same))
 moved_set (b ∷ bs) [] n v same inside = absurd (omega (arith, same))

@@ -2,7 +2,7 @@
 use Rattle.std.proofs.Common.{◌≡◌, ℕ, ◌<◌, Some, None, sym, ◌∙◌, ap, subst}
 use Rattle.std.specs.Prelude.{option_map}
 use Rattle.circuit_model.specs.declared.channel.Slot.{Slot}
-use Rattle.control_memory.specs.declared.hop.Hop.{Hop}
+use Rattle.control_memory.specs.declared.route.Route.{Route}
 use Rattle.control_memory.specs.Layout.{Path, Layout, hop_of, path_to, IsSlot, Joins, Legal}
 use Rattle.control_memory.specs.Connecting.{with_path, without_path, IsFree, common_slot}
 use Rattle.control_memory.specs.Paths.{Fabric}
@@ -60,12 +60,12 @@ kept_with lines slots m layout from to slot m' f' lines_are slots_are beside fro
     }
 
 -- ---- a path that is taken out
-pub lifts_entry : (m : Matrix) (f : Fabric) (from to : Slot) (hop : Hop) → IsPathMemory m f → IsSlot f.lines from → Joins f.layout from to → hop_of f.layout from ≡ Some hop → (hop.to ≡ to) × (row_slot m from.line hop.slot ≡ Some to.line)
+pub lifts_entry : (m : Matrix) (f : Fabric) (from to : Slot) (hop : Route) → IsPathMemory m f → IsSlot f.lines from → Joins f.layout from to → hop_of f.layout from ≡ Some hop → (hop.to ≡ to) × (row_slot m from.line hop.slot ≡ Some to.line)
 lifts_entry m f from to hop kept inside joined at =
     let same = one_hop f.layout from hop.to to hop.slot joined.0 at joined.1 in
     (same.0, kept.is from.line hop.slot ∙ ap (option_map (λ (p : Path). p.to.line)) (path_in_is f.lines f.slots f.layout from hop.to hop.slot kept.legal inside at) ∙ ap (λ (t : Slot). Some t.line) same.0)
 
-pub kept_without : (m : Matrix) (f : Fabric) (from : Slot) (hop : Hop) (m' : Matrix) (f' : Fabric) → IsPathMemory m f → IsSlot f.lines from → hop_of f.layout from ≡ Some hop → m' ≡ without_entry m from.line hop.slot → f'.layout ≡ without_path f.layout from → f'.lines ≡ f.lines → f'.slots ≡ f.slots → IsPathMemory m' f'
+pub kept_without : (m : Matrix) (f : Fabric) (from : Slot) (hop : Route) (m' : Matrix) (f' : Fabric) → IsPathMemory m f → IsSlot f.lines from → hop_of f.layout from ≡ Some hop → m' ≡ without_entry m from.line hop.slot → f'.layout ≡ without_path f.layout from → f'.lines ≡ f.lines → f'.slots ≡ f.slots → IsPathMemory m' f'
 kept_without m f from hop m' f' kept inside at of_m of_layout of_lines of_slots = record {
   lines = ap (λ (x : Matrix). x.lines) of_m ∙ kept.lines ∙ sym of_lines;
   slots = ap (λ (x : Matrix). x.slots) of_m ∙ kept.slots ∙ sym of_slots;

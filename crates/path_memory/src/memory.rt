@@ -2,7 +2,7 @@
 ghost use Rattle.std.specs.Prelude.{◌≡◌, ℕ, ◌*◌, ◌<◌, ◌≤◌, None, IfOk, IfSome, replicate, is_none};
 ghost use Rattle.std.specs.Option.{option_map};
 ghost use Rattle.circuit_model.specs.declared.channel.Slot.{Slot};
-ghost use Rattle.control_memory.specs.declared.hop.Hop.{Hop};
+ghost use Rattle.control_memory.specs.declared.route.Route.{Route};
 ghost use Rattle.control_memory.specs.Layout.{Legal, IsSlot, Joins, hop_of, path_to};
 ghost use Rattle.control_memory.specs.Connecting.{common_slot as common_slot_of, with_path, without_path};
 ghost use Rattle.control_memory.specs.Image.{lines_of, HasLayout, SameSizes};
@@ -61,7 +61,7 @@ impl PathMemory {
         ensures free { result ≡ is_none (hop_of self.now.layout at) }
         ensures legal { Legal self.now.lines self.now.slots self.now.layout }
     {
-        self.paths.hop(at).is_none()
+        self.paths.get(at).is_none()
     }
 
     /// Returns whether no path ends at the outlet.
@@ -70,7 +70,7 @@ impl PathMemory {
         ensures free { result ≡ is_none (path_to self.now.layout at) }
         ensures legal { Legal self.now.lines self.now.slots self.now.layout }
     {
-        self.paths.read(at).is_none()
+        self.paths.slot_at_outlet(at).is_none()
     }
 
     /// Connects a free inlet to a free outlet in the lowest internal slot that is free in both lines, and returns the
@@ -89,7 +89,7 @@ impl PathMemory {
     {
         let slot = common_slot::<Brand>(&self.matrix, from.line, to.line, Blank::new(1))?;
         self.matrix.place(from.line, to.line, slot);
-        self.paths.add(from, to, slot);
+        self.paths.insert(from, to, slot);
         Some(slot)
     }
 
@@ -102,20 +102,20 @@ impl PathMemory {
         ensures slots { self.new.slots ≡ self.old.slots }
         ensures legal { Legal self.new.lines self.new.slots self.new.layout }
     {
-        let Some(hop) = self.paths.hop(from) else {
+        let Some(hop) = self.paths.get(from) else {
             unreachable!()
         };
         self.matrix.lift(from.line, to.line, hop.slot);
-        self.paths.take(from, hop);
+        self.paths.remove(from, hop);
     }
 
     /// Returns the internal slot of the path that begins at an inlet. `None` if and only if the inlet is free.
     pub fn slot_of(&self, from: Slot) -> Option<u8>
         requires { IsSlot self.now.lines from }
-        ensures slot { result ≡ option_map (λ (hop : Hop). hop.slot) (hop_of self.now.layout from) }
+        ensures slot { result ≡ option_map (λ (hop : Route). hop.slot) (hop_of self.now.layout from) }
         ensures legal { Legal self.now.lines self.now.slots self.now.layout }
     {
-        self.paths.hop(from).map(|hop| hop.slot)
+        self.paths.get(from).map(|hop| hop.slot)
     }
 
     /// Returns the number of internal slots.
@@ -137,7 +137,7 @@ impl PathMemory {
         ensures heard { image.new.heard ≡ image.old.heard }
         ensures rooms { image.new.rooms ≡ image.old.rooms }
     {
-        self.paths.write(image);
+        self.paths.write_tables(image);
     }
 }
 

@@ -19,7 +19,7 @@ impl<T> Model for Rows<T> {
 }
 
 impl<T: Copy + Drop> Rows<T> {
-    ghost use Rattle.std.specs.Prelude.{◌≡◌, [], ◌∷◌, ◌++◌, OnOk, OnErr, length, take, slice_index_or};
+    ghost use Rattle.std.specs.Prelude.{◌≡◌, ◌==◌, [], ◌∷◌, ◌++◌, OnOk, OnErr, length, take, slice_index_or};
 
     /// Makes a list without frames.
     pub fn new(alloc: Global) -> Rows<T>
@@ -45,6 +45,13 @@ impl<T: Copy + Drop> Rows<T> {
         ensures { result ≡ length self.now }
     {
         self.rows.len()
+    }
+
+    /// Returns whether there is no frame.
+    pub fn is_empty(&self) -> bool
+        ensures { result ≡ (length self.now == 0) }
+    {
+        self.len() == 0
     }
 
     /// Removes all frames except the first `count`.

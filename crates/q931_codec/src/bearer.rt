@@ -20,7 +20,7 @@ impl BearerCapability {
     ghost use Rattle.q931_codec.specs.Contents.{bearer_of};
 
     /// Returns the bearer service that the contents of a bearer capability request.
-    pub fn of(contents: &[u8]) -> BearerCapability
+    pub fn from_contents(contents: &[u8]) -> BearerCapability
         ensures { result ≡ bearer_of contents.now }
     {
         if contents.len() < 2 || contents.len() > 10 {

@@ -2,7 +2,7 @@
 
 ghost use Rattle.std.specs.Prelude.{◌≡◌, ◌+◌, ◌^◌, ◌<◌, ◌≤◌, IsTrue, List, [], ◌++◌, length, IfSome};
 ghost use Rattle.q931_elements.specs.Grammar.{octets_of_all};
-ghost use Rattle.q931_elements.specs.Limits.{longest_message};
+ghost use Rattle.q931_elements.specs.Limits.{max_message_len};
 ghost use Rattle.q931_codec.specs.Identifiers as identifier;
 ghost use Rattle.q931_codec.specs.Contents.{is_bearer_channel};
 ghost use Rattle.q931_codec.specs.Grammar.{IsMessage, header};
@@ -15,7 +15,7 @@ use crate::codes::{
 };
 use crate::outgoing::Outgoing;
 use arrayvec::ArrayVec;
-use q931_elements::{LONGEST_MESSAGE, Writer};
+use q931_elements::{MAX_MESSAGE_LEN, Writer};
 
 // Octet 3 of a cause and of a progress indicator (Q.931, 4.5.12 and 4.5.23): ITU-T coding, and the
 // location "public network serving the local user".
@@ -25,7 +25,7 @@ const LOCATION: u8 = 0x82;
 /// of their identifiers (Q.931, 4.5.1). It has at most 107 octets.
 ///
 /// Each field is within the bounds that [`Outgoing`] gives for it.
-pub fn write(message: &Outgoing) -> ArrayVec<u8, LONGEST_MESSAGE>
+pub fn write(message: &Outgoing) -> ArrayVec<u8, MAX_MESSAGE_LEN>
     requires { IsWritable (outgoing_of message.now) }
     ensures encoded { result.items ≡ encoding (outgoing_of message.now) }
     ensures read_back { IsMessage result.items (message_at_receiver (outgoing_of message.now)) }
@@ -62,7 +62,7 @@ fn header(writer: &mut Writer, message: &Outgoing)
 }
 
 fn complete(writer: &mut Writer, complete: bool)
-    requires { length writer.old + 1 ≤ longest_message }
+    requires { length writer.old + 1 ≤ max_message_len }
     ensures octets { writer.new ≡ writer.old ++ octets_of_all (item_of_complete complete) }
     ensures room { length writer.new ≤ length writer.old + 1 }
 {
@@ -73,7 +73,7 @@ fn complete(writer: &mut Writer, complete: bool)
 
 // Writes the element with these contents, if there are any.
 fn element(writer: &mut Writer, code: u8, contents: &[u8])
-    requires { length writer.old + 2 + length contents.now ≤ longest_message }
+    requires { length writer.old + 2 + length contents.now ≤ max_message_len }
     ensures octets { writer.new ≡ writer.old ++ octets_of_all (item_of_row (code, contents.now)) }
     ensures room { length writer.new ≤ length writer.old + 2 + length contents.now }
 {
@@ -84,7 +84,7 @@ fn element(writer: &mut Writer, code: u8, contents: &[u8])
 
 // Writes the element of one octet, if there is one.
 fn octet(writer: &mut Writer, code: u8, octet: Option<u8>)
-    requires { length writer.old + 3 ≤ longest_message }
+    requires { length writer.old + 3 ≤ max_message_len }
     ensures octets { writer.new ≡ writer.old ++ octets_of_all (item_of_row (code, one_octet octet)) }
     ensures room { length writer.new ≤ length writer.old + 3 }
 {
@@ -94,7 +94,7 @@ fn octet(writer: &mut Writer, code: u8, octet: Option<u8>)
 }
 
 fn cause(writer: &mut Writer, value: Option<u8>)
-    requires room { length writer.old + 4 ≤ longest_message }
+    requires room { length writer.old + 4 ≤ max_message_len }
     requires value { IfSome value (λ v. v < 128) }
     ensures octets { writer.new ≡ writer.old ++ octets_of_all (item_of_row (identifier.cause, cause_contents value)) }
     ensures room { length writer.new ≤ length writer.old + 4 }
@@ -107,7 +107,7 @@ fn cause(writer: &mut Writer, value: Option<u8>)
 // Writes the channel. Octet 3 has a primary rate interface and this channel only, and octet 3.2 states that the number
 // of a B-channel follows.
 fn channel(writer: &mut Writer, channel: Option<u8>)
-    requires room { length writer.old + 5 ≤ longest_message }
+    requires room { length writer.old + 5 ≤ max_message_len }
     requires channel { IfSome channel (λ c. IsTrue (is_bearer_channel c)) }
     ensures octets { writer.new ≡ writer.old ++ octets_of_all (item_of_row (identifier.channel_identification, channel_contents channel)) }
     ensures room { length writer.new ≤ length writer.old + 5 }
@@ -119,7 +119,7 @@ fn channel(writer: &mut Writer, channel: Option<u8>)
 
 // Writes progress description 8: in-band information or an appropriate pattern is now available.
 fn progress(writer: &mut Writer, progress: bool)
-    requires { length writer.old + 4 ≤ longest_message }
+    requires { length writer.old + 4 ≤ max_message_len }
     ensures octets { writer.new ≡ writer.old ++ octets_of_all (item_of_row (identifier.progress_indicator, progress_contents progress)) }
     ensures room { length writer.new ≤ length writer.old + 4 }
 {

@@ -32,5 +32,5 @@ pub use laws::{
     written_fields_are_read,
 };
 pub use message::{Discard, Message, read};
-pub use numbers::{MOST_DIGITS, dialled_digits, is_called_number};
+pub use numbers::{MAX_DIGITS, dialled_digits, is_called_number};
 pub use outgoing::Outgoing;

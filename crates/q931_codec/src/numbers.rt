@@ -7,7 +7,7 @@ use arrayvec::ArrayVec;
 
 /// The maximum number of digits of a called party number: it has at most 21 octets, and the first of them is the type
 /// of number. Source: this project.
-pub const MOST_DIGITS: usize = 20;
+pub const MAX_DIGITS: usize = 20;
 
 impl<'a> Message<'a> {
     ghost use Rattle.std.specs.Prelude.{◌≡◌, ◌≤◌, length};
@@ -15,7 +15,7 @@ impl<'a> Message<'a> {
     ghost use Rattle.q931_codec.specs.Contents.{called_in, called_received, calling_in, complete_in};
 
     /// Returns whether the message has a Sending complete (Q.931, 4.5.27): the called number is complete.
-    pub fn sending_complete(&self) -> bool
+    pub fn is_sending_complete(&self) -> bool
         ensures { result ≡ complete_in self.now.elements }
     {
         self.elements.first(SENDING_COMPLETE).is_some()
@@ -64,7 +64,7 @@ pub fn is_called_number(contents: &[u8]) -> bool
 /// octets after the first. `None` if one of them is not a digit 0 to 9.
 ///
 /// The contents have at most 21 octets.
-pub fn dialled_digits(contents: &[u8]) -> Option<ArrayVec<u8, MOST_DIGITS>>
+pub fn dialled_digits(contents: &[u8]) -> Option<ArrayVec<u8, MAX_DIGITS>>
     requires { length contents.now ≤ 21 }
     ensures { option_map (λ digits. digits.items) result ≡ dialled_digits contents.now }
 {
@@ -77,7 +77,7 @@ pub fn dialled_digits(contents: &[u8]) -> Option<ArrayVec<u8, MOST_DIGITS>>
 ghost use Rattle.q931_codec.specs.Contents.{decimal_digits};
 
 // Returns these IA5 characters without their top bits, if all of them are digits 0 to 9.
-fn decimal_digits(octets: &[u8]) -> Option<ArrayVec<u8, MOST_DIGITS>>
+fn decimal_digits(octets: &[u8]) -> Option<ArrayVec<u8, MAX_DIGITS>>
     requires { length octets.now ≤ 20 }
     ensures { option_map (λ digits. digits.items) result ≡ decimal_digits octets.now }
 {

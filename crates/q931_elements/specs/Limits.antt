@@ -2,5 +2,5 @@
 use Rattle.std.specs.Prelude.{ℕ}
 
 -- the greatest number of octets of a message
-abbrev pub longest_message : ℕ
-longest_message = 112
+abbrev pub max_message_len : ℕ
+max_message_len = 112

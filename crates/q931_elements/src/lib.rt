@@ -16,4 +16,4 @@ mod writer;
 pub use front::Element;
 pub use laws::{each_string_is_read, one_reading, written_is_read};
 pub use list::Elements;
-pub use writer::{LONGEST_MESSAGE, Writer};
+pub use writer::{MAX_MESSAGE_LEN, Writer};

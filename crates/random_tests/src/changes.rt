@@ -51,7 +51,7 @@ impl ChangeCounts {
     }
 
     /// Returns whether each case has occurred.
-    pub fn is_whole(&self) -> bool {
+    pub fn is_complete(&self) -> bool {
         let counts = [self.none_on, self.none_spare, self.neither, self.again];
         counts.iter().all(|count| *count > 0)
     }

@@ -1,7 +1,7 @@
 use crate::changes::{Changing, Parted, PlainMeters};
 use crate::orders::{Taken, numbered, order_of};
 use crate::verdicts::is_verdict;
-use circuit_model::{PLACES, Slot, channel_of};
+use circuit_model::{CHANNELS_PER_LINE, Slot, channel_of};
 use ex_io::{MemSink, MemSource};
 use exchange_top::{Outcome, exchange};
 use frame_engine::Engine;
@@ -12,8 +12,8 @@ use std::alloc::{AllocError, Global};
 use std::collections::VecDeque;
 use std::sync::Wait;
 use std::thread::Threads;
-use test_exchange::{CallRecord, Party, PlainEvent, PlainRun};
-use test_traffic::{Script, Setting as CallSetting, is_lawful, of_event};
+use test_exchange::{CallRecord, Party, ReferenceEvent, ReferenceRun};
+use test_traffic::{Script, Setting as CallSetting, event_by_number, is_lawful};
 
 // More octets than the report of a short trace has.
 const ROOM: usize = 400_000;
@@ -32,7 +32,7 @@ pub trait Setting {
 /// A reference model. It processes the events one by one and numbers its report lines in that order.
 pub trait Plain {
     /// Processes an event.
-    fn take(&mut self, alloc: Global, event: &PlainEvent) -> Result<(), AllocError>;
+    fn take(&mut self, alloc: Global, event: &ReferenceEvent) -> Result<(), AllocError>;
 
     /// Returns the report. It has `_ _` instead of two numbers of moved paths that the model does not know.
     fn text(&self) -> &str;
@@ -42,15 +42,15 @@ pub trait Plain {
 }
 
 impl Setting for CallSetting {
-    type Program = PlainRun;
+    type Program = ReferenceRun;
 
-    fn program(&self, alloc: Global, strict: bool) -> Result<PlainRun, AllocError> {
-        Ok(PlainRun::new(alloc, self.exchange(alloc, strict)?))
+    fn program(&self, alloc: Global, strict: bool) -> Result<ReferenceRun, AllocError> {
+        Ok(ReferenceRun::new(alloc, self.exchange(alloc, strict)?))
     }
 }
 
-impl Plain for PlainRun {
-    fn take(&mut self, alloc: Global, event: &PlainEvent) -> Result<(), AllocError> {
+impl Plain for ReferenceRun {
+    fn take(&mut self, alloc: Global, event: &ReferenceEvent) -> Result<(), AllocError> {
         self.step(alloc, event)?;
         Ok(())
     }
@@ -60,7 +60,7 @@ impl Plain for PlainRun {
     }
 
     fn records(&self) -> &[CallRecord] {
-        PlainRun::records(self)
+        ReferenceRun::records(self)
     }
 }
 
@@ -84,7 +84,7 @@ pub fn append_call(calls: &mut String, record: &CallRecord) -> Result<(), AllocE
 // Appends a slot as its line and channel. A place of no channel is unchanged.
 fn append_slot(calls: &mut String, slot: Slot) -> Result<(), AllocError> {
     let Slot { line, place } = slot;
-    let channel = if place < PLACES {
+    let channel = if place < CHANNELS_PER_LINE {
         channel_of(place)
     } else {
         place
@@ -197,7 +197,7 @@ fn compared<S: Setting>(
 fn is_said_by<P: Plain + Drop>(
     alloc: Global,
     plain: P,
-    events: &[PlainEvent],
+    events: &[ReferenceEvent],
     order: &[u32],
     changing: &Changing,
     parted: &Parted,
@@ -216,7 +216,7 @@ fn is_said_by<P: Plain + Drop>(
 fn metered<P: Plain>(
     alloc: Global,
     plain: &mut P,
-    events: &[PlainEvent],
+    events: &[ReferenceEvent],
     order: &[u32],
     changing: &Changing,
 ) -> Result<PlainMeters, AllocError> {
@@ -226,7 +226,7 @@ fn metered<P: Plain>(
     let mut done: u32 = 0;
     for number in order {
         done = done.saturating_add(1);
-        take_metered(alloc, plain, of_event(events, *number), &mut meters)?;
+        take_metered(alloc, plain, event_by_number(events, *number), &mut meters)?;
         meters.change(alloc, places, done)?;
     }
     Ok(meters)
@@ -236,7 +236,7 @@ fn metered<P: Plain>(
 fn take_metered<P: Plain>(
     alloc: Global,
     plain: &mut P,
-    event: Option<&PlainEvent>,
+    event: Option<&ReferenceEvent>,
     meters: &mut PlainMeters,
 ) -> Result<(), AllocError> {
     let before = plain.records().len();

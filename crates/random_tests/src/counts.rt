@@ -2,7 +2,7 @@ use crate::changes::ChangeCounts;
 use crate::draw::Trial;
 use crate::orders::Taken;
 use test_exchange::Chains;
-use test_traffic::{Counts as Courses, Drawn, Expiries, LONGEST_TONE, Script};
+use test_traffic::{Counts as Courses, Drawn, Expiries, MAX_TONE_LEN, Script};
 
 /// The number of traces and of their events, of traces with more than one lawful order, and of traces whose order in
 /// threads was not file order. The number of segments that the caller processed and that threads processed, and the
@@ -42,12 +42,12 @@ impl Orders {
 
     /// Returns whether all `traces` traces were counted and each case occurred: threads took another order than file
     /// order, the program processed segments in both ways, and meters changed in each case.
-    pub fn is_whole(&self, traces: u32) -> bool {
+    pub fn is_complete(&self, traces: u32) -> bool {
         self.traces == traces
             && self.others > 0
             && self.alone > 0
             && self.apart > 0
-            && self.changes.is_whole()
+            && self.changes.is_complete()
     }
 }
 
@@ -90,7 +90,7 @@ impl Moves {
     }
 
     /// Returns whether each chain was taken, both chains had the same length at times, and never too many paths moved.
-    pub fn is_whole(&self) -> bool {
+    pub fn is_complete(&self) -> bool {
         let counts = [self.chains.incoming, self.chains.outgoing, self.chains.tied];
         counts.iter().all(|count| *count > 0) && self.beyond == 0
     }
@@ -113,7 +113,7 @@ impl Tones {
             match length {
                 1 => self.one = self.one.saturating_add(1),
                 2 => self.two = self.two.saturating_add(1),
-                LONGEST_TONE => self.longest = self.longest.saturating_add(1),
+                MAX_TONE_LEN => self.longest = self.longest.saturating_add(1),
                 _ => {}
             }
         }
@@ -122,7 +122,7 @@ impl Tones {
     }
 
     /// Returns whether tones of each length were set, and slots received both tones.
-    pub fn is_whole(&self) -> bool {
+    pub fn is_complete(&self) -> bool {
         let counts = [self.one, self.two, self.longest, self.ringback, self.busy];
         counts.iter().all(|count| *count > 0)
     }
@@ -156,10 +156,10 @@ impl CallCounts {
     }
 
     /// Returns whether each effect of a message, each tone, each chain of moved paths and each expiry has occurred.
-    pub fn is_whole(&self) -> bool {
-        self.courses.is_whole()
-            && self.tones.is_whole()
-            && self.moves.is_whole()
-            && self.expiries.is_whole()
+    pub fn is_complete(&self) -> bool {
+        self.courses.is_complete()
+            && self.tones.is_complete()
+            && self.moves.is_complete()
+            && self.expiries.is_complete()
     }
 }

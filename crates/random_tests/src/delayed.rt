@@ -1,6 +1,6 @@
 //! The delay line of a reference model.
 
-use circuit_model::{IDLE, PLACES, Slot};
+use circuit_model::{CHANNELS_PER_LINE, IDLE, Slot};
 use frame_buffer::DelayLine;
 use std::alloc::{AllocError, Global};
 use std::marker::Model;
@@ -38,7 +38,7 @@ impl Delayed {
 
     /// Returns the octet that arrived on a slot two frames earlier. The slot of a nailed connection always exists.
     pub fn back_two(&self, from: Slot) -> u8 {
-        if from.line < self.external && from.place < PLACES {
+        if from.line < self.external && from.place < CHANNELS_PER_LINE {
             self.line.back_two(from)
         } else {
             IDLE

@@ -1,7 +1,7 @@
 use crate::yardstick::{Kind, Lines, Yardstick};
 use circuit_model::Slot;
 use std::alloc::{AllocError, Global};
-use test_exchange::PlainEvent;
+use test_exchange::ReferenceEvent;
 use test_traffic::{Random, Script, draw_pace};
 
 /// A trace, and the result of its reference model in file order.
@@ -81,7 +81,7 @@ impl Draft {
     }
 
     // Processes an event, and ends its segment if `ends`.
-    fn take(&mut self, alloc: Global, event: PlainEvent, ends: bool) -> Result<(), AllocError> {
+    fn take(&mut self, alloc: Global, event: ReferenceEvent, ends: bool) -> Result<(), AllocError> {
         self.yardstick.step(alloc, &event)?;
         self.script.append(event, ends)
     }
@@ -105,12 +105,15 @@ fn draw_event(
     random: &mut Random,
     kind: Kind,
     yardstick: &Yardstick,
-) -> Result<PlainEvent, AllocError> {
+) -> Result<ReferenceEvent, AllocError> {
     let lines = yardstick.external().max(1);
     Ok(match (random.below(8), kind) {
-        (0 | 1, _) => PlainEvent::Frame(draw_input(alloc, random, lines)?),
-        (2, _) => PlainEvent::Free(random.slot(lines)),
-        (3..=5, Kind::Rooms) => PlainEvent::Seat(draw_spare(random, yardstick), random.below(4)),
+        (0 | 1, _) => ReferenceEvent::Frame(draw_input(alloc, random, lines)?),
+        (2, _) => ReferenceEvent::Free(random.slot(lines)),
+        (3..=5, Kind::Rooms) => ReferenceEvent::Seat(
+            draw_spare(random, yardstick),
+            random.below(4),
+        ),
         _ => draw_nail(random, yardstick),
     })
 }
@@ -128,13 +131,13 @@ fn draw_spare(random: &mut Random, yardstick: &Yardstick) -> Slot {
 }
 
 // Returns a nailed connection of two slots, or the release of a slot that was drawn twice.
-fn draw_nail(random: &mut Random, yardstick: &Yardstick) -> PlainEvent {
+fn draw_nail(random: &mut Random, yardstick: &Yardstick) -> ReferenceEvent {
     let x = draw_spare(random, yardstick);
     let y = draw_spare(random, yardstick);
     if x == y {
-        PlainEvent::Free(x)
+        ReferenceEvent::Free(x)
     } else {
-        PlainEvent::Nail(x, y)
+        ReferenceEvent::Nail(x, y)
     }
 }
 

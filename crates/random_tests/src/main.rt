@@ -46,7 +46,7 @@ use std::sync::Wait;
 use std::thread::Threads;
 use std::{env, io};
 use test_exchange::Chains;
-use test_traffic::{Drawn, LONGEST_TONE, Random, Script, draw_long_traffic, draw_traffic};
+use test_traffic::{Drawn, MAX_TONE_LEN, Random, Script, draw_long_traffic, draw_traffic};
 use verdicts::Verdicts;
 use yardstick::Kind;
 
@@ -108,7 +108,7 @@ fn run<R: Print + Eprint + Threads + Wait + Sync>(
     run_all(rt, alloc, kind, traces, &mut counts, &mut orders)?;
     print_orders(rt, name, other, orders)?;
     print_counts(rt, name, counts)?;
-    Ok(orders.is_whole(traces.saturating_add(1)))
+    Ok(orders.is_complete(traces.saturating_add(1)))
 }
 
 /// Runs the traces of a kind and a long one, and prints each trace with an incorrect report.
@@ -160,7 +160,11 @@ fn run_calls<R: Print + Eprint + Threads + Wait + Sync>(
     run_all_of_calls(rt, alloc, traces, &mut counts, &mut orders, &mut verdicts)?;
     print_orders(rt, "calls", "plain program", orders)?;
     print_calls(rt, &counts, &verdicts)?;
-    Ok(orders.is_whole(traces.saturating_add(1)) && counts.is_whole() && verdicts.is_whole())
+    Ok(
+        orders.is_complete(traces.saturating_add(1))
+            && counts.is_complete()
+            && verdicts.is_complete(),
+    )
 }
 
 /// Runs the traces of calls and a long one, and prints each trace with an incorrect report. The verifier also reads
@@ -277,7 +281,7 @@ fn print_tones(rt: &impl Print, tones: Tones) -> io::Result<()> {
         busy,
     } = tones;
     println!(rt;
-        "calls: {one} tones of 1 octet, {two} of 2, {longest} of {LONGEST_TONE}; in file order {ringback} times ringing tone, {busy} times busy tone"
+        "calls: {one} tones of 1 octet, {two} of 2, {longest} of {MAX_TONE_LEN}; in file order {ringback} times ringing tone, {busy} times busy tone"
     )
 }
 

@@ -1,10 +1,10 @@
 use crate::changes::ChangeCounts;
 use call_processor::MAX_TURN_EVENTS;
-use segment_run::FEWEST_BESIDE;
+use segment_run::MIN_PARALLEL_EVENTS;
 use std::alloc::{AllocError, Global};
 use std::cmp::{max, min};
-use test_exchange::PlainEvent;
-use test_traffic::{MOST_WORKERS, Post, Script, of_event};
+use test_exchange::ReferenceEvent;
+use test_traffic::{MAX_WORKERS, Post, Script, event_by_number};
 
 /// The properties of the order of a run, and of its changes of meters.
 #[derive(Clone, Copy)]
@@ -68,19 +68,19 @@ pub fn numbered(line: &str) -> Option<(u32, &str)> {
 // Returns for each segment whether all workers except the busiest have too few events for threads.
 fn few_beside(alloc: Global, posts: &[Post]) -> Result<Vec<bool>, AllocError> {
     let mut few = Vec::new(alloc);
-    let mut loads = [0u32; MOST_WORKERS];
+    let mut loads = [0u32; MAX_WORKERS];
     let mut segment = 0;
     for post in posts {
         if post.segment != segment {
-            few.push(beside(&loads) < FEWEST_BESIDE)?;
-            loads = [0; MOST_WORKERS];
+            few.push(beside(&loads) < MIN_PARALLEL_EVENTS)?;
+            loads = [0; MAX_WORKERS];
             segment = post.segment;
         }
         if let Some(load) = loads.get_mut(usize::from(post.worker)) {
             *load = load.saturating_add(1);
         }
     }
-    few.push(beside(&loads) < FEWEST_BESIDE)?;
+    few.push(beside(&loads) < MIN_PARALLEL_EVENTS)?;
     Ok(few)
 }
 
@@ -103,7 +103,7 @@ fn keeps_file_order(posts: &[Post], few: &[bool], order: &[u32]) -> bool {
 
 // Returns whether two events belong to one of these segments.
 fn is_within(posts: &[Post], few: &[bool], one: u32, next: u32) -> bool {
-    let (Some(one), Some(next)) = (of_event(posts, one), of_event(posts, next)) else {
+    let (Some(one), Some(next)) = (event_by_number(posts, one), event_by_number(posts, next)) else {
         return false;
     };
     one.segment == next.segment && few.get(one.segment as usize).map_or(false, |few| *few)
@@ -115,18 +115,21 @@ fn keeps_turns(script: &Script, order: &[u32]) -> bool {
     let (posts, events) = (script.posts.as_slice(), script.events.as_slice());
     let mut segment = 0;
     let mut latest = None;
-    let mut done = [0u32; MOST_WORKERS];
+    let mut done = [0u32; MAX_WORKERS];
     for number in order {
-        let (Some(post), Some(event)) = (of_event(posts, *number), of_event(events, *number)) else {
+        let (Some(post), Some(event)) = (
+            event_by_number(posts, *number),
+            event_by_number(events, *number),
+        ) else {
             return false;
         };
         if post.segment != segment {
-            (segment, latest, done) = (post.segment, None, [0; MOST_WORKERS]);
+            (segment, latest, done) = (post.segment, None, [0; MAX_WORKERS]);
         }
         let Some(count) = done.get_mut(usize::from(post.worker)) else {
             return false;
         };
-        let begins = *count % MAX_TURN_EVENTS == 0 || matches!(event, PlainEvent::Frame(_));
+        let begins = *count % MAX_TURN_EVENTS == 0 || matches!(event, ReferenceEvent::Frame(_));
         if !begins && latest != Some(post.worker) {
             return false;
         }

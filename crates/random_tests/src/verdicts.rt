@@ -8,8 +8,8 @@ use run_verifier::{Verdict, verify};
 use std::alloc::{AllocError, Global};
 use std::fmt;
 use std::thread::Threads;
-use test_exchange::PlainEvent;
-use test_traffic::{Post, Random, Script, of_event};
+use test_exchange::ReferenceEvent;
+use test_traffic::{Post, Random, Script, event_by_number};
 
 // The number of internal slots of the fabric that may move live paths.
 const REARRANGED_SLOTS: u8 = 30;
@@ -55,7 +55,7 @@ impl Verdicts {
 
     /// Returns whether each unchanged report was valid, some were valid with two lines exchanged and some on the other
     /// fabric, and each change made some invalid.
-    pub fn is_whole(&self) -> bool {
+    pub fn is_complete(&self) -> bool {
         CHANGES.iter().zip(self.found.iter()).all(|(entry, found)| match entry.0 {
             Change::Nothing => found.0 > 0 && found.1 == 0,
             Change::Exchanged | Change::OtherFabric => found.0 > 0 && found.1 > 0,
@@ -150,7 +150,7 @@ fn set(order: &mut Vec<u32>, at: usize, number: u32) {
 
 // Returns whether two workers process these events in one segment.
 fn are_free(posts: &[Post], one: u32, next: u32) -> bool {
-    let (Some(one), Some(next)) = (of_event(posts, one), of_event(posts, next)) else {
+    let (Some(one), Some(next)) = (event_by_number(posts, one), event_by_number(posts, next)) else {
         return false;
     };
     one.segment == next.segment && one.worker != next.worker
@@ -180,11 +180,11 @@ fn drawn_lines<S: Setting>(
 fn take_all<P: Plain>(
     alloc: Global,
     plain: &mut P,
-    events: &[PlainEvent],
+    events: &[ReferenceEvent],
     order: &[u32],
 ) -> Result<(), AllocError> {
     for number in order {
-        if let Some(event) = of_event(events, *number) {
+        if let Some(event) = event_by_number(events, *number) {
             plain.take(alloc, event)?;
         }
     }
@@ -255,7 +255,7 @@ fn is_next<P: Plain>(
     if !may_come(script.posts.as_slice(), done, number) {
         return Ok(false);
     }
-    let Some(event) = of_event(script.events.as_slice(), number) else {
+    let Some(event) = event_by_number(script.events.as_slice(), number) else {
         return Ok(false);
     };
     let before = plain.text().len();
@@ -287,7 +287,7 @@ fn mark(done: &mut [bool], number: u32) {
 // Returns whether an event has not been processed, and all events that must come before it have been: the events of
 // earlier segments, and the earlier events of its worker in its segment.
 fn may_come(posts: &[Post], done: &[bool], number: u32) -> bool {
-    let Some(post) = of_event(posts, number) else {
+    let Some(post) = event_by_number(posts, number) else {
         return false;
     };
     posts.iter().zip(done.iter()).zip(1..).all(|(entry, other)| {

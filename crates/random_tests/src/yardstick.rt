@@ -1,9 +1,9 @@
 use crate::check::{Plain, Setting};
 use crate::delayed::Delayed;
-use circuit_model::{IDLE, PLACES, Slot};
+use circuit_model::{CHANNELS_PER_LINE, IDLE, Slot};
 use plain_model::Exchange;
 use std::alloc::{AllocError, Global};
-use test_exchange::{CallRecord, PlainEvent, append_octets};
+use test_exchange::{CallRecord, ReferenceEvent, append_octets};
 
 /// The kinds of events of a trace, and the reference model of its octets.
 #[derive(Clone, Copy)]
@@ -75,7 +75,7 @@ impl Yardstick {
         Ok(Yardstick {
             kind,
             external,
-            ports: usize::from(bridges) * usize::from(PLACES),
+            ports: usize::from(bridges) * usize::from(CHANNELS_PER_LINE),
             nails: Vec::new(alloc),
             seats: Vec::new(alloc),
             delay: Delayed::new(alloc, external)?,
@@ -108,16 +108,16 @@ impl Yardstick {
     }
 
     /// Processes one event, and adds its line to the report.
-    pub fn step(&mut self, alloc: Global, event: &PlainEvent) -> Result<(), AllocError> {
+    pub fn step(&mut self, alloc: Global, event: &ReferenceEvent) -> Result<(), AllocError> {
         self.events = self.events.saturating_add(1);
         write!(self.report, "{} ", self.events)?;
         match event {
-            PlainEvent::Nail(x, y) => self.nail(*x, *y)?,
-            PlainEvent::Seat(x, room) => self.seat(*x, *room)?,
-            PlainEvent::Free(x) => self.free(*x)?,
+            ReferenceEvent::Nail(x, y) => self.nail(*x, *y)?,
+            ReferenceEvent::Seat(x, room) => self.seat(*x, *room)?,
+            ReferenceEvent::Free(x) => self.free(*x)?,
             // No trace of this reference model has a message. A message outside a call has no reply.
-            PlainEvent::Message(..) => self.report.push_str("message")?,
-            PlainEvent::Frame(input) => self.frame(alloc, input.as_slice())?,
+            ReferenceEvent::Message(..) => self.report.push_str("message")?,
+            ReferenceEvent::Frame(input) => self.frame(alloc, input.as_slice())?,
         }
         self.report.push_str("\n")
     }
@@ -205,7 +205,7 @@ impl Yardstick {
     /// Returns the octets that a line sends in a frame.
     fn sent(&self, frame: u32, line: u8) -> [u8; 30] {
         let mut octets = [IDLE; 30];
-        for place in 0..PLACES {
+        for place in 0..CHANNELS_PER_LINE {
             octets[usize::from(place)] = self.heard(frame, Slot { line, place });
         }
         octets
@@ -239,7 +239,7 @@ impl Setting for Lines {
 }
 
 impl Plain for Yardstick {
-    fn take(&mut self, alloc: Global, event: &PlainEvent) -> Result<(), AllocError> {
+    fn take(&mut self, alloc: Global, event: &ReferenceEvent) -> Result<(), AllocError> {
         self.step(alloc, event)
     }
 

@@ -10,7 +10,7 @@ use Rattle.exchange_events.specs.declared.answer.Kept.TheVariants.{Granted, Busy
 use Rattle.report_text.specs.Report.{answer_line, lines_sent, moves, octet_of, report_line}
 use Rattle.report_reader.specs.declared.word.Word.{Word}
 use Rattle.report_reader.specs.Spelling.{AreNormalOctets, IsNormal, Spells, is_unbroken}
-use Rattle.report_reader.specs.Reading.{number_at, passing, reading, told_of, word_at}
+use Rattle.report_reader.specs.Reading.{parse_number, passing, reading, told_of, word_at}
 use Rattle.report_reader.proofs.StepLemmas.{both, passed}
 use Rattle.report_reader.proofs.NumberLemmas.{number_back, number_text, starts_digit}
 use Rattle.report_reader.proofs.SignalLemmas.{frame_messages_told, messages_told}
@@ -56,7 +56,7 @@ answer_is answer normal =
 -- a line that is read spells what is read
 pub reading_spells : (line : List ℕ) (answer : Answer) → reading line ≡ Some answer → Spells line answer
 reading_spells line answer found =
-    let n = both (number_at line) _ _ found in
+    let n = both (parse_number line) _ _ found in
     let event = both (passing (between 1 65535 n.here.0) n.here.0) _ _ n.later in
     let named = both (word_at n.here.1) _ _ event.later in
     let said = both (told_of named.here.0 named.here.1) _ _ named.later in

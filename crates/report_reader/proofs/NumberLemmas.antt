@@ -5,7 +5,7 @@ use Rattle.std.proofs.lemmas.Bool.{cases_Bool, cases_lt, cases_eq, eq-eqb, ne_eq
 use Rattle.std.proofs.lemmas.Bool.Decides.{nat_tests}
 use Rattle.std.proofs.lemmas.Option.{cond_some, some_pair_parts}
 use Rattle.std.proofs.lemmas.Fmt.{decimal_by_steps, decimal_digit, decimal_step}
-use Rattle.report_reader.specs.Reading.{behind, digit_at, number_at, number_from, spaced_at}
+use Rattle.report_reader.specs.Reading.{behind, digit_at, parse_number, number_from, spaced_at}
 use Rattle.report_reader.proofs.StepLemmas.{both}
 use Rattle.report_reader.proofs.WordLemmas.{behind_text}
 
@@ -104,7 +104,7 @@ one_digit d octet digit value =
     let same : 48 + (octet - 48) ≡ octet = omega arith in
     (rw value (decimal_digit (octet - 48) (omega arith) ∙ ap (λ (k : ℕ). k ∷ []) same), omega (arith, value))
 
-pub number_text : (octets : List ℕ) (n : ℕ) (rest : List ℕ) → number_at octets ≡ Some (n, rest) → (octets ≡ decimal n ++ rest) × (n < 2 ^ 32)
+pub number_text : (octets : List ℕ) (n : ℕ) (rest : List ℕ) → parse_number octets ≡ Some (n, rest) → (octets ≡ decimal n ++ rest) × (n < 2 ^ 32)
 number_text octets n rest found =
     let step = both (digit_at octets) _ _ found in
     let there = digit_there octets step.here.1 step.here.0 step.is in
@@ -136,9 +136,9 @@ digit_found k rest low =
     rw (digit, value) refl
 
 abbrev Runs : ℕ → List ℕ → Type 0
-Runs n digits = n < 2 ^ 32 → (rest : List ℕ) → number_at (digits ++ rest) ≡ number_from n rest
+Runs n digits = n < 2 ^ 32 → (rest : List ℕ) → parse_number (digits ++ rest) ≡ number_from n rest
 
-number_runs : (n : ℕ) → n < 2 ^ 32 → (rest : List ℕ) → number_at (decimal n ++ rest) ≡ number_from n rest
+number_runs : (n : ℕ) → n < 2 ^ 32 → (rest : List ℕ) → parse_number (decimal n ++ rest) ≡ number_from n rest
 number_runs n small = decimal_by_steps Runs
     (λ k low fits rest. rw (digit_found k rest low) refl)
     (λ k digits large earlier fits rest.
@@ -149,7 +149,7 @@ number_runs n small = decimal_by_steps Runs
     ∙ from_more (k / 10) (k % 10) ((48 + k % 10) ∷ rest) rest (digit_found (k % 10) rest last) some (omega (arith, whole)) ∙ ap (λ (m : ℕ). number_from m rest) whole))
     n (omega arith) small
 
-pub number_back : (n : ℕ) (rest : List ℕ) → n < 2 ^ 32 → starts_digit rest ≡ false → number_at (decimal n ++ rest) ≡ Some (n, rest)
+pub number_back : (n : ℕ) (rest : List ℕ) → n < 2 ^ 32 → starts_digit rest ≡ false → parse_number (decimal n ++ rest) ≡ Some (n, rest)
 number_back n rest small other = number_runs n small rest ∙ from_end n rest (no_digit rest other)
 
 pub spaced_back : (n : ℕ) (rest : List ℕ) → n < 2 ^ 32 → starts_digit rest ≡ false → spaced_at (32 ∷ (decimal n ++ rest)) ≡ Some (n, rest)

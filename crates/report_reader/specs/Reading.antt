@@ -3,15 +3,15 @@ use Rattle.std.specs.Prelude.{ℕ, zero, suc, ◌+◌, ◌-◌, ◌*◌, ◌^◌
 use Rattle.std.specs.Char.{is_ascii_digit}
 use Rattle.circuit_model.specs.FrameInput.{idle_octet}
 use Rattle.circuit_model.specs.Channels.{between}
-use Rattle.q931_elements.specs.Limits.{longest_message}
-use Rattle.exchange_events.specs.Limits.{most_events}
+use Rattle.q931_elements.specs.Limits.{max_message_len}
+use Rattle.exchange_events.specs.Limits.{max_events}
 use Rattle.exchange_events.specs.declared.answer.Answer.{Answer}
 use Rattle.exchange_events.specs.declared.answer.Kept.{Kept}
 use Rattle.exchange_events.specs.declared.answer.Kept.TheVariants.{Granted, Busy, Seated, NoPort, Freed, NotNailed, Sent, Frame}
 use Rattle.exchange_events.specs.declared.signal.Signal.{Signal}
 use Rattle.report_reader.specs.declared.word.Word.{Word}
 use Rattle.report_reader.specs.declared.word.Word.TheVariants as word
-use Rattle.report_reader.specs.Spelling.{most_lines, is_idle}
+use Rattle.report_reader.specs.Spelling.{max_lines, is_idle}
 
 -- the second step, if the first one succeeded
 infixl 10 ◌>>=◌
@@ -41,8 +41,8 @@ number_from n (octet ∷ octets) =
     else Some (n, octet ∷ octets)
 
 -- the number at the start, and the octets after it
-abbrev pub number_at : List ℕ → Option (ℕ × List ℕ)
-number_at octets = do
+abbrev pub parse_number : List ℕ → Option (ℕ × List ℕ)
+parse_number octets = do
   first ← digit_at octets
   number_from first.0 first.1
 
@@ -50,7 +50,7 @@ number_at octets = do
 abbrev pub spaced_at : List ℕ → Option (ℕ × List ℕ)
 spaced_at octets = do
   rest ← behind (codes " ") octets
-  number_at rest
+  parse_number rest
 
 -- two numbers at the start, each after a space
 abbrev pub pair_at : List ℕ → Option ((ℕ × ℕ) × List ℕ)
@@ -91,13 +91,13 @@ octets_front (high ∷ low ∷ octets) = onto (octet_of high low) (high ∷ low 
 
 -- the octets of the digits at the start, if a message may have that number of octets
 abbrev pub octets_at : List ℕ → Option (List ℕ × List ℕ)
-octets_at octets = passing (between 1 longest_message (length (octets_front octets).0)) (octets_front octets)
+octets_at octets = passing (between 1 max_message_len (length (octets_front octets).0)) (octets_front octets)
 
 -- the octets of a line after its number
 abbrev pub signal_at : List ℕ → Option (Signal × List ℕ)
 signal_at octets = do
   line ← spaced_at octets
-  here ← passing (nat_lt line.0 most_lines) line
+  here ← passing (nat_lt line.0 max_lines) line
   rest ← behind (codes ":") here.1
   read ← octets_at rest
   Some (record { line = line.0; octets = read.0 }, read.1)
@@ -216,8 +216,8 @@ word_at octets =
 -- the answer that a line encodes
 abbrev pub reading : List ℕ → Option Answer
 reading line = do
-  n ← number_at line
-  event ← passing (between 1 most_events n.0) n.0
+  n ← parse_number line
+  event ← passing (between 1 max_events n.0) n.0
   named ← word_at n.1
   told ← told_of named.0 named.1
   Some (record { event = event; reply = told.0; octets = told.1 })

@@ -2,8 +2,8 @@
 use Rattle.std.specs.Prelude.{◌≡◌, ℕ, ◌+◌, ◌^◌, ◌<◌, ◌≤◌, ◌==◌, Bool, false, not, List, [], ◌∷◌, ◌++◌, length, codes, All, IfSome, None, ⊤}
 use Rattle.std.specs.List.{last_or, list_all}
 use Rattle.circuit_model.specs.FrameInput.{idle_octet}
-use Rattle.q931_elements.specs.Limits.{longest_message}
-use Rattle.exchange_events.specs.Limits.{most_events}
+use Rattle.q931_elements.specs.Limits.{max_message_len}
+use Rattle.exchange_events.specs.Limits.{max_events}
 use Rattle.exchange_events.specs.declared.answer.Answer.{Answer}
 use Rattle.exchange_events.specs.declared.answer.Kept.{Kept}
 use Rattle.exchange_events.specs.declared.answer.Kept.TheVariants.{Granted, Busy, Seated, NoPort, Freed, NotNailed, Sent, Frame}
@@ -13,8 +13,8 @@ use Rattle.report_reader.specs.declared.report.ReportFault.{ReportFault}
 use Rattle.report_reader.specs.declared.report.ReportFault.TheVariants.{Memory, Line}
 
 -- the maximum number of external lines
-abbrev pub most_lines : ℕ
-most_lines = 32
+abbrev pub max_lines : ℕ
+max_lines = 32
 
 -- a number of 32 bits, which an answer can have
 abbrev pub IsHeld : ℕ → Type 0
@@ -26,9 +26,9 @@ AreOctets octets = All (λ octet. octet < 256) octets
 
 -- a message of at least one octet to one of the lines
 pub record IsSendable (sent : Signal) : Type 0 where
-  pub line : sent.line < most_lines
+  pub line : sent.line < max_lines
   pub some : 1 ≤ length sent.octets
-  pub few : length sent.octets ≤ longest_message
+  pub few : length sent.octets ≤ max_message_len
   pub octets : AreOctets sent.octets
 
 -- every octet of a line is idle
@@ -42,7 +42,7 @@ pub record IsRow (octets : List ℕ) : Type 0 where
 
 -- the octets of a frame, line by line, up to the last line that is not idle
 pub record AreRows (rows : List (List ℕ)) : Type 0 where
-  pub few : length rows ≤ most_lines
+  pub few : length rows ≤ max_lines
   pub each : All IsRow rows
   pub last : IfSome (last_or None rows) (λ octets. is_idle octets ≡ false)
 
@@ -64,7 +64,7 @@ AreNormalOctets reply rows = rows ≡ []
 
 -- an answer in normal form: it has exactly the contents of its line
 pub record IsNormal (answer : Answer) : Type 0 where
-  pub event : (1 ≤ answer.event) × (answer.event ≤ most_events)
+  pub event : (1 ≤ answer.event) × (answer.event ≤ max_events)
   pub reply : IsNormalReply answer.reply
   pub octets : AreNormalOctets answer.reply answer.octets
 

@@ -1,6 +1,6 @@
 // Words, numbers and octets at the start of borrowed octets.
 ghost use Rattle.std.specs.Prelude.{◌≡◌, option_map};
-ghost use Rattle.report_reader.specs.Reading.{behind, digit_at, digit_value, number_at, octet_at, octet_of, pair_at, pair_of, spaced_at};
+ghost use Rattle.report_reader.specs.Reading.{behind, digit_at, digit_value, parse_number, octet_at, octet_of, pair_at, pair_of, spaced_at};
 
 /// Returns the octets after a word, if they begin with it.
 pub(crate) fn behind<'a>(word: &[u8], octets: &'a [u8]) -> Option<&'a [u8]>
@@ -23,8 +23,8 @@ fn digit_at(octets: &[u8]) -> Option<(u32, &[u8])>
 }
 
 /// Returns the number at the start, and the octets after it. It has no leading zero and 32 bits.
-pub fn number_at(octets: &[u8]) -> Option<(u32, &[u8])>
-    ensures { option_map (λ cut. (cut.0, cut.1.now)) result ≡ number_at octets.now }
+pub fn parse_number(octets: &[u8]) -> Option<(u32, &[u8])>
+    ensures { option_map (λ cut. (cut.0, cut.1.now)) result ≡ parse_number octets.now }
 {
     let (mut number, mut rest) = digit_at(octets)?;
     while let Some((digit, others)) = digit_at(rest) {
@@ -41,7 +41,7 @@ pub fn number_at(octets: &[u8]) -> Option<(u32, &[u8])>
 pub(crate) fn spaced_at(octets: &[u8]) -> Option<(u32, &[u8])>
     ensures { option_map (λ cut. (cut.0, cut.1.now)) result ≡ spaced_at octets.now }
 {
-    number_at(behind(b" ", octets)?)
+    parse_number(behind(b" ", octets)?)
 }
 
 /// Returns two numbers at the start, each after a space, and the octets after them.

@@ -19,7 +19,7 @@ mod rows;
 mod signals;
 mod word;
 
-pub use cut::number_at;
+pub use cut::parse_number;
 pub use laws::{no_line_feed, one_reading, one_spelling, some_reading};
 pub use line::read_report_line;
 pub use report::{ReportFault, read_report};

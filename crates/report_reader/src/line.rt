@@ -4,7 +4,7 @@ ghost use Rattle.exchange_events.specs.declared.answer.Answer.{Answer};
 ghost use Rattle.report_reader.specs.Reading.{frame_of, is_empty, message_of, moves_at, passing, reading, reply_of, told_of};
 ghost use Rattle.report_reader.specs.Spelling.{Spells};
 
-use crate::cut::{behind, number_at, pair_at, pair_of, spaced_at};
+use crate::cut::{behind, pair_at, pair_of, parse_number, spaced_at};
 use crate::rows::rows_of;
 use crate::signals::signals_at;
 use crate::word::{Word, word_at};
@@ -12,7 +12,7 @@ use exchange_events::{Answer, Kept, RecordList, Rows};
 use std::alloc::{AllocError, Global};
 
 /// The maximum number of events of a trace.
-const MOST_EVENTS: u32 = 65_535;
+const MAX_EVENTS: u32 = 65_535;
 
 // Returns the numbers of moved live paths, if the line has them, and the octets after them.
 fn moves_at(octets: &[u8]) -> Option<(Option<(u32, u32)>, &[u8])>
@@ -106,10 +106,10 @@ fn told_of(alloc: Global, word: Word, octets: &[u8]) -> Result<Option<(Kept, Row
 fn answer_of(alloc: Global, line: &[u8]) -> Result<Option<Answer>, AllocError>
     ensures { IfOk result (λ answer. answer ≡ reading line.now) }
 {
-    let Some((event, rest)) = number_at(line) else {
+    let Some((event, rest)) = parse_number(line) else {
         return Ok(None);
     };
-    if event == 0 || event > MOST_EVENTS {
+    if event == 0 || event > MAX_EVENTS {
         return Ok(None);
     }
     let Some((word, rest)) = word_at(rest) else {

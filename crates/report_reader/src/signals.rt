@@ -8,7 +8,7 @@ use exchange_events::{Encoded, Signal, SignalList};
 use std::alloc::{AllocError, Global};
 
 /// The maximum number of external lines.
-const MOST_LINES: u32 = 32;
+const MAX_LINES: u32 = 32;
 
 // Returns the octets of the pairs of digits at the start, if a message may have that number of octets, and the octets
 // after them.
@@ -35,7 +35,7 @@ pub(crate) fn signal_at(octets: &[u8]) -> Option<(Signal, &[u8])>
     ensures { option_map (λ cut. (cut.0, cut.1.now)) result ≡ signal_at octets.now }
 {
     let (line, rest) = spaced_at(octets)?;
-    if line >= MOST_LINES {
+    if line >= MAX_LINES {
         return None;
     }
     let rest = behind(b":", rest)?;

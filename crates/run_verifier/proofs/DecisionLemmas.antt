@@ -9,7 +9,7 @@ use Rattle.exchange_events.specs.declared.trace.Trace.{Trace}
 use Rattle.exchange_events.specs.Orders.{Worker, Processor, Frame_worker, IsEvent, Precedes, SameWorker, event_at, segment_of, worker_of}
 use Rattle.exchange_events.specs.Sound.{IsSound}
 use Rattle.exchange_events.proofs.EventNumbers.{event_there}
-use Rattle.report_reader.specs.Reading.{number_at}
+use Rattle.report_reader.specs.Reading.{parse_number}
 use Rattle.run_verifier.specs.Replaying.{line_due}
 use Rattle.run_verifier.specs.Verdicts.{IsInvalidAt, IsValid, MayFollow}
 use Rattle.run_verifier.specs.Verifying.{GoesOn, IsStuck}
@@ -154,9 +154,9 @@ module _ (slots : ℕ) (trace : Trace) (order text : List ℕ) (sound : IsSound 
     goes : GoesOn slots trace order text behind
 
   next : IsLine ⊎ IsStuck slots trace order text
-  next = read (number_at text) refl
+  next = read (parse_number text) refl
     where
-      read : (o : Option (ℕ × List ℕ)) → number_at text ≡ o → IsLine ⊎ IsStuck slots trace order text
+      read : (o : Option (ℕ × List ℕ)) → parse_number text ≡ o → IsLine ⊎ IsStuck slots trace order text
       read None none = inr (no_number slots trace order text sound none)
       read (Some (n, more)) is = elim (may_follow trace order n) [
         | inr nor ↦ inr (no_turn slots trace order text sound n more is nor)

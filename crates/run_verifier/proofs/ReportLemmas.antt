@@ -18,7 +18,7 @@ use Rattle.call_profile.specs.Step.{events_of, next, reply, world_after_all}
 use Rattle.call_profile.specs.World.{World}
 use Rattle.report_text.specs.Report.{frame_messages, messages, moves, parts, report_line}
 use Rattle.report_text.specs.RunReport.{Played, event_line, event_lines, sent_at}
-use Rattle.report_reader.specs.Reading.{number_at}
+use Rattle.report_reader.specs.Reading.{parse_number}
 use Rattle.report_reader.proofs.NumberLemmas.{number_back}
 
 -- ---- the beginning of a line
@@ -39,16 +39,16 @@ begins : (n : ℕ) (line tail rest : List ℕ) → line ≡ decimal n ++ 32 ∷ 
 begins n line tail rest is = ap (λ (l : List ℕ). l ++ rest) is ∙ append_assoc (decimal n) (32 ∷ tail) rest
 
 -- and the number there is read back
-pub number_read : (rows : List (List ℕ)) (n : ℕ) (told : Kept) (rest : List ℕ) → n < 2 ^ 32 → (more : List ℕ) × (number_at (report_line rows n told ++ rest) ≡ Some (n, more))
+pub number_read : (rows : List (List ℕ)) (n : ℕ) (told : Kept) (rest : List ℕ) → n < 2 ^ 32 → (more : List ℕ) × (parse_number (report_line rows n told ++ rest) ≡ Some (n, more))
 number_read rows n told rest small =
     let start = starts rows n told in
-    (32 ∷ (start.0 ++ rest), ap number_at (begins n (report_line rows n told) start.0 rest start.1) ∙ number_back n (32 ∷ (start.0 ++ rest)) small refl)
+    (32 ∷ (start.0 ++ rest), ap parse_number (begins n (report_line rows n told) start.0 rest start.1) ∙ number_back n (32 ∷ (start.0 ++ rest)) small refl)
 
 same_number : (rows others : List (List ℕ)) (m n : ℕ) (told said : Kept) (r t : List ℕ) → m < 2 ^ 32 → n < 2 ^ 32 → report_line rows m told ++ r ≡ report_line others n said ++ t → m ≡ n
 same_number rows others m n told said r t low high same =
     let one = number_read rows m told r low in
     let other = number_read others n said t high in
-    (some_pair_parts m n one.0 other.0 (sym one.1 ∙ ap number_at same ∙ other.1)).0
+    (some_pair_parts m n one.0 other.0 (sym one.1 ∙ ap parse_number same ∙ other.1)).0
 
 pub small_number : (trace : Trace) (n : ℕ) → IsSound trace → IsEvent trace n → n < 2 ^ 32
 small_number trace n sound is = let most = sound.count in let high = is.1 in omega (arith, most, high)

@@ -11,7 +11,7 @@ use control_memory::PathMap;
 use exchange_events::Trace;
 use frame_engine::Engine;
 use lone_exchange::LoneExchange;
-use report_reader::number_at;
+use report_reader::parse_number;
 use std::alloc::AllocError;
 use std::thread::Threads;
 
@@ -31,7 +31,7 @@ fn next_line<'r, P: PathMap, R: Threads + Sync>(
         → IfOk result (λ found. MatchOption found (IsStuck slots trace.now order text.now)
         (λ behind. HasGoneOn slots trace.now order text.now behind.now turns.new exchange.new)) }
 {
-    let Some((event, _)) = number_at(text) else {
+    let Some((event, _)) = parse_number(text) else {
         return Ok(None);
     };
     if !turns.may_come(trace, event) {

@@ -5,7 +5,7 @@ ghost use Rattle.exchange_events.specs.Sound.{IsSound};
 ghost use Rattle.run_verifier.specs.Turns.{AreOwn, AreTurns, EndsAt, IsIn, IsLeft, IsNext, IsUntouched, place_at};
 ghost use Rattle.run_verifier.specs.Verdicts.{MayFollow};
 
-use call_processor::{numbers_of, processor_of};
+use call_processor::{event_range, processor_of};
 use exchange_events::Trace;
 
 // The maximum number of workers of an exchange: 8 call processors and the frame worker.
@@ -99,7 +99,7 @@ fn begin(trace: &Trace, segment: u32) -> Turns
             next: [0; WORKERS],
         };
     }
-    let (first, end) = numbers_of(trace, segment);
+    let (first, end) = event_range(trace, segment);
     let next = first_events(trace, first, end);
     Turns { segment, end, next }
 }

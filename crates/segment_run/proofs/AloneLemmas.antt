@@ -11,8 +11,8 @@ use Rattle.exchange_events.specs.Orders.{Worker, segment_of, file_order}
 use Rattle.exchange_core.specs.Boards.{Board}
 use Rattle.exchange_core.specs.Working.{Entry, order_of}
 use Rattle.seat_history.proofs.HistoryLemmas.{unseen_front}
-use Rattle.seat_history.specs.declared.known.Known.{Known}
-use Rattle.seat_history.specs.declared.known.JoinedSeat.{JoinedSeat}
+use Rattle.seat_history.specs.declared.seat_knowledge.SeatKnowledge.{SeatKnowledge}
+use Rattle.seat_history.specs.declared.seat_knowledge.JoinedSeat.{JoinedSeat}
 use Rattle.seat_history.specs.Histories.{unseen}
 use Rattle.seat_history.specs.Seats.{Settled}
 use Rattle.call_processor.specs.declared.worked.Placed.{Placed}
@@ -59,7 +59,7 @@ map_events : (ps : List Placed) → map (λ (a : Answer). a.event) (map (λ (p :
 map_events [] = refl
 map_events (p ∷ ps) = ap (λ (l : List ℕ). p.answer.event ∷ l) (map_events ps)
 
-module _ (trace : Trace) (segment : ℕ) (v w : Known) (whole : Bool) (d : DidInOrder (events_of_segment trace segment) v whole w) where
+module _ (trace : Trace) (segment : ℕ) (v w : SeatKnowledge) (whole : Bool) (d : DidInOrder (events_of_segment trace segment) v whole w) where
   new_are : new_events v w ≡ d.done
   new_are =
       ap (λ (l : List Entry). order_of (unseen v.seen l)) d.grew

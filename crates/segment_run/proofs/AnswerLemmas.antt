@@ -12,7 +12,7 @@ use Rattle.exchange_events.specs.declared.trace.Event.{Event}
 use Rattle.exchange_events.specs.declared.trace.Event.TheVariants.{Nail, Seat, Free, Message, Frame}
 use Rattle.exchange_events.specs.declared.trace.Trace.{Trace}
 use Rattle.exchange_events.specs.Orders.{Worker, Processor, Frame_worker, event_at, segment_of}
-use Rattle.seat_history.specs.declared.known.Known.{Known}
+use Rattle.seat_history.specs.declared.seat_knowledge.SeatKnowledge.{SeatKnowledge}
 use Rattle.seat_history.specs.Histories.{StartsWith, before}
 use Rattle.exchange_core.specs.Boards.{Board, AnswersAt, world_at, IsFrame}
 use Rattle.exchange_core.specs.Working.{Entry, IsNumbered, order_of}
@@ -25,7 +25,7 @@ use Rattle.segment_run.specs.Merging.{AreApart}
 use Rattle.segment_run.specs.Merging.{IsMerged}
 use Rattle.segment_run.specs.Merging.{all_of}
 use Rattle.segment_run.specs.Segment.{IsAnswered, AreAnswered, new_events}
-use Rattle.segment_run.specs.Team.{AreDealt, load, part_numbered, turns_left, worker_numbered}
+use Rattle.segment_run.specs.Workers.{AreDealt, load, part_numbered, turns_left, worker_numbered}
 use Rattle.segment_run.proofs.ListLemmas.{In, all_in, in_either, in_left, in_map, filter_in, length_of_map, range_in, both, got_in, got_left, got_behind, got_within}
 use Rattle.segment_run.proofs.DoerLemmas.{numbered_frames, numbered_processor}
 use Rattle.segment_run.proofs.MergeLemmas.{all_of_last, all_of_none, apart_last, each_place, events_are}
@@ -60,24 +60,24 @@ got_map f (x ∷ xs) (suc i) y at = got_map f xs i y at
 pub no_frame : (trace : Trace) (p n : ℕ) (input : Input) → is_its trace (Processor p) n ≡ true → IsNumbered trace n (Frame input) → ⊥
 no_frame trace p n input its number = let e : false ≡ true = ap (does trace.processors (Processor p)) (sym number) ∙ its in absurd (cc e)
 
-module _ {J U : Type 0} (plays : Plays) (tones : Kind → List ℕ) (board : Board) (trace : Trace) (segment : ℕ) (wj : J → ℕ) (kj : J → Known) (ku : U → Known) (au : U → List Placed) (bu : U → Bool) where
+module _ {J U : Type 0} (plays : Plays) (tones : Kind → List ℕ) (board : Board) (trace : Trace) (segment : ℕ) (wj : J → ℕ) (kj : J → SeatKnowledge) (ku : U → SeatKnowledge) (au : U → List Placed) (bu : U → Bool) where
   abbrev pub Octets : J → U → Type 0
   Octets j u = All (HasItsOctets plays tones board trace (wj j) (ku u)) (au u)
 
   abbrev pub Answers : J → U → Type 0
   Answers j u = Works board (part_numbered trace segment (wj j)) (kj j) (au u) (bu u) (ku u) × Octets j u
 
-  abbrev pub rows_of : List J → List (ℕ × Known)
+  abbrev pub rows_of : List J → List (ℕ × SeatKnowledge)
   rows_of js = map (λ (j : J). (wj j, kj j)) js
 
   -- what holds of a worker's answer once seat 0 knows k
-  record Good (lo : ℕ) (k : Known) (n : ℕ) (p : Placed) : Type 0 where
+  record Good (lo : ℕ) (k : SeatKnowledge) (n : ℕ) (p : Placed) : Type 0 where
     entry : slice_get k.seen p.place ≡ Some (n, p.answer.event)
     low : lo ≤ p.place
     event : p.answer.event ≢ 0
     given : IsAnswered plays tones board k.seen p.place p.answer
 
-  module _ (same : trace ≡ board.trace) (v k : Known) where
+  module _ (same : trace ≡ board.trace) (v k : SeatKnowledge) where
     good : (j : J) (u : U) → Answers j u → wj j ≤ trace.processors → (kj j).seen ≡ v.seen → StartsWith k.seen (ku u).seen → (p : Placed) → In p (au u) → Good (length v.seen) k (kj j).number p
     good j u r few started s p i =
         let w = r.0 in

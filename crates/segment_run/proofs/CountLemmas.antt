@@ -9,7 +9,7 @@ use Rattle.exchange_events.specs.declared.trace.Trace.{Trace}
 use Rattle.exchange_events.specs.Orders.{Worker, Processor, Frame_worker, event_at, worker_of}
 use Rattle.call_processor.specs.Parts.{does, is_its, is_worker, worker_at}
 use Rattle.call_processor.proofs.PartLemmas.{up_to, next_its, next_not}
-use Rattle.segment_run.specs.Team.{worker_numbered}
+use Rattle.segment_run.specs.Workers.{worker_numbered}
 use Rattle.segment_run.proofs.DoerLemmas.{is_itself, numbered_frames, numbered_processor, other_worker}
 use Rattle.segment_run.proofs.LoadLemmas.{worker_is}
 

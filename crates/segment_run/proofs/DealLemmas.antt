@@ -7,13 +7,13 @@ use Rattle.std.proofs.lemmas.Bool.Decides.{nat_tests}
 use Rattle.std.proofs.lemmas.List.{map-append}
 use Rattle.std.proofs.lemmas.List.Elements.{All-push}
 use Rattle.exchange_events.specs.declared.trace.Trace.{Trace}
-use Rattle.seat_history.specs.declared.known.Known.{Known}
+use Rattle.seat_history.specs.declared.seat_knowledge.SeatKnowledge.{SeatKnowledge}
 use Rattle.seat_history.specs.Seats.{after_split, new_seat}
-use Rattle.segment_run.specs.Team.{AreDealt, HasDealt, IsNew, any_baton, load, loads_below, turns_left}
+use Rattle.segment_run.specs.Workers.{AreDealt, HasDealt, IsNew, any_baton, load, loads_below, turns_left}
 use Rattle.segment_run.proofs.ListLemmas.{all_front, all_last}
 use Rattle.segment_run.proofs.LoadLemmas.{loads_grow, loads_more, loads_none}
 
-turns_more : (js : List (ℕ × Known)) (i : ℕ) (w : Known) → turns_left (js ++ (i, w) ∷ []) ≡ turns_left js + w.left
+turns_more : (js : List (ℕ × SeatKnowledge)) (i : ℕ) (w : SeatKnowledge) → turns_left (js ++ (i, w) ∷ []) ≡ turns_left js + w.left
 turns_more [] i w = omega arith
 turns_more (j ∷ js) i w = let h = turns_more js i w in omega (arith, h)
 
@@ -26,7 +26,7 @@ or_first : (a b c d : Bool) → a ≡ (b || c) → (d || a) ≡ ((d || b) || c)
 or_first a b c true h = refl
 or_first a b c false h = h
 
-any_more : (js : List (ℕ × Known)) (i : ℕ) (w : Known) → any_baton (js ++ (i, w) ∷ []) ≡ (any_baton js || w.baton)
+any_more : (js : List (ℕ × SeatKnowledge)) (i : ℕ) (w : SeatKnowledge) → any_baton (js ++ (i, w) ∷ []) ≡ (any_baton js || w.baton)
 any_more [] i w = or_none w.baton
 any_more (j ∷ js) i w = or_first (any_baton (js ++ (i, w) ∷ [])) (any_baton js) w.baton j.1.baton (any_more js i w)
 
@@ -55,8 +55,8 @@ held_alone : (b : Bool) → IsTrue b → IsTrue (b || false)
 held_alone true h = h
 held_alone false h = h
 
-dealt_more : (trace : Trace) (segment : ℕ) (v : Known) (n low : ℕ) (js : List (ℕ × Known)) (i : ℕ) (w : Known) → AreDealt trace segment v n low js
-    → All (λ (j : ℕ × Known). j.0 < i) js → low ≤ i → i ≤ trace.processors → IsNew v (n + length js) (load trace segment i) w → AreDealt trace segment v n low (js ++ (i, w) ∷ [])
+dealt_more : (trace : Trace) (segment : ℕ) (v : SeatKnowledge) (n low : ℕ) (js : List (ℕ × SeatKnowledge)) (i : ℕ) (w : SeatKnowledge) → AreDealt trace segment v n low js
+    → All (λ (j : ℕ × SeatKnowledge). j.0 < i) js → low ≤ i → i ≤ trace.processors → IsNew v (n + length js) (load trace segment i) w → AreDealt trace segment v n low (js ++ (i, w) ∷ [])
 dealt_more trace segment v n low [] i w d below high le is =
     (high, le, subst (λ (m : ℕ). IsNew v m (load trace segment i) w) (omega arith) is, tt)
 dealt_more trace segment v n low (j ∷ js) i w d below high le is =
@@ -69,11 +69,11 @@ dealt_more trace segment v n low (j ∷ js) i w d below high le is =
           (subst (λ (m : ℕ). IsNew v m (load trace segment i) w) same is),
     )
 
-module _ {J : Type 0} (number : J → ℕ) (known : J → Known) (trace : Trace) (segment : ℕ) (v : Known) where
-  abbrev pub seats : List J → List (ℕ × Known)
+module _ {J : Type 0} (number : J → ℕ) (known : J → SeatKnowledge) (trace : Trace) (segment : ℕ) (v : SeatKnowledge) where
+  abbrev pub seats : List J → List (ℕ × SeatKnowledge)
   seats js = map (λ (j : J). (number j, known j)) js
 
-  all_mapped : (i : ℕ) (js : List J) → All (λ (j : J). number j < i) js → All (λ (j : ℕ × Known). j.0 < i) (seats js)
+  all_mapped : (i : ℕ) (js : List J) → All (λ (j : J). number j < i) js → All (λ (j : ℕ × SeatKnowledge). j.0 < i) (seats js)
   all_mapped i [] a k d h = absurd (omega (arith, h))
   all_mapped i (j ∷ js) a zero d h = a 0 j (omega arith)
   all_mapped i (j ∷ js) a (suc k) d h = all_mapped i js (λ m x within. a (suc m) x (omega (arith, within))) k d (omega (arith, h))
@@ -83,7 +83,7 @@ module _ {J : Type 0} (number : J → ℕ) (known : J → Known) (trace : Trace)
   long_seats (j ∷ js) = ap suc (long_seats js)
 
   -- what is dealt once the workers below i have their seats, and k is what seat 0 knows
-  pub record Dealing (i : ℕ) (js : List J) (k : Known) : Type 0 where
+  pub record Dealing (i : ℕ) (js : List J) (k : SeatKnowledge) : Type 0 where
     pub below : All (λ (j : J). number j < i) js
     pub dealt : AreDealt trace segment v (v.made + 1) 0 (seats js)
     pub idle : (n : ℕ) → n < i → All (λ (j : J). number j ≢ n) js → load trace segment n ≡ 0
@@ -95,7 +95,7 @@ module _ {J : Type 0} (number : J → ℕ) (known : J → Known) (trace : Trace)
     pub all : turns_left (seats js) ≡ loads_below trace segment i
 
   -- so by equal jobs, and by what seat 0 knows where it is the same
-  pub dealing_moved : (i : ℕ) (js others : List J) (k after : Known) → others ≡ js → after ≡ k → Dealing i js k → Dealing i others after
+  pub dealing_moved : (i : ℕ) (js others : List J) (k after : SeatKnowledge) → others ≡ js → after ≡ k → Dealing i js k → Dealing i others after
   dealing_moved i js others k after same is d = rw (same, is) d
 
   -- no worker has a seat yet
@@ -113,7 +113,7 @@ module _ {J : Type 0} (number : J → ℕ) (known : J → Known) (trace : Trace)
   })
 
   -- seat 0 has a turn for each event of the next worker
-  pub enough : (i : ℕ) (js : List J) (k : Known) → i ≤ trace.processors → k.left + turns_left (seats js) ≡ v.left → turns_left (seats js) ≡ loads_below trace segment i
+  pub enough : (i : ℕ) (js : List J) (k : SeatKnowledge) → i ≤ trace.processors → k.left + turns_left (seats js) ≡ v.left → turns_left (seats js) ≡ loads_below trace segment i
       → loads_below trace segment (trace.processors + 1) ≤ v.left → load trace segment i ≤ k.left
   enough i js k le turns all few =
       let more = loads_more trace segment i in
@@ -121,7 +121,7 @@ module _ {J : Type 0} (number : J → ℕ) (known : J → Known) (trace : Trace)
       omega (arith, turns, all, few, more, grow)
 
   -- the worker has nothing to do
-  pub none_dealt : (i : ℕ) (js : List J) (k : Known) → load trace segment i ≡ 0 → Dealing i js k → Dealing (i + 1) js k
+  pub none_dealt : (i : ℕ) (js : List J) (k : SeatKnowledge) → load trace segment i ≡ 0 → Dealing i js k → Dealing (i + 1) js k
   none_dealt i js k none d = record {
     below = λ m x h. let a = d.below m x h in omega (arith, a);
     dealt = d.dealt;
@@ -142,22 +142,22 @@ module _ {J : Type 0} (number : J → ℕ) (known : J → Known) (trace : Trace)
           ]
 
   -- the worker gets a seat
-  pub one_dealt : (i turns : ℕ) (b : Bool) (js : List J) (j : J) (k after : Known) → i ≤ trace.processors → turns ≡ load trace segment i → number j ≡ i → turns ≤ k.left
+  pub one_dealt : (i turns : ℕ) (b : Bool) (js : List J) (j : J) (k after : SeatKnowledge) → i ≤ trace.processors → turns ≡ load trace segment i → number j ≡ i → turns ≤ k.left
       → b ≡ nat_eq i trace.processors → after ≡ after_split turns b k → known j ≡ new_seat turns b k → Dealing i js k → Dealing (i + 1) (js ++ j ∷ []) after
   one_dealt i turns b js j k after le is_load mine enough_left is_last old new d = record {
     below = All-push (λ (x : J). number x < i + 1) js j (λ m x h. let a = d.below m x h in omega (arith, a)) (omega (arith, mine));
     dealt = subst (AreDealt trace segment v (v.made + 1) 0) (sym seats_more)
         (dealt_more trace segment v (v.made + 1) 0 (seats js) (number j) (known j) d.dealt
-        (subst (λ (n : ℕ). All (λ (x : ℕ × Known). x.0 < n) (seats js)) (sym mine) (all_mapped i js d.below))
+        (subst (λ (n : ℕ). All (λ (x : ℕ × SeatKnowledge). x.0 < n) (seats js)) (sym mine) (all_mapped i js d.below))
         (omega arith) (omega (arith, mine, le))
-        (record { number_is = number_new; turns_are = left_new ∙ (is_load ∙ ap (load trace segment) (sym mine)); seen_is = seen_new; own_none = ap (λ (w : Known). w.own) new }));
+        (record { number_is = number_new; turns_are = left_new ∙ (is_load ∙ ap (load trace segment) (sym mine)); seen_is = seen_new; own_none = ap (λ (w : SeatKnowledge). w.own) new }));
     idle = idle_one;
     chief = record {
-      number = ap (λ (w : Known). w.number) old ∙ d.chief.number;
-      seen = ap (λ (w : Known). w.seen) old ∙ d.chief.seen;
-      own = ap (λ (w : Known). w.own) old ∙ d.chief.own;
-      kept = ap (λ (w : Known). w.kept) old ∙ d.chief.kept;
-      made = let a = ap (λ (w : Known). w.made) old in let m = d.chief.made in let l = length-append js (j ∷ []) in omega (arith, a, m, l);
+      number = ap (λ (w : SeatKnowledge). w.number) old ∙ d.chief.number;
+      seen = ap (λ (w : SeatKnowledge). w.seen) old ∙ d.chief.seen;
+      own = ap (λ (w : SeatKnowledge). w.own) old ∙ d.chief.own;
+      kept = ap (λ (w : SeatKnowledge). w.kept) old ∙ d.chief.kept;
+      made = let a = ap (λ (w : SeatKnowledge). w.made) old in let m = d.chief.made in let l = length-append js (j ∷ []) in omega (arith, a, m, l);
     };
     still = λ h. subst IsTrue (sym baton_old) (kept_unless k.baton b (is_last ∙ is_other i trace.processors (λ e. omega (arith, e, h))) (d.still le));
     baton = subst IsTrue (sym (ap (λ (x : Bool). x || any_baton (seats (js ++ j ∷ []))) baton_old ∙ ap (λ (x : Bool). (if b then false else k.baton) || x) baton_more))
@@ -165,7 +165,7 @@ module _ {J : Type 0} (number : J → ℕ) (known : J → Known) (trace : Trace)
     frames = All-push (λ (x : J). number x ≡ trace.processors → IsTrue (known x).baton) js j d.frames
         (λ e. subst IsTrue (sym baton_new) (is_last ∙ is_same i trace.processors (omega (arith, e, mine))));
     turns =
-        let a = ap (λ (w : Known). w.left) old in
+        let a = ap (λ (w : SeatKnowledge). w.left) old in
         let s = turns_all in
         let t = d.turns in
         omega (arith, a, s, t, left_new, enough_left);
@@ -180,19 +180,19 @@ module _ {J : Type 0} (number : J → ℕ) (known : J → Known) (trace : Trace)
       seats_more = map-append (λ (x : J). (number x, known x)) js (j ∷ [])
 
       left_new : (known j).left ≡ turns
-      left_new = ap (λ (w : Known). w.left) new
+      left_new = ap (λ (w : SeatKnowledge). w.left) new
 
       baton_new : (known j).baton ≡ b
-      baton_new = ap (λ (w : Known). w.baton) new
+      baton_new = ap (λ (w : SeatKnowledge). w.baton) new
 
       baton_old : after.baton ≡ (if b then false else k.baton)
-      baton_old = ap (λ (w : Known). w.baton) old
+      baton_old = ap (λ (w : SeatKnowledge). w.baton) old
 
       seen_new : (known j).seen ≡ v.seen
-      seen_new = ap (λ (w : Known). w.seen) new ∙ d.chief.seen
+      seen_new = ap (λ (w : SeatKnowledge). w.seen) new ∙ d.chief.seen
 
       number_new : (known j).number ≡ (v.made + 1) + length (seats js)
-      number_new = let a = ap (λ (w : Known). w.number) new in let m = d.chief.made in let l = long_seats js in omega (arith, a, m, l)
+      number_new = let a = ap (λ (w : SeatKnowledge). w.number) new in let m = d.chief.made in let l = long_seats js in omega (arith, a, m, l)
 
       baton_more : any_baton (seats (js ++ j ∷ [])) ≡ (any_baton (seats js) || b)
       baton_more = ap any_baton seats_more ∙ (any_more (seats js) (number j) (known j) ∙ ap (λ (x : Bool). any_baton (seats js) || x) baton_new)

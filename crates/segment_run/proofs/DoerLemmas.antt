@@ -10,14 +10,14 @@ use Rattle.exchange_events.specs.declared.trace.Event.{Event}
 use Rattle.exchange_events.specs.declared.trace.Event.TheVariants.{Nail, Seat, Free, Message, Frame}
 use Rattle.exchange_events.specs.declared.trace.Trace.{Trace}
 use Rattle.exchange_events.specs.Orders.{Worker, Processor, Frame_worker, IsEvent, event_at, segment_of, worker_of}
-use Rattle.seat_history.specs.declared.known.Known.{Known}
-use Rattle.seat_history.specs.declared.known.JoinedSeat.{JoinedSeat}
+use Rattle.seat_history.specs.declared.seat_knowledge.SeatKnowledge.{SeatKnowledge}
+use Rattle.seat_history.specs.declared.seat_knowledge.JoinedSeat.{JoinedSeat}
 use Rattle.seat_history.specs.Histories.{entries_of}
 use Rattle.seat_history.specs.Seats.{Settled, Accounts, joined_seat}
 use Rattle.exchange_core.specs.Working.{Entry, order_of}
 use Rattle.call_processor.specs.Parts.{is_its, is_worker, does, part_of}
 use Rattle.call_processor.specs.Work.{entries_for}
-use Rattle.segment_run.specs.Team.{AreDealt, IsNew, load, part_numbered, worker_numbered}
+use Rattle.segment_run.specs.Workers.{AreDealt, IsNew, load, part_numbered, worker_numbered}
 use Rattle.segment_run.proofs.ListLemmas.{In, all_in, in_either, in_left, in_filter, filter_in, filter_alike, filter_none, none_behind, in_map, map_in, filter_map_of, range_in, both, any_in}
 
 -- ---- workers
@@ -83,21 +83,21 @@ no_part trace segment p some_one past = filter_none (λ n. nat_eq (segment_of tr
 -- a worker, its seat before and afterwards, and the events that it did
 pub record Doer : Type 0 where
   pub worker : ℕ
-  pub from : Known
-  pub to : Known
+  pub from : SeatKnowledge
+  pub to : SeatKnowledge
   pub done : List ℕ
 
-abbrev pub seat_of : Doer → ℕ × Known
+abbrev pub seat_of : Doer → ℕ × SeatKnowledge
 seat_of t = (t.worker, t.from)
 
-pub record Dealt (trace : Trace) (segment : ℕ) (v : Known) (n low : ℕ) (t : Doer) : Type 0 where
+pub record Dealt (trace : Trace) (segment : ℕ) (v : SeatKnowledge) (n low : ℕ) (t : Doer) : Type 0 where
   pub number : ℕ
   pub is : IsNew v number (load trace segment t.worker) t.from
   pub since : n ≤ number
   pub from_low : low ≤ t.worker
   pub few : t.worker ≤ trace.processors
 
-pub dealt_in : (trace : Trace) (segment : ℕ) (v : Known) (n low : ℕ) (ts : List Doer) → AreDealt trace segment v n low (map seat_of ts) → (t : Doer) → In t ts → Dealt trace segment v n low t
+pub dealt_in : (trace : Trace) (segment : ℕ) (v : SeatKnowledge) (n low : ℕ) (ts : List Doer) → AreDealt trace segment v n low (map seat_of ts) → (t : Doer) → In t ts → Dealt trace segment v n low t
 dealt_in trace segment v n low [] d t i = absurd i
 dealt_in trace segment v n low (u ∷ ts) d t (inl same) = subst (Dealt trace segment v n low) same (record { number = n; is = d.2; since = omega arith; from_low = d.0; few = d.1 })
 dealt_in trace segment v n low (u ∷ ts) d t (inr more) =
@@ -108,7 +108,7 @@ dealt_in trace segment v n low (u ∷ ts) d t (inr more) =
     record { number = r.number; is = r.is; since = omega (arith, a); from_low = omega (arith, b, c); few = r.few }
 
 -- two of the workers are one exactly where their seats are
-pub alike : (trace : Trace) (segment : ℕ) (v : Known) (n low : ℕ) (ts : List Doer) → AreDealt trace segment v n low (map seat_of ts) → (t u : Doer) → In t ts → In u ts
+pub alike : (trace : Trace) (segment : ℕ) (v : SeatKnowledge) (n low : ℕ) (ts : List Doer) → AreDealt trace segment v n low (map seat_of ts) → (t u : Doer) → In t ts → In u ts
     → is_worker (worker_numbered trace.processors t.worker) (worker_numbered trace.processors u.worker) ≡ nat_eq t.from.number u.from.number
 alike trace segment v n low [] d t u i j = absurd i
 alike trace segment v n low (w ∷ ts) d t u (inl p) (inl q) =
@@ -148,7 +148,7 @@ order_for n [] = refl
 order_for n (m ∷ events) = ap (λ (l : List ℕ). m ∷ l) (order_for n events)
 
 -- what seat 0 shows once it has joined the seats of these doers, and the history grew by rest
-pub record Joined (trace : Trace) (segment : ℕ) (v k : Known) (rest : List Entry) (ts : List Doer) : Type 0 where
+pub record Joined (trace : Trace) (segment : ℕ) (v k : SeatKnowledge) (rest : List Entry) (ts : List Doer) : Type 0 where
   pub grew : k.seen ≡ v.seen ++ rest
   pub own : k.own ≡ v.own
   pub number : k.number ≡ v.number
@@ -159,7 +159,7 @@ pub record Joined (trace : Trace) (segment : ℕ) (v k : Known) (rest : List Ent
   pub did : (t : Doer) → In t ts → t.to.own ≡ t.from.own ++ entries_for t.from.number t.done
   pub fronts : (t : Doer) → In t ts → (more : List ℕ) × (part_numbered trace segment t.worker ≡ t.done ++ more)
 
-module _ (turns : ℕ) (trace : Trace) (segment : ℕ) (v k : Known) (rest : List Entry) (ts : List Doer) (before : Settled turns v) (after : Settled turns k) (j : Joined trace segment v k rest ts) where
+module _ (turns : ℕ) (trace : Trace) (segment : ℕ) (v k : SeatKnowledge) (rest : List Entry) (ts : List Doer) (before : Settled turns v) (after : Settled turns k) (j : Joined trace segment v k rest ts) where
   -- who had all its entries before did none of these
   none_of : (n : ℕ) (own : List Entry) → own ≡ entries_of n v.seen → own ≡ entries_of n k.seen → entries_of n rest ≡ []
   none_of n own was is = none_behind (entries_of n v.seen) (entries_of n k.seen) (entries_of n rest) (sym was ∙ is) (ap (entries_of n) j.grew ∙ entries_split n v.seen rest)

@@ -1,20 +1,20 @@
 -- Seats joined from the last on.
 use Rattle.std.proofs.Common.{◌≡◌, List, [], ◌∷◌, ◌++◌, map, reverse, sym, refl, ap, ◌∙◌, append_assoc}
 use Rattle.std.proofs.lemmas.List.{map-append, reverse-append}
-use Rattle.seat_history.specs.declared.known.Known.{Known}
+use Rattle.seat_history.specs.declared.seat_knowledge.SeatKnowledge.{SeatKnowledge}
 use Rattle.seat_history.specs.Histories.{StartsWith}
 use Rattle.seat_history.specs.Seats.{after_join}
 use Rattle.exchange_core.specs.Working.{Entry}
-use Rattle.segment_run.specs.Team.{after_joins}
+use Rattle.segment_run.specs.Workers.{after_joins}
 
-joined_snoc : (v : Known) (ws : List Known) (w : Known) → after_joins v (ws ++ w ∷ []) ≡ after_joins (after_join v w) ws
+joined_snoc : (v : SeatKnowledge) (ws : List SeatKnowledge) (w : SeatKnowledge) → after_joins v (ws ++ w ∷ []) ≡ after_joins (after_join v w) ws
 joined_snoc v [] w = refl
-joined_snoc v (u ∷ ws) w = ap (λ (k : Known). after_join k u) (joined_snoc v ws w)
+joined_snoc v (u ∷ ws) w = ap (λ (k : SeatKnowledge). after_join k u) (joined_snoc v ws w)
 
 pub starts_on : (a b c : List Entry) → StartsWith a b → StartsWith b c → StartsWith a c
 starts_on a b c p q = (q.0 ++ p.0, p.1 ∙ (ap (λ (l : List Entry). l ++ p.0) q.1 ∙ append_assoc c q.0 p.0))
 
-pub joined_more : {X : Type 0} (f : X → Known) (v : Known) (xs : List X) (x : X) → after_joins v (map f (xs ++ x ∷ [])) ≡ after_joins (after_join v (f x)) (map f xs)
+pub joined_more : {X : Type 0} (f : X → SeatKnowledge) (v : SeatKnowledge) (xs : List X) (x : X) → after_joins v (map f (xs ++ x ∷ [])) ≡ after_joins (after_join v (f x)) (map f xs)
 joined_more f v xs x = ap (after_joins v) (map-append f xs (x ∷ [])) ∙ joined_snoc v (map f xs) (f x)
 
 pub lists_more : {X Y : Type 0} (f : X → Y) (ls : List Y) (xs : List X) (x : X) → (ls ++ f x ∷ []) ++ reverse (map f xs) ≡ ls ++ reverse (map f (xs ++ x ∷ []))

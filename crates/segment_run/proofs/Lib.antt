@@ -9,7 +9,7 @@ pub mod AnswerLemmas
 pub mod JoinLemmas
 pub mod CountLemmas
 pub mod DealLemmas
-pub mod TeamLemmas
+pub mod WorkerLemmas
 pub mod WholeRunLemmas
 pub mod PairLemmas
 pub mod AloneLemmas

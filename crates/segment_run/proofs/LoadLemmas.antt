@@ -10,10 +10,10 @@ use Rattle.exchange_events.specs.Orders.{Worker, IsEvent, worker_of}
 use Rattle.exchange_events.specs.Sound.{AreSegments, IsSound}
 use Rattle.exchange_events.proofs.EventNumbers.{event_there}
 use Rattle.exchange_core.specs.Boards.{Board, turns_of}
-use Rattle.seat_history.specs.declared.known.Known.{Known}
+use Rattle.seat_history.specs.declared.seat_knowledge.SeatKnowledge.{SeatKnowledge}
 use Rattle.call_processor.specs.Parts.{does, events_of_segment, is_its, is_worker}
 use Rattle.call_processor.proofs.PartLemmas.{part_is, segment_is, order_of_ends}
-use Rattle.segment_run.specs.Team.{load, loads_below, worker_numbered}
+use Rattle.segment_run.specs.Workers.{load, loads_below, worker_numbered}
 use Rattle.segment_run.specs.Segment.{IsChief}
 use Rattle.segment_run.specs.Segments.{events_before}
 use Rattle.segment_run.proofs.ListLemmas.{In, range_in}
@@ -154,7 +154,7 @@ loads_all trace segment some_one sound within =
     each (suc n) = λ i. each n i + length (part_is trace segment (worker_numbered trace.processors n) sound within i)
 
 -- seat 0 has a turn for each event of a segment where all segments before were done
-pub turns_for : (board : Board) (trace : Trace) (segment : ℕ) (v : Known) → trace ≡ board.trace → IsSound trace → segment < length trace.segments → IsChief (turns_of board) v → length v.seen ≡ events_before trace.segments segment
+pub turns_for : (board : Board) (trace : Trace) (segment : ℕ) (v : SeatKnowledge) → trace ≡ board.trace → IsSound trace → segment < length trace.segments → IsChief (turns_of board) v → length v.seen ≡ events_before trace.segments segment
     → length (events_of_segment trace segment) ≤ v.left
 turns_for board trace segment v same sound within chief begun =
     let next : segment + 1 ≡ suc segment = omega arith in

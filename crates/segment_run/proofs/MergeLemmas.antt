@@ -8,7 +8,7 @@ use Rattle.exchange_events.specs.declared.answer.Answer.{Answer}
 use Rattle.exchange_core.specs.Working.{order_of}
 use Rattle.seat_history.specs.Histories.{Entry}
 use Rattle.call_processor.specs.declared.worked.Placed.{Placed}
-use Rattle.call_processor.specs.declared.worked.Workplace.{Workplace}
+use Rattle.call_processor.specs.declared.worked.WorkerBuffers.{WorkerBuffers}
 use Rattle.call_processor.specs.Keeping.{HandsOn, StillHolds, first_place}
 use Rattle.segment_run.specs.Merging.{AddsMerged, IsNextRun, Keep, first_of_two}
 use Rattle.segment_run.specs.Merging.{AreApart}
@@ -225,32 +225,32 @@ apart_two (rs ∷ parts) zero (suc j) ps qs at there other a p q i h = let same 
 apart_two (rs ∷ parts) (suc k) zero ps qs at there other a p q i h = let same : rs ≡ qs = cc there in λ e. a.1 q p (subst (In q) (sym same) h) (in_part parts k ps p at i) (sym e)
 apart_two (rs ∷ parts) (suc k) (suc j) ps qs at there other a p q i h = apart_two parts k j ps qs at there (λ e. other (ap suc e)) a.2 p q i h
 
--- ---- what is kept at the workplaces
+-- ---- what is kept in the buffers
 
 module _ {K : Type 0} (holds : K → List Placed → Type 0) where
-  kept_at : (used : List (Workplace K)) (parts : List (List Placed)) (k : ℕ) (w : Workplace K) → Keep holds used parts → slice_get used k ≡ Some w → (ps : List Placed) × (slice_get parts k ≡ Some ps) × holds w.keeper ps
+  kept_at : (used : List (WorkerBuffers K)) (parts : List (List Placed)) (k : ℕ) (w : WorkerBuffers K) → Keep holds used parts → slice_get used k ≡ Some w → (ps : List Placed) × (slice_get parts k ≡ Some ps) × holds w.sink ps
   kept_at [] parts k w h at = absurd (cc at)
   kept_at (u ∷ used) [] k w h at = absurd h
-  kept_at (u ∷ used) (ps ∷ parts) zero w h at = let same : u ≡ w = cc at in (ps, refl, subst (λ (x : Workplace K). holds x.keeper ps) same h.0)
+  kept_at (u ∷ used) (ps ∷ parts) zero w h at = let same : u ≡ w = cc at in (ps, refl, subst (λ (x : WorkerBuffers K). holds x.sink ps) same h.0)
   kept_at (u ∷ used) (ps ∷ parts) (suc k) w h at = kept_at used parts k w h.1 at
 
-  at_kept : (used : List (Workplace K)) (parts : List (List Placed)) (k : ℕ) (ps : List Placed) → Keep holds used parts → slice_get parts k ≡ Some ps → (w : Workplace K) × (slice_get used k ≡ Some w) × holds w.keeper ps
+  at_kept : (used : List (WorkerBuffers K)) (parts : List (List Placed)) (k : ℕ) (ps : List Placed) → Keep holds used parts → slice_get parts k ≡ Some ps → (w : WorkerBuffers K) × (slice_get used k ≡ Some w) × holds w.sink ps
   at_kept [] [] k ps h at = absurd (cc at)
   at_kept [] (qs ∷ parts) k ps h at = absurd h
   at_kept (u ∷ used) [] k ps h at = absurd h
-  at_kept (u ∷ used) (qs ∷ parts) zero ps h at = let same : qs ≡ ps = cc at in (u, refl, subst (holds u.keeper) same h.0)
+  at_kept (u ∷ used) (qs ∷ parts) zero ps h at = let same : qs ≡ ps = cc at in (u, refl, subst (holds u.sink) same h.0)
   at_kept (u ∷ used) (qs ∷ parts) (suc k) ps h at = at_kept used parts k ps h.1 at
 
-  keep_set : (used : List (Workplace K)) (parts : List (List Placed)) (k : ℕ) (w : Workplace K) (rest : List Placed) → Keep holds used parts → holds w.keeper rest → Keep holds (slice_set used k w) (slice_set parts k rest)
+  keep_set : (used : List (WorkerBuffers K)) (parts : List (List Placed)) (k : ℕ) (w : WorkerBuffers K) (rest : List Placed) → Keep holds used parts → holds w.sink rest → Keep holds (slice_set used k w) (slice_set parts k rest)
   keep_set [] [] k w rest h r = tt
   keep_set [] (qs ∷ parts) k w rest h r = absurd h
   keep_set (u ∷ used) [] k w rest h r = absurd h
   keep_set (u ∷ used) (qs ∷ parts) zero w rest h r = (r, h.1)
   keep_set (u ∷ used) (qs ∷ parts) (suc k) w rest h r = (h.0, keep_set used parts k w rest h.1 r)
 
-  -- no workplace keeps anything more
-  none_left : (used : List (Workplace K)) (parts : List (List Placed)) → Keep holds used parts
-      → ((j : ℕ) (w : Workplace K) (ps : List Placed) → j < length used → slice_get used j ≡ Some w → holds w.keeper ps → first_place ps ≡ None) → length (all_of parts) ≡ 0
+  -- no buffers keep anything more
+  none_left : (used : List (WorkerBuffers K)) (parts : List (List Placed)) → Keep holds used parts
+      → ((j : ℕ) (w : WorkerBuffers K) (ps : List Placed) → j < length used → slice_get used j ≡ Some w → holds w.sink ps → first_place ps ≡ None) → length (all_of parts) ≡ 0
   none_left [] [] h none = ap length all_of_none
   none_left [] (qs ∷ parts) h none = absurd h
   none_left (u ∷ used) [] h none = absurd h
@@ -266,7 +266,7 @@ module _ {K : Type 0} (holds : K → List Placed → Type 0) where
       empty (p ∷ ps) e = absurd (cc e)
 
   -- how far the merge has come
-  pub record Underway (kept : List Placed) (parts : List (List Placed)) (into : K) (used : List (Workplace K)) (i : ℕ) : Type 0 where
+  pub record Underway (kept : List Placed) (parts : List (List Placed)) (into : K) (used : List (WorkerBuffers K)) (i : ℕ) : Type 0 where
     pub answers : List Placed
     pub rest : List (List Placed)
     pub held : holds into (kept ++ answers)
@@ -279,7 +279,7 @@ module _ {K : Type 0} (holds : K → List Placed → Type 0) where
     pub before : (p q : Placed) → In p answers → In q (all_of rest) → p.place < q.place
     pub far : i ≤ length answers
 
-  pub underway : (kept : List Placed) (parts : List (List Placed)) (into : K) (used : List (Workplace K)) → holds into kept → Keep holds used parts → AreApart parts → Underway kept parts into used 0
+  pub underway : (kept : List Placed) (parts : List (List Placed)) (into : K) (used : List (WorkerBuffers K)) → holds into kept → Keep holds used parts → AreApart parts → Underway kept parts into used 0
   underway kept parts into used held keep apart = record {
     answers = [];
     rest = parts;
@@ -294,28 +294,28 @@ module _ {K : Type 0} (holds : K → List Placed → Type 0) where
     far = omega arith;
   }
 
-  done : (kept : List Placed) (parts : List (List Placed)) (into : K) (used : List (Workplace K)) (i : ℕ) (u : Underway kept parts into used i) → length (all_of u.rest) ≡ 0 → AddsMerged holds kept parts into
+  done : (kept : List Placed) (parts : List (List Placed)) (into : K) (used : List (WorkerBuffers K)) (i : ℕ) (u : Underway kept parts into used i) → length (all_of u.rest) ≡ 0 → AddsMerged holds kept parts into
   done kept parts into used i u none =
       let size = u.size in
       record { answers = u.answers; merged = record { rising = u.rising; each = u.each; many = omega (arith, size, none) }; held = u.held }
 
-  pub done_when_none : (kept : List Placed) (parts : List (List Placed)) (into : K) (used : List (Workplace K)) (i : ℕ) → Underway kept parts into used i → IsNextRun holds used (length used) None → AddsMerged holds kept parts into
+  pub done_when_none : (kept : List Placed) (parts : List (List Placed)) (into : K) (used : List (WorkerBuffers K)) (i : ℕ) → Underway kept parts into used i → IsNextRun holds used (length used) None → AddsMerged holds kept parts into
   done_when_none kept parts into used i u none = done kept parts into used i u (none_left used u.rest u.keep none)
 
-  pub done_when_many : (kept : List Placed) (parts : List (List Placed)) (into : K) (used : List (Workplace K)) (i count : ℕ) → Underway kept parts into used i → length (all_of parts) ≤ count → count ≤ i → AddsMerged holds kept parts into
+  pub done_when_many : (kept : List Placed) (parts : List (List Placed)) (into : K) (used : List (WorkerBuffers K)) (i count : ℕ) → Underway kept parts into used i → length (all_of parts) ≤ count → count ≤ i → AddsMerged holds kept parts into
   done_when_many kept parts into used i count u most all =
       let size = u.size in
       let far = u.far in
       done kept parts into used i u (omega (arith, size, far, most, all))
 
   -- one run more
-  module _ (kept : List Placed) (parts : List (List Placed)) (into later : K) (used : List (Workplace K)) (i k first below : ℕ) (w x : Workplace K) (u : Underway kept parts into used i)
+  module _ (kept : List Placed) (parts : List (List Placed)) (into later : K) (used : List (WorkerBuffers K)) (i k first below : ℕ) (w x : WorkerBuffers K) (u : Underway kept parts into used i)
       (next : IsNextRun holds used (length used) (Some (k, first, below))) (at : slice_get used k ≡ Some w)
-      (handed : (answers others : List Placed) → holds w.keeper answers → holds into others → HandsOn holds below answers others x.keeper later) where
-    part : (ps : List Placed) × (slice_get u.rest k ≡ Some ps) × holds w.keeper ps
+      (handed : (answers others : List Placed) → holds w.sink answers → holds into others → HandsOn holds below answers others x.sink later) where
+    part : (ps : List Placed) × (slice_get u.rest k ≡ Some ps) × holds w.sink ps
     part = kept_at used u.rest k w u.keep at
 
-    h : HandsOn holds below part.0 (kept ++ u.answers) x.keeper later
+    h : HandsOn holds below part.0 (kept ++ u.answers) x.sink later
     h = handed part.0 (kept ++ u.answers) part.2 u.held
 
     ps_rising : IsRising part.0
@@ -356,7 +356,7 @@ module _ {K : Type 0} (holds : K → List Placed → Type 0) where
         let differ = apart_two u.rest k t.0 part.0 t.1 part.1 t.3 t.2 u.apart p q (in_run p i) t.4 in
         pick (low h.run some_run starts h.before p i) n.0 n.1 up.2 differ (cases_lt p.place q.place)
       where
-        got_here : (xs : List (Workplace K)) (j : ℕ) (y : Workplace K) → slice_get xs j ≡ Some y → j < length xs
+        got_here : (xs : List (WorkerBuffers K)) (j : ℕ) (y : WorkerBuffers K) → slice_get xs j ≡ Some y → j < length xs
         got_here [] j y e = absurd (cc e)
         got_here (z ∷ xs) zero y e = omega arith
         got_here (z ∷ xs) (suc j) y e = let r = got_here xs j y e in omega (arith, r)
@@ -402,32 +402,32 @@ module _ {K : Type 0} (holds : K → List Placed → Type 0) where
 
 -- ---- the next run
 
-module _ {K : Type 0} (holds : K → List Placed → Type 0) (used : List (Workplace K)) (i : ℕ) (w : Workplace K) (at : slice_get used i ≡ Some w) where
-  same_there : (x : Workplace K) (j : ℕ) → j ≡ i → slice_get used j ≡ Some x → w ≡ x
+module _ {K : Type 0} (holds : K → List Placed → Type 0) (used : List (WorkerBuffers K)) (i : ℕ) (w : WorkerBuffers K) (at : slice_get used i ≡ Some w) where
+  same_there : (x : WorkerBuffers K) (j : ℕ) → j ≡ i → slice_get used j ≡ Some x → w ≡ x
   same_there x j same there = let e : Some w ≡ Some x = sym at ∙ (ap (slice_get used) (sym same) ∙ there) in cc e
 
-  -- an event of one workplace more, and none of one more
-  pub next_same : ((ps : List Placed) → holds w.keeper ps → first_place ps ≡ None) → (found : Option (ℕ × ℕ × ℕ)) → IsNextRun holds used i found → IsNextRun holds used (i + 1) found
+  -- an event of one worker's buffers more, and none of one more
+  pub next_same : ((ps : List Placed) → holds w.sink ps → first_place ps ≡ None) → (found : Option (ℕ × ℕ × ℕ)) → IsNextRun holds used i found → IsNextRun holds used (i + 1) found
   next_same none None n = λ j x ps lt there held. pick j x ps there held (cases_lt j i) (omega (arith, lt))
     where
-      pick : (j : ℕ) (x : Workplace K) (ps : List Placed) → slice_get used j ≡ Some x → holds x.keeper ps → (j < i) ⊎ (i ≤ j) → j ≤ i → first_place ps ≡ None
+      pick : (j : ℕ) (x : WorkerBuffers K) (ps : List Placed) → slice_get used j ≡ Some x → holds x.sink ps → (j < i) ⊎ (i ≤ j) → j ≤ i → first_place ps ≡ None
       pick j x ps there held (inl inside) le = n j x ps inside there held
-      pick j x ps there held (inr past) le = none ps (subst (λ (y : Workplace K). holds y.keeper ps) (sym (same_there x j (omega (arith, past, le)) there)) held)
+      pick j x ps there held (inr past) le = none ps (subst (λ (y : WorkerBuffers K). holds y.sink ps) (sym (same_there x j (omega (arith, past, le)) there)) held)
   next_same none (Some (k, first, below)) n = (
     (let a = n.0 in omega (arith, a)),
     n.1,
     λ j x ps q lt other there held is. pick j x ps q other there held is (cases_lt j i) (omega (arith, lt)),
   )
     where
-      pick : (j : ℕ) (x : Workplace K) (ps : List Placed) (q : ℕ) → j ≢ k → slice_get used j ≡ Some x → holds x.keeper ps → first_place ps ≡ Some q → (j < i) ⊎ (i ≤ j) → j ≤ i → (first ≤ q) × (below ≤ q)
+      pick : (j : ℕ) (x : WorkerBuffers K) (ps : List Placed) (q : ℕ) → j ≢ k → slice_get used j ≡ Some x → holds x.sink ps → first_place ps ≡ Some q → (j < i) ⊎ (i ≤ j) → j ≤ i → (first ≤ q) × (below ≤ q)
       pick j x ps q other there held is (inl inside) le = n.2 j x ps q inside other there held is
       pick j x ps q other there held is (inr past) le =
-          let e = none ps (subst (λ (y : Workplace K). holds y.keeper ps) (sym (same_there x j (omega (arith, past, le)) there)) held) in
+          let e = none ps (subst (λ (y : WorkerBuffers K). holds y.sink ps) (sym (same_there x j (omega (arith, past, le)) there)) held) in
           absurd (cc (sym e ∙ is))
 
-  module _ (place : ℕ) (few : place ≤ 4294967295) (its : (ps : List Placed) → holds w.keeper ps → first_place ps ≡ Some place) where
-    it_is : (x : Workplace K) (j : ℕ) (ps : List Placed) → j ≡ i → slice_get used j ≡ Some x → holds x.keeper ps → first_place ps ≡ Some place
-    it_is x j ps same there held = its ps (subst (λ (y : Workplace K). holds y.keeper ps) (sym (same_there x j same there)) held)
+  module _ (place : ℕ) (few : place ≤ 4294967295) (its : (ps : List Placed) → holds w.sink ps → first_place ps ≡ Some place) where
+    it_is : (x : WorkerBuffers K) (j : ℕ) (ps : List Placed) → j ≡ i → slice_get used j ≡ Some x → holds x.sink ps → first_place ps ≡ Some place
+    it_is x j ps same there held = its ps (subst (λ (y : WorkerBuffers K). holds y.sink ps) (sym (same_there x j same there)) held)
 
     one_value : (m n : ℕ) → Some m ≡ Some n → m ≡ n
     one_value m n e = cc e
@@ -438,7 +438,7 @@ module _ {K : Type 0} (holds : K → List Placed → Type 0) (used : List (Workp
         let less : place < first = grind (arith, nat_tests, e) in
         (omega arith, (λ x ps there held. it_is x i ps refl there held), λ j x ps q lt other there held is. pick less j x ps q lt other there held is (cases_lt j i) (cases_lt k j) (cases_lt j k))
       where
-        pick : place < first → (j : ℕ) (x : Workplace K) (ps : List Placed) (q : ℕ) → j < i + 1 → j ≢ i → slice_get used j ≡ Some x → holds x.keeper ps → first_place ps ≡ Some q
+        pick : place < first → (j : ℕ) (x : WorkerBuffers K) (ps : List Placed) (q : ℕ) → j < i + 1 → j ≢ i → slice_get used j ≡ Some x → holds x.sink ps → first_place ps ≡ Some q
             → (j < i) ⊎ (i ≤ j) → (k < j) ⊎ (j ≤ k) → (j < k) ⊎ (k ≤ j) → (place ≤ q) × (first ≤ q)
         pick less j x ps q lt other there held is (inr past) c d = absurd (other (omega (arith, lt, past)))
         pick less j x ps q lt other there held is (inl inside) (inl c) d = let r = n.2 j x ps q inside (λ e. omega (arith, e, c)) there held is in let r0 = r.0 in (omega (arith, less, r0), r0)
@@ -454,7 +454,7 @@ module _ {K : Type 0} (holds : K → List Placed → Type 0) (used : List (Workp
         inside_k : k < i + 1
         inside_k = let a = n.0 in omega (arith, a)
 
-        pick : first ≤ place → (m : ℕ) → m ≤ place → m ≤ below → (j : ℕ) (x : Workplace K) (ps : List Placed) (q : ℕ) → j < i + 1 → j ≢ k → slice_get used j ≡ Some x → holds x.keeper ps → first_place ps ≡ Some q
+        pick : first ≤ place → (m : ℕ) → m ≤ place → m ≤ below → (j : ℕ) (x : WorkerBuffers K) (ps : List Placed) (q : ℕ) → j < i + 1 → j ≢ k → slice_get used j ≡ Some x → holds x.sink ps → first_place ps ≡ Some q
             → (j < i) ⊎ (i ≤ j) → (first ≤ q) × (m ≤ q)
         pick more m low near j x ps q lt other there held is (inl inside) = let r = n.2 j x ps q inside other there held is in let r1 = r.1 in (r.0, omega (arith, r1, near))
         pick more m low near j x ps q lt other there held is (inr past) =
@@ -476,7 +476,7 @@ module _ {K : Type 0} (holds : K → List Placed → Type 0) (used : List (Workp
       λ j x ps q lt other there held is. pick j x ps q lt other there held is (cases_lt j i),
     )
       where
-        pick : (j : ℕ) (x : Workplace K) (ps : List Placed) (q : ℕ) → j < i + 1 → j ≢ i → slice_get used j ≡ Some x → holds x.keeper ps → first_place ps ≡ Some q → (j < i) ⊎ (i ≤ j) → (place ≤ q) × (4294967295 ≤ q)
+        pick : (j : ℕ) (x : WorkerBuffers K) (ps : List Placed) (q : ℕ) → j < i + 1 → j ≢ i → slice_get used j ≡ Some x → holds x.sink ps → first_place ps ≡ Some q → (j < i) ⊎ (i ≤ j) → (place ≤ q) × (4294967295 ≤ q)
         pick j x ps q lt other there held is (inl inside) = absurd (cc (sym (n j x ps inside there held) ∙ is))
         pick j x ps q lt other there held is (inr past) = absurd (other (omega (arith, lt, past)))
     next_more (Some (k, first, below)) n = chosen k first below n (nat_lt place first) refl (nat_lt place below) refl

@@ -12,8 +12,8 @@ use Rattle.std.proofs.Math.Seq.{drop-cons, drop-append_seam, take-append-add}
 use Rattle.exchange_events.specs.declared.trace.Event.{Event}
 use Rattle.exchange_events.specs.declared.trace.Trace.{Trace}
 use Rattle.exchange_events.specs.Orders.{Worker, Processor, Frame_worker, event_at, worker_of, segment_of, Precedes, IsEvent, IsLawful, IsLawfulPrefix, file_order}
-use Rattle.seat_history.specs.declared.known.JoinedSeat.{JoinedSeat}
-use Rattle.seat_history.specs.declared.known.Known.{Known}
+use Rattle.seat_history.specs.declared.seat_knowledge.JoinedSeat.{JoinedSeat}
+use Rattle.seat_history.specs.declared.seat_knowledge.SeatKnowledge.{SeatKnowledge}
 use Rattle.seat_history.specs.Histories.{StartsWith, entries_of, unseen}
 use Rattle.seat_history.specs.Seats.{Accounts, first_seat}
 use Rattle.exchange_events.specs.Sound.{IsSound, last_of}
@@ -221,14 +221,14 @@ module _ (trace : Trace) (k : ℕ) (order more : List ℕ) (below : IsDoneBelow 
 -- ---- a run of a segment
 
 -- what a run adds to the order
-pub order_grown : (v w : Known) → StartsWith w.seen v.seen → order_of w.seen ≡ order_of v.seen ++ new_events v w
+pub order_grown : (v w : SeatKnowledge) → StartsWith w.seen v.seen → order_of w.seen ≡ order_of v.seen ++ new_events v w
 order_grown v w begins =
     let new : unseen v.seen w.seen ≡ begins.0 = ap (drop (length v.seen)) begins.1 ∙ drop-append_seam v.seen begins.0 in
     ap order_of begins.1
     ∙ (map-append (λ (e : Entry). e.1) v.seen begins.0 ∙ ap (λ (l : List Entry). order_of v.seen ++ order_of l) (sym new))
 
 -- what it adds are events of the trace
-pub grown_known : (trace : Trace) (k : ℕ) (v w : Known) → Ran trace k v w → All (IsEvent trace) (new_events v w)
+pub grown_known : (trace : Trace) (k : ℕ) (v w : SeatKnowledge) → Ran trace k v w → All (IsEvent trace) (new_events v w)
 grown_known trace k v w ran = All-weaker (IsOfSegment trace k) (IsEvent trace) (λ n is. is.0) (new_events v w) ran.only
 
 -- before the first segment nothing was done
@@ -244,12 +244,12 @@ none trace = record {
 }
 
 -- a segment was run whole
-pub one_more : (trace : Trace) (k : ℕ) (v w : Known) → IsDoneBelow trace k (order_of v.seen) → Ran trace k v w → RanWhole trace k v w → IsDoneBelow trace (k + 1) (order_of w.seen)
+pub one_more : (trace : Trace) (k : ℕ) (v w : SeatKnowledge) → IsDoneBelow trace k (order_of v.seen) → Ran trace k v w → RanWhole trace k v w → IsDoneBelow trace (k + 1) (order_of w.seen)
 one_more trace k v w below ran whole =
     subst (IsDoneBelow trace (k + 1)) (sym (order_grown v w ran.begins)) (done_more trace k (order_of v.seen) (new_events v w) below ran.only ran.fronts whole)
 
 -- a segment was run, and cut short
-pub cut_short : (trace : Trace) (k : ℕ) (v w : Known) → IsDoneBelow trace k (order_of v.seen) → Ran trace k v w → IsLawfulPrefix trace (order_of w.seen)
+pub cut_short : (trace : Trace) (k : ℕ) (v w : SeatKnowledge) → IsDoneBelow trace k (order_of v.seen) → Ran trace k v w → IsLawfulPrefix trace (order_of w.seen)
 cut_short trace k v w below ran =
     subst (IsLawfulPrefix trace) (sym (order_grown v w ran.begins)) (lawful_more trace k (order_of v.seen) (new_events v w) below ran.only ran.fronts)
 
@@ -329,7 +329,7 @@ count_done trace k order sound within below =
 -- ---- what seat 0 needs for the next segment
 
 -- the history is as long as run_segment asks
-pub seen_done : (trace : Trace) (k : ℕ) (v : Known) → IsSound trace → k ≤ length trace.segments → IsDoneBelow trace k (order_of v.seen) → length v.seen ≡ events_before trace.segments k
+pub seen_done : (trace : Trace) (k : ℕ) (v : SeatKnowledge) → IsSound trace → k ≤ length trace.segments → IsDoneBelow trace k (order_of v.seen) → length v.seen ≡ events_before trace.segments k
 seen_done trace k v sound within below = sym (length-map v.seen (λ (e : Entry). e.1)) ∙ count_done trace k (order_of v.seen) sound within below
 
 -- each segment has an event

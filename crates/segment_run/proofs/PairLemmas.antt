@@ -2,23 +2,23 @@
 use Rattle.std.proofs.Common.{◌≡◌, ℕ, zero, suc, Bool, List, [], ◌∷◌, ◌++◌, map, length, reverse, refl, sym, ap, subst, arith}
 use Rattle.std.specs.List.{All, AllZip}
 use Rattle.std.proofs.lemmas.List.{reverse-append}
-use Rattle.seat_history.specs.declared.known.Known.{Known}
+use Rattle.seat_history.specs.declared.seat_knowledge.SeatKnowledge.{SeatKnowledge}
 use Rattle.exchange_core.specs.Boards.{Board}
 use Rattle.call_processor.specs.declared.worked.Placed.{Placed}
-use Rattle.call_processor.specs.declared.worked.Workplace.{Workplace}
+use Rattle.call_processor.specs.declared.worked.WorkerBuffers.{WorkerBuffers}
 use Rattle.call_processor.specs.Keeping.{KeepsWork}
 use Rattle.call_processor.specs.Work.{Works}
 use Rattle.segment_run.specs.Merging.{Keep}
 
-keep_last : {K : Type 0} (holds : K → List Placed → Type 0) (used : List (Workplace K)) (parts : List (List Placed)) (w : Workplace K) (ps : List Placed) → Keep holds used parts → holds w.keeper ps → Keep holds (used ++ w ∷ []) (parts ++ ps ∷ [])
+keep_last : {K : Type 0} (holds : K → List Placed → Type 0) (used : List (WorkerBuffers K)) (parts : List (List Placed)) (w : WorkerBuffers K) (ps : List Placed) → Keep holds used parts → holds w.sink ps → Keep holds (used ++ w ∷ []) (parts ++ ps ∷ [])
 keep_last holds [] [] w ps h r = (r, tt)
 keep_last holds [] (qs ∷ parts) w ps h r = absurd h
 keep_last holds (u ∷ used) [] w ps h r = absurd h
 keep_last holds (u ∷ used) (qs ∷ parts) w ps h r = (h.0, keep_last holds used parts w ps h.1 r)
 
-module _ {J F K : Type 0} (holds : K → List Placed → Type 0) (board : Board) (octets : J → Known → Placed → Type 0) (part : J → List ℕ) (kj : J → Known) (kf : F → Known) (workplace : F → Workplace K) (whole : F → Bool) where
+module _ {J F K : Type 0} (holds : K → List Placed → Type 0) (board : Board) (octets : J → SeatKnowledge → Placed → Type 0) (part : J → List ℕ) (kj : J → SeatKnowledge) (kf : F → SeatKnowledge) (buffers : F → WorkerBuffers K) (whole : F → Bool) where
   abbrev pub Kept_part : J → F → Type 0
-  Kept_part j f = KeepsWork holds board (octets j) (part j) (kj j) (workplace f).keeper (whole f) (kf f)
+  Kept_part j f = KeepsWork holds board (octets j) (part j) (kj j) (buffers f).sink (whole f) (kf f)
 
   abbrev pub pairs : (js : List J) (fs : List F) → AllZip Kept_part js fs → List (F × List Placed)
   pairs [] [] z = []
@@ -69,12 +69,12 @@ module _ {J F K : Type 0} (holds : K → List Placed → Type 0) (board : Board)
   reverse_more : {X : Type 0} (x : X) (xs : List X) → reverse (x ∷ xs) ≡ reverse xs ++ x ∷ []
   reverse_more x xs = reverse-append (x ∷ []) xs
 
-  -- the workplaces lie in the other order
-  pub pairs_keep : (js : List J) (fs : List F) (z : AllZip Kept_part js fs) → Keep holds (reverse (map workplace fs)) (reverse (map (λ (u : F × List Placed). u.1) (pairs js fs z)))
+  -- the buffers lie in the other order
+  pub pairs_keep : (js : List J) (fs : List F) (z : AllZip Kept_part js fs) → Keep holds (reverse (map buffers fs)) (reverse (map (λ (u : F × List Placed). u.1) (pairs js fs z)))
   pairs_keep [] [] z = tt
   pairs_keep [] (f ∷ fs) z = absurd z
   pairs_keep (j ∷ js) [] z = absurd z
   pairs_keep (j ∷ js) (f ∷ fs) z =
-      subst (λ (l : List (Workplace K)). Keep holds l (reverse (map (λ (u : F × List Placed). u.1) (pairs (j ∷ js) (f ∷ fs) z)))) (sym (reverse_more (workplace f) (map workplace fs)))
-      (subst (λ (l : List (List Placed)). Keep holds (reverse (map workplace fs) ++ workplace f ∷ []) l) (sym (reverse_more z.0.answers (map (λ (u : F × List Placed). u.1) (pairs js fs z.1))))
-      (keep_last holds (reverse (map workplace fs)) (reverse (map (λ (u : F × List Placed). u.1) (pairs js fs z.1))) (workplace f) z.0.answers (pairs_keep js fs z.1) z.0.held))
+      subst (λ (l : List (WorkerBuffers K)). Keep holds l (reverse (map (λ (u : F × List Placed). u.1) (pairs (j ∷ js) (f ∷ fs) z)))) (sym (reverse_more (buffers f) (map buffers fs)))
+      (subst (λ (l : List (List Placed)). Keep holds (reverse (map buffers fs) ++ buffers f ∷ []) l) (sym (reverse_more z.0.answers (map (λ (u : F × List Placed). u.1) (pairs js fs z.1))))
+      (keep_last holds (reverse (map buffers fs)) (reverse (map (λ (u : F × List Placed). u.1) (pairs js fs z.1))) (buffers f) z.0.answers (pairs_keep js fs z.1) z.0.held))

@@ -6,8 +6,8 @@ use Rattle.std.proofs.lemmas.Bool.{cases_lt}
 use Rattle.exchange_events.specs.declared.trace.Trace.{Trace}
 use Rattle.exchange_events.specs.Orders.{Worker, Processor, Frame_worker}
 use Rattle.seat_history.proofs.HistoryLemmas.{unseen_front}
-use Rattle.seat_history.specs.declared.known.Known.{Known}
-use Rattle.seat_history.specs.declared.known.JoinedSeat.{JoinedSeat}
+use Rattle.seat_history.specs.declared.seat_knowledge.SeatKnowledge.{SeatKnowledge}
+use Rattle.seat_history.specs.declared.seat_knowledge.JoinedSeat.{JoinedSeat}
 use Rattle.seat_history.specs.Histories.{StartsWith, unseen}
 use Rattle.seat_history.specs.Seats.{Settled, joined_seat}
 use Rattle.exchange_core.specs.Boards.{Board}
@@ -16,7 +16,7 @@ use Rattle.call_processor.specs.declared.worked.Placed.{Placed}
 use Rattle.call_processor.specs.Parts.{is_its, is_worker, part_of}
 use Rattle.call_processor.specs.Work.{Works, answered_events, entries_for}
 use Rattle.segment_run.specs.Segment.{IsChief, Ran, RanWhole, IsOfSegment, new_events}
-use Rattle.segment_run.specs.Team.{AreDealt, HasDealt, any_baton, after_joins, load, part_numbered, turns_left, worker_numbered}
+use Rattle.segment_run.specs.Workers.{AreDealt, HasDealt, any_baton, after_joins, load, part_numbered, turns_left, worker_numbered}
 use Rattle.segment_run.proofs.ListLemmas.{In, all_in, in_all, map_in, length_of_map}
 use Rattle.segment_run.proofs.DoerLemmas.{Doer, Joined, seat_of, its_of, of_doer, of_other, found, is_itself, no_part, numbered_frames, numbered_processor}
 
@@ -56,20 +56,20 @@ module _ {A B : Type 0} (R : A → B → Type 0) where
 
 -- ---- seat 0 with seats joined
 
-pub joined_kept : (c : Known) (ws : List Known) → (after_joins c ws).kept ≡ map joined_seat ws ++ c.kept
+pub joined_kept : (c : SeatKnowledge) (ws : List SeatKnowledge) → (after_joins c ws).kept ≡ map joined_seat ws ++ c.kept
 joined_kept c [] = refl
 joined_kept c (w ∷ ws) = ap (λ (l : List JoinedSeat). joined_seat w ∷ l) (joined_kept c ws)
 
-abbrev pub sum_left : List Known → ℕ
+abbrev pub sum_left : List SeatKnowledge → ℕ
 sum_left [] = 0
 sum_left (w ∷ ws) = w.left + sum_left ws
 
-record Unchanged (c k : Known) : Type 0 where
+record Unchanged (c k : SeatKnowledge) : Type 0 where
   number : k.number ≡ c.number
   own : k.own ≡ c.own
   made : k.made ≡ c.made
 
-joined_rest : (c : Known) (ws : List Known) → Unchanged c (after_joins c ws)
+joined_rest : (c : SeatKnowledge) (ws : List SeatKnowledge) → Unchanged c (after_joins c ws)
 joined_rest c [] = record { number = refl; own = refl; made = refl }
 joined_rest c (w ∷ ws) = let r = joined_rest c ws in record { number = r.number; own = r.own; made = r.made }
 
@@ -86,17 +86,17 @@ no_length [] h = refl
 no_length (x ∷ xs) h = absurd (omega (arith, h))
 
 -- seat 0 with no turns given away
-settled_same : (turns : ℕ) (v c : Known) → HasDealt v 0 c → c.left ≡ v.left → Settled turns v → Settled turns c
+settled_same : (turns : ℕ) (v c : SeatKnowledge) → HasDealt v 0 c → c.left ≡ v.left → Settled turns v → Settled turns c
 settled_same turns v c d left s =
     let made : v.made ≡ c.made = let h = d.made in omega (arith, h) in
     let same : record v { baton = c.baton } ≡ c = λ i. record { number = sym d.number i; left = sym left i; baton = c.baton; seen = sym d.seen i; own = sym d.own i; made = made i; kept = sym d.kept i } in
     subst (Settled turns) same (record { own = s.own; kept = s.kept; others = s.others; once = s.once; entries_made = s.entries_made; within = s.within; accounted = s.accounted; whole = s.whole })
 
-module _ {J U : Type 0} (board : Board) (trace : Trace) (segment : ℕ) (wj : J → ℕ) (kj : J → Known) (ku : U → Known) (au : U → List Placed) (bu : U → Bool) (E : J → U → Type 0) where
+module _ {J U : Type 0} (board : Board) (trace : Trace) (segment : ℕ) (wj : J → ℕ) (kj : J → SeatKnowledge) (ku : U → SeatKnowledge) (au : U → List Placed) (bu : U → Bool) (E : J → U → Type 0) where
   abbrev pub Each : J → U → Type 0
   Each j u = Works board (part_numbered trace segment (wj j)) (kj j) (au u) (bu u) (ku u) × E j u
 
-  abbrev pub seats : List J → List (ℕ × Known)
+  abbrev pub seats : List J → List (ℕ × SeatKnowledge)
   seats js = map (λ (j : J). (wj j, kj j)) js
 
   abbrev pub doer : (j : J) (u : U) → Each j u → Doer
@@ -112,7 +112,7 @@ module _ {J U : Type 0} (board : Board) (trace : Trace) (segment : ℕ) (wj : J 
   doers_seats [] [] z = refl
   doers_seats [] (u ∷ us) z = absurd z
   doers_seats (j ∷ js) [] z = absurd z
-  doers_seats (j ∷ js) (u ∷ us) z = ap (λ (l : List (ℕ × Known)). (wj j, kj j) ∷ l) (doers_seats js us z.1)
+  doers_seats (j ∷ js) (u ∷ us) z = ap (λ (l : List (ℕ × SeatKnowledge)). (wj j, kj j) ∷ l) (doers_seats js us z.1)
 
   doers_kept : (js : List J) (us : List U) (z : AllZip Each js us) → map (λ (t : Doer). joined_seat t.to) (doers js us z) ≡ map joined_seat (map ku us)
   doers_kept [] [] z = refl
@@ -138,7 +138,7 @@ module _ {J U : Type 0} (board : Board) (trace : Trace) (segment : ℕ) (wj : J 
       let r = pair_of js us z.1 t more in
       record { j = r.j; u = r.u; job = inr r.job; out = inr r.out; each = r.each; is = r.is }
 
-  batons : (c : Known) (js : List J) (us : List U) → AllZip Each js us → (c.baton || any_baton (seats js)) ≡ true → (after_joins c (map ku us)).baton ≡ true
+  batons : (c : SeatKnowledge) (js : List J) (us : List U) → AllZip Each js us → (c.baton || any_baton (seats js)) ≡ true → (after_joins c (map ku us)).baton ≡ true
   batons c [] [] z e = sym (or_false c.baton) ∙ e
   batons c [] (u ∷ us) z e = absurd z
   batons c (j ∷ js) [] z e = absurd z
@@ -148,7 +148,7 @@ module _ {J U : Type 0} (board : Board) (trace : Trace) (segment : ℕ) (wj : J 
       go tail true b same e = ap (λ (x : Bool). (after_joins c (map ku us)).baton || x) same ∙ or_true (after_joins c (map ku us)).baton
       go tail false b same e = ap (λ (x : Bool). (after_joins c (map ku us)).baton || x) same ∙ (or_false (after_joins c (map ku us)).baton ∙ tail e)
 
-  module _ (turns : ℕ) (v c k : Known) (js : List J) (us : List U) (z : AllZip Each js us) (chief : IsChief turns v) (dealt : HasDealt v (length js) c)
+  module _ (turns : ℕ) (v c k : SeatKnowledge) (js : List J) (us : List U) (z : AllZip Each js us) (chief : IsChief turns v) (dealt : HasDealt v (length js) c)
       (seated : AreDealt trace segment v (v.made + 1) 0 (seats js)) (baton : IsTrue (c.baton || any_baton (seats js))) (left : c.left + turns_left (seats js) ≡ v.left)
       (is : k ≡ after_joins c (map ku us)) (begins : StartsWith k.seen c.seen) (settled : 0 < length us → Settled turns k) (few : length js ≤ 9) where
     abbrev pub ts : List Doer
@@ -177,13 +177,13 @@ module _ {J U : Type 0} (board : Board) (trace : Trace) (segment : ℕ) (wj : J 
         go (w ∷ ws) some_one = let n = ap length some_one in settled (omega (arith, n))
 
     number_is : k.number ≡ v.number
-    number_is = ap (λ (x : Known). x.number) is ∙ ((joined_rest c (map ku us)).number ∙ dealt.number)
+    number_is = ap (λ (x : SeatKnowledge). x.number) is ∙ ((joined_rest c (map ku us)).number ∙ dealt.number)
 
     pub made_is : k.made ≡ v.made + length js
-    made_is = ap (λ (x : Known). x.made) is ∙ ((joined_rest c (map ku us)).made ∙ dealt.made)
+    made_is = ap (λ (x : SeatKnowledge). x.made) is ∙ ((joined_rest c (map ku us)).made ∙ dealt.made)
 
     kept_are : k.kept ≡ map joined_seat (map ku us) ++ v.kept
-    kept_are = ap (λ (x : Known). x.kept) is ∙ (joined_kept c (map ku us) ∙ ap (λ (l : List JoinedSeat). map joined_seat (map ku us) ++ l) dealt.kept)
+    kept_are = ap (λ (x : SeatKnowledge). x.kept) is ∙ (joined_kept c (map ku us) ∙ ap (λ (l : List JoinedSeat). map joined_seat (map ku us) ++ l) dealt.kept)
 
     all_joined : k.made ≡ length k.kept
     all_joined =
@@ -196,7 +196,7 @@ module _ {J U : Type 0} (board : Board) (trace : Trace) (segment : ℕ) (wj : J 
     pub joined : Joined trace segment v k rest ts
     joined = record {
       grew = grew;
-      own = ap (λ (x : Known). x.own) is ∙ ((joined_rest c (map ku us)).own ∙ dealt.own);
+      own = ap (λ (x : SeatKnowledge). x.own) is ∙ ((joined_rest c (map ku us)).own ∙ dealt.own);
       number = number_is;
       kept = kept_are ∙ ap (λ (l : List JoinedSeat). l ++ v.kept) (sym (doers_kept js us z));
       all = all_joined;
@@ -220,7 +220,7 @@ module _ {J U : Type 0} (board : Board) (trace : Trace) (segment : ℕ) (wj : J 
     pub still_chief : IsChief turns k
     still_chief = record {
       number = number_is ∙ chief.number;
-      baton = ap (λ (x : Known). x.baton) is ∙ batons c js us z baton;
+      baton = ap (λ (x : SeatKnowledge). x.baton) is ∙ batons c js us z baton;
       joined = all_joined;
       settled = after;
     }

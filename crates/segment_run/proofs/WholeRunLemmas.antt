@@ -9,8 +9,8 @@ use Rattle.exchange_core.specs.declared.tool.Tool.{Tool}
 use Rattle.exchange_events.specs.declared.trace.Trace.{Trace}
 use Rattle.exchange_events.specs.Orders.{Worker, Frame_worker}
 use Rattle.seat_history.proofs.HistoryLemmas.{unseen_front}
-use Rattle.seat_history.specs.declared.known.Known.{Known}
-use Rattle.seat_history.specs.declared.known.JoinedSeat.{JoinedSeat}
+use Rattle.seat_history.specs.declared.seat_knowledge.SeatKnowledge.{SeatKnowledge}
+use Rattle.seat_history.specs.declared.seat_knowledge.JoinedSeat.{JoinedSeat}
 use Rattle.seat_history.specs.Histories.{StartsWith, entries_of, unseen}
 use Rattle.seat_history.specs.Seats.{Settled, joined_seat}
 use Rattle.exchange_core.specs.Boards.{Board, IsFrame, NoFrames, turns_of}
@@ -26,7 +26,7 @@ use Rattle.segment_run.specs.Merging.{AreApart}
 use Rattle.segment_run.specs.Merging.{IsMerged}
 use Rattle.segment_run.specs.Merging.{all_of}
 use Rattle.segment_run.specs.Segment.{AreAnswered, IsChief, IsOfSegment, Ran, RanWhole, new_events}
-use Rattle.segment_run.specs.Team.{AreDealt, HasDealt, any_baton, after_joins, load, loads_below, part_numbered, turns_left, worker_numbered}
+use Rattle.segment_run.specs.Workers.{AreDealt, HasDealt, any_baton, after_joins, load, loads_below, part_numbered, turns_left, worker_numbered}
 use Rattle.segment_run.proofs.ListLemmas.{In, all_in, in_all, in_filter, in_left, in_right, in_map, filter_none, none_behind}
 use Rattle.segment_run.proofs.DoerLemmas.{Doer, Joined, dealt_in, alike, entries_split, found, numbered_frames, numbered_processor, one_worker, its_of}
 use Rattle.segment_run.proofs.LoadLemmas.{loads_all}
@@ -39,7 +39,7 @@ over : {X : Type 0} (xs : List X) → drop (length xs) xs ≡ []
 over [] = refl
 over (x ∷ xs) = over xs
 
-pub ran_none : (trace : Trace) (segment : ℕ) (v : Known) → Ran trace segment v v
+pub ran_none : (trace : Trace) (segment : ℕ) (v : SeatKnowledge) → Ran trace segment v v
 ran_none trace segment v =
     let none : new_events v v ≡ [] = ap order_of (over v.seen) in
     record {
@@ -50,13 +50,13 @@ ran_none trace segment v =
       few = omega arith;
     }
 
-left_all : (c : Known) (ws : List Known) → (after_joins c ws).left ≡ c.left + sum_left ws
+left_all : (c : SeatKnowledge) (ws : List SeatKnowledge) → (after_joins c ws).left ≡ c.left + sum_left ws
 left_all c [] = omega arith
 left_all c (w ∷ ws) = let h = left_all c ws in omega (arith, h)
 
 -- ---- who does the frames of the growth
 
-module _ (turns : ℕ) (trace : Trace) (segment : ℕ) (v k : Known) (rest : List Entry) (doers : List Doer) (before : Settled turns v) (after : Settled turns k) (j : Joined trace segment v k rest doers) where
+module _ (turns : ℕ) (trace : Trace) (segment : ℕ) (v k : SeatKnowledge) (rest : List Entry) (doers : List Doer) (before : Settled turns v) (after : Settled turns k) (j : Joined trace segment v k rest doers) where
   abbrev frames_of : Doer → Bool
   frames_of t = is_worker (worker_numbered trace.processors t.worker) Frame_worker
 
@@ -104,12 +104,12 @@ module _ (turns : ℕ) (trace : Trace) (segment : ℕ) (v k : Known) (rest : Lis
 
 -- ---- the whole run
 
-module _ {J U E : Type 0} (board : Board) (trace : Trace) (segment : ℕ) (wj : J → ℕ) (kj : J → Known) (ku : U → Known) (au : U → List Placed) (bu : U → Bool)
+module _ {J U E : Type 0} (board : Board) (trace : Trace) (segment : ℕ) (wj : J → ℕ) (kj : J → SeatKnowledge) (ku : U → SeatKnowledge) (au : U → List Placed) (bu : U → Bool)
     (plays : Plays) (tones : Kind → List ℕ) (carries : Carrying E) (next : E → ℕ) (sizes : E → Dimensions) where
   abbrev IsReadyAt : List Entry → E → Tool → Type 0
   IsReadyAt = IsReady carries next sizes board
 
-  abbrev jobs_of : List J → List (ℕ × Known)
+  abbrev jobs_of : List J → List (ℕ × SeatKnowledge)
   jobs_of js = map (λ (j : J). (wj j, kj j)) js
 
   abbrev Did_part : J → U → Type 0
@@ -122,7 +122,7 @@ module _ {J U E : Type 0} (board : Board) (trace : Trace) (segment : ℕ) (wj : 
   Is_ready engine tool j u = wj j ≡ trace.processors → IsReadyAt (ku u).seen engine tool
 
   -- what is known once all seats are joined: v was known before, c once the seats were made, and k is known now
-  pub record Run (v c k : Known) (js : List J) (us : List U) (engine after : E) (tool later : Tool) : Type 0 where
+  pub record Run (v c k : SeatKnowledge) (js : List J) (us : List U) (engine after : E) (tool later : Tool) : Type 0 where
     pub same : trace ≡ board.trace
     pub sound : IsSound trace
     pub within : segment < length trace.segments
@@ -144,7 +144,7 @@ module _ {J U E : Type 0} (board : Board) (trace : Trace) (segment : ℕ) (wj : 
     pub fronts : All (λ (u : U). StartsWith k.seen (ku u).seen) us
     pub settled : 0 < length us → Settled (turns_of board) k
 
-  module _ (v c k : Known) (js : List J) (us : List U) (engine after : E) (tool later : Tool) (r : Run v c k js us engine after tool later) where
+  module _ (v c k : SeatKnowledge) (js : List J) (us : List U) (engine after : E) (tool later : Tool) (r : Run v c k js us engine after tool later) where
     abbrev Extra : J → U → Type 0
     Extra j u = Has_octets j u × Is_ready after later j u
 
@@ -198,8 +198,8 @@ module _ {J U E : Type 0} (board : Board) (trace : Trace) (segment : ℕ) (wj : 
         let begins = subst (λ (x : Doer). StartsWith x.to.seen x.from.seen) (sym p.is) p.each.0.did.begins in
         let exact = subst (λ (x : Doer). x.from.own ≡ entries_of x.from.number x.from.seen → x.to.own ≡ entries_of x.to.number x.to.seen) (sym p.is) p.each.0.did.exact in
         let to_is : ku p.u ≡ t.to = ap (λ (x : Doer). x.to) (sym p.is) in
-        let front_t : StartsWith k.seen t.to.seen = subst (λ (w : Known). StartsWith k.seen w.seen) to_is front in
-        let ready_t : IsReadyAt t.to.seen after later = subst (λ (w : Known). IsReadyAt w.seen after later) to_is (p.each.1.1 last) in
+        let front_t : StartsWith k.seen t.to.seen = subst (λ (w : SeatKnowledge). StartsWith k.seen w.seen) to_is front in
+        let ready_t : IsReadyAt t.to.seen after later = subst (λ (w : SeatKnowledge). IsReadyAt w.seen after later) to_is (p.each.1.1 last) in
         let none = no_frames_behind (turns_of board) trace segment v k growth all_doers r.chief.settled all_settled all_joined t i is begins exact front_t in
         still_ready carries next sizes board t.to.seen k.seen after later front_t (subst (λ (x : Trace). NoFrames x front_t.0) r.same none) ready_t
       where
@@ -261,7 +261,7 @@ module _ {J U E : Type 0} (board : Board) (trace : Trace) (segment : ℕ) (wj : 
       size =
           let a = left_all c (map ku us) in
           let b = none_over (v.made + 1) 0 js us r.works r.dealt whole in
-          let d = ap (λ (x : Known). x.left) r.joins in
+          let d = ap (λ (x : SeatKnowledge). x.left) r.joins in
           let e = turns_taken in
           let f = r.turns in
           omega (arith, a, b, d, e, f)
@@ -293,7 +293,7 @@ module _ {J U E : Type 0} (board : Board) (trace : Trace) (segment : ℕ) (wj : 
 
 -- ---- before the workers start
 
-module _ {J : Type 0} (trace : Trace) (segment : ℕ) (wj : J → ℕ) (kj : J → Known) (v : Known) where
+module _ {J : Type 0} (trace : Trace) (segment : ℕ) (wj : J → ℕ) (kj : J → SeatKnowledge) (v : SeatKnowledge) where
   seen_same : (n low : ℕ) (js : List J) → AreDealt trace segment v n low (map (λ (j : J). (wj j, kj j)) js) → (j : J) → In j js → (kj j).seen ≡ v.seen
   seen_same n low [] d j i = absurd i
   seen_same n low (x ∷ js) d j (inl same) = subst (λ (y : J). (kj y).seen ≡ v.seen) same d.2.seen_is

@@ -1,8 +1,8 @@
 pub mod Choice
 pub mod Segment
 pub mod Segments
-pub mod Team
-pub mod Rooms
+pub mod Workers
+pub mod Pools
 pub mod Merging
 pub mod Jobs
-pub mod Gathered
+pub mod WorkerResults

@@ -1,5 +1,5 @@
 //! The results of a run of a segment.
-use crate::workroom::Workroom;
+use crate::buffer_pool::BufferPool;
 use call_processor::Machine;
 use exchange_core::Tool;
 use exchange_events::Answer;
@@ -15,12 +15,12 @@ pub struct SegmentAnswer<C> {
     pub tool: Tool,
 }
 
-/// The result of a segment whose answers a keeper stores. `T` is the type of the workers' seats and `K` the type of
-/// the keepers.
+/// The result of a segment whose answers an answer sink stores. `T` is the type of the workers' seats and `K` the type
+/// of the sinks.
 #[derive(Drop)]
-pub struct SegmentDone<T, C, K> {
+pub struct SegmentOutput<T, C, K> {
     /// The machine, ready for the next frame.
     pub machine: Box<Machine<C>>,
-    /// The workroom, for the next segment.
-    pub workroom: Workroom<T, K>,
+    /// The buffer pool, for the next segment.
+    pub buffer_pool: BufferPool<T, K>,
 }

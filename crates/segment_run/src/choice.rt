@@ -1,16 +1,16 @@
 //! The choice between threads and one thread for a segment.
 ghost use Rattle.std.specs.Prelude.{◌≤◌, ◌↔◌, IsTrue};
 ghost use Rattle.segment_run.specs.Choice.{events_beside};
-ghost use Rattle.segment_run.specs.declared.choice.TheConstants.{FEWEST_BESIDE};
+ghost use Rattle.segment_run.specs.declared.choice.TheConstants.{MIN_PARALLEL_EVENTS};
 
 /// The least number of events outside the largest part of a segment for which threads pay. `bench/README.md` has the
 /// measurements.
-pub const FEWEST_BESIDE: u32 = 4096;
+pub const MIN_PARALLEL_EVENTS: u32 = 4096;
 
 /// Returns whether all parts of a segment except the largest have enough events together for threads, from the number
 /// of events of each worker.
 pub fn is_worth_threads(loads: &[u32; 9]) -> bool
-    ensures { IsTrue result ↔ FEWEST_BESIDE ≤ events_beside loads.now }
+    ensures { IsTrue result ↔ MIN_PARALLEL_EVENTS ≤ events_beside loads.now }
 {
     let mut largest: u32 = 0;
     let mut beside: u32 = 0;
@@ -18,5 +18,5 @@ pub fn is_worth_threads(loads: &[u32; 9]) -> bool
         beside = beside.saturating_add(largest.min(*load));
         largest = largest.max(*load);
     }
-    beside >= FEWEST_BESIDE
+    beside >= MIN_PARALLEL_EVENTS
 }

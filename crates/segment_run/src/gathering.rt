@@ -3,30 +3,30 @@ ghost use Rattle.std.specs.Prelude.{◌≡◌, ◌<◌, ◌≤◌, ◌+◌, ◌�
 ghost use Rattle.seat_history.specs.Histories.{StartsWith};
 ghost use Rattle.seat_history.specs.Seats.{Settled};
 ghost use Rattle.exchange_core.specs.Boards.{turns_of};
-ghost use Rattle.segment_run.specs.Rooms.{HasRoom};
-ghost use Rattle.segment_run.specs.Team.{after_joins};
+ghost use Rattle.segment_run.specs.Pools.{HasRoom};
+ghost use Rattle.segment_run.specs.Workers.{after_joins};
 
-use call_processor::{Finished, Keeper, Workplace};
+use call_processor::{AnswerSink, WorkerBuffers, WorkerOutput};
 use exchange_core::Switchboard;
 
 /// Returns whether the parts of all workers are complete.
-pub fn all_whole<T, K>(workers: &[Finished<T, K>]) -> bool
+pub fn all_whole<T, K>(workers: &[WorkerOutput<T, K>]) -> bool
     ensures { IsTrue result ↔ All (λ f. IsTrue f.whole) workers.now }
 {
-    for finished in workers {
-        if !finished.whole {
+    for output in workers {
+        if !output.whole {
             return false;
         }
     }
     true
 }
 
-/// Joins the seats of all workers, the last first, and collects their workplaces in this order.
-pub fn gather<B: Switchboard, K: Keeper>(
+/// Joins the seats of all workers, the last first, and collects their buffers in this order.
+pub fn gather<B: Switchboard, K: AnswerSink>(
     board: &B,
     seat: &mut B::Seat,
-    workers: &mut Vec<Finished<B::Seat, K>>,
-    used: &mut Vec<Workplace<K>>,
+    workers: &mut Vec<WorkerOutput<B::Seat, K>>,
+    used: &mut Vec<WorkerBuffers<K>>,
 )
     requires seated { B.seated board.now seat.old × All (λ f. B.seated board.now f.seat) workers.old.items }
     requires chief { (B.known seat.old).number ≡ 0 }
@@ -34,20 +34,20 @@ pub fn gather<B: Switchboard, K: Keeper>(
     requires room { HasRoom used.old }
     ensures seated { B.seated board.now seat.new }
     ensures seat { B.known seat.new ≡ after_joins (B.known seat.old) (map (λ f. B.known f.seat) workers.old.items) }
-    ensures workplaces { used.new.items ≡ reverse (map (λ f. f.workplace) workers.old.items) }
+    ensures unused { used.new.items ≡ reverse (map (λ f. f.buffers) workers.old.items) }
     ensures begins { StartsWith (B.known seat.new).seen (B.known seat.old).seen }
     ensures fronts { All (λ f. StartsWith (B.known seat.new).seen (B.known f.seat).seen) workers.old.items }
     ensures settled { 0 < length workers.old.items → Settled (turns_of (B.board board.now)) (B.known seat.new) }
     ensures gone { (workers.new.items ≡ []) × (vec_capacity workers.new ≡ vec_capacity workers.old) }
     ensures kept { vec_capacity used.new ≡ vec_capacity used.old }
 {
-    while let Some(finished) = workers.pop() {
-        let Finished {
+    while let Some(output) = workers.pop() {
+        let WorkerOutput {
             seat: other,
-            workplace,
+            buffers,
             whole: _,
-        } = finished;
+        } = output;
         board.join(seat, other);
-        used.push_reserved(workplace);
+        used.push_reserved(buffers);
     }
 }

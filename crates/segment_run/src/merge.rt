@@ -6,24 +6,24 @@ ghost use Rattle.segment_run.specs.Merging.{AddsMerged, IsNextRun, Keep, first_o
 ghost use Rattle.segment_run.specs.Merging.{AreApart};
 ghost use Rattle.segment_run.specs.Merging.{all_of};
 
-use call_processor::{Keeper, Workplace};
+use call_processor::{AnswerSink, WorkerBuffers};
 use std::alloc::AllocError;
 
-// Returns the index of the keeper that has the first event of all, the position of this event, and the position of the
+// Returns the index of the sink that has the first event of all, the position of this event, and the position of the
 // first event of the others.
-fn next_run<K: Keeper>(used: &[Workplace<K>]) -> Option<(usize, u32, u32)>
+fn next_run<K: AnswerSink>(used: &[WorkerBuffers<K>]) -> Option<(usize, u32, u32)>
     ensures { IsNextRun K.holds used.now (length used.now) result }
 {
     let mut found = None;
     for i in 0..used.len() {
-        if let Some(place) = used[i].keeper.first_place() {
+        if let Some(place) = used[i].sink.first_place() {
             found = Some(earlier(found, i, place));
         }
     }
     found
 }
 
-// Returns the earlier of the result so far and an event of workplace i, with the first position of all others.
+// Returns the earlier of the result so far and an event of buffers i, with the first position of all others.
 fn earlier(found: Option<(usize, u32, u32)>, i: usize, place: u32) -> (usize, u32, u32)
     ensures { result ≡ first_of_two found i place }
 {
@@ -41,16 +41,16 @@ fn earlier(found: Option<(usize, u32, u32)>, i: usize, place: u32) -> (usize, u3
     }
 }
 
-/// Appends the answers of all these keepers to the answers of `into`, in the order of their positions. The keeper whose
-/// first event comes first moves all its events that come before any other keeper's, so each round compares at most
+/// Appends the answers of all these sinks to the answers of `into`, in the order of their positions. The sink whose
+/// first event comes first moves all its events that come before any other sink's, so each round compares at most
 /// nine positions. `count` is the number of all events.
 ///
 /// # Errors
 ///
 /// [`AllocError`] if an allocation fails. Then `into` has the answers that it had before, and perhaps more after them.
-pub fn merge<K: Keeper>(
+pub fn merge<K: AnswerSink>(
     into: &mut K,
-    used: &mut Vec<Workplace<K>>,
+    used: &mut Vec<WorkerBuffers<K>>,
     count: usize,
 ) -> Result<(), AllocError>
     ensures merged { OnOk result ((kept : List Placed) (parts : List (List Placed)) → K.holds into.old kept → Keep K.holds used.old.items parts
@@ -64,7 +64,7 @@ pub fn merge<K: Keeper>(
         let Some((k, _, below)) = next_run(used.as_slice()) else {
             return Ok(());
         };
-        used[k].keeper.hand_on(into, below)?;
+        used[k].sink.move_before(into, below)?;
     }
     Ok(())
 }

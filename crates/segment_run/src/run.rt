@@ -1,4 +1,4 @@
-//! A run of a segment, with any keeper or with complete answers.
+//! A run of a segment, with any answer sink or with complete answers.
 ghost use Rattle.std.specs.Prelude.{◌≡◌, ◌+◌, ◌<◌, ◌≤◌, ◌^◌, List, IfOk, OnOk, OnErr, length, map};
 ghost use Rattle.exchange_core.specs.Boards.{turns_of};
 ghost use Rattle.tone_rules.specs.Tables.{table_of};
@@ -6,13 +6,13 @@ ghost use Rattle.call_processor.specs.declared.worked.Placed.{Placed};
 ghost use Rattle.call_processor.specs.Frames.{IsReady, IsReadyAt, IsReadyFor};
 ghost use Rattle.segment_run.specs.Segment.{AddsAnswers, HasGrown, HasTurns, IsAnswerOf, IsChief, MayRun, Ran, RanTo, RanWhole, HasAnswers};
 
-use crate::answers::{SegmentAnswer, SegmentDone};
+use crate::answers::{SegmentAnswer, SegmentOutput};
 use crate::apart::run_apart;
+use crate::buffer_pool::BufferPool;
 use crate::by_caller::run_by_caller;
 use crate::choice::is_worth_threads;
 use crate::dealing::loads_of;
-use crate::workroom::Workroom;
-use call_processor::{AnswerList, Keeper, Machine, Placed, RunContext};
+use call_processor::{AnswerList, AnswerSink, Machine, Placed, RunContext};
 use exchange_core::{Switchboard, Tool};
 use exchange_events::{Answer, Trace};
 use frame_engine::Carrier;
@@ -66,19 +66,19 @@ pub fn run_segment<B: Switchboard, G: Gate, C: Carrier, R: Threads + Wait + Sync
         trace,
         gate,
     };
-    let workroom = Workroom::new(alloc, &AnswerList::new(alloc))?;
+    let buffer_pool = BufferPool::new(alloc, &AnswerList::new(alloc))?;
     let machine = Box::new(alloc, Machine::new(alloc, engine, tool))?;
-    let answer = run_for_answers(&cx, seat, segment, machine, workroom)?;
+    let answer = run_for_answers(&cx, seat, segment, machine, buffer_pool)?;
     Ok(answer)
 }
 
-// Runs one segment in this workroom, with a list of complete answers as the keeper.
+// Runs one segment in this buffer pool, with a list of complete answers as the sink.
 fn run_for_answers<B: Switchboard, G: Gate, C: Carrier, R: Threads + Wait + Sync>(
     cx: &RunContext<B, G, R>,
     seat: &mut B::Seat,
     segment: u32,
     machine: Box<Machine<C>>,
-    workroom: Workroom<B::Seat, AnswerList>,
+    buffer_pool: BufferPool<B::Seat, AnswerList>,
 ) -> Result<SegmentAnswer<C>, AllocError>
     requires seated { B.seated cx.now.board.now seat.old }
     requires may { MayRun (B.board cx.now.board.now) cx.now.trace.now segment (B.known seat.old) }
@@ -89,14 +89,14 @@ fn run_for_answers<B: Switchboard, G: Gate, C: Carrier, R: Threads + Wait + Sync
     ensures answer { IfOk result (IsAnswerOf C.plays C.carries C.next C.sizes (B.board cx.now.board.now)
         cx.now.trace.now segment (B.known seat.old) (B.known seat.new)) }
 {
-    let mut keeper = AnswerList::new(cx.alloc);
-    let done = run_segment_with(cx, seat, segment, machine, workroom, &mut keeper)?;
-    let answers = answers_of(cx.alloc, &mut keeper.items)?;
+    let mut sink = AnswerList::new(cx.alloc);
+    let done = run_segment_with(cx, seat, segment, machine, buffer_pool, &mut sink)?;
+    let answers = answers_of(cx.alloc, &mut sink.items)?;
     let machine = Box::into_inner(done.machine);
     Ok(SegmentAnswer {
         answers,
         engine: machine.engine,
-        tool: machine.desk.tool,
+        tool: machine.context.tool,
     })
 }
 
@@ -111,21 +111,27 @@ fn answers_of(alloc: Global, placed: &mut VecDeque<Placed>) -> Result<Vec<Answer
     Ok(answers)
 }
 
-/// Runs one segment of a board's trace as [`run_segment`] does, with a machine and in a workroom that it returns for
-/// the next segment. Appends the answers to a keeper's, in the order of the history.
+/// Runs one segment of a board's trace as [`run_segment`] does, with a machine and in a buffer pool that it returns for
+/// the next segment. Appends the answers to an answer sink's, in the order of the history.
 ///
 /// # Errors
 ///
-/// [`AllocError`] if an allocation fails. The history then has the events processed so far, the workroom is dropped,
-/// and the keeper has only the answers that it had before.
-pub fn run_segment_with<B: Switchboard, G: Gate, C: Carrier, K: Keeper, R: Threads + Wait + Sync>(
+/// [`AllocError`] if an allocation fails. The history then has the events processed so far, the buffer pool is dropped,
+/// and the sink has only the answers that it had before.
+pub fn run_segment_with<
+    B: Switchboard,
+    G: Gate,
+    C: Carrier,
+    K: AnswerSink,
+    R: Threads + Wait + Sync,
+>(
     cx: &RunContext<B, G, R>,
     seat: &mut B::Seat,
     segment: u32,
     machine: Box<Machine<C>>,
-    workroom: Workroom<B::Seat, K>,
-    keeper: &mut K,
-) -> Result<SegmentDone<B::Seat, C, K>, AllocError>
+    buffer_pool: BufferPool<B::Seat, K>,
+    sink: &mut K,
+) -> Result<SegmentOutput<B::Seat, C, K>, AllocError>
     requires seated { B.seated cx.now.board.now seat.old }
     requires may { MayRun (B.board cx.now.board.now) cx.now.trace.now segment (B.known seat.old) }
     requires ready { IsReadyAt C.carries C.next C.sizes (B.board cx.now.board.now) (B.known seat.old) machine.value }
@@ -134,13 +140,13 @@ pub fn run_segment_with<B: Switchboard, G: Gate, C: Carrier, K: Keeper, R: Threa
     ensures ran { Ran cx.now.trace.now segment (B.known seat.old) (B.known seat.new) }
     ensures whole { IfOk result (RanTo C.carries C.next C.sizes (B.board cx.now.board.now)
         cx.now.trace.now segment (B.known seat.old) (B.known seat.new)) }
-    ensures answered { OnOk result ((kept : List Placed) → K.holds keeper.old kept
-        → AddsAnswers K.holds C.plays (table_of cx.now.trace.now.tones) (B.board cx.now.board.now) (B.known seat.old) (B.known seat.new) kept keeper.new) }
-    ensures kept { OnErr result ((kept : List Placed) → K.holds keeper.old kept → K.holds keeper.new kept) }
+    ensures answered { OnOk result ((kept : List Placed) → K.holds sink.old kept
+        → AddsAnswers K.holds C.plays (table_of cx.now.trace.now.tones) (B.board cx.now.board.now) (B.known seat.old) (B.known seat.new) kept sink.new) }
+    ensures kept { OnErr result ((kept : List Placed) → K.holds sink.old kept → K.holds sink.new kept) }
 {
     let loads = loads_of(cx.trace, segment);
     if cx.gate.apart() || is_worth_threads(&loads) {
-        return run_apart(cx, seat, segment, machine, workroom, keeper, &loads);
+        return run_apart(cx, seat, segment, machine, buffer_pool, sink, &loads);
     }
-    run_by_caller(cx, seat, segment, machine, workroom, keeper)
+    run_by_caller(cx, seat, segment, machine, buffer_pool, sink)
 }

@@ -6,7 +6,7 @@ ghost use Rattle.turn_lock.specs.Locks.{IsSeatOf};
 
 use crate::stepper::Exchange;
 use control_memory::PathMap;
-use exchange_core::{Core, Desk, Switchboard, Tool};
+use exchange_core::{Core, StepContext, Switchboard, Tool};
 use exchange_events::{Reply, Response};
 use std::alloc::{AllocError, Global};
 use std::marker::Model;
@@ -113,26 +113,26 @@ impl<'t, P: PathMap + Send> Switchboard for SharedExchange<'t, P> {
         event: u32,
         tool: &mut Tool,
     ) -> (u32, Reply) {
-        let mut desk = Desk::new(mem::replace(tool, Tool::Nothing));
-        let (place, response) = self.work(rt, seat, event, &mut desk, false);
-        let Desk {
+        let mut context = StepContext::new(mem::replace(tool, Tool::Nothing));
+        let (place, response) = self.handle_into(rt, seat, event, &mut context, false);
+        let StepContext {
             tool: lent,
             out,
             ..
-        } = desk;
+        } = context;
         *tool = lent;
-        (place, response.with(out))
+        (place, response.into_reply(out))
     }
 
-    fn work<R: Wait>(
+    fn handle_into<R: Wait>(
         &self,
         rt: &R,
         seat: &mut Seat<'t, P>,
         event: u32,
-        desk: &mut Desk,
+        context: &mut StepContext,
         keep: bool,
     ) -> (u32, Response) {
-        self.lock.step(rt, &mut seat.turns, event, desk, keep)
+        self.lock.step(rt, &mut seat.turns, event, context, keep)
     }
 
     fn release(&self, seat: &mut Seat<'t, P>) {

@@ -7,19 +7,19 @@ ghost use Rattle.exchange_core.specs.Boards.{IsFrame, IsToolAt};
 ghost use Rattle.shared_exchange.specs.Sharing.{Answers, board_of};
 
 use control_memory::PathMap;
-use exchange_core::{Core, Desk};
+use exchange_core::{Core, StepContext};
 use exchange_events::{Response, Trace};
 use std::marker::Model;
 use turn_lock::Stepper;
 
 /// The constant part of the state. No value of it is made.
-pub struct Setting {
+pub struct BoardConfig {
     trace: Trace,
     slots: u64,
     bound: u64,
 }
 
-impl Model for Setting {
+impl Model for BoardConfig {
     ghost use Rattle.exchange_core.specs.Boards.{Board};
 
     ghost Value = { Board };
@@ -34,11 +34,11 @@ pub struct Exchange<'t, P: PathMap> {
 }
 
 impl<'t, P: PathMap> Stepper for Exchange<'t, P> {
-    type Tool = Desk;
+    type Tool = StepContext;
 
     type Reply = Response;
 
-    type Setting = Setting;
+    type Setting = BoardConfig;
 
     ghost setting = { λ x. board_of x.core.value };
 
@@ -48,11 +48,11 @@ impl<'t, P: PathMap> Stepper for Exchange<'t, P> {
 
     ghost reserved = { λ board event. IsFrame board.trace event };
 
-    ghost ready = { λ board event desk. IsEvent board.trace event × IsToolAt board event desk.tool × IsReadAt board.trace event desk.ahead };
+    ghost ready = { λ board event context. IsEvent board.trace event × IsToolAt board event context.tool × IsReadAt board.trace event context.ahead };
 
-    ghost answers = { λ board history by event response desk. Answers board history event (reply_of response desk.out) desk.tool × (desk.ahead ≡ None) };
+    ghost answers = { λ board history by event response context. Answers board history event (reply_of response context.out) context.tool × (context.ahead ≡ None) };
 
-    fn step(&mut self, by: u32, event: u32, desk: &mut Desk) -> Response {
-        self.core.work(by, event, desk)
+    fn step(&mut self, by: u32, event: u32, context: &mut StepContext) -> Response {
+        self.core.step_into(by, event, context)
     }
 }

@@ -9,7 +9,7 @@ use Rattle.exchange_core.specs.Boards.{Board}
 use Rattle.exchange_core.specs.Working.{order_of}
 use Rattle.exchange_core.specs.declared.tool.Tool.{Tool}
 use Rattle.exchange_events.specs.Sizes.{Dimensions}
-use Rattle.seat_history.specs.declared.known.Known.{Known}
+use Rattle.seat_history.specs.declared.seat_knowledge.SeatKnowledge.{SeatKnowledge}
 use Rattle.seat_history.specs.Seats.{first_seat}
 use Rattle.call_processor.specs.Frames.{Carrying, IsReady, IsReadyFor}
 use Rattle.call_processor.specs.Parts.{events_of_segment, is_its, part_of}
@@ -20,18 +20,18 @@ use Rattle.segment_run.proofs.OrderLemmas.{first_chief, none, seen_done}
 
 -- ---- the seat that a board begins with
 
-pub first_is_chief : (turns n : ℕ) (v : Known) → turns ≡ n → v ≡ first_seat n → IsChief turns v
+pub first_is_chief : (turns n : ℕ) (v : SeatKnowledge) → turns ≡ n → v ≡ first_seat n → IsChief turns v
 first_is_chief turns n v same fresh = subst (IsChief turns) (sym (fresh ∙ ap first_seat (sym same))) (first_chief turns)
 
-pub first_has_done : (trace : Trace) (n : ℕ) (v : Known) → v ≡ first_seat n → IsDoneBelow trace 0 (order_of v.seen)
-first_has_done trace n v fresh = subst (λ (w : Known). IsDoneBelow trace 0 (order_of w.seen)) (sym fresh) (none trace)
+pub first_has_done : (trace : Trace) (n : ℕ) (v : SeatKnowledge) → v ≡ first_seat n → IsDoneBelow trace 0 (order_of v.seen)
+first_has_done trace n v fresh = subst (λ (w : SeatKnowledge). IsDoneBelow trace 0 (order_of w.seen)) (sym fresh) (none trace)
 
-pub first_made : (n : ℕ) (v : Known) → v ≡ first_seat n → v.made ≡ 0
-first_made n v fresh = ap (λ (w : Known). w.made) fresh
+pub first_made : (n : ℕ) (v : SeatKnowledge) → v ≡ first_seat n → v.made ≡ 0
+first_made n v fresh = ap (λ (w : SeatKnowledge). w.made) fresh
 
-pub first_is_ready : {E : Type 0} (carries : Carrying E) (next : E → ℕ) (sizes : E → Dimensions) (board : Board) (n : ℕ) (v : Known) (engine : E) (tool : Tool)
+pub first_is_ready : {E : Type 0} (carries : Carrying E) (next : E → ℕ) (sizes : E → Dimensions) (board : Board) (n : ℕ) (v : SeatKnowledge) (engine : E) (tool : Tool)
     → v ≡ first_seat n → IsReady carries next sizes board [] engine tool → IsReadyFor carries next sizes board v engine tool
-first_is_ready carries next sizes board n v engine tool fresh ready = subst (λ (w : Known). IsReadyFor carries next sizes board w engine tool) (sym fresh) ready
+first_is_ready carries next sizes board n v engine tool fresh ready = subst (λ (w : SeatKnowledge). IsReadyFor carries next sizes board w engine tool) (sym fresh) ready
 
 -- ---- turns
 
@@ -59,15 +59,15 @@ all_few trace segment =
     omega (arith, both, size)
 
 -- the first seat has a turn for each event of a part
-pub first_may : (trace : Trace) (segment : ℕ) (worker : Worker) (v : Known) → v ≡ first_seat (length trace.events) → length (part_of trace segment worker) ≤ v.left
+pub first_may : (trace : Trace) (segment : ℕ) (worker : Worker) (v : SeatKnowledge) → v ≡ first_seat (length trace.events) → length (part_of trace segment worker) ≤ v.left
 first_may trace segment worker v fresh =
     let part = part_few trace segment worker in
     let all = all_few trace segment in
-    let left = ap (λ (w : Known). w.left) fresh in
+    let left = ap (λ (w : SeatKnowledge). w.left) fresh in
     omega (arith, part, all, left)
 
 -- so has seat 0 where all segments before were done
-pub chief_may : (trace : Trace) (segment : ℕ) (worker : Worker) (turns : ℕ) (v : Known) → turns ≡ length trace.events → IsSound trace → segment < length trace.segments → IsChief turns v
+pub chief_may : (trace : Trace) (segment : ℕ) (worker : Worker) (turns : ℕ) (v : SeatKnowledge) → turns ≡ length trace.events → IsSound trace → segment < length trace.segments → IsChief turns v
     → IsDoneBelow trace segment (order_of v.seen) → length (part_of trace segment worker) ≤ v.left
 chief_may trace segment worker turns v same sound within chief below =
     let board : Board = record { trace = trace; slots = 0; bound = 0 } in

@@ -6,7 +6,7 @@ ghost use Rattle.control_memory.specs.Image.{lines_of};
 ghost use Rattle.space_stage.specs.Crossing.{gets, IsCrossedPart, IsCrossed, AreStarts};
 
 use control_memory::Image;
-use frame_buffer::{Crossed, Highway, make_idle};
+use frame_buffer::{Crossed, Highway, fill_idle};
 
 /// Crosses one frame: in each internal slot each outgoing line gets the octet of the incoming line in its control
 /// table's entry, or the idle octet if there is no entry. Every octet is written, so nothing of an earlier frame
@@ -19,7 +19,7 @@ pub fn cross(highway: &Highway, image: &Image, crossed: &mut Crossed)
     ensures octets { IsCrossed image.now highway.now crossed.new }
 {
     let slots = crossed.slots();
-    cross_part(highway, image, slots, 0, crossed.parts());
+    cross_part(highway, image, slots, 0, crossed.rows_mut());
 }
 
 /// Crosses one frame to some outgoing lines: `part` has their rows, of `slots` octets each, from the row of line
@@ -35,9 +35,9 @@ pub fn cross_part(highway: &Highway, image: &Image, slots: u8, first: u8, part: 
     let mut starts = [0; 256];
     find_starts(highway, &mut starts);
     let slots = usize::from(slots);
-    make_idle(part);
+    fill_idle(part);
     for line in first..highway.lines() {
-        if image.gets_nothing(line) {
+        if image.is_space_known_empty(line) {
             continue;
         }
         let start = usize::from(line - first) * slots;
@@ -78,7 +78,7 @@ fn gather_row(highway: &Highway, starts: &[u16; 256], image: &Image, line: u8, r
     ensures size { length row.new ≡ length row.old }
     ensures octets { (slot : ℕ) → slot < length row.new → slice_index row.new slot ≡ gets image.now highway.now line slot }
 {
-    let rows = highway.rows_behind_idle();
+    let rows = highway.rows_with_idle_first();
     let table = image.space_row(line);
     for (slot, octet) in row.iter_mut().enumerate() {
         let start = usize::from(starts[usize::from(table[slot])]);

@@ -8,12 +8,13 @@ ghost use Rattle.space_stage.specs.Crossing.{AreCrossed, IsCrossedPart, IsCrosse
 
 use crate::crossbar::{cross, cross_part};
 use control_memory::Image;
-use frame_buffer::{Crossed, Highway, LEAST_HALF};
+use frame_buffer::{Crossed, Highway, MIN_HALF_OCTETS};
 use std::ops::Range;
 use std::thread::{Threads, join_mut};
 
 /// Crosses one frame as `cross` does, by halves of the lines: they are halved `levels` times, and the halves joined. A
-/// half of at least [`LEAST_HALF`] octets gets a thread. If the first half of all lines has fewer, this is `cross`.
+/// half of at least [`MIN_HALF_OCTETS`] octets gets a thread. If the first half of all lines has fewer, this is
+/// `cross`.
 pub fn cross_shared<R: Threads + Sync>(
     rt: &R,
     highway: &Highway,
@@ -29,16 +30,16 @@ pub fn cross_shared<R: Threads + Sync>(
     ensures octets { IsCrossed image.now highway.now crossed.new }
 {
     let half = usize::from(highway.lines() / 2) * usize::from(highway.slots());
-    if half < LEAST_HALF {
+    if half < MIN_HALF_OCTETS {
         cross(highway, image, crossed);
     } else {
-        cross_by_halves(rt, highway, image, crossed, levels, LEAST_HALF);
+        cross_split(rt, highway, image, crossed, levels, MIN_HALF_OCTETS);
     }
 }
 
 /// Crosses one frame as `cross_shared` does, with a thread for a half of at least n octets. With n = 0 each half has a
 /// thread. For tests and measurements.
-pub fn cross_by_halves<R: Threads + Sync>(
+pub fn cross_split<R: Threads + Sync>(
     rt: &R,
     highway: &Highway,
     image: &Image,
@@ -54,7 +55,7 @@ pub fn cross_by_halves<R: Threads + Sync>(
     ensures octets { IsCrossed image.now highway.now crossed.new }
 {
     let lines = 0..highway.lines();
-    let part = crossed.parts();
+    let part = crossed.rows_mut();
     cross_halves(rt, highway, image, lines, part, levels, least);
 }
 

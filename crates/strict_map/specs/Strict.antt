@@ -8,8 +8,8 @@ use Rattle.control_memory.specs.Connecting.{connect, with_path, moved}
 use Rattle.control_memory.specs.Paths.{Fabric}
 
 -- the maximum number of live paths that a new path moves, on n lines
-abbrev pub most_moves : ℕ → ℕ
-most_moves lines = 0
+abbrev pub max_moves : ℕ → ℕ
+max_moves lines = 0
 
 -- a legal layout on 59 internal slots
 pub record Strict (f : Fabric) : Type 0 where

@@ -9,7 +9,7 @@ use std::marker::Model;
 
 /// The number of internal slots of a frame of a line in this fabric. The other paths of an incoming and an outgoing
 /// line of 30 places each can use all but one (Clos).
-pub const SLOTS: u8 = 59;
+pub const INTERNAL_SLOTS: u8 = 59;
 
 /// The live map of a strict-sense non-blocking fabric: 59 internal slots, and no path moves.
 ///
@@ -40,19 +40,19 @@ impl StrictMap {
         ensures bare { IfOk result (λ m. m.layout ≡ replicate (30 * lines) None) }
     {
         Ok(StrictMap {
-            memory: PathMemory::new(alloc, lines, SLOTS)?,
+            memory: PathMemory::new(alloc, lines, INTERNAL_SLOTS)?,
         })
     }
 }
 
 impl PathMap for StrictMap {
-    ghost use Rattle.strict_map.specs.Strict.{most_moves};
+    ghost use Rattle.strict_map.specs.Strict.{max_moves};
 
     ghost width = { λ m. m.lines };
 
     ghost depth = { λ m. m.slots };
 
-    ghost bound = { λ m. most_moves m.lines };
+    ghost bound = { λ m. max_moves m.lines };
 
     ghost layout = { λ m. m.layout };
 

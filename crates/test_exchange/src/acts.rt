@@ -1,9 +1,9 @@
 //! The operations of each act.
 
 use crate::elements::Received;
-use crate::exchange::PlainExchange;
+use crate::exchange::ReferenceExchange;
 use crate::legs::{Leg, Peer, State, leg_at};
-use crate::sent::{Course, Sent};
+use crate::sent::{Course, StepOutput};
 use crate::table::{Act, act_of, clearing_cause};
 use crate::types::{
     ALERTING, CONNECT, CONNECT_ACKNOWLEDGE, DISCONNECT, NAMED_TYPES, NOT_COMPATIBLE_WITH_STATE,
@@ -14,14 +14,14 @@ use circuit_model::Kind;
 use std::alloc::{AllocError, Global};
 
 // The operations that the table requires for a message to a leg.
-impl PlainExchange {
+impl ReferenceExchange {
     /// Processes a message to a leg, and returns the cause with which it clears a call.
     pub(crate) fn act(
         &mut self,
         alloc: Global,
         leg: Leg,
         message: &Received,
-        sent: &mut Sent,
+        sent: &mut StepOutput,
     ) -> Result<u8, AllocError> {
         let act = act_of(leg.state, message);
         let cause = clearing_cause(message);
@@ -62,7 +62,7 @@ impl PlainExchange {
     }
 
     // The called user is alerted. The caller is sent that, with the tone if there is one.
-    fn alert(&mut self, alloc: Global, leg: Leg, sent: &mut Sent) -> Result<(), AllocError> {
+    fn alert(&mut self, alloc: Global, leg: Leg, sent: &mut StepOutput) -> Result<(), AllocError> {
         self.set_state(leg, State::Alerted);
         if let Some(caller) = self.peer_of(leg) {
             self.set_state(caller, State::Delivered);
@@ -77,7 +77,7 @@ impl PlainExchange {
     }
 
     // The called user answers: both are connected, and both are sent that.
-    fn answer(&mut self, alloc: Global, leg: Leg, sent: &mut Sent) -> Result<(), AllocError> {
+    fn answer(&mut self, alloc: Global, leg: Leg, sent: &mut StepOutput) -> Result<(), AllocError> {
         self.set_state(leg, State::Active);
         sent.tell(alloc, leg, CONNECT_ACKNOWLEDGE)?;
         if let Some(caller) = self.peer_of(leg) {
@@ -95,7 +95,7 @@ impl PlainExchange {
         alloc: Global,
         leg: Leg,
         cause: u8,
-        sent: &mut Sent,
+        sent: &mut StepOutput,
     ) -> Result<(), AllocError> {
         self.stand_alone(leg, State::Releasing);
         self.send_release(alloc, leg, None, sent)?;
@@ -131,7 +131,7 @@ impl PlainExchange {
         alloc: Global,
         leg: Leg,
         cause: u8,
-        sent: &mut Sent,
+        sent: &mut StepOutput,
     ) -> Result<(), AllocError> {
         match self.peer_of(leg) {
             Some(peer) => self.clear_leg(alloc, peer, cause, sent),
@@ -145,7 +145,7 @@ impl PlainExchange {
         alloc: Global,
         leg: Leg,
         cause: u8,
-        sent: &mut Sent,
+        sent: &mut StepOutput,
     ) -> Result<(), AllocError> {
         self.stand_alone(Leg { cause, ..leg }, State::Disconnected);
         let sounds = cause == USER_BUSY && self.sound(leg.at, Kind::Busy)?;

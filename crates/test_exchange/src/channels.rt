@@ -2,7 +2,7 @@
 
 ghost use Rattle.std.specs.Prelude.{◌<◌, IfSome};
 
-use circuit_model::PLACES;
+use circuit_model::CHANNELS_PER_LINE;
 
 // The channel numbers of a line's 30 places: its time slots except 0 and 16 (ITU-T Q.931, 4.5.13).
 const CHANNELS: [u8; 30] = [
@@ -21,5 +21,5 @@ pub(crate) fn channel_at(place: u8) -> u8
 pub(crate) fn place_of_channel(channel: u8) -> Option<u8>
     ensures { IfSome result (λ place. place < 30) }
 {
-    (0..PLACES).find(|place| CHANNELS.get(usize::from(*place)) == Some(&channel))
+    (0..CHANNELS_PER_LINE).find(|place| CHANNELS.get(usize::from(*place)) == Some(&channel))
 }

@@ -9,10 +9,10 @@ use crate::numbers::Number;
 use crate::passed::Passed;
 use crate::paths::{Chains, Paths};
 use crate::ports::Ports;
-use crate::sent::{CallRecord, Course, Party, Sent};
-use crate::timers::{Expired, Kept, PlainTimers};
+use crate::sent::{CallRecord, Course, Party, StepOutput};
+use crate::timers::{ExpiredTimer, Kept, ReferenceTimers};
 use crate::types::SETUP;
-use circuit_model::{Circuit, Kind, PLACES, Slot};
+use circuit_model::{CHANNELS_PER_LINE, Circuit, Kind, Slot};
 use plain_model::{Exchange, find_heard};
 use std::alloc::{AllocError, Global};
 
@@ -20,7 +20,7 @@ use std::alloc::{AllocError, Global};
 ///
 /// If an allocation fails, the exchange is half changed and unusable.
 #[derive(Drop)]
-pub struct PlainExchange {
+pub struct ReferenceExchange {
     pub(crate) external: u8,
     pub(crate) circuits: Exchange,
     pub(crate) ports: Ports,
@@ -29,11 +29,11 @@ pub struct PlainExchange {
     // The callers in overlap sending.
     pub(crate) waiting: Vec<Passed>,
     pub(crate) numbers: Vec<Number>,
-    tones: PlainTones,
-    pub(crate) timers: PlainTimers,
+    tones: ReferenceTones,
+    pub(crate) timers: ReferenceTimers,
     // The messages that may be retransmitted.
     pub(crate) kept: Vec<Kept>,
-    pub(crate) expired: Vec<Expired>,
+    pub(crate) expired: Vec<ExpiredTimer>,
     // The number of times that each of the two tones was connected to a slot.
     rung: u32,
     busy: u32,
@@ -41,24 +41,24 @@ pub struct PlainExchange {
 
 /// The octets of the tones. A tone that is not given has none.
 #[derive(Drop)]
-pub struct PlainTones {
+pub struct ReferenceTones {
     /// Ringing tone.
     pub ringback: Vec<u8>,
     /// Busy tone.
     pub busy: Vec<u8>,
 }
 
-impl PlainTones {
+impl ReferenceTones {
     /// Makes the tones with neither given.
-    pub fn none(alloc: Global) -> PlainTones {
-        PlainTones {
+    pub fn empty(alloc: Global) -> ReferenceTones {
+        ReferenceTones {
             ringback: Vec::new(alloc),
             busy: Vec::new(alloc),
         }
     }
 }
 
-impl PlainExchange {
+impl ReferenceExchange {
     /// Makes an exchange with these numbers of internal slots, external and bridge lines, this number plan, these tones
     /// and the usual timers, before its first event.
     pub fn new(
@@ -67,9 +67,9 @@ impl PlainExchange {
         external: u8,
         bridges: u8,
         numbers: Vec<Number>,
-        tones: PlainTones,
-    ) -> PlainExchange {
-        PlainExchange {
+        tones: ReferenceTones,
+    ) -> ReferenceExchange {
+        ReferenceExchange {
             external,
             circuits: Exchange::new(alloc),
             ports: Ports::new(alloc, external, bridges),
@@ -78,7 +78,7 @@ impl PlainExchange {
             waiting: Vec::new(alloc),
             numbers,
             tones,
-            timers: PlainTimers::usual(),
+            timers: ReferenceTimers::default(),
             kept: Vec::new(alloc),
             expired: Vec::new(alloc),
             rung: 0,
@@ -87,8 +87,8 @@ impl PlainExchange {
     }
 
     /// Returns the same exchange with these timers.
-    pub fn with_timers(self, timers: PlainTimers) -> PlainExchange {
-        PlainExchange { timers, ..self }
+    pub fn with_timers(self, timers: ReferenceTimers) -> ReferenceExchange {
+        ReferenceExchange { timers, ..self }
     }
 
     /// Returns the number of external lines.
@@ -102,7 +102,7 @@ impl PlainExchange {
     }
 
     /// Returns the expiries of timers, in order.
-    pub fn expired(&self) -> &[Expired] {
+    pub fn expired(&self) -> &[ExpiredTimer] {
         self.expired.as_slice()
     }
 
@@ -167,13 +167,13 @@ impl PlainExchange {
         &mut self,
         alloc: Global,
         input: &[Option<[u8; 30]>],
-    ) -> Result<Option<(u32, Sent)>, AllocError> {
+    ) -> Result<Option<(u32, StepOutput)>, AllocError> {
         let frame = self.circuits.next_frame();
         if frame == u32::MAX {
             return Ok(None);
         }
         self.circuits.frame(alloc, input)?;
-        let mut sent = Sent::new(alloc);
+        let mut sent = StepOutput::new(alloc);
         self.expire(alloc, frame, &mut sent)?;
         Ok(Some((frame, sent)))
     }
@@ -230,8 +230,13 @@ impl PlainExchange {
     }
 
     /// Processes a message from the user of a line.
-    pub fn message(&mut self, alloc: Global, line: u8, octets: &[u8]) -> Result<Sent, AllocError> {
-        let mut sent = Sent::new(alloc);
+    pub fn message(
+        &mut self,
+        alloc: Global,
+        line: u8,
+        octets: &[u8],
+    ) -> Result<StepOutput, AllocError> {
+        let mut sent = StepOutput::new(alloc);
         let Some(message) = receive(octets) else {
             return Ok(sent);
         };
@@ -250,7 +255,7 @@ impl PlainExchange {
         alloc: Global,
         leg: Leg,
         message: &Received,
-        sent: &mut Sent,
+        sent: &mut StepOutput,
     ) -> Result<(), AllocError> {
         let calls = self.calls(alloc)?;
         let cause = self.act(alloc, leg, message, sent)?;
@@ -263,7 +268,7 @@ impl PlainExchange {
         alloc: Global,
         line: u8,
         message: &Received,
-        sent: &mut Sent,
+        sent: &mut StepOutput,
     ) -> Result<(), AllocError> {
         if message.reference == 0 {
             self.restart(alloc, line, message, sent)
@@ -283,7 +288,7 @@ impl PlainExchange {
     pub(crate) fn lowest_idle(&self, line: u8, beside: Option<Slot>) -> Option<Slot>
         ensures { IfSome result (λ x. x.place < 30) }
     {
-        for place in 0..PLACES {
+        for place in 0..CHANNELS_PER_LINE {
             let x = Slot { line, place };
             if self.is_idle(x) && beside != Some(x) {
                 return Some(x);
@@ -325,7 +330,7 @@ impl PlainExchange {
             if let (true, Some(called)) = (leg.is_calling(), party_of(leg.peer)) {
                 let answered = leg.state == State::Active;
                 let to = self.circuits.next_frame();
-                let since = self.circuit_of(leg.at).map_or(to, since_of);
+                let since = self.circuit_of(leg.at).map_or(to, first_frame_of);
                 calls.push(CallRecord {
                     caller: leg.at,
                     called,
@@ -344,7 +349,7 @@ impl PlainExchange {
         &self,
         calls: &[CallRecord],
         cause: u8,
-        sent: &mut Sent,
+        sent: &mut StepOutput,
     ) -> Result<(), AllocError> {
         for call in calls {
             match leg_at(self.legs(), call.caller) {
@@ -365,7 +370,7 @@ fn party_of(peer: Peer) -> Option<Party> {
 }
 
 // Returns the first frame of a circuit.
-fn since_of(circuit: Circuit) -> u32 {
+fn first_frame_of(circuit: Circuit) -> u32 {
     match circuit {
         Circuit::Pair { since, .. } => since,
         Circuit::Member { since, .. } => since,

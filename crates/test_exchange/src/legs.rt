@@ -93,7 +93,7 @@ pub(crate) fn leg_named(legs: &[Leg], line: u8, flag: bool, reference: u16) -> O
 }
 
 /// Returns the lowest reference that no called leg of a line has. A line has no more legs than places.
-pub(crate) fn new_reference(legs: &[Leg], line: u8) -> u16 {
+pub(crate) fn lowest_free_reference(legs: &[Leg], line: u8) -> u16 {
     (1..0x7FFF)
         .find(|reference| leg_named(legs, line, true, *reference).is_none())
         .unwrap_or(0x7FFF)

@@ -4,11 +4,11 @@ ghost use Rattle.std.specs.Prelude.{◌<◌, IfOk, IfSome};
 
 use crate::channels::place_of_channel;
 use crate::elements::Received;
-use crate::exchange::PlainExchange;
-use crate::legs::{Leg, Peer, Side, State, new_reference};
+use crate::exchange::ReferenceExchange;
+use crate::legs::{Leg, Peer, Side, State, lowest_free_reference};
 use crate::numbers::{Found, Hunted, Target, are_digits, look};
 use crate::passed::Passed;
-use crate::sent::{Course, Sent};
+use crate::sent::{Course, StepOutput};
 use crate::setup::{Channel, Refusal, read_setup};
 use crate::types::{CALL_PROCEEDING, CONNECT, RELEASE_COMPLETE, SETUP_ACKNOWLEDGE};
 use crate::writing::{add_cause, add_channel, bare_message};
@@ -35,14 +35,14 @@ impl From<AllocError> for Halt {
 }
 
 // The calls that a SETUP requests.
-impl PlainExchange {
+impl ReferenceExchange {
     /// Processes a SETUP whose reference has no leg.
     pub(crate) fn set_up(
         &mut self,
         alloc: Global,
         line: u8,
         setup: &Received,
-        sent: &mut Sent,
+        sent: &mut StepOutput,
     ) -> Result<(), AllocError> {
         let refusal = match self.call(alloc, line, setup, sent) {
             Ok(()) => return Ok(()),
@@ -61,7 +61,7 @@ impl PlainExchange {
         alloc: Global,
         line: u8,
         setup: &Received,
-        sent: &mut Sent,
+        sent: &mut StepOutput,
     ) -> Result<(), Halt> {
         let asked = read_setup(setup)?;
         let target = self.target_of(asked.dialled, asked.is_complete)?;
@@ -110,7 +110,7 @@ impl PlainExchange {
         passed: &Passed,
         target: Target,
         channel: Option<u8>,
-        sent: &mut Sent,
+        sent: &mut StepOutput,
     ) -> Result<(), Halt>
         requires { IfSome channel (λ place. place < 30) }
     {
@@ -190,7 +190,7 @@ impl PlainExchange {
         alloc: Global,
         caller: Leg,
         passed: Passed,
-        sent: &mut Sent,
+        sent: &mut StepOutput,
     ) -> Result<(), AllocError>
         requires { caller.at.place < 30 }
     {
@@ -214,12 +214,12 @@ impl PlainExchange {
         passed: &Passed,
         called: Slot,
         channel: Option<u8>,
-        sent: &mut Sent,
+        sent: &mut StepOutput,
     ) -> Result<(), AllocError>
         requires called { called.place < 30 }
         requires channel { IfSome channel (λ place. place < 30) }
     {
-        let reference = new_reference(self.legs(), called.line);
+        let reference = lowest_free_reference(self.legs(), called.line);
         let state = State::CallProceeding;
         let peer = Peer::Leg(called);
         self.put(Leg {
@@ -248,7 +248,7 @@ impl PlainExchange {
         caller: Leg,
         room: u8,
         channel: Option<u8>,
-        sent: &mut Sent,
+        sent: &mut StepOutput,
     ) -> Result<(), AllocError>
         requires { IfSome channel (λ place. place < 30) }
     {
@@ -272,7 +272,7 @@ fn tell_channel(
     caller: Leg,
     kind: u8,
     channel: Option<u8>,
-    sent: &mut Sent,
+    sent: &mut StepOutput,
 ) -> Result<(), AllocError>
     requires { IfSome channel (λ place. place < 30) }
 {

@@ -2,7 +2,7 @@
 
 use crate::elements::Received;
 use crate::legs::Side;
-use crate::sent::{Course, Sent};
+use crate::sent::{Course, StepOutput};
 use crate::types::{
     CALL_STATE, INVALID_CALL_REFERENCE, RELEASE_COMPLETE, RESPONSE_TO_STATUS_ENQUIRY, SETUP,
     STATUS, STATUS_ENQUIRY,
@@ -16,7 +16,7 @@ pub(crate) fn answer_without_leg(
     alloc: Global,
     line: u8,
     message: &Received,
-    sent: &mut Sent,
+    sent: &mut StepOutput,
 ) -> Result<(), AllocError> {
     let kind = match message.kind {
         SETUP | RELEASE_COMPLETE | STATUS => return Ok(()),

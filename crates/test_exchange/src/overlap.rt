@@ -1,19 +1,19 @@
 //! Overlap sending: numbers whose digits come in several messages (ITU-T Q.931 (05/98), 5.1.3).
 
 use crate::elements::Received;
-use crate::exchange::PlainExchange;
+use crate::exchange::ReferenceExchange;
 use crate::legs::Leg;
 use crate::new_call::Halt;
 use crate::numbers::Target;
 use crate::passed::Passed;
-use crate::sent::{Course, Sent};
+use crate::sent::{Course, StepOutput};
 use crate::setup::Refusal;
 use crate::types::{CALLED_PARTY_NUMBER, SENDING_COMPLETE};
 use circuit_model::Slot;
 use std::alloc::{AllocError, Global};
 
 // The messages of a caller in overlap sending.
-impl PlainExchange {
+impl ReferenceExchange {
     /// Returns the contents of the called party number so far, from the caller at a slot whose number is not complete.
     pub fn dialled(&self, at: Slot) -> Option<&[u8]> {
         let passed = self.waiting.iter().find(|passed| passed.at == at)?;
@@ -27,7 +27,7 @@ impl PlainExchange {
         alloc: Global,
         leg: Leg,
         message: &Received,
-        sent: &mut Sent,
+        sent: &mut StepOutput,
     ) -> Result<(), AllocError> {
         let place = self.waiting.iter().position(|passed| passed.at == leg.at);
         let Some(place) = place else {
@@ -58,7 +58,7 @@ impl PlainExchange {
         leg: Leg,
         passed: Passed,
         message: &Received,
-        sent: &mut Sent,
+        sent: &mut StepOutput,
     ) -> Result<(), Halt> {
         let mut passed = passed;
         if let Some(contents) = message.find(CALLED_PARTY_NUMBER) {

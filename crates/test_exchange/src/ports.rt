@@ -2,7 +2,7 @@
 
 ghost use Rattle.std.specs.Prelude.{◌+◌, ◌≤◌};
 
-use circuit_model::{PLACES, Slot};
+use circuit_model::{CHANNELS_PER_LINE, Slot};
 use std::alloc::{AllocError, Global};
 
 // A member of a conference room, and its port on a bridge line.
@@ -53,7 +53,7 @@ impl Ports {
     fn lowest_free(&self) -> Option<Slot> {
         for number in 0..self.lines {
             let line = self.first_line.saturating_add(number);
-            for place in 0..PLACES {
+            for place in 0..CHANNELS_PER_LINE {
                 let at = Slot { line, place };
                 if self.taken.iter().all(|port| port.at != at) {
                     return Some(at);

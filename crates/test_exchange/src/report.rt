@@ -1,13 +1,13 @@
 //! A run over a list of events, and its report.
 
-use crate::exchange::PlainExchange;
-use crate::sent::{CallRecord, Course, Sent, Signal};
-use circuit_model::{IDLE, PLACES, Slot};
+use crate::exchange::ReferenceExchange;
+use crate::sent::{CallRecord, Course, Signal, StepOutput};
+use circuit_model::{CHANNELS_PER_LINE, IDLE, Slot};
 use std::alloc::{AllocError, Global};
 
 /// An event of a trace.
 #[derive(Drop)]
-pub enum PlainEvent {
+pub enum ReferenceEvent {
     /// Connect two slots.
     Nail(Slot, Slot),
     /// A slot joins a room.
@@ -22,18 +22,18 @@ pub enum PlainEvent {
 
 /// A run of the plain exchange, with its report.
 #[derive(Drop)]
-pub struct PlainRun {
-    exchange: PlainExchange,
+pub struct ReferenceRun {
+    exchange: ReferenceExchange,
     events: u32,
     report: String,
     records: Vec<CallRecord>,
     moved: u32,
 }
 
-impl PlainRun {
+impl ReferenceRun {
     /// Starts before the first event of this exchange.
-    pub fn new(alloc: Global, exchange: PlainExchange) -> PlainRun {
-        PlainRun {
+    pub fn new(alloc: Global, exchange: ReferenceExchange) -> ReferenceRun {
+        ReferenceRun {
             exchange,
             events: 0,
             report: String::new(alloc),
@@ -43,7 +43,7 @@ impl PlainRun {
     }
 
     /// Returns the exchange after the events so far.
-    pub fn exchange(&self) -> &PlainExchange {
+    pub fn exchange(&self) -> &ReferenceExchange {
         &self.exchange
     }
 
@@ -66,19 +66,19 @@ impl PlainRun {
     pub fn step(
         &mut self,
         alloc: Global,
-        event: &PlainEvent,
+        event: &ReferenceEvent,
     ) -> Result<Option<Course>, AllocError> {
         self.events = self.events.saturating_add(1);
         write!(self.report, "{} ", self.events)?;
         let mut course = None;
         match event {
-            PlainEvent::Nail(x, y) => self.nail(alloc, *x, *y)?,
-            PlainEvent::Seat(x, room) => self.seat(alloc, *x, *room)?,
-            PlainEvent::Free(x) => self.free(*x)?,
-            PlainEvent::Message(line, octets) => {
+            ReferenceEvent::Nail(x, y) => self.nail(alloc, *x, *y)?,
+            ReferenceEvent::Seat(x, room) => self.seat(alloc, *x, *room)?,
+            ReferenceEvent::Free(x) => self.free(*x)?,
+            ReferenceEvent::Message(line, octets) => {
                 course = Some(self.message(alloc, *line, octets.as_slice())?);
             }
-            PlainEvent::Frame(input) => self.frame(alloc, input.as_slice())?,
+            ReferenceEvent::Frame(input) => self.frame(alloc, input.as_slice())?,
         }
         self.report.push_str("\n")?;
         Ok(course)
@@ -131,7 +131,7 @@ impl PlainRun {
     }
 
     // Appends the messages that are sent in a frame, and the octets that the lines receive in it.
-    fn tell_frame(&mut self, frame: u32, sent: &Sent) -> Result<(), AllocError> {
+    fn tell_frame(&mut self, frame: u32, sent: &StepOutput) -> Result<(), AllocError> {
         self.records.extend_from_slice(sent.records.as_slice())?;
         write!(self.report, "frame {frame}")?;
         append_sends(&mut self.report, " send ", sent.sends.as_slice())?;
@@ -148,7 +148,7 @@ impl PlainRun {
     // Appends the octets that a line receives in a frame, unless all are idle.
     fn line(&mut self, frame: u32, line: u8) -> Result<(), AllocError> {
         let mut octets = [IDLE; 30];
-        for place in 0..PLACES {
+        for place in 0..CHANNELS_PER_LINE {
             octets[usize::from(place)] = self.exchange.octet_heard(frame, Slot { line, place });
         }
         if octets.iter().all(|octet| *octet == IDLE) {
@@ -159,7 +159,7 @@ impl PlainRun {
     }
 }
 
-fn append_sent(report: &mut String, sent: &Sent) -> Result<(), AllocError> {
+fn append_sent(report: &mut String, sent: &StepOutput) -> Result<(), AllocError> {
     report.push_str("message")?;
     if let Some((there, back)) = sent.moved {
         write!(report, " moved {there} {back}")?;

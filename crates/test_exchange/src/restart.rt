@@ -2,14 +2,14 @@
 
 use crate::channels::place_of_channel;
 use crate::elements::Received;
-use crate::exchange::PlainExchange;
+use crate::exchange::ReferenceExchange;
 use crate::legs::{Leg, leg_at};
-use crate::sent::{CallRecord, Course, Sent};
+use crate::sent::{CallRecord, Course, StepOutput};
 use crate::types::{
     CHANNEL_IDENTIFICATION, RESTART, RESTART_ACKNOWLEDGE, RESTART_INDICATOR, TEMPORARY_FAILURE,
 };
 use crate::writing::{add_channel, add_element};
-use circuit_model::{PLACES, Slot};
+use circuit_model::{CHANNELS_PER_LINE, Slot};
 use std::alloc::{AllocError, Global};
 
 // The scope of a RESTART: the place of one channel, or every channel of the line if it is `None`; and the octet of its
@@ -53,7 +53,7 @@ fn place_named(message: &Received) -> Option<u8> {
     }
 }
 
-impl PlainExchange {
+impl ReferenceExchange {
     /// Processes a message on call reference 0, where only a RESTART has an effect: the legs of its slots are removed
     /// in sequence, and the other legs of their calls are cleared unless the RESTART includes them.
     pub(crate) fn restart(
@@ -61,7 +61,7 @@ impl PlainExchange {
         alloc: Global,
         line: u8,
         message: &Received,
-        sent: &mut Sent,
+        sent: &mut StepOutput,
     ) -> Result<(), AllocError> {
         let Some(scope) = Scope::of(message) else {
             return Ok(());
@@ -80,10 +80,10 @@ impl PlainExchange {
         alloc: Global,
         line: u8,
         scope: Scope,
-        sent: &mut Sent,
+        sent: &mut StepOutput,
     ) -> Result<(), AllocError> {
         let calls = self.calls(alloc)?;
-        for place in 0..PLACES {
+        for place in 0..CHANNELS_PER_LINE {
             let at = Slot { line, place };
             if let (true, Some(leg)) = (scope.holds(line, at), leg_at(self.legs(), at)) {
                 self.restart_leg(alloc, leg, scope, calls.as_slice(), sent)?;
@@ -99,7 +99,7 @@ impl PlainExchange {
         leg: Leg,
         scope: Scope,
         calls: &[CallRecord],
-        sent: &mut Sent,
+        sent: &mut StepOutput,
     ) -> Result<(), AllocError> {
         let peer = self.peer_of(leg);
         let caller = match peer {
@@ -116,7 +116,11 @@ impl PlainExchange {
 }
 
 // Records a caller's call, if it is not yet recorded.
-fn tell_restarted(calls: &[CallRecord], caller: Slot, sent: &mut Sent) -> Result<(), AllocError> {
+fn tell_restarted(
+    calls: &[CallRecord],
+    caller: Slot,
+    sent: &mut StepOutput,
+) -> Result<(), AllocError> {
     let told = calls.iter().find(|call| call.caller == caller).copied();
     if let (Some(call), false) = (told, is_told(sent.records.as_slice(), caller)) {
         sent.records.push(CallRecord {
@@ -132,10 +136,15 @@ fn is_told(records: &[CallRecord], caller: Slot) -> bool {
 }
 
 // Sends the acknowledgement of a RESTART, with the same scope.
-fn acknowledge(alloc: Global, line: u8, scope: Scope, sent: &mut Sent) -> Result<(), AllocError> {
+fn acknowledge(
+    alloc: Global,
+    line: u8,
+    scope: Scope,
+    sent: &mut StepOutput,
+) -> Result<(), AllocError> {
     let mut octets = Vec::from_slice(alloc, &[0x08, 0x02, 0x80, 0x00, RESTART_ACKNOWLEDGE])?;
     match scope.place {
-        Some(place) if place < PLACES => add_channel(&mut octets, place)?,
+        Some(place) if place < CHANNELS_PER_LINE => add_channel(&mut octets, place)?,
         _ => {}
     }
     add_element(&mut octets, RESTART_INDICATOR, &[scope.indicator])?;

@@ -80,7 +80,7 @@ pub struct CallRecord {
 
 /// The reply to a message.
 #[derive(Drop)]
-pub struct Sent {
+pub struct StepOutput {
     /// The result of the message.
     pub course: Course,
     /// The messages that are sent, in order.
@@ -91,10 +91,10 @@ pub struct Sent {
     pub records: Vec<CallRecord>,
 }
 
-impl Sent {
+impl StepOutput {
     /// Returns the empty reply of octets that are not a message.
-    pub(crate) fn new(alloc: Global) -> Sent {
-        Sent {
+    pub(crate) fn new(alloc: Global) -> StepOutput {
+        StepOutput {
             course: Course::Discarded,
             sends: Vec::new(alloc),
             moved: None,

@@ -1,13 +1,13 @@
 //! The timers of calls in this reference model: each leg stores the first frame of its wait.
 
-use crate::exchange::PlainExchange;
+use crate::exchange::ReferenceExchange;
 use crate::legs::{Leg, State, leg_at};
-use crate::sent::Sent;
+use crate::sent::StepOutput;
 use crate::types::{
     INVALID_NUMBER, NO_ANSWER, NO_USER_RESPONDING, RELEASE, RELEASE_COMPLETE, TIMER_EXPIRY,
 };
 use crate::writing::{add_cause, bare_message};
-use circuit_model::{Circuit, Kind, PLACES, Slot};
+use circuit_model::{CHANNELS_PER_LINE, Circuit, Kind, Slot};
 use std::alloc::{AllocError, Global};
 
 // Frames in a second.
@@ -15,7 +15,7 @@ const SECOND: u32 = 8000;
 
 /// The number of frames that a leg may wait, by the timers of ITU-T Q.931 (05/98), 9.1.
 #[derive(Clone, Copy)]
-pub struct PlainTimers {
+pub struct ReferenceTimers {
     /// For the answer of an alerted user.
     pub t301: u32,
     /// For more digits.
@@ -30,10 +30,10 @@ pub struct PlainTimers {
     pub t310: u32,
 }
 
-impl PlainTimers {
+impl Default for ReferenceTimers {
     /// Returns the timers of a trace that gives none.
-    pub fn usual() -> PlainTimers {
-        PlainTimers {
+    fn default() -> ReferenceTimers {
+        ReferenceTimers {
             t301: 180 * SECOND,
             t302: 15 * SECOND,
             t303: 4 * SECOND,
@@ -67,7 +67,7 @@ pub enum Expiry {
 
 /// An expiry in a frame.
 #[derive(Clone, Copy)]
-pub struct Expired {
+pub struct ExpiredTimer {
     /// The number of the frame.
     pub frame: u32,
     /// The slot of the leg.
@@ -86,7 +86,7 @@ pub(crate) struct Kept {
 }
 
 // Returns the time that a leg may wait in its state, and the action after it.
-fn limit(leg: Leg, timers: PlainTimers) -> Option<(u32, Expiry)> {
+fn limit(leg: Leg, timers: ReferenceTimers) -> Option<(u32, Expiry)> {
     match leg.state {
         State::Overlap => Some((timers.t302, Expiry::Digits)),
         State::Present if leg.resent => Some((timers.t303, Expiry::SetupOver)),
@@ -100,15 +100,15 @@ fn limit(leg: Leg, timers: PlainTimers) -> Option<(u32, Expiry)> {
     }
 }
 
-impl PlainExchange {
+impl ReferenceExchange {
     /// Examines one place of each line after the boundary of a frame, and processes the legs there that are due.
     pub(crate) fn expire(
         &mut self,
         alloc: Global,
         frame: u32,
-        sent: &mut Sent,
+        sent: &mut StepOutput,
     ) -> Result<(), AllocError> {
-        let place = (frame % u32::from(PLACES)) as u8;
+        let place = (frame % u32::from(CHANNELS_PER_LINE)) as u8;
         for line in 0..self.external {
             self.expire_at(alloc, frame, Slot { line, place }, sent)?;
         }
@@ -121,13 +121,13 @@ impl PlainExchange {
         alloc: Global,
         frame: u32,
         at: Slot,
-        sent: &mut Sent,
+        sent: &mut StepOutput,
     ) -> Result<(), AllocError> {
         let Some((leg, expiry)) = self.due(at, frame) else {
             return Ok(());
         };
         let rings = self.rings(leg);
-        self.expired.push(Expired {
+        self.expired.push(ExpiredTimer {
             frame,
             at,
             expiry,
@@ -173,7 +173,7 @@ impl PlainExchange {
         alloc: Global,
         leg: Leg,
         expiry: Expiry,
-        sent: &mut Sent,
+        sent: &mut StepOutput,
     ) -> Result<(), AllocError> {
         match expiry {
             Expiry::Digits => self.clear_leg(alloc, leg, INVALID_NUMBER, sent),
@@ -205,7 +205,12 @@ impl PlainExchange {
     }
 
     // Retransmits the last message.
-    fn send_again(&mut self, alloc: Global, leg: Leg, sent: &mut Sent) -> Result<(), AllocError> {
+    fn send_again(
+        &mut self,
+        alloc: Global,
+        leg: Leg,
+        sent: &mut StepOutput,
+    ) -> Result<(), AllocError> {
         self.wait_again(leg.at);
         if let Some(kept) = self.kept.iter().find(|kept| kept.at == leg.at) {
             let octets = Vec::from_slice(alloc, kept.octets.as_slice())?;
@@ -231,7 +236,7 @@ impl PlainExchange {
         alloc: Global,
         leg: Leg,
         cause: Option<u8>,
-        sent: &mut Sent,
+        sent: &mut StepOutput,
     ) -> Result<(), AllocError> {
         let mut octets = bare_message(alloc, leg.side, leg.reference, RELEASE)?;
         if let Some(cause) = cause {
@@ -246,7 +251,7 @@ impl PlainExchange {
         alloc: Global,
         at: Slot,
         octets: Vec<u8>,
-        sent: &mut Sent,
+        sent: &mut StepOutput,
     ) -> Result<(), AllocError> {
         self.drop_kept(at);
         let copy = Vec::from_slice(alloc, octets.as_slice())?;

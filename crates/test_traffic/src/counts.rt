@@ -61,7 +61,7 @@ impl Counts {
     }
 
     /// Counts one message.
-    pub fn note(&mut self, course: Course) {
+    pub fn count(&mut self, course: Course) {
         for (entry, count) in COURSES.iter().zip(self.counts.iter_mut()) {
             if *entry == course {
                 *count = count.saturating_add(1);
@@ -77,7 +77,7 @@ impl Counts {
     }
 
     /// Returns whether each effect has occurred.
-    pub fn is_whole(&self) -> bool {
+    pub fn is_complete(&self) -> bool {
         self.counts.iter().all(|count| *count > 0)
     }
 }

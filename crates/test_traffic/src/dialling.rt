@@ -3,7 +3,7 @@
 use crate::random::Random;
 use circuit_model::Slot;
 use std::alloc::AllocError;
-use test_exchange::PlainExchange;
+use test_exchange::ReferenceExchange;
 use test_exchange::types::{CALLED_PARTY_NUMBER, SENDING_COMPLETE};
 
 /// Adds the elements of an INFORMATION of the caller at a slot, mostly the next digits of a number of the plan. Half of
@@ -11,7 +11,7 @@ use test_exchange::types::{CALLED_PARTY_NUMBER, SENDING_COMPLETE};
 pub(crate) fn add_next_part(
     octets: &mut Vec<u8>,
     random: &mut Random,
-    exchange: &PlainExchange,
+    exchange: &ReferenceExchange,
     at: Slot,
 ) -> Result<(), AllocError> {
     let rest = draw_rest(random, exchange, exchange.dialled(at).unwrap_or(&[]));
@@ -31,7 +31,7 @@ pub(crate) fn add_next_part(
 }
 
 // Returns the rest of a number of the plan after the digits in `dialled`. Returns no digits if they begin no number.
-fn draw_rest<'a>(random: &mut Random, exchange: &'a PlainExchange, dialled: &[u8]) -> &'a [u8] {
+fn draw_rest<'a>(random: &mut Random, exchange: &'a ReferenceExchange, dialled: &[u8]) -> &'a [u8] {
     let begun = dialled.get(1..).unwrap_or(&[]);
     let mut rest: &[u8] = b"";
     for number in exchange.numbers() {

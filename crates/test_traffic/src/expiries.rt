@@ -1,7 +1,7 @@
 //! The number of expiries of each kind.
 
 use std::fmt;
-use test_exchange::{Expired, Expiry};
+use test_exchange::{ExpiredTimer, Expiry};
 
 /// The number of expiries of each kind, at other places than the first, and after another expiry in the same frame. The
 /// number of expiries at an alerted user whose caller had ringing tone, and whose caller had silence.
@@ -40,7 +40,7 @@ impl Expiries {
     }
 
     /// Counts the expiries of a run, in their order.
-    pub fn of(expired: &[Expired]) -> Expiries {
+    pub fn from_expired(expired: &[ExpiredTimer]) -> Expiries {
         let mut expiries = Expiries::new();
         let mut before = None;
         for one in expired {
@@ -88,7 +88,7 @@ impl Expiries {
     }
 
     /// Returns whether each counted case has occurred.
-    pub fn is_whole(&self) -> bool {
+    pub fn is_complete(&self) -> bool {
         let others = [self.beyond, self.beside, self.ringing, self.silent];
         self.counts.iter().all(|count| *count > 0) && others.iter().all(|count| *count > 0)
     }

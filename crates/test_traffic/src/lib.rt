@@ -20,7 +20,7 @@ mod users;
 
 pub use counts::Counts;
 pub use expiries::Expiries;
-pub use orders::{MOST_WORKERS, is_lawful, of_event};
+pub use orders::{MAX_WORKERS, event_by_number, is_lawful};
 pub use random::Random;
 pub use script::{Post, Script};
-pub use traffic::{Drawn, LONGEST_TONE, Setting, draw_long_traffic, draw_pace, draw_traffic};
+pub use traffic::{Drawn, MAX_TONE_LEN, Setting, draw_long_traffic, draw_pace, draw_traffic};

@@ -2,7 +2,7 @@
 
 ghost use Rattle.std.specs.Prelude.{◌<◌, length, IfSome};
 
-use circuit_model::{PLACES, Slot};
+use circuit_model::{CHANNELS_PER_LINE, Slot};
 
 /// A linear congruential generator of 64 bits with the constants of D. E. Knuth's MMIX. It uses the high bits of each
 /// state, because the low bits have short periods.
@@ -62,7 +62,7 @@ impl Random {
     {
         Slot {
             line: self.below(lines),
-            place: self.below(PLACES),
+            place: self.below(CHANNELS_PER_LINE),
         }
     }
 

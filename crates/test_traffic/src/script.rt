@@ -2,7 +2,7 @@
 
 use circuit_model::{Slot, channel_of};
 use std::alloc::{AllocError, Global};
-use test_exchange::{PlainEvent, append_octets};
+use test_exchange::{ReferenceEvent, append_octets};
 
 /// The worker and the segment of an event, both counted from 0. The frame worker comes after the call processors.
 #[derive(Clone, Copy)]
@@ -19,7 +19,7 @@ pub struct Script {
     /// The lines so far.
     pub text: String,
     /// The events of these lines, for the reference model.
-    pub events: Vec<PlainEvent>,
+    pub events: Vec<ReferenceEvent>,
     /// The worker and the segment of each event.
     pub posts: Vec<Post>,
     processors: u8,
@@ -39,7 +39,7 @@ impl Script {
     }
 
     /// Adds an event, and the end of its segment if it is the last one of it.
-    pub fn append(&mut self, event: PlainEvent, ends: bool) -> Result<(), AllocError> {
+    pub fn append(&mut self, event: ReferenceEvent, ends: bool) -> Result<(), AllocError> {
         let worker = worker_of(&event, self.processors);
         append_event(&mut self.text, &event)?;
         self.events.push(event)?;
@@ -65,29 +65,29 @@ impl Script {
 }
 
 // Returns the worker of an event: the call processor of its first line, or the frame worker.
-fn worker_of(event: &PlainEvent, processors: u8) -> u8 {
+fn worker_of(event: &ReferenceEvent, processors: u8) -> u8 {
     let line = match event {
-        PlainEvent::Nail(x, _) | PlainEvent::Seat(x, _) | PlainEvent::Free(x) => x.line,
-        PlainEvent::Message(line, _) => *line,
-        PlainEvent::Frame(_) => return processors,
+        ReferenceEvent::Nail(x, _) | ReferenceEvent::Seat(x, _) | ReferenceEvent::Free(x) => x.line,
+        ReferenceEvent::Message(line, _) => *line,
+        ReferenceEvent::Frame(_) => return processors,
     };
     line.checked_rem(processors).unwrap_or(0)
 }
 
 // Appends the trace line of an event.
-fn append_event(text: &mut String, event: &PlainEvent) -> Result<(), AllocError> {
+fn append_event(text: &mut String, event: &ReferenceEvent) -> Result<(), AllocError> {
     match event {
-        PlainEvent::Nail(x, y) => {
+        ReferenceEvent::Nail(x, y) => {
             append_slot(text, "nail", *x)?;
             append_slot(text, "", *y)?;
         }
-        PlainEvent::Seat(x, room) => {
+        ReferenceEvent::Seat(x, room) => {
             append_slot(text, "seat", *x)?;
             write!(text, " {room}")?;
         }
-        PlainEvent::Free(x) => append_slot(text, "free", *x)?,
-        PlainEvent::Message(line, octets) => append_message(text, *line, octets.as_slice())?,
-        PlainEvent::Frame(input) => append_frame(text, input.as_slice())?,
+        ReferenceEvent::Free(x) => append_slot(text, "free", *x)?,
+        ReferenceEvent::Message(line, octets) => append_message(text, *line, octets.as_slice())?,
+        ReferenceEvent::Frame(input) => append_frame(text, input.as_slice())?,
     }
     text.push_str("\n")
 }

@@ -10,8 +10,8 @@ use crate::users::draw_message;
 use circuit_model::Slot;
 use std::alloc::{AllocError, Global};
 use test_exchange::{
-    Chains, Hunted, Number, PlainEvent, PlainExchange, PlainRun, PlainTimers, PlainTones, Target,
-    append_octets,
+    Chains, Hunted, Number, ReferenceEvent, ReferenceExchange, ReferenceRun, ReferenceTimers,
+    ReferenceTones, Target, append_octets,
 };
 
 /// A trace of calls, and the result of the reference model in file order.
@@ -121,7 +121,7 @@ fn append_lines(text: &mut String, lines: &Hunted) -> Result<(), AllocError> {
 }
 
 /// The maximum number of octets of a tone.
-pub const LONGEST_TONE: usize = 8000;
+pub const MAX_TONE_LEN: usize = 8000;
 
 // Returns a tone of 0, 1, 2 or the maximum number of octets.
 fn draw_tone(alloc: Global, random: &mut Random) -> Result<Vec<u8>, AllocError> {
@@ -129,7 +129,7 @@ fn draw_tone(alloc: Global, random: &mut Random) -> Result<Vec<u8>, AllocError> 
         0 => 0,
         1 => 1,
         2 => 2,
-        _ => LONGEST_TONE,
+        _ => MAX_TONE_LEN,
     };
     let mut octets = Vec::new(alloc);
     for _ in 0..length {
@@ -161,12 +161,12 @@ fn draw_timer(random: &mut Random, usual: u32) -> u32 {
 }
 
 // Returns the usual timers, or timers that mostly expire.
-fn draw_timers(random: &mut Random) -> PlainTimers {
-    let usual = PlainTimers::usual();
+fn draw_timers(random: &mut Random) -> ReferenceTimers {
+    let usual = ReferenceTimers::default();
     if random.once_in(5) {
         return usual;
     }
-    PlainTimers {
+    ReferenceTimers {
         t301: draw_timer(random, usual.t301),
         t302: draw_timer(random, usual.t302),
         t303: draw_timer(random, usual.t303),
@@ -177,8 +177,8 @@ fn draw_timers(random: &mut Random) -> PlainTimers {
 }
 
 // Appends the timers that differ from their usual values.
-fn append_timers(text: &mut String, timers: &PlainTimers) -> Result<(), AllocError> {
-    let usual = PlainTimers::usual();
+fn append_timers(text: &mut String, timers: &ReferenceTimers) -> Result<(), AllocError> {
+    let usual = ReferenceTimers::default();
     for (name, frames, usual) in [
         ("T301", timers.t301, usual.t301),
         ("T302", timers.t302, usual.t302),
@@ -216,8 +216,8 @@ pub struct Setting {
     bridges: u8,
     hunts: Vec<Hunted>,
     numbers: Vec<Number>,
-    tones: PlainTones,
-    timers: PlainTimers,
+    tones: ReferenceTones,
+    timers: ReferenceTimers,
 }
 
 impl Setting {
@@ -242,7 +242,7 @@ impl Setting {
             bridges: random.below(3),
             hunts,
             numbers,
-            tones: PlainTones {
+            tones: ReferenceTones {
                 ringback: draw_tone(alloc, random)?,
                 busy: draw_tone(alloc, random)?,
             },
@@ -277,18 +277,18 @@ impl Setting {
     }
 
     /// Returns a reference model with this setting before its first event, on the strict fabric or the other one.
-    pub fn exchange(&self, alloc: Global, strict: bool) -> Result<PlainExchange, AllocError> {
+    pub fn exchange(&self, alloc: Global, strict: bool) -> Result<ReferenceExchange, AllocError> {
         let slots = if strict {
             STRICT_SLOTS
         } else {
             REARRANGED_SLOTS
         };
         let numbers = draw_numbers(alloc, self.external, self.hunts.as_slice())?;
-        let tones = PlainTones {
+        let tones = ReferenceTones {
             ringback: Vec::from_slice(alloc, self.tones.ringback.as_slice())?,
             busy: Vec::from_slice(alloc, self.tones.busy.as_slice())?,
         };
-        let exchange = PlainExchange::new(
+        let exchange = ReferenceExchange::new(
             alloc,
             slots,
             self.external,
@@ -340,7 +340,7 @@ pub fn draw_long_traffic(
 #[derive(Drop)]
 struct Draft {
     script: Script,
-    run: PlainRun,
+    run: ReferenceRun,
     counts: Counts,
 }
 
@@ -351,7 +351,7 @@ impl Draft {
         let exchange = setting.exchange(alloc, false)?;
         Ok(Draft {
             script: Script::new(alloc, text, processors),
-            run: PlainRun::new(alloc, exchange),
+            run: ReferenceRun::new(alloc, exchange),
             counts: Counts::new(),
         })
     }
@@ -364,7 +364,7 @@ impl Draft {
         pauses: &mut Pauses,
         crowd: Crowd,
         number: u32,
-    ) -> Result<PlainEvent, AllocError>
+    ) -> Result<ReferenceEvent, AllocError>
         requires { crowd.within < 16 }
     {
         let exchange = self.run.exchange();
@@ -376,9 +376,9 @@ impl Draft {
     }
 
     // Appends an event, and the end of its segment if `ends`.
-    fn take(&mut self, alloc: Global, event: PlainEvent, ends: bool) -> Result<(), AllocError> {
+    fn take(&mut self, alloc: Global, event: ReferenceEvent, ends: bool) -> Result<(), AllocError> {
         if let Some(course) = self.run.step(alloc, &event)? {
-            self.counts.note(course);
+            self.counts.count(course);
         }
         self.script.append(event, ends)
     }
@@ -398,7 +398,7 @@ impl Draft {
             moved: run.paths_moved(),
             chains: exchange.chains(),
             sounded: exchange.tones_given(),
-            expiries: Expiries::of(exchange.expired()),
+            expiries: Expiries::from_expired(exchange.expired()),
         }
     }
 }
@@ -409,8 +409,8 @@ fn draw_next(
     random: &mut Random,
     crowd: Crowd,
     number: u32,
-    exchange: &PlainExchange,
-) -> Result<PlainEvent, AllocError>
+    exchange: &ReferenceExchange,
+) -> Result<ReferenceEvent, AllocError>
     requires { crowd.within < 16 }
 {
     match u8::try_from(number) {
@@ -474,22 +474,22 @@ impl Pauses {
 }
 
 // Returns a frame of a sequence, mostly without octets.
-fn draw_pause(alloc: Global, random: &mut Random, lines: u8) -> Result<PlainEvent, AllocError> {
+fn draw_pause(alloc: Global, random: &mut Random, lines: u8) -> Result<ReferenceEvent, AllocError> {
     if random.once_in(8) {
         draw_frame(alloc, random, lines)
     } else {
         let input = vec![in alloc; None; usize::from(lines)]?;
-        Ok(PlainEvent::Frame(input))
+        Ok(ReferenceEvent::Frame(input))
     }
 }
 
 // Returns a nailed connection of two slots of the first line.
-fn nail_in_itself(number: u8) -> PlainEvent
+fn nail_in_itself(number: u8) -> ReferenceEvent
     requires { number < 15 }
 {
     let line = 0;
     let place = 2 * number;
-    PlainEvent::Nail(
+    ReferenceEvent::Nail(
         Slot { line, place },
         Slot {
             line,
@@ -501,38 +501,38 @@ fn nail_in_itself(number: u8) -> PlainEvent
 fn draw_event(
     alloc: Global,
     random: &mut Random,
-    exchange: &PlainExchange,
-) -> Result<PlainEvent, AllocError> {
+    exchange: &ReferenceExchange,
+) -> Result<ReferenceEvent, AllocError> {
     match random.below(10) {
         0 => draw_frame(alloc, random, exchange.external()),
         1 | 2 => Ok(draw_circuit(random, exchange)),
         _ => {
             let (line, octets) = draw_message(alloc, random, exchange)?;
-            Ok(PlainEvent::Message(line, octets))
+            Ok(ReferenceEvent::Message(line, octets))
         }
     }
 }
 
 // Returns a nailed connection, a seat or a release, which is mostly accepted.
-fn draw_circuit(random: &mut Random, exchange: &PlainExchange) -> PlainEvent {
+fn draw_circuit(random: &mut Random, exchange: &ReferenceExchange) -> ReferenceEvent {
     let lines = exchange.external().max(1);
     let x = draw_spare(random, exchange);
     match random.below(6) {
-        0 => PlainEvent::Free(random.slot(lines)),
-        1 | 2 => PlainEvent::Seat(x, random.below(3)),
+        0 => ReferenceEvent::Free(random.slot(lines)),
+        1 | 2 => ReferenceEvent::Seat(x, random.below(3)),
         _ => {
             let y = draw_spare(random, exchange);
             if x == y {
-                PlainEvent::Free(x)
+                ReferenceEvent::Free(x)
             } else {
-                PlainEvent::Nail(x, y)
+                ReferenceEvent::Nail(x, y)
             }
         }
     }
 }
 
 // Returns the first idle slot of 7 random ones, or the last if none is idle.
-fn draw_spare(random: &mut Random, exchange: &PlainExchange) -> Slot {
+fn draw_spare(random: &mut Random, exchange: &ReferenceExchange) -> Slot {
     let lines = exchange.external().max(1);
     for _ in 0..6 {
         let at = random.slot(lines);
@@ -544,7 +544,7 @@ fn draw_spare(random: &mut Random, exchange: &PlainExchange) -> Slot {
 }
 
 // Returns a frame in which about every fourth line is idle.
-fn draw_frame(alloc: Global, random: &mut Random, lines: u8) -> Result<PlainEvent, AllocError> {
+fn draw_frame(alloc: Global, random: &mut Random, lines: u8) -> Result<ReferenceEvent, AllocError> {
     let mut input = Vec::new(alloc);
     for _ in 0..lines {
         let octets = if random.once_in(4) {
@@ -554,5 +554,5 @@ fn draw_frame(alloc: Global, random: &mut Random, lines: u8) -> Result<PlainEven
         };
         input.push(octets)?;
     }
-    Ok(PlainEvent::Frame(input))
+    Ok(ReferenceEvent::Frame(input))
 }

@@ -12,7 +12,7 @@ use test_exchange::types::{
     PROGRESS, RELEASE, RELEASE_COMPLETE, RESTART, RESTART_INDICATOR, SENDING_COMPLETE, SETUP,
     STATUS, STATUS_ENQUIRY, USER_INFORMATION,
 };
-use test_exchange::{Leg, PlainExchange, Side, State};
+use test_exchange::{Leg, ReferenceExchange, Side, State};
 
 // Returns the common message types of a user in a state, each by its frequency.
 fn mostly_sent(state: State) -> &'static [u8] {
@@ -75,7 +75,7 @@ fn mostly_sent(state: State) -> &'static [u8] {
 pub(crate) fn draw_message(
     alloc: Global,
     random: &mut Random,
-    exchange: &PlainExchange,
+    exchange: &ReferenceExchange,
 ) -> Result<(u8, Vec<u8>), AllocError> {
     let line = random.below(exchange.external().max(1));
     match (random.below(12), draw_leg(random, exchange)) {
@@ -88,7 +88,7 @@ pub(crate) fn draw_message(
 }
 
 // Returns one of the legs.
-fn draw_leg(random: &mut Random, exchange: &PlainExchange) -> Option<Leg> {
+fn draw_leg(random: &mut Random, exchange: &ReferenceExchange) -> Option<Leg> {
     let legs = exchange.legs();
     let mut drawn = legs.first().copied();
     for leg in legs {
@@ -103,7 +103,7 @@ fn draw_leg(random: &mut Random, exchange: &PlainExchange) -> Option<Leg> {
 fn message_to_leg(
     alloc: Global,
     random: &mut Random,
-    exchange: &PlainExchange,
+    exchange: &ReferenceExchange,
     leg: Leg,
 ) -> Result<Vec<u8>, AllocError> {
     let kind = if random.once_in(10) {
@@ -249,7 +249,7 @@ fn add_shift(octets: &mut Vec<u8>, random: &mut Random) -> Result<(), AllocError
 fn setup(
     alloc: Global,
     random: &mut Random,
-    exchange: &PlainExchange,
+    exchange: &ReferenceExchange,
 ) -> Result<Vec<u8>, AllocError> {
     let flag = random.once_in(30);
     let reference = draw_reference(random);
@@ -263,7 +263,7 @@ fn add_setup_elements(
     alloc: Global,
     octets: &mut Vec<u8>,
     random: &mut Random,
-    exchange: &PlainExchange,
+    exchange: &ReferenceExchange,
 ) -> Result<(), AllocError> {
     let mut last = Vec::new(alloc);
     for element in 0..7 {
@@ -281,7 +281,7 @@ fn add_setup_elements(
 fn add_setup_element(
     octets: &mut Vec<u8>,
     random: &mut Random,
-    exchange: &PlainExchange,
+    exchange: &ReferenceExchange,
     element: u8,
 ) -> Result<(), AllocError> {
     match element {
@@ -329,7 +329,7 @@ fn add_channel_asked(octets: &mut Vec<u8>, random: &mut Random) -> Result<(), Al
 fn add_called(
     octets: &mut Vec<u8>,
     random: &mut Random,
-    exchange: &PlainExchange,
+    exchange: &ReferenceExchange,
 ) -> Result<(), AllocError> {
     let digits: &[u8] = match random.below(40) {
         0 => return Ok(()),
@@ -357,7 +357,7 @@ fn add_called(
 }
 
 // Returns the digits of a number of the plan.
-fn drawn_digits<'a>(random: &mut Random, exchange: &'a PlainExchange) -> &'a [u8] {
+fn drawn_digits<'a>(random: &mut Random, exchange: &'a ReferenceExchange) -> &'a [u8] {
     let mut digits: &[u8] = b"";
     for number in exchange.numbers() {
         if digits.is_empty() || random.once_in(3) {

@@ -19,10 +19,10 @@ fn reads(
     let mut source = MemSource::new(TEXT.to_vec(alloc)?, piece, fails.to_vec(alloc)?);
     let mut held = Vec::new(alloc);
     for answer in answers {
-        let before = source.faults();
+        let before = source.error_count();
         let mut buf = [0u8; 5];
         let count = source.read(&mut buf);
-        if count.ok() != *answer || (source.faults() > before) != count.is_err() {
+        if count.ok() != *answer || (source.error_count() > before) != count.is_err() {
             return Ok(false);
         }
         if let Ok(count) = count {
@@ -58,9 +58,9 @@ fn writes(
     let mut sink = MemSink::new(alloc, room, piece, fails.to_vec(alloc)?)?;
     let mut rest = TEXT;
     for answer in answers {
-        let before = sink.faults();
+        let before = sink.error_count();
         let count = sink.write(rest);
-        if count.ok() != *answer || (sink.faults() > before) != count.is_err() {
+        if count.ok() != *answer || (sink.error_count() > before) != count.is_err() {
             return Ok(false);
         }
         if let Ok(count) = count {

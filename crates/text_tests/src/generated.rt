@@ -1,6 +1,6 @@
 // The events, frames and segments of generated traces, compared with the counts of another program.
 use exchange_events::{Event, Trace};
-use generated_trace::generated;
+use generated_trace::generate_trace;
 use std::alloc::{AllocError, Global};
 use std::test::Fail;
 
@@ -40,7 +40,7 @@ fn have_counts(
         if calls < 1 || calls > 2000 {
             return Ok(false);
         }
-        let trace = generated(alloc, *seed, calls)?;
+        let trace = generate_trace(alloc, *seed, calls)?;
         if !has_counts(&trace, *events, *of_frames, *segments) {
             return Ok(false);
         }

@@ -4,7 +4,7 @@ use exchange_events::{Event, Trace};
 use number_plan::Found;
 use std::alloc::{AllocError, Global};
 use std::test::Fail;
-use trace_text::{Happening, Heading, Limits, LineFault, Reason, read_trace};
+use trace_text::{Happening, Heading, Limits, LineError, Reason, read_trace};
 
 // The lines of traces, with each kind of line among them.
 const TRACES: [&[&str]; 3] = [
@@ -199,7 +199,7 @@ fn is_still(heading: &Heading, count: u32) -> bool {
 // Whether the line is refused for this reason and changes nothing.
 fn refuses(heading: &mut Heading, alloc: Global, limits: Limits, line: &str, why: Reason) -> bool {
     let count = heading.event_count();
-    heading.read_line(alloc, limits, line.as_bytes()).err() == Some(LineFault::Refused(why))
+    heading.read_line(alloc, limits, line.as_bytes()).err() == Some(LineError::Refused(why))
         && is_still(heading, count)
 }
 

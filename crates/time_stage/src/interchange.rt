@@ -6,9 +6,9 @@ ghost use Rattle.control_memory.specs.Image.{lines_of};
 ghost use Rattle.time_stage.specs.Interchange.{sends, reads, IsSent, IsRead};
 
 use crate::store::Store;
-use circuit_model::PLACES;
+use circuit_model::CHANNELS_PER_LINE;
 use control_memory::Image;
-use frame_buffer::{Crossed, FrameBuffer, Highway, make_idle};
+use frame_buffer::{Crossed, FrameBuffer, Highway, fill_idle};
 
 /// Performs the incoming time stage of one frame: each line sends in each internal slot the octet of the place in its
 /// control table's entry, out of the half of the buffer that is read. It sends the idle octet if there is no entry.
@@ -21,7 +21,7 @@ pub fn incoming(buffer: &FrameBuffer, image: &Image, highway: &mut Highway)
     ensures octets { IsSent image.now buffer.now highway.new }
 {
     let slots = highway.slots();
-    send_part(buffer, image, slots, 0, highway.parts());
+    send_part(buffer, image, slots, 0, highway.rows_mut());
 }
 
 // Writes the octets that some lines send, from line `first` on: `part` holds their rows, of `slots` octets each. All of
@@ -35,9 +35,9 @@ pub(crate) fn send_part(buffer: &FrameBuffer, image: &Image, slots: u8, first: u
 {
     let mut store = Store::new();
     let slots = usize::from(slots);
-    make_idle(part);
+    fill_idle(part);
     for line in first..buffer.lines() {
-        if image.sends_nothing(line) {
+        if image.is_incoming_known_empty(line) {
             continue;
         }
         let start = usize::from(line - first) * slots;
@@ -78,7 +78,7 @@ pub fn outgoing(crossed: &Crossed, table: &Image, out: &mut FrameBuffer)
     ensures octets { IsRead table.now crossed.now out.new }
     ensures readable { out.new.readable ≡ out.old.readable }
 {
-    read_part(crossed, table, 0, out.filled());
+    read_part(crossed, table, 0, out.filling_half_mut());
 }
 
 // Writes the octets that some lines read, from line `first` on: `part` holds their rows, of 30 octets each.
@@ -90,10 +90,10 @@ pub(crate) fn read_part(crossed: &Crossed, table: &Image, first: u8, part: &mut 
     ensures octets { RowsHold 30 (reads table.now crossed.now) first part.new }
 {
     let mut store = Store::new();
-    let places = usize::from(PLACES);
-    make_idle(part);
+    let places = usize::from(CHANNELS_PER_LINE);
+    fill_idle(part);
     for line in first..crossed.lines() {
-        if table.reads_nothing(line) {
+        if table.is_outgoing_known_empty(line) {
             continue;
         }
         let start = usize::from(line - first) * places;

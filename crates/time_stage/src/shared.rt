@@ -7,15 +7,15 @@ ghost use Rattle.control_memory.specs.Image.{lines_of};
 ghost use Rattle.time_stage.specs.Interchange.{AreRead, AreSent, IsRead, IsSent, reads, sends};
 
 use crate::interchange::{incoming, outgoing, read_part, send_part};
-use circuit_model::PLACES;
+use circuit_model::CHANNELS_PER_LINE;
 use control_memory::Image;
-use frame_buffer::{Crossed, FrameBuffer, Highway, LEAST_HALF};
+use frame_buffer::{Crossed, FrameBuffer, Highway, MIN_HALF_OCTETS};
 use std::ops::Range;
 use std::thread::{Threads, join_mut};
 
 /// Performs the incoming time stage of one frame, by halves of the lines: they are halved `levels` times, and the
-/// halves joined. A half of at least [`LEAST_HALF`] octets gets a thread. If the first half of all lines has fewer,
-/// this is `incoming`.
+/// halves joined. A half of at least [`MIN_HALF_OCTETS`] octets gets a thread. If the first half of all lines has
+/// fewer, this is `incoming`.
 pub fn incoming_shared<R: Threads + Sync>(
     rt: &R,
     buffer: &FrameBuffer,
@@ -31,16 +31,16 @@ pub fn incoming_shared<R: Threads + Sync>(
     ensures octets { IsSent image.now buffer.now highway.new }
 {
     let half = usize::from(highway.lines() / 2) * usize::from(highway.slots());
-    if half < LEAST_HALF {
+    if half < MIN_HALF_OCTETS {
         incoming(buffer, image, highway);
     } else {
-        incoming_by_halves(rt, buffer, image, highway, levels, LEAST_HALF);
+        incoming_split(rt, buffer, image, highway, levels, MIN_HALF_OCTETS);
     }
 }
 
 /// Performs the incoming time stage of one frame, with a thread for a half of at least n octets. With n = 0 each half
 /// has a thread. For tests and measurements.
-pub fn incoming_by_halves<R: Threads + Sync>(
+pub fn incoming_split<R: Threads + Sync>(
     rt: &R,
     buffer: &FrameBuffer,
     image: &Image,
@@ -56,7 +56,7 @@ pub fn incoming_by_halves<R: Threads + Sync>(
     ensures octets { IsSent image.now buffer.now highway.new }
 {
     let lines = 0..highway.lines();
-    let part = highway.parts();
+    let part = highway.rows_mut();
     send_halves(rt, buffer, image, lines, part, levels, least);
 }
 
@@ -104,8 +104,8 @@ fn send_halves<R: Threads + Sync>(
 }
 
 /// Performs the outgoing time stage of one frame, by halves of the lines: they are halved `levels` times, and the
-/// halves joined. A half of at least [`LEAST_HALF`] octets gets a thread. If the first half of all lines has fewer,
-/// this is `outgoing`.
+/// halves joined. A half of at least [`MIN_HALF_OCTETS`] octets gets a thread. If the first half of all lines has
+/// fewer, this is `outgoing`.
 pub fn outgoing_shared<R: Threads + Sync>(
     rt: &R,
     crossed: &Crossed,
@@ -121,17 +121,17 @@ pub fn outgoing_shared<R: Threads + Sync>(
     ensures octets { IsRead table.now crossed.now out.new }
     ensures readable { out.new.readable ≡ out.old.readable }
 {
-    let half = usize::from(out.lines() / 2) * usize::from(PLACES);
-    if half < LEAST_HALF {
+    let half = usize::from(out.lines() / 2) * usize::from(CHANNELS_PER_LINE);
+    if half < MIN_HALF_OCTETS {
         outgoing(crossed, table, out);
     } else {
-        outgoing_by_halves(rt, crossed, table, out, levels, LEAST_HALF);
+        outgoing_split(rt, crossed, table, out, levels, MIN_HALF_OCTETS);
     }
 }
 
 /// Performs the outgoing time stage of one frame, with a thread for a half of at least n octets. With n = 0 each half
 /// has a thread. For tests and measurements.
-pub fn outgoing_by_halves<R: Threads + Sync>(
+pub fn outgoing_split<R: Threads + Sync>(
     rt: &R,
     crossed: &Crossed,
     table: &Image,
@@ -148,7 +148,15 @@ pub fn outgoing_by_halves<R: Threads + Sync>(
     ensures readable { out.new.readable ≡ out.old.readable }
 {
     let lines = 0..out.lines();
-    read_halves(rt, crossed, table, lines, out.filled(), levels, least);
+    read_halves(
+        rt,
+        crossed,
+        table,
+        lines,
+        out.filling_half_mut(),
+        levels,
+        least,
+    );
 }
 
 // Writes the octets that these lines read, by halves if they have at least n octets.
@@ -169,7 +177,7 @@ fn read_halves<R: Threads + Sync>(
 {
     let (first, end) = (lines.start, lines.end);
     let half = (end - first) / 2;
-    let cut = usize::from(half) * usize::from(PLACES);
+    let cut = usize::from(half) * usize::from(CHANNELS_PER_LINE);
     if levels == 0 || cut < least {
         read_part(crossed, table, first, part);
         return;

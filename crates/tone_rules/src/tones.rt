@@ -74,7 +74,7 @@ impl Tones {
     }
 
     /// Returns tones of which none is given.
-    pub fn none(alloc: Global) -> Tones
+    pub fn empty(alloc: Global) -> Tones
         ensures ringback { result.ringback ≡ [] }
         ensures busy { result.busy ≡ [] }
     {

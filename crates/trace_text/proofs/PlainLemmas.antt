@@ -9,7 +9,7 @@ use Rattle.std.proofs.lemmas.List.{append-nil, take_all, take-append-drop, take_
 use Rattle.std.proofs.lemmas.List.Folds.{list_all-append}
 use Rattle.circuit_model.specs.FrameInput.{Input}
 use Rattle.trace_text.specs.TraceWords.{words, cut_at, numeral, is_octet, is_empty, is_printable, is_comment}
-use Rattle.trace_text.specs.TraceFields.{digit_value, is_digit, octets_written, thirty, at_most, longest_message, external_line}
+use Rattle.trace_text.specs.TraceFields.{digit_value, is_digit, octets_written, thirty, at_most, max_message_len, external_line}
 use Rattle.trace_text.specs.TraceLines.{frame, nail, free, message, reads, SoFar}
 use Rattle.trace_text.specs.TracePlain.{ends_word, NumberAt, PartAt, SlotAt, TakesPart, GivesPlainly, IsPlain}
 use Rattle.exchange_events.specs.declared.trace.Event.{Event}
@@ -296,10 +296,10 @@ number_filled (x ∷ xs) n e = omega arith
 
 pub message_gives : (external : ℕ) (line rest octets : List ℕ) (number : ℕ) → 2 ≤ length line → get_or line 0 0 ≡ 77 → get_or line 1 0 ≡ 32
     → NumberAt (take (length line - 2) (drop 2 line)) number rest → 1 ≤ length rest → get_or rest 0 0 ≡ 32 → number < external → 0 < length (take (length rest - 1) (drop 1 rest))
-    → at_most longest_message (octets_written (take (length rest - 1) (drop 1 rest))) ≡ Ok octets → IsPlain (codes "M") (message external) line (happening.Message number octets)
+    → at_most max_message_len (octets_written (take (length rest - 1) (drop 1 rest))) ≡ Ok octets → IsPlain (codes "M") (message external) line (happening.Message number octets)
 message_gives external line rest octets number some p q s more space within filled read =
     let digits : List ℕ = take (length rest - 1) (drop 1 rest) in
-    let all : list_all is_digit digits ≡ true = both_ways digits (written_few longest_message (octets_written digits) octets read) (length digits % 2) refl in
+    let all : list_all is_digit digits ≡ true = both_ways digits (written_few max_message_len (octets_written digits) octets read) (length digits % 2) refl in
     let second : rest ≡ 32 ∷ digits = first_is rest 32 more space in
     let ends : ends_word rest ≡ true = rw second refl in
     let filled_front : 0 < length s.front = number_filled s.front number s.number in

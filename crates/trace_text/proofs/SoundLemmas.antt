@@ -30,7 +30,7 @@ use Rattle.number_plan.specs.declared.target.Target.TheVariants as goal
 use Rattle.number_plan.specs.Plan.{is_listed, is_number, is_number_taken, all_targets, with_number}
 use Rattle.number_plan.proofs.OrderFacts.{all_with}
 use Rattle.exchange_events.specs.declared.trace.Trace.{Trace}
-use Rattle.trace_text.specs.TraceFields.{slash, numeral_in, external_line, slot, room, octets_written, thirty, at_most, longest_message, exchange_sizes, header}
+use Rattle.trace_text.specs.TraceFields.{slash, numeral_in, external_line, slot, room, octets_written, thirty, at_most, max_message_len, exchange_sizes, header}
 use Rattle.trace_text.specs.TraceWords.{cut_at, numeral, lines, words, two, one_or_two, digits_and_target, is_comment, is_blank, is_printable}
 use Rattle.trace_text.specs.TraceLines.{◌>>=◌, colon, with_part, with_parts, with_line, with_lines, frame, message, nail, seat, free, target, number, numbered, tone, timer, toned, timed, happens, SoFar, before_events, by_kind, kind_of, by_words, by_place, reads, joins, says, trace_limits}
 use Rattle.trace_text.specs.TraceGrammar.{sizes_in, number_said, numbers_in, plan_of, event_said, events_in, changes_in, so_far, EachSays, IsTrace}
@@ -193,7 +193,7 @@ abbrev message_on : ℕ → List ℕ → Result Event Reason
 message_on line octets = Ok (Message line octets)
 
 abbrev message_digits : List ℕ → ℕ → Result Event Reason
-message_digits digits line = at_most longest_message (octets_written digits) >>= message_on line
+message_digits digits line = at_most max_message_len (octets_written digits) >>= message_on line
 
 abbrev message_words : ℕ → List ℕ × List ℕ → Result Event Reason
 message_words external both = ok_or (external_line external both.0) reason.Slot >>= message_digits both.1
@@ -203,7 +203,7 @@ pub was_found : {A : Type 0} (o : Option A) (why : Reason) (v : A) → ok_or o w
 was_found None why v h = absurd (grind (arith, h))
 was_found (Some x) why v h = let same : x ≡ v = grind (arith, h) in rw same refl
 
-octets_are : (o : Option (List ℕ)) (octets : List ℕ) → IfSome o (λ os. All (λ v. v < 256) os) → at_most longest_message o ≡ Ok octets → All (λ v. v < 256) octets
+octets_are : (o : Option (List ℕ)) (octets : List ℕ) → IfSome o (λ os. All (λ v. v < 256) os) → at_most max_message_len o ≡ Ok octets → All (λ v. v < 256) octets
 octets_are None octets small h = absurd (grind (arith, h))
 octets_are (Some os) octets small h =
     elim (true_or_false (nat_le (length os) 260)) [
@@ -215,7 +215,7 @@ pub message_fits : (external : ℕ) (words : List (List ℕ)) (e : Event) → me
 message_fits external words e h =
     let both = passed_first (ok_or (one_or_two words) reason.Word) (message_words external) e h in
     let line = passed_first (ok_or (external_line external both.0.0) reason.Slot) (message_digits both.0.1) e both.2 in
-    let octets = passed_first (at_most longest_message (octets_written both.0.1)) (message_on line.0) e line.2 in
+    let octets = passed_first (at_most max_message_len (octets_written both.0.1)) (message_on line.0) e line.2 in
     let inside = line_inside external both.0.0 line.0 (was_found (external_line external both.0.0) reason.Slot line.0 line.1) in
     let small = octets_are (octets_written both.0.1) octets.0 (are_octets both.0.1) octets.1 in
     let is : Message line.0 octets.0 ≡ e = grind (arith, octets.2) in

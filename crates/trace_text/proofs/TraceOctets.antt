@@ -9,8 +9,8 @@ use Rattle.std.proofs.lemmas.List.Folds.{list_all-append, list_all_at}
 use Rattle.std.proofs.lemmas.Bool.Decides.{nat_tests}
 use Rattle.circuit_model.specs.Channels.{between}
 use Rattle.trace_text.specs.declared.fault.Reason.TheVariants.{Hex, Length}
-use Rattle.trace_text.specs.declared.fault.LineFault.{LineFault}
-use Rattle.trace_text.specs.declared.fault.LineFault.TheVariants.{Memory, Refused}
+use Rattle.trace_text.specs.declared.fault.LineError.{LineError}
+use Rattle.trace_text.specs.declared.fault.LineError.TheVariants.{Memory, Refused}
 use Rattle.trace_text.specs.TraceLines.{Fails, Gives}
 use Rattle.trace_text.specs.TraceFields.{digit_value, is_digit, octets_written, thirty, at_most}
 
@@ -252,7 +252,7 @@ pub few_written : (most : ℕ) (digits : List ℕ) → length digits ≤ 2 * mos
 few_written most digits few = some_few most digits (octets_written digits) few (written_length digits)
 
 -- so what was read of them, or refused, is what reading gives
-pub few_given : (most : ℕ) (digits : List ℕ) (r : Result (List ℕ) LineFault) → length digits ≤ 2 * most → IfOk r (λ octets. octets_written digits ≡ Some octets)
+pub few_given : (most : ℕ) (digits : List ℕ) (r : Result (List ℕ) LineError) → length digits ≤ 2 * most → IfOk r (λ octets. octets_written digits ≡ Some octets)
     → IfErr r (λ e. Fails e (ok_or (octets_written digits) Hex)) → Gives r (at_most most (octets_written digits))
 few_given most digits (Ok octets) few read refused = sym (few_written most digits few) ∙ ap (λ o. ok_or o Hex) read
 few_given most digits (Err e) few read refused = subst (Fails e) (few_written most digits few) refused
@@ -419,7 +419,7 @@ pub wide_written : (digits text read : List ℕ) → length digits % 2 ≡ 0 →
 wide_written digits text read even wide all = front_written (length digits / 2) digits (replicate (64 - length digits) 48) read (omega (arith, even)) (ap octets_written (sym wide) ∙ all)
 
 -- a fault of some digits is one of all
-pub fails_lost : (e : LineFault) (o all : Option (List ℕ)) → (ok_or o Hex ≡ Err Hex → ok_or all Hex ≡ Err Hex) → Fails e (ok_or o Hex) → Fails e (ok_or all Hex)
+pub fails_lost : (e : LineError) (o all : Option (List ℕ)) → (ok_or o Hex ≡ Err Hex → ok_or all Hex ≡ Err Hex) → Fails e (ok_or o Hex) → Fails e (ok_or all Hex)
 fails_lost Memory o all lost fails = tt
 fails_lost (Refused why) None all lost fails = lost refl ∙ fails
 fails_lost (Refused why) (Some octets) all lost fails = absurd cc

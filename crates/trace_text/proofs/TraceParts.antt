@@ -6,8 +6,8 @@ use Rattle.trace_text.specs.declared.limits.Limits.{Limits}
 use Rattle.trace_text.specs.declared.said.Sizes.{Sizes}
 use Rattle.trace_text.specs.declared.said.Said.{Said}
 use Rattle.trace_text.specs.declared.said.Said.TheVariants.{Sync}
-use Rattle.trace_text.specs.declared.fault.LineFault.{LineFault}
-use Rattle.trace_text.specs.declared.fault.LineFault.TheVariants.{Memory, Refused}
+use Rattle.trace_text.specs.declared.fault.LineError.{LineError}
+use Rattle.trace_text.specs.declared.fault.LineError.TheVariants.{Memory, Refused}
 use Rattle.trace_text.specs.TraceWords.{words, cut_at, is_comment, is_printable}
 use Rattle.trace_text.specs.TraceFields.{external_line, octets_written, thirty}
 use Rattle.trace_text.specs.TraceLines.{colon, with_part, kind_of, SoFar, by_kind, reads, joins, says, Fails}
@@ -31,9 +31,9 @@ reads_sync s sizes line known is = rw (is, known) refl
 pub says_both : (limits : Limits) (s : SoFar) (line : List ℕ) (said : Said) → reads s line ≡ Ok said → joins limits s said ≡ Ok said → says limits s line ≡ Ok said
 says_both limits s line said a b = rw (a, b) refl
 
-pub says_fault : (limits : Limits) (s : SoFar) (line : List ℕ) (e : LineFault) → Fails e (reads s line) → Fails e (says limits s line)
+pub says_fault : (limits : Limits) (s : SoFar) (line : List ℕ) (e : LineError) → Fails e (reads s line) → Fails e (says limits s line)
 says_fault limits s line Memory fails = tt
 says_fault limits s line (Refused why) fails = rw fails refl
 
-pub joins_fault : (limits : Limits) (s : SoFar) (line : List ℕ) (said : Said) (e : LineFault) → reads s line ≡ Ok said → Fails e (joins limits s said) → Fails e (says limits s line)
+pub joins_fault : (limits : Limits) (s : SoFar) (line : List ℕ) (said : Said) (e : LineError) → reads s line ≡ Ok said → Fails e (joins limits s said) → Fails e (says limits s line)
 joins_fault limits s line said e a fails = rw a fails

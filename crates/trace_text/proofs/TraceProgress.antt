@@ -2,8 +2,8 @@
 use Rattle.std.proofs.Common.{◌≡◌, ℕ, ◌+◌, ◌<◌, ◌≤◌, List, [], ◌∷◌, ◌++◌, length, None, Result, Ok, Err, IfOk, IfErr, refl, sym, ap, ◌∙◌, subst, append_assoc, arith}
 use Rattle.std.proofs.lemmas.List.{append-nil, length_push, nil_from_length}
 use Rattle.trace_text.specs.declared.draft.Draft.{Draft}
-use Rattle.trace_text.specs.declared.fault.LineFault.{LineFault}
-use Rattle.trace_text.specs.declared.fault.LineFault.TheVariants.{Memory, Refused}
+use Rattle.trace_text.specs.declared.fault.LineError.{LineError}
+use Rattle.trace_text.specs.declared.fault.LineError.TheVariants.{Memory, Refused}
 use Rattle.trace_text.specs.declared.fault.TraceFault.{TraceFault}
 use Rattle.trace_text.specs.declared.fault.TraceFault.TheVariants as trace_fault
 use Rattle.trace_text.specs.declared.fault.Reason.{Reason}
@@ -12,7 +12,7 @@ use Rattle.trace_text.specs.declared.said.Said.{Said}
 use Rattle.exchange_events.specs.declared.trace.Trace.{Trace}
 use Rattle.trace_text.specs.TraceWords.{lines}
 use Rattle.trace_text.specs.TraceLines.{SoFar, says, trace_limits, Fails}
-use Rattle.trace_text.specs.TraceGrammar.{most_bytes, so_far, EachSays, IsWhatLinesSay, IsTrace, IsRefused, At_line, At_end}
+use Rattle.trace_text.specs.TraceGrammar.{max_bytes, so_far, EachSays, IsWhatLinesSay, IsTrace, IsRefused, At_line, At_end}
 use Rattle.trace_text.specs.TraceDraft.{FailsAtEnd, Holds, at_line, IsFault}
 use Rattle.trace_text.proofs.TraceHolds.{HoldsMore}
 
@@ -53,7 +53,7 @@ goes_on bytes rest line others number d n p cut shorter step = record {
 
 -- the next line is the first that fails
 pub fails_at : (bytes rest line others : List ℕ) (number : ℕ) (d : Draft) (why : Reason) → Progress bytes rest number d
-    → length bytes ≤ most_bytes → lines rest ≡ line ∷ lines others → says trace_limits d.heading line ≡ Err why → IsRefused bytes (number + 1) why
+    → length bytes ≤ max_bytes → lines rest ≡ line ∷ lines others → says trace_limits d.heading line ≡ Err why → IsRefused bytes (number + 1) why
 fails_at bytes rest line others number d why p few cut e =
     At_line few (record {
       before = p.front;
@@ -66,8 +66,8 @@ fails_at bytes rest line others number d why p few cut e =
       place = let e = p.place in omega (arith, e);
     })
 
-pub fault_at : (bytes rest line others : List ℕ) (number : ℕ) (d : Draft) (e : LineFault) (fault : TraceFault) → Progress bytes rest number d
-    → length bytes ≤ most_bytes → lines rest ≡ line ∷ lines others → Fails e (says trace_limits d.heading line) → fault ≡ at_line e (number + 1) → IsFault bytes fault
+pub fault_at : (bytes rest line others : List ℕ) (number : ℕ) (d : Draft) (e : LineError) (fault : TraceFault) → Progress bytes rest number d
+    → length bytes ≤ max_bytes → lines rest ≡ line ∷ lines others → Fails e (says trace_limits d.heading line) → fault ≡ at_line e (number + 1) → IsFault bytes fault
 fault_at bytes rest line others number d Memory fault p few cut fails is = rw is tt
 fault_at bytes rest line others number d (Refused why) fault p few cut fails is = rw is (fails_at bytes rest line others number d why p few cut fails)
 
@@ -76,7 +76,7 @@ whole : (bytes rest : List ℕ) (number : ℕ) (d : Draft) (p : Progress bytes r
 whole bytes rest number d p empty = p.parts ∙ ap (λ (r : List ℕ). p.front ++ lines r) (nil_from_length rest empty) ∙ append-nil p.front
 
 pub is_read : (bytes rest : List ℕ) (number : ℕ) (d : Draft) (t : Trace) (p : Progress bytes rest number d)
-    → length bytes ≤ most_bytes → length rest ≡ 0 → ((told : List Said) → Holds d told → IsWhatLinesSay t told) → IsTrace bytes t
+    → length bytes ≤ max_bytes → length rest ≡ 0 → ((told : List Said) → Holds d told → IsWhatLinesSay t told) → IsTrace bytes t
 is_read bytes rest number d t p few empty told = record {
   few = few;
   told = p.told;
@@ -85,7 +85,7 @@ is_read bytes rest number d t p few empty told = record {
 }
 
 pub lacks_header : (bytes rest : List ℕ) (number last : ℕ) (why : Reason) (d : Draft) (p : Progress bytes rest number d)
-    → length bytes ≤ most_bytes → length rest ≡ 0 → d.heading.sizes ≡ None → last ≡ number + 1 → why ≡ reason.Header → IsRefused bytes last why
+    → length bytes ≤ max_bytes → length rest ≡ 0 → d.heading.sizes ≡ None → last ≡ number + 1 → why ≡ reason.Header → IsRefused bytes last why
 lacks_header bytes rest number last why d p few empty none at named =
     At_end few (record {
       told = p.told;
@@ -96,7 +96,7 @@ lacks_header bytes rest number last why d p few empty none at named =
     })
 
 -- what the draft makes at the end is what was read
-module _ (bytes rest : List ℕ) (number : ℕ) (d : Draft) (p : Progress bytes rest number d) (few : length bytes ≤ most_bytes) (empty : length rest ≡ 0) where
+module _ (bytes rest : List ℕ) (number : ℕ) (d : Draft) (p : Progress bytes rest number d) (few : length bytes ≤ max_bytes) (empty : length rest ≡ 0) where
   pub ends_read : (r : Result Trace TraceFault) → IfOk r (λ t. (told : List Said) → Holds d told → IsWhatLinesSay t told) → IfOk r (λ t. IsTrace bytes t)
   ends_read (Ok t) made = is_read bytes rest number d t p few empty made
   ends_read (Err e) made = tt

@@ -14,7 +14,7 @@ use Rattle.trace_text.specs.TraceLines.{says, trace_limits}
 use Rattle.tone_rules.specs.declared.tones.Tones.{Tones}
 use Rattle.call_timers.specs.declared.timers.Timers.{Timers}
 use Rattle.trace_text.specs.TraceTimers.{timers_by}
-use Rattle.trace_text.specs.TraceGrammar.{most_bytes, sizes_in, numbers_in, plan_of, tones_in, tones_of, timers_in, timers_of, events_in, so_far, segment_ends, changes_in, EachSays, IsWhatLinesSay, IsTrace, IsFirstFault, IsRefused, Too_long, At_line, At_end}
+use Rattle.trace_text.specs.TraceGrammar.{max_bytes, sizes_in, numbers_in, plan_of, tones_in, tones_of, timers_in, timers_of, events_in, so_far, segment_ends, changes_in, EachSays, IsWhatLinesSay, IsTrace, IsFirstFault, IsRefused, Too_long, At_line, At_end}
 
 -- what became of a row of lines: what each says, or the place of the first that fails and why
 pub data Outcome : Type 0 where
@@ -177,7 +177,7 @@ walk before (line ∷ rows) = one_more before line rows (says trace_limits (so_f
 abbrev Reading : List ℕ → Type 0
 Reading bytes = ((t : Trace) × IsTrace bytes t) ⊎ ((number : ℕ) × (why : Reason) × IsRefused bytes number why)
 
-with_sizes : (bytes : List ℕ) → length bytes ≤ most_bytes → (told : List Said) → EachSays [] (lines bytes) told → (sizes : Option Sizes) → sizes_in told ≡ sizes → Reading bytes
+with_sizes : (bytes : List ℕ) → length bytes ≤ max_bytes → (told : List Said) → EachSays [] (lines bytes) told → (sizes : Option Sizes) → sizes_in told ≡ sizes → Reading bytes
 with_sizes bytes few told meets None e = inr (length (lines bytes) + 1, reason.Header, At_end few (record { told = told; meets = meets; none = e; place = refl; named = refl }))
 with_sizes bytes few told meets (Some sizes) e = inl (
   record { external = sizes.external; bridges = sizes.bridges; processors = sizes.processors; plan = plan_of (numbers_in told); tones = tones_of (tones_in told); timers = timers_by (timers_of (timers_in told)); events = events_in told; segments = segment_ends told; changes = changes_in told },
@@ -186,7 +186,7 @@ with_sizes bytes few told meets (Some sizes) e = inl (
 
 pub some_reading : (bytes : List ℕ) → Reading bytes
 some_reading bytes =
-    elim (cases_lt most_bytes (length bytes)) [
+    elim (cases_lt max_bytes (length bytes)) [
       | inl long ↦ inr (0, reason.Limit, Too_long long refl refl)
       | inr few ↦ elim (walk [] (lines bytes)) [
         | inl w ↦ with_sizes bytes few w.0 w.1 (sizes_in w.0) refl

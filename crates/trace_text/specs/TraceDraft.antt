@@ -3,8 +3,8 @@ use Rattle.std.specs.Prelude.{◌≡◌, ℕ, ◌+◌, List, ◌++◌, length, O
 use Rattle.number_plan.specs.declared.plan.PlanFault.{PlanFault}
 use Rattle.number_plan.specs.declared.plan.PlanFault.TheVariants as plan_fault
 use Rattle.trace_text.specs.declared.draft.Draft.{Draft}
-use Rattle.trace_text.specs.declared.fault.LineFault.{LineFault}
-use Rattle.trace_text.specs.declared.fault.LineFault.TheVariants as line_fault
+use Rattle.trace_text.specs.declared.fault.LineError.{LineError}
+use Rattle.trace_text.specs.declared.fault.LineError.TheVariants as line_fault
 use Rattle.trace_text.specs.declared.fault.TraceFault.{TraceFault}
 use Rattle.trace_text.specs.declared.fault.TraceFault.TheVariants as trace_fault
 use Rattle.trace_text.specs.declared.fault.Reason.TheVariants as reason
@@ -13,12 +13,12 @@ use Rattle.trace_text.specs.declared.said.Said.{Said}
 use Rattle.trace_text.specs.TraceGrammar.{so_far, events_in, open_segment_end, segment_ends, ends_after, changes_in, IsRefused}
 
 -- the error of a trace, from the error of its line
-abbrev pub at_line : LineFault → ℕ → TraceFault
+abbrev pub at_line : LineError → ℕ → TraceFault
 at_line line_fault.Memory number = trace_fault.Memory
 at_line (line_fault.Refused why) number = trace_fault.Line number why
 
 -- the error of a line, from the error of a number plan
-abbrev pub of_plan : PlanFault → LineFault
+abbrev pub of_plan : PlanFault → LineError
 of_plan plan_fault.Prefix = line_fault.Refused reason.Prefix
 of_plan plan_fault.TooMany = line_fault.Refused reason.Limit
 of_plan plan_fault.Memory = line_fault.Memory

@@ -75,8 +75,8 @@ abbrev pub at_most : ℕ → Option (List ℕ) → Result (List ℕ) Reason
 at_most most None = Err Hex
 at_most most (Some octets) = if nat_le (length octets) most then Ok octets else Err Length
 
-abbrev pub longest_message : ℕ
-longest_message = 260
+abbrev pub max_message_len : ℕ
+max_message_len = 260
 
 -- at least one octet
 abbrev pub at_least_one : Result (List ℕ) Reason → Result (List ℕ) Reason
@@ -85,11 +85,11 @@ at_least_one (Ok []) = Err Length
 at_least_one (Ok (octet ∷ octets)) = Ok (octet ∷ octets)
 
 -- the octets of a tone: 1 to 8000, which is 1 second of speech
-abbrev pub longest_tone : ℕ
-longest_tone = 8000
+abbrev pub max_tone_len : ℕ
+max_tone_len = 8000
 
 abbrev pub of_tone : Option (List ℕ) → Result (List ℕ) Reason
-of_tone written = at_least_one (at_most longest_tone written)
+of_tone written = at_least_one (at_most max_tone_len written)
 
 -- the sizes of three fields: the numbers of external lines, bridge lines and processors
 abbrev pub exchange_sizes : List (List ℕ) → Option Sizes

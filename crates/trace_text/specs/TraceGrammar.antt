@@ -19,8 +19,8 @@ use Rattle.trace_text.specs.TraceWords.{lines}
 use Rattle.trace_text.specs.TraceLines.{SoFar, says, trace_limits, with_tone}
 
 -- the maximum number of bytes of a trace
-abbrev pub most_bytes : ℕ
-most_bytes = 67108864
+abbrev pub max_bytes : ℕ
+max_bytes = 67108864
 
 -- the sizes of the header, if there is one
 abbrev pub sizes_in : List Said → Option Sizes
@@ -124,7 +124,7 @@ pub record IsWhatLinesSay (t : Trace) (told : List Said) : Type 0 where
 
 -- the bytes are the trace: each line passes all of its checks after the lines before it, and the trace is the result of the lines
 pub record IsTrace (bytes : List ℕ) (t : Trace) : Type 0 where
-  pub few : length bytes ≤ most_bytes
+  pub few : length bytes ≤ max_bytes
   pub told : List Said
   pub meets : EachSays [] (lines bytes) told
   pub all : IsWhatLinesSay t told
@@ -150,6 +150,6 @@ pub record LacksHeader (bytes : List ℕ) (number : ℕ) (why : Reason) : Type 0
 
 -- the bytes are refused, for the first of these reasons: too many bytes (line 0), a line that fails, or no header (the line after the last)
 pub data IsRefused (bytes : List ℕ) (number : ℕ) (why : Reason) : Type 0 where
-  Too_long : most_bytes < length bytes → number ≡ 0 → why ≡ reason.Limit → IsRefused bytes number why
-  At_line : length bytes ≤ most_bytes → IsFirstFault bytes number why → IsRefused bytes number why
-  At_end : length bytes ≤ most_bytes → LacksHeader bytes number why → IsRefused bytes number why
+  Too_long : max_bytes < length bytes → number ≡ 0 → why ≡ reason.Limit → IsRefused bytes number why
+  At_line : length bytes ≤ max_bytes → IsFirstFault bytes number why → IsRefused bytes number why
+  At_end : length bytes ≤ max_bytes → LacksHeader bytes number why → IsRefused bytes number why

@@ -14,11 +14,11 @@ use Rattle.tone_rules.specs.declared.tones.Tones.{Tones}
 use Rattle.tone_rules.specs.CallTones.{is_given}
 use Rattle.exchange_events.specs.declared.trace.Event.{Event}
 use Rattle.exchange_events.specs.declared.trace.Event.TheVariants.{Nail, Seat, Free, Message, Frame}
-use Rattle.exchange_events.specs.Limits.{most_changes, most_events}
+use Rattle.exchange_events.specs.Limits.{max_changes, max_events}
 use Rattle.trace_text.specs.declared.fault.Reason.{Reason}
 use Rattle.trace_text.specs.declared.fault.Reason.TheVariants as reason
-use Rattle.trace_text.specs.declared.fault.LineFault.{LineFault}
-use Rattle.trace_text.specs.declared.fault.LineFault.TheVariants as fault
+use Rattle.trace_text.specs.declared.fault.LineError.{LineError}
+use Rattle.trace_text.specs.declared.fault.LineError.TheVariants as fault
 use Rattle.trace_text.specs.declared.limits.Limits.{Limits}
 use Rattle.trace_text.specs.declared.said.Sizes.{Sizes}
 use Rattle.trace_text.specs.declared.said.Kind.{Kind}
@@ -30,7 +30,7 @@ use Rattle.trace_text.specs.declared.timing.GivenTimer.{GivenTimer}
 use Rattle.trace_text.specs.declared.timing.GivenTimers.{GivenTimers}
 use Rattle.trace_text.specs.TraceTimers.{timer_named, if_some_frames, frames_given}
 use Rattle.trace_text.specs.TraceWords.{numeral, words, two, one_or_two, digits_and_target, cut_at, is_comment, is_blank, is_printable}
-use Rattle.trace_text.specs.TraceFields.{external_line, slot, room, octets_written, thirty, at_most, longest_message, of_tone, header}
+use Rattle.trace_text.specs.TraceFields.{external_line, slot, room, octets_written, thirty, at_most, max_message_len, of_tone, header}
 
 -- the second step, if the first passed its checks
 infixl 10 ◌>>=◌
@@ -89,7 +89,7 @@ abbrev pub message : ℕ → List (List ℕ) → Result Event Reason
 message external others = do
   both ← ok_or (one_or_two others) reason.Word
   line ← ok_or (external_line external both.0) reason.Slot
-  octets ← at_most longest_message (octets_written both.1)
+  octets ← at_most max_message_len (octets_written both.1)
   Ok (Message line octets)
 
 -- a line that is an event
@@ -240,7 +240,7 @@ reads so_far line = if is_comment line || is_blank line then Ok said.Nothing els
 
 -- the limits of a complete trace
 abbrev pub trace_limits : Limits
-trace_limits = record { max_events = most_events; max_changes = most_changes }
+trace_limits = record { max_events = max_events; max_changes = max_changes }
 
 -- the limits of lines that are read as they arrive, which fewer than 2^32 lines never exceed
 abbrev pub line_limits : Limits
@@ -262,10 +262,10 @@ abbrev pub says : Limits → SoFar → List ℕ → Result Said Reason
 says limits so_far line = reads so_far line >>= joins limits so_far
 
 -- the error of a line: its first failing check, or a failed allocation
-abbrev pub Fails : {T : Type 0} → LineFault → Result T Reason → Type 0
+abbrev pub Fails : {T : Type 0} → LineError → Result T Reason → Type 0
 Fails fault.Memory reading = Unit {0}
 Fails (fault.Refused why) reading = reading ≡ Err why
 
-abbrev pub Gives : {T : Type 0} → Result T LineFault → Result T Reason → Type 0
+abbrev pub Gives : {T : Type 0} → Result T LineError → Result T Reason → Type 0
 Gives (Ok value) reading = reading ≡ Ok value
 Gives (Err e) reading = Fails e reading

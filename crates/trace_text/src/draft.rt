@@ -1,5 +1,5 @@
 // The trace of the lines read so far.
-use crate::fault::{LineFault, Reason, TraceFault};
+use crate::fault::{LineError, Reason, TraceFault};
 use crate::heading::{Happening, Heading};
 use crate::limits::Limits;
 use exchange_events::{Changes, Event, Events, Segments, Trace};
@@ -52,9 +52,9 @@ impl Draft {
     ///
     /// # Errors
     ///
-    /// - [`LineFault::Refused`] if the line fails a check, with the first one.
-    /// - [`LineFault::Memory`] if an allocation fails.
-    pub fn read_line(&mut self, alloc: Global, line: &[u8]) -> Result<(), LineFault>
+    /// - [`LineError::Refused`] if the line fails a check, with the first one.
+    /// - [`LineError::Memory`] if an allocation fails.
+    pub fn read_line(&mut self, alloc: Global, line: &[u8]) -> Result<(), LineError>
         ensures read { OnOk result ((told : List Said) →
             Holds self.old told → (said : Said)
             × (says trace_limits (so_far told) line.now ≡ Ok said)

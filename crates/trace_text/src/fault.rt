@@ -1,6 +1,6 @@
 //! The errors of reading a trace.
 ghost use Rattle.std.specs.Prelude.{◌≡◌};
-ghost use Rattle.trace_text.specs.declared.fault.LineFault.TheVariants.{Memory, Refused};
+ghost use Rattle.trace_text.specs.declared.fault.LineError.TheVariants.{Memory, Refused};
 
 use number_plan::PlanFault;
 use std::alloc::{AllocError, AllocFailed};
@@ -41,14 +41,14 @@ pub enum TraceFault {
 
 /// The error of reading a line.
 #[derive(Clone, Copy, Debug, PartialEq, Eq)]
-pub enum LineFault {
+pub enum LineError {
     /// An allocation failed.
     Memory,
     /// The line fails a check. This is the first one.
     Refused(Reason),
 }
 
-impl LineFault {
+impl LineError {
     ghost use Rattle.std.specs.Prelude.{◌≡◌};
     ghost use Rattle.trace_text.specs.TraceDraft.{at_line};
 
@@ -57,46 +57,46 @@ impl LineFault {
         ensures { result ≡ at_line self number }
     {
         match self {
-            LineFault::Memory => TraceFault::Memory,
-            LineFault::Refused(reason) => TraceFault::Line { number, reason },
+            LineError::Memory => TraceFault::Memory,
+            LineError::Refused(reason) => TraceFault::Line { number, reason },
         }
     }
 }
 
-impl From<AllocError> for LineFault {
+impl From<AllocError> for LineError {
     ghost from_gives = { λ _ e. e ≡ Memory };
 
-    fn from(_error: AllocError) -> LineFault {
-        LineFault::Memory
+    fn from(_error: AllocError) -> LineError {
+        LineError::Memory
     }
 }
 
-impl<T: Drop> From<AllocFailed<T>> for LineFault {
+impl<T: Drop> From<AllocFailed<T>> for LineError {
     ghost from_gives = { λ _ e. e ≡ Memory };
 
-    fn from(_error: AllocFailed<T>) -> LineFault {
-        LineFault::Memory
+    fn from(_error: AllocFailed<T>) -> LineError {
+        LineError::Memory
     }
 }
 
-impl From<Reason> for LineFault {
+impl From<Reason> for LineError {
     ghost from_gives = { λ reason e. e ≡ Refused reason };
 
-    fn from(reason: Reason) -> LineFault {
-        LineFault::Refused(reason)
+    fn from(reason: Reason) -> LineError {
+        LineError::Refused(reason)
     }
 }
 
-impl From<PlanFault> for LineFault {
+impl From<PlanFault> for LineError {
     ghost use Rattle.trace_text.specs.TraceDraft.{of_plan};
 
     ghost from_gives = { λ fault e. e ≡ of_plan fault };
 
-    fn from(fault: PlanFault) -> LineFault {
+    fn from(fault: PlanFault) -> LineError {
         match fault {
-            PlanFault::Prefix => LineFault::Refused(Reason::Prefix),
-            PlanFault::TooMany => LineFault::Refused(Reason::Limit),
-            PlanFault::Memory => LineFault::Memory,
+            PlanFault::Prefix => LineError::Refused(Reason::Prefix),
+            PlanFault::TooMany => LineError::Refused(Reason::Limit),
+            PlanFault::Memory => LineError::Memory,
         }
     }
 }

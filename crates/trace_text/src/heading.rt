@@ -3,7 +3,7 @@ ghost use Rattle.std.specs.Prelude.{◌≡◌};
 ghost use Rattle.trace_text.specs.TraceLines.{with_tone};
 
 use crate::cut::{first_word, is_text};
-use crate::fault::{LineFault, Reason};
+use crate::fault::{LineError, Reason};
 use crate::fields::header_of;
 use crate::limits::Limits;
 use crate::line::{
@@ -87,7 +87,7 @@ impl Heading {
         Heading {
             sizes: None,
             plan: Plan::new(alloc),
-            tones: Tones::none(alloc),
+            tones: Tones::empty(alloc),
             timers: GivenTimers::none(),
             events: 0,
             changes: 0,
@@ -138,7 +138,7 @@ impl Heading {
     }
 
     // Adds the content of a line, if it passes the last checks.
-    fn take(&mut self, limits: Limits, said: Said) -> Result<Happening, LineFault>
+    fn take(&mut self, limits: Limits, said: Said) -> Result<Happening, LineError>
         requires { Suits self.old said }
         ensures taken { OnOk result (self.new ≡ with_said self.old said) }
         ensures happens { IfOk result (λ happening. happening ≡ happening_of said) }
@@ -153,7 +153,7 @@ impl Heading {
             Said::Toned(given) => give(&mut self.tones, given),
             Said::Timed(given) => self.timers.give(given),
             Said::Happens(_) if self.events >= limits.max_events => {
-                return Err(LineFault::Refused(Reason::Limit));
+                return Err(LineError::Refused(Reason::Limit));
             }
             Said::Happens(event) => {
                 self.events += 1;
@@ -161,7 +161,7 @@ impl Heading {
             }
             Said::Sync => return Ok(Happening::SegmentEnd),
             Said::Change if self.changes >= limits.max_changes => {
-                return Err(LineFault::Refused(Reason::Limit));
+                return Err(LineError::Refused(Reason::Limit));
             }
             Said::Change => {
                 self.changes += 1;
@@ -183,12 +183,12 @@ impl Heading {
     }
 
     // Reads the fields of a tone after `tone`.
-    fn tone_line(&self, alloc: Global, line: &[u8]) -> Result<Said, LineFault>
+    fn tone_line(&self, alloc: Global, line: &[u8]) -> Result<Said, LineError>
         ensures reads { Gives result (before_events self.now (toned (tone self.now.tones (words line.now)))) }
         ensures suits { IfOk result (λ said. Suits self.now said) }
     {
         if self.events > 0 {
-            return Err(LineFault::Refused(Reason::Word));
+            return Err(LineError::Refused(Reason::Word));
         }
         Ok(Said::Toned(tone_of(alloc, &self.tones, line)?))
     }
@@ -211,7 +211,7 @@ impl Heading {
         external: u8,
         kind: Kind,
         line: &[u8],
-    ) -> Result<Said, LineFault>
+    ) -> Result<Said, LineError>
         ensures reads { Gives result (by_kind self.now external kind (words line.now)) }
         ensures suits { IfOk result (λ said. Suits self.now said) }
     {
@@ -226,7 +226,7 @@ impl Heading {
             Kind::Timer => Ok(self.timer_line(line)?),
             Kind::Sync => Ok(alone(Said::Sync, line)?),
             Kind::Change => Ok(alone(Said::Change, line)?),
-            Kind::Unknown => Err(LineFault::Refused(Reason::Word)),
+            Kind::Unknown => Err(LineError::Refused(Reason::Word)),
         }
     }
 
@@ -247,7 +247,7 @@ impl Heading {
     }
 
     // Reads a line, without the last checks.
-    fn reads(&self, alloc: Global, line: &[u8]) -> Result<Said, LineFault>
+    fn reads(&self, alloc: Global, line: &[u8]) -> Result<Said, LineError>
         ensures reads { Gives result (reads self.now line.now) }
         ensures suits { IfOk result (λ said. Suits self.now said) }
     {
@@ -269,7 +269,7 @@ impl Heading {
             return Ok(Said::Header(sizes));
         };
         if !is_text(line) {
-            return Err(LineFault::Refused(Reason::Word));
+            return Err(LineError::Refused(Reason::Word));
         }
         self.line_of_kind(alloc, sizes.external, kind_of(kind), rest)
     }
@@ -278,8 +278,8 @@ impl Heading {
     ///
     /// # Errors
     ///
-    /// - [`LineFault::Refused`] if the line fails a check, with the first one.
-    /// - [`LineFault::Memory`] if an allocation fails.
+    /// - [`LineError::Refused`] if the line fails a check, with the first one.
+    /// - [`LineError::Memory`] if an allocation fails.
     ///
     /// The heading is unchanged then.
     pub fn read_line(
@@ -287,7 +287,7 @@ impl Heading {
         alloc: Global,
         limits: Limits,
         line: &[u8],
-    ) -> Result<Happening, LineFault>
+    ) -> Result<Happening, LineError>
         ensures read { IfOk result (λ happening. IsLineRead limits self.old line.now happening self.new) }
         // The error is the first check that the line fails, or a failed allocation.
         ensures refused { IfErr result (λ e. Fails e (says limits self.old line.now)) }

@@ -26,10 +26,10 @@ mod reader;
 mod said;
 mod timing;
 
-pub use fault::{LineFault, Reason, TraceFault};
+pub use fault::{LineError, Reason, TraceFault};
 pub use heading::{Happening, Heading};
 pub use laws::{one_reading, some_reading, traces_are_sound};
 pub use limits::Limits;
-pub use reader::{MOST_BYTES, read_trace};
+pub use reader::{MAX_BYTES, read_trace};
 pub use said::{GivenTone, Said, Sizes};
 pub use timing::{GivenTimer, GivenTimers, TimerName};

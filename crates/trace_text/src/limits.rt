@@ -3,10 +3,10 @@ ghost use Rattle.std.specs.Prelude.{◌≡◌};
 ghost use Rattle.trace_text.specs.TraceLines.{trace_limits, line_limits};
 
 /// The maximum number of events of a trace.
-const MOST_EVENTS: u32 = 65_535;
+const MAX_EVENTS: u32 = 65_535;
 
 /// The maximum number of changes of meters of a trace.
-const MOST_CHANGES: u32 = 65_535;
+const MAX_CHANGES: u32 = 65_535;
 
 /// The maximum numbers of events and of changes of meters.
 ///
@@ -25,8 +25,8 @@ impl Limits {
         ensures { result ≡ trace_limits }
     {
         Limits {
-            max_events: MOST_EVENTS,
-            max_changes: MOST_CHANGES,
+            max_events: MAX_EVENTS,
+            max_changes: MAX_CHANGES,
         }
     }
 

@@ -8,7 +8,7 @@ ghost use Rattle.trace_text.specs.TraceTimers.{timer_named};
 use crate::cut::{
     digits_and_target, first_word, halves_at, numeral_of, one_or_two_words, two_words,
 };
-use crate::fault::{LineFault, Reason};
+use crate::fault::{LineError, Reason};
 use crate::fields::{line_of_word, room_of_word, slot_of_word};
 use crate::octets::{message_octets, thirty_octets, tone_octets};
 use crate::said::{GivenTone, Kind, Said};
@@ -36,7 +36,7 @@ fn put_part(given: &mut [Option<[u8; 30]>], word: &[u8]) -> Result<(), Reason>
 }
 
 /// Returns the frame of the fields.
-pub(crate) fn frame_of(alloc: Global, external: u8, line: &[u8]) -> Result<Event, LineFault>
+pub(crate) fn frame_of(alloc: Global, external: u8, line: &[u8]) -> Result<Event, LineError>
     ensures { Gives result (frame external (words line.now)) }
 {
     let mut input = vec![in alloc; None; usize::from(external)]?;
@@ -84,7 +84,7 @@ pub(crate) fn free_of(external: u8, line: &[u8]) -> Result<Event, Reason>
 }
 
 /// Returns the message of the fields.
-pub(crate) fn message_of(alloc: Global, external: u8, line: &[u8]) -> Result<Event, LineFault>
+pub(crate) fn message_of(alloc: Global, external: u8, line: &[u8]) -> Result<Event, LineError>
     ensures { Gives result (message external (words line.now)) }
 {
     let (line, digits) = one_or_two_words(line).ok_or(Reason::Word)?;
@@ -147,7 +147,7 @@ pub(crate) fn number_of(external: u8, line: &[u8]) -> Result<Number, Reason>
         return Err(Reason::Number);
     }
     let target = target_of(external, name, word, others)?;
-    let digits = Digits::of(digits);
+    let digits = Digits::from_slice(digits);
     Ok(Number { digits, target })
 }
 
@@ -165,13 +165,13 @@ fn tone_named(word: &[u8]) -> Option<Tone>
 }
 
 /// Returns the tone of the fields, if it is not among `tones`.
-pub(crate) fn tone_of(alloc: Global, tones: &Tones, line: &[u8]) -> Result<GivenTone, LineFault>
+pub(crate) fn tone_of(alloc: Global, tones: &Tones, line: &[u8]) -> Result<GivenTone, LineError>
     ensures { Gives result (tone tones.now (words line.now)) }
 {
     let (name, digits) = two_words(line).ok_or(Reason::Word)?;
     let kind = tone_named(name).ok_or(Reason::Word)?;
     if tones.is_given(kind) {
-        return Err(LineFault::Refused(Reason::Word));
+        return Err(LineError::Refused(Reason::Word));
     }
     let octets = tone_octets(alloc, digits)?;
     Ok(GivenTone { kind, octets })

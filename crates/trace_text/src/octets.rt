@@ -4,19 +4,19 @@
 // become vector instructions. Fewer digits are padded to 64.
 ghost use Rattle.std.specs.Prelude.{◌≡◌, ◌++◌, ◌*◌, ◌-◌, ◌%◌, ◌<◌, ◌≤◌, ◌^◌, ℕ, List, length, take, true, Some, is_some, option_map, map, replicate, ok_or, IfOk, IfErr, OnOk, Ok};
 ghost use Rattle.std.specs.List.{list_all};
-ghost use Rattle.trace_text.specs.TraceFields.{digit_value, is_digit, octets_written, thirty, at_most, longest_message, of_tone};
+ghost use Rattle.trace_text.specs.TraceFields.{digit_value, is_digit, octets_written, thirty, at_most, max_message_len, of_tone};
 ghost use Rattle.trace_text.specs.TraceLines.{Fails, Gives};
 
-use crate::fault::{LineFault, Reason};
-use exchange_events::{FEW_OCTETS, Octets};
+use crate::fault::{LineError, Reason};
+use exchange_events::{INLINE_OCTETS, Octets};
 use std::alloc::Global;
 use tone_rules::ToneOctets;
 
 /// The maximum number of octets of a message.
-const LONGEST_MESSAGE: usize = 260;
+const MAX_MESSAGE_LEN: usize = 260;
 
 /// The maximum number of octets of a tone: 1 second of speech.
-const LONGEST_TONE: usize = 8000;
+const MAX_TONE_LEN: usize = 8000;
 
 // Returns whether an octet is a hexadecimal digit of either case.
 fn is_digit(octet: u8) -> bool
@@ -115,14 +115,14 @@ pub(crate) fn thirty_octets(digits: &[u8]) -> Result<[u8; 30], Reason>
 }
 
 // Appends the octets of at most 64 digits.
-fn push_octets(octets: &mut Vec<u8>, digits: &[u8]) -> Result<(), LineFault>
+fn push_octets(octets: &mut Vec<u8>, digits: &[u8]) -> Result<(), LineError>
     requires { (length digits.now ≤ 64) × (length digits.now % 2 ≡ 0) }
     ensures read { OnOk result (option_map (λ written. octets.old.items ++ written) (octets_written digits.now) ≡ Some octets.new.items) }
     ensures refused { IfErr result (λ e. Fails e (ok_or (octets_written digits.now) Reason.Hex)) }
 {
     let text = wide(digits);
     if !are_digits(&text) {
-        return Err(LineFault::Refused(Reason::Hex));
+        return Err(LineError::Refused(Reason::Hex));
     }
     let read = octets_of(&values_of(&text));
     octets.extend_from_slice(&read[..digits.len() / 2])?;
@@ -130,12 +130,12 @@ fn push_octets(octets: &mut Vec<u8>, digits: &[u8]) -> Result<(), LineFault>
 }
 
 // Returns the octets of the digits.
-fn octets_read(alloc: Global, digits: &[u8]) -> Result<Vec<u8>, LineFault>
+fn octets_read(alloc: Global, digits: &[u8]) -> Result<Vec<u8>, LineError>
     ensures read { IfOk result (λ octets. octets_written digits.now ≡ Some octets.items) }
     ensures refused { IfErr result (λ e. Fails e (ok_or (octets_written digits.now) Reason.Hex)) }
 {
     if digits.len() % 2 != 0 {
-        return Err(LineFault::Refused(Reason::Hex));
+        return Err(LineError::Refused(Reason::Hex));
     }
     let mut octets = Vec::with_capacity(alloc, digits.len() / 2)?;
     let mut rest = digits;
@@ -148,7 +148,7 @@ fn octets_read(alloc: Global, digits: &[u8]) -> Result<Vec<u8>, LineFault>
 }
 
 // Returns the octets of the digits, at most `most`.
-fn octets_up_to(alloc: Global, most: usize, digits: &[u8]) -> Result<Vec<u8>, LineFault>
+fn octets_up_to(alloc: Global, most: usize, digits: &[u8]) -> Result<Vec<u8>, LineError>
     requires { most < 2 ^ 32 }
     ensures read { IfOk result (λ octets. at_most most (octets_written digits.now) ≡ Ok octets.items) }
     ensures refused { IfErr result (λ e. Fails e (at_most most (octets_written digits.now))) }
@@ -156,43 +156,43 @@ fn octets_up_to(alloc: Global, most: usize, digits: &[u8]) -> Result<Vec<u8>, Li
     if digits.len() <= 2 * most {
         octets_read(alloc, digits)
     } else if are_pairs(digits) {
-        Err(LineFault::Refused(Reason::Length))
+        Err(LineError::Refused(Reason::Length))
     } else {
-        Err(LineFault::Refused(Reason::Hex))
+        Err(LineError::Refused(Reason::Hex))
     }
 }
 
 // Returns the octets of at most 32 digits. It does not allocate.
-fn few_octets(digits: &[u8]) -> Result<Octets, LineFault>
+fn few_octets(digits: &[u8]) -> Result<Octets, LineError>
     requires { (length digits.now ≤ 32) × (length digits.now % 2 ≡ 0) }
     ensures read { IfOk result (λ octets. octets_written digits.now ≡ Some octets) }
     ensures refused { IfErr result (λ e. Fails e (ok_or (octets_written digits.now) Reason.Hex)) }
 {
     let text = wide(digits);
     if !are_digits(&text) {
-        return Err(LineFault::Refused(Reason::Hex));
+        return Err(LineError::Refused(Reason::Hex));
     }
     let read = octets_of(&values_of(&text));
-    Ok(Octets::few(&read[..digits.len() / 2]))
+    Ok(Octets::from_short_slice(&read[..digits.len() / 2]))
 }
 
 /// Returns the octets of a message, at most 260. Up to 16 octets do not allocate.
-pub(crate) fn message_octets(alloc: Global, digits: &[u8]) -> Result<Octets, LineFault>
-    ensures { Gives result (at_most longest_message (octets_written digits.now)) }
+pub(crate) fn message_octets(alloc: Global, digits: &[u8]) -> Result<Octets, LineError>
+    ensures { Gives result (at_most max_message_len (octets_written digits.now)) }
 {
-    if digits.len() <= 2 * FEW_OCTETS && digits.len() % 2 == 0 {
+    if digits.len() <= 2 * INLINE_OCTETS && digits.len() % 2 == 0 {
         return few_octets(digits);
     }
-    Ok(Octets::of(octets_up_to(alloc, LONGEST_MESSAGE, digits)?))
+    Ok(Octets::of(octets_up_to(alloc, MAX_MESSAGE_LEN, digits)?))
 }
 
 /// Returns the octets of a tone, 1 to 8000.
-pub(crate) fn tone_octets(alloc: Global, digits: &[u8]) -> Result<ToneOctets, LineFault>
+pub(crate) fn tone_octets(alloc: Global, digits: &[u8]) -> Result<ToneOctets, LineError>
     ensures { Gives result (of_tone (octets_written digits.now)) }
 {
-    let octets = octets_up_to(alloc, LONGEST_TONE, digits)?;
+    let octets = octets_up_to(alloc, MAX_TONE_LEN, digits)?;
     if octets.is_empty() {
-        return Err(LineFault::Refused(Reason::Length));
+        return Err(LineError::Refused(Reason::Length));
     }
     Ok(ToneOctets::of(octets))
 }

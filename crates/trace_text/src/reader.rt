@@ -10,14 +10,14 @@ use exchange_events::Trace;
 use std::alloc::Global;
 
 /// The maximum number of bytes of a trace: 64 MiB (defined by this project).
-pub const MOST_BYTES: usize = 67_108_864;
+pub const MAX_BYTES: usize = 67_108_864;
 
 // Reads a trace line by line.
 fn read_lines(alloc: Global, bytes: &[u8]) -> Result<Trace, TraceFault>
     ensures read { IfOk result (λ t. IsTrace bytes.now t) }
     ensures refused { IfErr result (λ e. IsFault bytes.now e) }
 {
-    if bytes.len() > MOST_BYTES {
+    if bytes.len() > MAX_BYTES {
         return Err(TraceFault::Line {
             number: 0,
             reason: Reason::Limit,

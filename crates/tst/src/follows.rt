@@ -4,7 +4,7 @@ ghost use Rattle.line_wire.specs.Memory.{IsTaped};
 
 use crate::tests::{ACCEPTED, Kind, add_meters, said_by, spelled};
 use ex_io::MemSink;
-use exchange_top::{Followed, follow};
+use exchange_top::{FollowOutcome, follow};
 use frame_engine::Engine;
 use line_wire::MemWire;
 use meters::Meter;
@@ -184,7 +184,7 @@ fn followed(
     add_meters(alloc, dialogue.spare, &mut others)?;
     let mut spare = VecDeque::from_vec(others);
     let mut wire = wire_of(alloc, input, faults)?;
-    let ended: Followed<Engine> = follow(
+    let ended: FollowOutcome<Engine> = follow(
         rt,
         alloc,
         dialogue.strict,

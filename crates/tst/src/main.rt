@@ -26,9 +26,9 @@ mod tests;
 #[cfg(test)]
 mod verdicts;
 
-use command_words::{WordsFault, read_follow};
+use command_words::{CommandError, read_follow};
 use ex_io::{Sink, Source, StdSink, StdSource};
-use exchange_top::{Followed, Outcome, exchange, follow};
+use exchange_top::{FollowOutcome, Outcome, exchange, follow};
 use frame_engine::Engine;
 use gate::OpenGate;
 use line_wire::StdWire;
@@ -71,7 +71,7 @@ fn status_of<S: Source, K: Sink, R: Threads + Wait + Sync>(
     match read_follow(alloc, words) {
         Ok(strict) => {
             // In a box the engine moves as one word.
-            let followed: Followed<Box<Engine>> = follow(
+            let followed: FollowOutcome<Box<Engine>> = follow(
                 rt,
                 alloc,
                 strict,
@@ -81,8 +81,8 @@ fn status_of<S: Source, K: Sink, R: Threads + Wait + Sync>(
             );
             Ok(followed.status)
         }
-        Err(WordsFault::Memory) => Ok(5),
-        Err(WordsFault::NoCommand) => {
+        Err(CommandError::Memory) => Ok(5),
+        Err(CommandError::NoCommand) => {
             let outcome: Outcome<Box<Engine>> = exchange(
                 rt,
                 alloc,

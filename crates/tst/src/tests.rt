@@ -63,8 +63,8 @@ fn called<C: Carrier, G: Gate>(
         status: outcome.status,
         order: outcome.order,
         has_engine: outcome.engine.is_some(),
-        read_faults: source.faults(),
-        write_faults: sink.faults(),
+        read_faults: source.error_count(),
+        write_faults: sink.error_count(),
         sink,
     }
 }

@@ -10,7 +10,7 @@ use Rattle.atomic_table.specs.Table.{State, Me, step, keeps, takes, gives, stepp
 use Rattle.atomic_table.proofs.Lists.{set_here, set_again, set_else, at_longer}
 use Rattle.std.specs.List.{AllByRecursion as Every}
 use Rattle.std.proofs.lemmas.List.Elements.{All-from_recursion}
-use Rattle.seat_history.specs.declared.known.JoinedSeat.{JoinedSeat}
+use Rattle.seat_history.specs.declared.seat_knowledge.JoinedSeat.{JoinedSeat}
 use Rattle.seat_history.specs.Histories.{Entry, entries_of}
 use Rattle.seat_history.specs.Seats.{Accounts, HasJoinedAll}
 use Rattle.turn_lock.specs.declared.board.View.{View}

@@ -7,7 +7,7 @@ use Rattle.std.specs.List.{list_any, IsDistinct, AllByRecursion as Every}
 use Rattle.std.specs.Prelude.{AllPairs}
 use Rattle.std.proofs.lemmas.List.Elements.{All-from_recursion}
 use Rattle.std.proofs.lemmas.List.Kept.{AllPairs-cons}
-use Rattle.seat_history.specs.declared.known.JoinedSeat.{JoinedSeat}
+use Rattle.seat_history.specs.declared.seat_knowledge.JoinedSeat.{JoinedSeat}
 use Rattle.turn_lock.specs.Entries.{Once}
 
 abbrev numbers : List JoinedSeat → List ℕ

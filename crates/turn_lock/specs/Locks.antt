@@ -1,7 +1,7 @@
 -- A lock and its seats, as a caller knows them. Source: this project.
 use Rattle.std.specs.Prelude.{◌≡◌, ℕ, Bool, Option, Some}
 use Rattle.atomic_table.specs.Seated.{TableId}
-use Rattle.seat_history.specs.declared.known.Known.{Known}
+use Rattle.seat_history.specs.declared.seat_knowledge.SeatKnowledge.{SeatKnowledge}
 use Rattle.turn_lock.specs.declared.board.View.{View}
 
 -- a lock: its identity, and the setting and the budget that it was opened with
@@ -15,7 +15,7 @@ pub record SeatAt (C : Type 0) : Type 0 where
   pub lock : TableId
   pub setting : Option C
   pub budget : ℕ
-  pub known : Known
+  pub known : SeatKnowledge
   pub keeps : Bool
 
 module _ {C : Type 0} where

@@ -2,7 +2,7 @@
 use Rattle.std.specs.Prelude.{◌≡◌, ◌≢◌, ℕ, ◌-◌, ◌<◌, ◌^◌, Bool, true, false, IsTrue, List, [], ◌∷◌, ◌++◌, length, Option, Some, None}
 use Rattle.std.specs.List.{AllByRecursion as Every}
 use Rattle.atomic_table.specs.Table.{Me, Step}
-use Rattle.seat_history.specs.declared.known.JoinedSeat.{JoinedSeat}
+use Rattle.seat_history.specs.declared.seat_knowledge.JoinedSeat.{JoinedSeat}
 use Rattle.seat_history.specs.Histories.{Entry, StartsWith, entries_of}
 use Rattle.seat_history.specs.Seats.{HasJoinedAll, Settled, after_join, after_split, after_step, first_seat, new_seat}
 use Rattle.turn_lock.specs.declared.board.View.{View}

@@ -4,7 +4,7 @@ ghost use Rattle.std.specs.Prelude.{ℕ, Bool, false};
 
 use crate::stepper::Stepper;
 use atomic_table::{Seat, TableRule};
-use seat_history::Known;
+use seat_history::SeatKnowledge;
 use std::marker::{Brand, PhantomData};
 use std::snapshot::Snapshot;
 
@@ -24,7 +24,7 @@ pub struct View<C> {
     pub setting: Option<C>,
     pub budget: u64,
     /// The knowledge of the seat.
-    pub known: Known,
+    pub known: SeatKnowledge,
     pub stage: Stage,
     /// The event of the last step that began.
     pub event: u64,

@@ -4,7 +4,7 @@ ghost use Rattle.control_memory.specs.Layout.{IsSlot};
 
 use circuit_model::{Kind, Slot};
 use control_memory::{Heard, Image, PathMap};
-use fabric_map::{FabricMap, SLOTS};
+use fabric_map::{FabricMap, INTERNAL_SLOTS};
 use std::alloc::AllocError;
 
 const PORT: Slot = Slot { line: 2, place: 4 };
@@ -110,7 +110,7 @@ fn are_taken_over(image: &Image) -> bool
 #[test]
 fn tables_are_taken_over_whole(rt: HostRuntime) -> Result<(), AllocError> {
     let mut map = FabricMap::new(rt.alloc(), 1)?;
-    let mut image = Image::new(rt.alloc(), 1, 0, SLOTS)?;
+    let mut image = Image::new(rt.alloc(), 1, 0, INTERNAL_SLOTS)?;
     let connected = connect_two(&mut map);
     image.set_heard(on(0), TONE);
     map.write_tables(&mut image);

@@ -3,7 +3,8 @@ use circuit_model::{IDLE, Slot};
 use std::alloc::{AllocError, Global};
 use std::test::Fail;
 use test_exchange::{
-    CallRecord, Number, Party, PlainEvent, PlainExchange, PlainRun, PlainTones, Target,
+    CallRecord, Number, Party, ReferenceEvent, ReferenceExchange, ReferenceRun, ReferenceTones,
+    Target,
 };
 
 /// One step of a worked example.
@@ -40,17 +41,17 @@ fn first(line: u8) -> Slot {
     Slot { line, place: 0 }
 }
 
-fn frame_of(alloc: Global, octets: &[u8]) -> Result<PlainEvent, AllocError> {
+fn frame_of(alloc: Global, octets: &[u8]) -> Result<ReferenceEvent, AllocError> {
     let mut input = Vec::new(alloc);
     for octet in octets {
         let mut line = [IDLE; 30];
         line[0] = *octet;
         input.push(Some(line))?;
     }
-    Ok(PlainEvent::Frame(input))
+    Ok(ReferenceEvent::Frame(input))
 }
 
-fn fill(alloc: Global, run: &mut PlainRun, line: u8) -> Result<(), AllocError> {
+fn fill(alloc: Global, run: &mut ReferenceRun, line: u8) -> Result<(), AllocError> {
     for pair in 0..15 {
         let x = Slot {
             line,
@@ -60,15 +61,15 @@ fn fill(alloc: Global, run: &mut PlainRun, line: u8) -> Result<(), AllocError> {
             line,
             place: 2 * pair + 1,
         };
-        run.step(alloc, &PlainEvent::Nail(x, y))?;
+        run.step(alloc, &ReferenceEvent::Nail(x, y))?;
     }
     Ok(())
 }
 
-fn take(alloc: Global, run: &mut PlainRun, step: Step) -> Result<(), Fail> {
+fn take(alloc: Global, run: &mut ReferenceRun, step: Step) -> Result<(), Fail> {
     let event = match step {
-        Message(line, digits) => PlainEvent::Message(line, hex::decode(alloc, digits)?),
-        Nail(x, y) => PlainEvent::Nail(first(x), first(y)),
+        Message(line, digits) => ReferenceEvent::Message(line, hex::decode(alloc, digits)?),
+        Nail(x, y) => ReferenceEvent::Nail(first(x), first(y)),
         Frame(octets) => frame_of(alloc, octets)?,
         Fill(line) => return Ok(fill(alloc, run, line)?),
     };
@@ -77,11 +78,11 @@ fn take(alloc: Global, run: &mut PlainRun, step: Step) -> Result<(), Fail> {
 }
 
 // Ringing tone of three octets and busy tone of one, or none.
-fn tones(alloc: Global, given: bool) -> Result<PlainTones, AllocError> {
+fn tones(alloc: Global, given: bool) -> Result<ReferenceTones, AllocError> {
     if !given {
-        return Ok(PlainTones::none(alloc));
+        return Ok(ReferenceTones::empty(alloc));
     }
-    Ok(PlainTones {
+    Ok(ReferenceTones {
         ringback: Vec::from_slice(alloc, &[0x11, 0x22, 0x33])?,
         busy: Vec::from_slice(alloc, &[0x44])?,
     })
@@ -109,8 +110,15 @@ fn came_of(
     steps: &[Step],
     wanted: &str,
 ) -> Result<Came, Fail> {
-    let exchange = PlainExchange::new(alloc, 30, 2, bridges, numbers(alloc)?, tones(alloc, given)?);
-    let mut run = PlainRun::new(alloc, exchange);
+    let exchange = ReferenceExchange::new(
+        alloc,
+        30,
+        2,
+        bridges,
+        numbers(alloc)?,
+        tones(alloc, given)?,
+    );
+    let mut run = ReferenceRun::new(alloc, exchange);
     for step in steps {
         take(alloc, &mut run, *step)?;
     }

@@ -3,7 +3,8 @@ use circuit_model::Slot;
 use std::alloc::{AllocError, Global};
 use std::test::Fail;
 use test_exchange::{
-    CallRecord, Number, Party, PlainEvent, PlainExchange, PlainRun, PlainTimers, PlainTones, Target,
+    CallRecord, Number, Party, ReferenceEvent, ReferenceExchange, ReferenceRun, ReferenceTimers,
+    ReferenceTones, Target,
 };
 
 /// One step of a worked example.
@@ -283,24 +284,24 @@ fn numbers(alloc: Global) -> Result<Vec<Number>, AllocError> {
     Ok(numbers)
 }
 
-fn take(alloc: Global, run: &mut PlainRun, step: Step) -> Result<(), Fail> {
+fn take(alloc: Global, run: &mut ReferenceRun, step: Step) -> Result<(), Fail> {
     match step {
         Message(line, digits) => {
-            let event = PlainEvent::Message(line, hex::decode(alloc, digits)?);
+            let event = ReferenceEvent::Message(line, hex::decode(alloc, digits)?);
             run.step(alloc, &event)?;
         }
         Frames(count) => {
             for _ in 0..count {
-                run.step(alloc, &PlainEvent::Frame(Vec::new(alloc)))?;
+                run.step(alloc, &ReferenceEvent::Frame(Vec::new(alloc)))?;
             }
         }
     }
     Ok(())
 }
 
-fn timers_of(frames: [u32; 6]) -> PlainTimers {
+fn timers_of(frames: [u32; 6]) -> ReferenceTimers {
     let [t301, t302, t303, t305, t308, t310] = frames;
-    PlainTimers {
+    ReferenceTimers {
         t301,
         t302,
         t303,
@@ -310,10 +311,10 @@ fn timers_of(frames: [u32; 6]) -> PlainTimers {
     }
 }
 
-fn run_of(alloc: Global, worked: &Worked) -> Result<PlainRun, Fail> {
-    let tones = PlainTones::none(alloc);
-    let exchange = PlainExchange::new(alloc, 30, 3, 0, numbers(alloc)?, tones);
-    let mut run = PlainRun::new(alloc, exchange.with_timers(timers_of(worked.timers)));
+fn run_of(alloc: Global, worked: &Worked) -> Result<ReferenceRun, Fail> {
+    let tones = ReferenceTones::empty(alloc);
+    let exchange = ReferenceExchange::new(alloc, 30, 3, 0, numbers(alloc)?, tones);
+    let mut run = ReferenceRun::new(alloc, exchange.with_timers(timers_of(worked.timers)));
     for step in worked.steps {
         take(alloc, &mut run, *step)?;
     }

@@ -21,6 +21,6 @@ fn draw(alloc: Global, traces: u32, events: u32) -> Result<(Counts, Expiries, u3
 #[test]
 fn each_course_is_drawn(rt: HostRuntime) -> Result<(), Fail> {
     let (counts, expiries, moved) = draw(rt.alloc(), 80, 250)?;
-    assert!(rt; counts.is_whole() && expiries.is_whole() && moved > 0);
+    assert!(rt; counts.is_complete() && expiries.is_complete() && moved > 0);
     Ok(())
 }

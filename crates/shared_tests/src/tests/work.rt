@@ -8,7 +8,7 @@ ghost use Rattle.control_memory.specs.Image.{Control};
 ghost use Rattle.shared_tests.specs.Steps.{HasStepped};
 
 use control_memory::Image;
-use exchange_core::{Desk, Switchboard, Tool};
+use exchange_core::{StepContext, Switchboard, Tool};
 use exchange_events::{Answer, Event, Kept, Reply, Trace};
 use std::alloc::Global;
 use std::sync::Wait;
@@ -52,14 +52,14 @@ pub fn event_numbered(trace: &Trace, event: u32) -> Option<&Event>
     trace.events.as_slice().get(index)
 }
 
-// Processes a nail, at a desk or with a tool. Returns `None` if the event is not a nail.
+// Processes a nail, with a step context or with a tool. Returns `None` if the event is not a nail.
 fn nail<B: Switchboard, R: Wait>(
     rt: &R,
     board: &B,
     trace: &Trace,
     seat: &mut B::Seat,
     event: u32,
-    at_desk: bool,
+    with_context: bool,
 ) -> Option<(u32, Outcome)>
     requires trace { trace.now ≡ (B.board board.now).trace }
     requires seated { B.seated board.now seat.old }
@@ -71,10 +71,10 @@ fn nail<B: Switchboard, R: Wait>(
         Event::Nail(_, _) => {}
         _ => return None,
     }
-    if at_desk {
-        let mut desk = Desk::new(Tool::Nothing);
-        let (place, response) = board.work(rt, seat, event, &mut desk, false);
-        return Some((place, answer_of(&response.with(desk.out))));
+    if with_context {
+        let mut context = StepContext::new(Tool::Nothing);
+        let (place, response) = board.handle_into(rt, seat, event, &mut context, false);
+        return Some((place, answer_of(&response.into_reply(context.out))));
     }
     let mut tool = Tool::Nothing;
     let (place, reply) = board.handle(rt, seat, event, &mut tool);
@@ -114,8 +114,8 @@ fn nail_or_frame<B: Switchboard, R: Wait>(
 /// A step of two seats: a seat's number and an event, and its place and its reply.
 pub type Step = ((u32, u32), (u32, Outcome));
 
-/// Processes steps of two seats in this order; seat 0 holds the baton, and the other one works at a desk. Returns
-/// whether each has the expected reply.
+/// Processes steps of two seats in this order; seat 0 holds the baton, and the other one works with a step context.
+/// Returns whether each has the expected reply.
 pub fn are_answered<B: Switchboard, R: Wait>(
     rt: &R,
     alloc: Global,

@@ -1,5 +1,5 @@
 //! The call table, row by row, and the STATUS in reply to an unexpected message.
-use call_states::{Act, Leg, Peer, Side, on_message, status, unexpected};
+use call_states::{Act, Leg, Peer, Side, on_message, status_message, unexpected};
 use circuit_model::Slot;
 use q931_codec::{MessageKind, read};
 use std::test::*;
@@ -179,7 +179,7 @@ fn tells_what_is_not_expected(rt: HostRuntime) {
 
 #[test]
 fn tells_the_state(rt: HostRuntime) {
-    let answer = status(&leg(10, Side::Caller), 30);
+    let answer = status_message(&leg(10, Side::Caller), 30);
     assert!(rt; answer.flag && answer.kind == MessageKind::Status);
     assert!(rt; answer.cause == Some(30) && answer.state == Some(10));
 }

@@ -1,5 +1,5 @@
 //! The reply to a message without a call, and the contents of a RESTART.
-use clearing_rules::{Restart, acknowledgement, cause_in, restart, unknown_reference};
+use clearing_rules::{Restart, cause_in, restart, restart_acknowledge, unknown_reference};
 use q931_codec::{MessageKind, read};
 use std::test::*;
 
@@ -91,7 +91,7 @@ const RESTARTS: [(&[u8], Option<(Restart, Option<u8>, u8)>); 9] = [
 
 fn restarted(octets: &[u8]) -> Option<(Restart, Option<u8>, u8)> {
     let asked = restart(&read(octets).ok()?)?;
-    let sent = acknowledgement(asked);
+    let sent = restart_acknowledge(asked);
     if !sent.flag || sent.reference != 0 || sent.kind != MessageKind::RestartAcknowledge {
         return None;
     }

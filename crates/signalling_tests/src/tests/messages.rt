@@ -322,7 +322,7 @@ const BEARERS: [(&[u8], BearerCapability); 11] = [
 #[test]
 fn reads_bearers(rt: HostRuntime) {
     for (contents, wanted) in &BEARERS {
-        assert!(rt; BearerCapability::of(contents) == *wanted);
+        assert!(rt; BearerCapability::from_contents(contents) == *wanted);
     }
 }
 
@@ -420,7 +420,7 @@ fn is_asked(asked: &Asked) -> bool {
     message.bearer() == asked.bearer
         && message.called_contents() == asked.received
         && message.called_number() == asked.called
-        && message.sending_complete() == asked.complete
+        && message.is_sending_complete() == asked.complete
         && message.calling_number() == asked.calling
         && message.low_layer() == asked.low
         && message.high_layer() == asked.high

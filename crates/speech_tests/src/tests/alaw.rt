@@ -109,7 +109,7 @@ static LEFT_OPEN: [(i32, u8); 5] = [
 
 // Returns whether a value has this octet, by search and by the table.
 fn is_coded(codes: &CodeTable, value: i32, octet: u8) -> bool {
-    compress(value) == octet && codes.code(value) == octet
+    compress(value) == octet && codes.compress(value) == octet
 }
 
 // Returns whether each value has its octet.

@@ -258,7 +258,7 @@ fn sounds_with(
         mut image,
         mut engine,
     } = parts_for(alloc, 3, 1, 30)?;
-    engine.halve_stages(levels);
+    engine.set_halving_levels(levels);
     Ok(are_heard_as_reported(rt, &mut engine, &mut image, &tones, trace))
 }
 

@@ -5,11 +5,11 @@ use circuit_model::{IDLE, Slot};
 use conference_mix::mix;
 use control_memory::{Heard, Image};
 use frame_buffer::{Crossed, FrameBuffer, Highway};
-use space_stage::cross_by_halves;
+use space_stage::cross_split;
 use std::alloc::{AllocError, Global};
 use std::mem;
 use std::thread::Threads;
-use time_stage::{incoming_by_halves, outgoing_by_halves};
+use time_stage::{incoming_split, outgoing_split};
 
 /// The number of times that the lines of a stage are halved: some parts have one line, and others have none.
 const LEVELS: u8 = 3;
@@ -85,7 +85,7 @@ pub(super) fn carry_halved(
     ensures highway { (stages.new.highway.lines ≡ 4) × (stages.new.highway.slots ≡ 30) }
     ensures crossed { (stages.new.crossed.lines ≡ 4) × (stages.new.crossed.slots ≡ 30) }
 {
-    outgoing_by_halves(
+    outgoing_split(
         rt,
         &stages.crossed,
         &stages.kept,
@@ -95,7 +95,7 @@ pub(super) fn carry_halved(
     );
     stages.read.swap();
     mix_room(&stages.read, image, &mut stages.speech);
-    incoming_by_halves(
+    incoming_split(
         rt,
         &stages.speech,
         image,
@@ -103,7 +103,7 @@ pub(super) fn carry_halved(
         LEVELS,
         NO_OCTETS,
     );
-    cross_by_halves(
+    cross_split(
         rt,
         &stages.highway,
         image,

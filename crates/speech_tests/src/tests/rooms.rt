@@ -1,6 +1,6 @@
 //! Conference rooms, compared with the sums of another program.
 use alaw_codec::CodeTable;
-use conference_mix::{MAX_MEMBERS, Mixer, Seated, mix};
+use conference_mix::{MAX_MEMBERS, Mixer, RoomMember, mix};
 use std::alloc::AllocError;
 
 /// Five members, and the octet that each hears: the other octets decoded, added and encoded again by Python's `audioop`
@@ -89,9 +89,9 @@ fn heard_beside(codes: &CodeTable, members: &[Option<u8>; 5]) -> [u8; 11] {
     let mut mixer = Mixer::new(11);
     for k in 0..5 {
         let octet = members[k];
-        mixer.seat(2 * k, Seated { room: 0, octet });
+        mixer.add(2 * k, RoomMember { room: 0, octet });
         let octet = Some(0xAA);
-        mixer.seat(2 * k + 1, Seated { room: 255, octet });
+        mixer.add(2 * k + 1, RoomMember { room: 255, octet });
     }
     let mut out = [0; 11];
     mixer.mix(codes, &mut out);

@@ -24,7 +24,7 @@ fn make<G: Gate>(gate: &G, call: Call) {
 // One thread that makes these calls in order at a gate for event 7 and frame 3. No other thread ends a hold, so the
 // gate passes only if neither call had to wait.
 fn passes(calls: &[Call]) -> bool {
-    let gate = TestGate::patient(7, 3, 5);
+    let gate = TestGate::with_spin_limit(7, 3, 5);
     for call in calls {
         make(&gate, *call);
     }

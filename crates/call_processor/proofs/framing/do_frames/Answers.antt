@@ -9,23 +9,23 @@ use Rattle.call_processor.proofs.PartLemmas.{next_not, next_its, none_up_to, fro
 use Rattle.call_processor.proofs.framing.do_frames.Goals as goal
 
 pub input_of-requires : goal.input_of-requires
-input_of-requires g c = record { event = c.numbers_of-first.ensures.events c.loop-event.event c.loop-event.invariant.from c.loop-event-test.true }
+input_of-requires g c = record { event = c.event_range-first.ensures.events c.loop-event.event c.loop-event.invariant.from c.loop-event-test.true }
 
 pub returns-in_err-grow-clause-works : goal.returns-in_err-grow-clause-works
 returns-in_err-grow-clause-works g c =
     let failed : is_ok c.from_residual.result ≡ false = search rules in
-    let empty : g.K.Keeper.holds c.clear.new.self [] = search rules in
+    let empty : g.K.AnswerSink.holds c.clear.new.self [] = search rules in
     works_ended _ _ _ _ _ _ _ _ _ failed (keeps_nothing _ _ _ _ _ _ empty)
 
-pub numbers_of-first-requires-clause-sound : goal.numbers_of-first-requires-clause-sound
-numbers_of-first-requires-clause-sound g c = subst IsSound (sym c.requires.may.work.trace_is) ((g.met.B.Switchboard g.world.𝓛 g.world.𝓜 g.world.𝓡 ((λ s x. x), (λ x. x), (λ x. x), λ x. x)).sound_trace c.args.cx.now.board.now c.args.seat.now c.requires.seated)
+pub event_range-first-requires-clause-sound : goal.event_range-first-requires-clause-sound
+event_range-first-requires-clause-sound g c = subst IsSound (sym c.requires.may.work.trace_is) ((g.met.B.Switchboard g.world.𝓛 g.world.𝓜 g.world.𝓡 ((λ s x. x), (λ x. x), (λ x. x), λ x. x)).sound_trace c.args.cx.now.board.now c.args.seat.now c.requires.seated)
 
 pub loop-event-init : goal.loop-event-init
 loop-event-init g c =
-    let empty : g.K.Keeper.holds c.clear.new.self [] = search rules in
+    let empty : g.K.AnswerSink.holds c.clear.new.self [] = search rules in
     record {
       seated = c.requires.seated;
-      keeps = keeps_done _ _ _ _ _ _ _ _ (none_up_to c.args.cx.now.trace.now Frame_worker c.numbers_of-first.result.0) (keeps_none _ _ _ _ _ empty);
+      keeps = keeps_done _ _ _ _ _ _ _ _ (none_up_to c.args.cx.now.trace.now Frame_worker c.event_range-first.result.0) (keeps_none _ _ _ _ _ empty);
       from = search rules;
       ready = c.requires.may.ready;
       lines = search rules;
@@ -44,16 +44,16 @@ loop-event-preserved-in_default g c =
 
 pub returns-then-is_told-clause-works : goal.returns-then-is_told-clause-works
 returns-then-is_told-clause-works g c =
-    keeps_front _ _ _ _ _ _ _ _ _ (front_here c.args.cx.now.trace.now _ _ _ _ _ (c.numbers_of-first.ensures.parts Frame_worker) c.loop-event.invariant.from c.loop-event-test.true) c.loop-event.invariant.keeps
+    keeps_front _ _ _ _ _ _ _ _ _ (front_here c.args.cx.now.trace.now _ _ _ _ _ (c.event_range-first.ensures.parts Frame_worker) c.loop-event.invariant.from c.loop-event-test.true) c.loop-event.invariant.keeps
 
 pub do_frame-requires-clause-known : goal.do_frame-requires-clause-known
 do_frame-requires-clause-known g c κs within =
-    subst (λ (t : Trace). IsEvent t c.loop-event.event) c.requires.may.work.trace_is (c.numbers_of-first.ensures.events c.loop-event.event c.loop-event.invariant.from c.loop-event-test.true)
+    subst (λ (t : Trace). IsEvent t c.loop-event.event) c.requires.may.work.trace_is (c.event_range-first.ensures.events c.loop-event.event c.loop-event.invariant.from c.loop-event-test.true)
 
 pub do_frame-requires-clause-turn : goal.do_frame-requires-clause-turn
 do_frame-requires-clause-turn g c κs within =
     let its : is_its c.args.cx.now.trace.now Frame_worker c.loop-event.event ≡ true = search rules in
-    turn_left _ _ _ _ _ _ (front_next c.args.cx.now.trace.now _ _ _ _ _ (c.numbers_of-first.ensures.parts Frame_worker) c.loop-event.invariant.from c.loop-event-test.true its) c.requires.may.work.turns c.loop-event.invariant.keeps.going.did.turns
+    turn_left _ _ _ _ _ _ (front_next c.args.cx.now.trace.now _ _ _ _ _ (c.event_range-first.ensures.parts Frame_worker) c.loop-event.invariant.from c.loop-event-test.true its) c.requires.may.work.turns c.loop-event.invariant.keeps.going.did.turns
 
 pub returns-in_err-do_frame-clause-works : goal.returns-in_err-do_frame-clause-works
 returns-in_err-do_frame-clause-works g c =
@@ -61,7 +61,7 @@ returns-in_err-do_frame-clause-works g c =
     let failed : is_ok c.from_residual-in_err-do_frame.result ≡ false = search rules in
     works_ended _ _ _ _ _ _ _ _ _ failed
     (keeps_lacking _ _ _ (λ a b answers s each said. frames_stay _ _ _ a b answers s each said) _ _ _ _ _ _ _ _ _
-    (front_next c.args.cx.now.trace.now _ _ _ _ _ (c.numbers_of-first.ensures.parts Frame_worker) c.loop-event.invariant.from c.loop-event-test.true its) c.loop-event.invariant.keeps c.do_frame.ensures.handled c.in_err-do_frame.ensures.refused)
+    (front_next c.args.cx.now.trace.now _ _ _ _ _ (c.event_range-first.ensures.parts Frame_worker) c.loop-event.invariant.from c.loop-event-test.true its) c.loop-event.invariant.keeps c.do_frame.ensures.handled c.in_err-do_frame.ensures.refused)
 
 pub loop-event-preserved : goal.loop-event-preserved
 loop-event-preserved g c =
@@ -77,7 +77,7 @@ loop-event-preserved g c =
 
 pub returns-clause-works : goal.returns-clause-works
 returns-clause-works g c =
-    let first = c.numbers_of-first.result.0 in
-    let over : c.loop-event.event ≡ c.numbers_of-first.result.1 = search rules in
-    let all : up_to c.args.cx.now.trace.now Frame_worker first c.loop-event.event ≡ part_of c.args.cx.now.trace.now c.args.segment Frame_worker = ap (up_to c.args.cx.now.trace.now Frame_worker first) over ∙ sym (c.numbers_of-first.ensures.parts Frame_worker) in
+    let first = c.event_range-first.result.0 in
+    let over : c.loop-event.event ≡ c.event_range-first.result.1 = search rules in
+    let all : up_to c.args.cx.now.trace.now Frame_worker first c.loop-event.event ≡ part_of c.args.cx.now.trace.now c.args.segment Frame_worker = ap (up_to c.args.cx.now.trace.now Frame_worker first) over ∙ sym (c.event_range-first.ensures.parts Frame_worker) in
     keeps_whole _ _ _ _ _ _ _ (keeps_done _ _ _ _ _ _ _ _ all c.loop-event.invariant.keeps)

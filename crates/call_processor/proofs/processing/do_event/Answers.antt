@@ -13,28 +13,28 @@ pub returns-clause-kept : goal.returns-clause-kept
 returns-clause-kept g c =
     let K = g.B.Switchboard.known in
     let board = g.B.Switchboard.board c.args.cx.now.board.now in
-    let place = c.work-place.result.0 in
-    let history = before place (K c.work-place.new.seat).seen in
-    let p : Placed = placed place c.args.event c.work-place.result.1 c.work-place.new.desk.out [] in
-    let last = c.work-place.ensures.done.place in
-    let next : Next history c.args.event place (K c.args.seat.now) (K c.work-place.new.seat) = record {
-      seat = c.work-place.ensures.done.seat;
-      begins = c.work-place.ensures.done.begins;
-      place_is = length-take-le place (K c.work-place.new.seat).seen (omega (arith, last));
+    let place = c.handle_into-place.result.0 in
+    let history = before place (K c.handle_into-place.new.seat).seen in
+    let p : Placed = placed place c.args.event c.handle_into-place.result.1 c.handle_into-place.new.context.out [] in
+    let last = c.handle_into-place.ensures.done.place in
+    let next : Next history c.args.event place (K c.args.seat.now) (K c.handle_into-place.new.seat) = record {
+      seat = c.handle_into-place.ensures.done.seat;
+      begins = c.handle_into-place.ensures.done.begins;
+      place_is = length-take-le place (K c.handle_into-place.new.seat).seen (omega (arith, last));
       turn = c.requires.turn;
-      exact = c.work-place.ensures.done.own;
+      exact = c.handle_into-place.ensures.done.own;
     } in
-    on_ok c.keep.result (λ kept. record {
+    on_ok c.push.result (λ kept. record {
       answer = p;
       place = last;
       event_is = refl;
-      is = answer_next board history (K c.args.seat.now) (K c.work-place.new.seat) p (reply_of c.work-place.result.1 c.work-place.new.desk.out) next c.work-place.ensures.done.reply c.work-place.ensures.done.few refl;
+      is = answer_next board history (K c.args.seat.now) (K c.handle_into-place.new.seat) p (reply_of c.handle_into-place.result.1 c.handle_into-place.new.context.out) next c.handle_into-place.ensures.done.reply c.handle_into-place.ensures.done.few refl;
       said = refl;
       held = kept;
-    }) c.keep.ensures.kept
+    }) c.push.ensures.kept
 
 pub returns-clause-next : goal.returns-clause-next
 returns-clause-next g c = λ only.
     let K = g.B.Switchboard.known in
-    next_alone (turns_of (g.B.Switchboard.board c.args.cx.now.board.now)) (before c.work-place.result.0 (K c.work-place.new.seat).seen) c.args.event (K c.args.seat.now) (K c.work-place.new.seat)
-    c.work-place.ensures.done.seat (c.work-place.ensures.done.alone only.0 only.1) (c.work-place.ensures.done.settled only.0)
+    next_alone (turns_of (g.B.Switchboard.board c.args.cx.now.board.now)) (before c.handle_into-place.result.0 (K c.handle_into-place.new.seat).seen) c.args.event (K c.args.seat.now) (K c.handle_into-place.new.seat)
+    c.handle_into-place.ensures.done.seat (c.handle_into-place.ensures.done.alone only.0 only.1) (c.handle_into-place.ensures.done.settled only.0)

@@ -19,8 +19,8 @@ passed s w input map after legs legs_after work holds =
     let kept = pass_kept s w work.stands.circuits work.stands.legs input in
     record { holds = holds; circuits = kept.0; stand = kept.1 }
 
-pub expire-requires-clause-work : goal.expire-requires-clause-work
-expire-requires-clause-work g c =
+pub handle_timers-requires-clause-work : goal.handle_timers-requires-clause-work
+handle_timers-requires-clause-work g c =
     let s = c.requires.work.0 in
     let w = c.requires.work.1 in
     let work = c.requires.work.4 in
@@ -29,16 +29,16 @@ expire-requires-clause-work g c =
 pub returns-clause-reply : goal.returns-clause-reply
 returns-clause-reply g c s w tones timers work input =
     let order = passed s w input _ _ _ _ work (c.boundary-number.ensures.world s.dimensions w input work.holds) in
-    let made = c.expire.ensures.makes s (pass w input) tones timers order in
-    let recorded = c.expire.ensures.records s (pass w input) tones timers order in
+    let made = c.handle_timers.ensures.makes s (pass w input) tones timers order in
+    let recorded = c.handle_timers.ensures.records s (pass w input) tones timers order in
     let number = c.boundary-number.ensures.number s.dimensions w work.holds in
-    subst (λ (n : ℕ). let answer : Reply = An_answer.Frame c.boundary-number.result c.expire.new.out.sends c.expire.new.out.records in
+    subst (λ (n : ℕ). let answer : Reply = An_answer.Frame c.boundary-number.result c.handle_timers.new.out.sends c.handle_timers.new.out.records in
     answer ≡ frame_reply n (outcome_of_lines s n (pass w input) s.dimensions.external)) number
     (λ i. An_answer.Frame c.boundary-number.result (made.sent i) (recorded i))
 
 pub returns-clause-world : goal.returns-clause-world
 returns-clause-world g c s w tones timers work input =
     let order = passed s w input _ _ _ _ work (c.boundary-number.ensures.world s.dimensions w input work.holds) in
-    let made = c.expire.ensures.makes s (pass w input) tones timers order in
-    subst (λ (n : ℕ). Holds s.dimensions c.expire.new.self.map c.expire.new.self.legs (outcome_of_lines s n (pass w input) s.dimensions.external).making.world)
+    let made = c.handle_timers.ensures.makes s (pass w input) tones timers order in
+    subst (λ (n : ℕ). Holds s.dimensions c.handle_timers.new.self.map c.handle_timers.new.self.legs (outcome_of_lines s n (pass w input) s.dimensions.external).making.world)
     (c.boundary-number.ensures.number s.dimensions w work.holds) made.holds

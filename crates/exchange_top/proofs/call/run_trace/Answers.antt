@@ -1,6 +1,6 @@
 use Rattle.std.proofs.Common.{◌≡◌, refl, rules, true, false}
-use Rattle.fabric_map.specs.Map.{most_moves}
-use Rattle.strict_map.specs.Strict.{most_moves as most_strict_moves}
+use Rattle.fabric_map.specs.Map.{max_moves}
+use Rattle.strict_map.specs.Strict.{max_moves as max_strict_moves}
 use Rattle.exchange_top.specs.declared.ending.Ending.TheVariants as ended
 use Rattle.exchange_top.specs.Commands.{fabric_of}
 use Rattle.exchange_top.specs.Outcomes.{Fabric}
@@ -12,8 +12,8 @@ use Rattle.exchange_top.proofs.call.run_trace.Goals as goal
 pub returns-in-Ok-clause-runs : goal.returns-in-Ok-clause-runs
 returns-in-Ok-clause-runs g c =
     let e = c.in-Ok.ensures in
-    let map : Fabric = record { slots = c.in-Ok.paths.slots; most_moves = most_strict_moves c.in-Ok.paths.lines } in
-    let same : map ≡ fabric_of true c.args.trace.now = λ i. record { slots = e.slots i; most_moves = most_strict_moves (e.lines i) } in
+    let map : Fabric = record { slots = c.in-Ok.paths.slots; max_moves = max_strict_moves c.in-Ok.paths.lines } in
+    let same : map ≡ fabric_of true c.args.trace.now = λ i. record { slots = e.slots i; max_moves = max_strict_moves (e.lines i) } in
     runs_on _ _ true _ _ _ _ (search rules) same c.run_on.ensures.runs
 
 pub returns-in-Err-clause-runs : goal.returns-in-Err-clause-runs
@@ -24,8 +24,8 @@ returns-in-Err-clause-runs g c =
 pub returns-in-Ok-new-clause-runs : goal.returns-in-Ok-new-clause-runs
 returns-in-Ok-new-clause-runs g c =
     let e = c.in-Ok-new.ensures in
-    let map : Fabric = record { slots = c.in-Ok-new.paths.slots; most_moves = most_moves c.in-Ok-new.paths.lines } in
-    let same : map ≡ fabric_of false c.args.trace.now = λ i. record { slots = e.slots i; most_moves = most_moves (e.lines i) } in
+    let map : Fabric = record { slots = c.in-Ok-new.paths.slots; max_moves = max_moves c.in-Ok-new.paths.lines } in
+    let same : map ≡ fabric_of false c.args.trace.now = λ i. record { slots = e.slots i; max_moves = max_moves (e.lines i) } in
     runs_on _ _ false _ _ _ _ (search rules) same c.run_on-in-Ok-new.ensures.runs
 
 pub returns-in-Err-new-clause-runs : goal.returns-in-Err-new-clause-runs

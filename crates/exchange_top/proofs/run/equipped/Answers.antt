@@ -8,5 +8,5 @@ pub returns-clause-ready : goal.returns-clause-ready
 returns-clause-ready g c =
     let bound = g.P.PathMap.bound c.args.paths in
     let first = c.in_ok-carried.carried in
-    subst (λ (b : Board). IsReady g.C.Carrier.carries g.C.Carrier.next g.C.Carrier.sizes b [] first.machine.value.engine first.machine.value.desk.tool) (sym (c.in_ok-board.ensures.board ∙ ap board_of c.in_ok-core.ensures))
-    (subst (λ (n : ℕ). IsReady g.C.Carrier.carries g.C.Carrier.next g.C.Carrier.sizes (record { trace = c.args.trace.now; slots = n; bound = bound }) [] first.machine.value.engine first.machine.value.desk.tool) c.slots-slots.ensures.slots (c.in_ok-carried.ensures.ready bound))
+    subst (λ (b : Board). IsReady g.C.Carrier.carries g.C.Carrier.next g.C.Carrier.sizes b [] first.machine.value.engine first.machine.value.context.tool) (sym (c.in_ok-board.ensures.board ∙ ap board_of c.in_ok-core.ensures))
+    (subst (λ (n : ℕ). IsReady g.C.Carrier.carries g.C.Carrier.next g.C.Carrier.sizes (record { trace = c.args.trace.now; slots = n; bound = bound }) [] first.machine.value.engine first.machine.value.context.tool) c.slots-slots.ensures.slots (c.in_ok-carried.ensures.ready bound))

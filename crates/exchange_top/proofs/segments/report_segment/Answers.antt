@@ -26,7 +26,7 @@ returns-in_err-done-clause-told_front g c = on_err c.from_residual.result (none_
 
 pub run_segment_with-requires-clause-ready : goal.run_segment_with-requires-clause-ready
 run_segment_with-requires-clause-ready g c lifetimes outlive =
-    at_some (λ carried. IsReady g.C.Carrier.carries g.C.Carrier.next g.C.Carrier.sizes (g.B.Switchboard.board c.args.cx.now.board.now) (g.B.Switchboard.known c.args.seat.now).seen carried.machine.value.engine carried.machine.value.desk.tool) _ c.taken-machine.result (sym c.taken-machine.ensures) c.requires.ready
+    at_some (λ carried. IsReady g.C.Carrier.carries g.C.Carrier.next g.C.Carrier.sizes (g.B.Switchboard.board c.args.cx.now.board.now) (g.B.Switchboard.known c.args.seat.now).seen carried.machine.value.engine carried.machine.value.context.tool) _ c.taken-machine.result (sym c.taken-machine.ensures) c.requires.ready
 
 pub records_behind-requires : goal.records_behind-requires
 records_behind-requires g c =

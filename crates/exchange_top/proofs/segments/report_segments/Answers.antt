@@ -133,6 +133,6 @@ returns-clause-runs g c =
     let within = c.loop-segment.auto.segment-end in
     let all : c.loop-segment.segment ≡ length board.trace.segments = omega (arith, same, over, within) in
     let inv = c.loop-segment.invariant in
-    let before = at_some (λ carried. IsReady g.C.Carrier.carries g.C.Carrier.next g.C.Carrier.sizes board (g.B.Switchboard.known c.loop-segment.seat).seen carried.machine.value.engine carried.machine.value.desk.tool) _ c.taken.result (sym c.taken.ensures) inv.ready in
+    let before = at_some (λ carried. IsReady g.C.Carrier.carries g.C.Carrier.next g.C.Carrier.sizes board (g.B.Switchboard.known c.loop-segment.seat).seen carried.machine.value.engine carried.machine.value.context.tool) _ c.taken.result (sym c.taken.ensures) inv.ready in
     let ready = subst (IsReadyAt g.C.Carrier.carries g.C.Carrier.next g.C.Carrier.sizes board (g.B.Switchboard.known c.loop-segment.seat)) (sym c.into_inner-machine.ensures) before in
     run_whole _ _ _ _ _ _ _ _ _ _ _ _ _ _ inv.underway (subst IsSound c.requires.trace c.requires.sound) all inv.on.left _ c.in_ok-flush.ensures.whole (ready.sized, ready.carried)

@@ -42,8 +42,8 @@ lay_all-requires-clause-room g c =
     can_lay_is _ _ _ _ c.memory.inside.paths.layout _ (moves_for c.memory.inside.matrix c.args.from.line c.args.to.line) c.deref.result.now c.deref-2.result.now c.deref-3.result.now
     c.lift_all.ensures.lines c.lift_all.ensures.slots first second (c.deref-3.ensures.0 ∙ c.lift_all.ensures.lifted) c.lift_all.ensures.layout made.room
 
-pub add-requires-clause-free : goal.add-requires-clause-free
-add-requires-clause-free g c =
+pub insert-requires-clause-free : goal.insert-requires-clause-free
+insert-requires-clause-free g c =
     let ready = is_readied _ _ _ c.args.from c.args.to _ _ _ _ _ _ _ _ c.memory.view_is c.memory.invariant c.requires.thirty c.requires.from c.requires.to c.requires.inlet c.requires.outlet
     c.make_room-freed.ensures.exchanged c.make_room-freed.ensures.moves c.deref.ensures.0 c.deref-2.ensures.0 (c.deref-3.ensures.0 ∙ c.lift_all.ensures.lifted) c.lift_all.ensures.layout c.lay_all.ensures.layout
     c.make_room-freed.ensures.row_free c.make_room-freed.ensures.column_free in
@@ -62,9 +62,9 @@ invariant_of-memory g c =
     c.make_room-freed.ensures.row_free c.make_room-freed.ensures.column_free in
     let lines : c.lay_all.new.paths.lines ≡ f.lines = c.lay_all.ensures.lines ∙ c.lift_all.ensures.lines in
     let slots : c.lay_all.new.paths.slots ≡ f.slots = c.lay_all.ensures.slots ∙ c.lift_all.ensures.slots in
-    kept_with f.lines f.slots c.make_room-freed.new.matrix _ from to slot c.place.new.self c.add.new.self (c.make_room-freed.ensures.sizes.0 ∙ c.memory.invariant.lines) (c.make_room-freed.ensures.sizes.1 ∙ c.memory.invariant.slots)
+    kept_with f.lines f.slots c.make_room-freed.new.matrix _ from to slot c.place.new.self c.insert.new.self (c.make_room-freed.ensures.sizes.0 ∙ c.memory.invariant.lines) (c.make_room-freed.ensures.sizes.1 ∙ c.memory.invariant.slots)
     ready.beside ready.can.from_inside ready.can.to_inside c.make_room-freed.ensures.within ready.free c.place.ensures.placed c.place.ensures.legal
-    (c.add.ensures.layout ∙ ap (λ l. with_path l from to slot) ready.layout_is) (c.add.ensures.lines ∙ lines) (c.add.ensures.slots ∙ slots)
+    (c.insert.ensures.layout ∙ ap (λ l. with_path l from to slot) ready.layout_is) (c.insert.ensures.lines ∙ lines) (c.insert.ensures.slots ∙ slots)
 
 pub returns-clause-layout : goal.returns-clause-layout
 returns-clause-layout g c =
@@ -73,7 +73,7 @@ returns-clause-layout g c =
     let ready = is_readied _ _ _ c.args.from c.args.to _ _ _ _ _ _ _ _ c.memory.view_is c.memory.invariant c.requires.thirty c.requires.from c.requires.to c.requires.inlet c.requires.outlet
     c.make_room-freed.ensures.exchanged c.make_room-freed.ensures.moves c.deref.ensures.0 c.deref-2.ensures.0 (c.deref-3.ensures.0 ∙ c.lift_all.ensures.lifted) c.lift_all.ensures.layout c.lay_all.ensures.layout
     c.make_room-freed.ensures.row_free c.make_room-freed.ensures.column_free in
-    c.add.ensures.layout ∙ ap (λ l. with_path l from to c.make_room-freed.result) ready.layout_is ∙ ap (with_path _ from to) c.make_room-freed.ensures.slot ∙ ready.made.joined
+    c.insert.ensures.layout ∙ ap (λ l. with_path l from to c.make_room-freed.result) ready.layout_is ∙ ap (with_path _ from to) c.make_room-freed.ensures.slot ∙ ready.made.joined
     ∙ ap (λ (x : Fabric). connect x.lines x.slots x.layout from to) c.memory.view_is
 
 pub returns-clause-pairs : goal.returns-clause-pairs
@@ -85,11 +85,11 @@ returns-clause-pairs g c =
     let ready = is_readied _ _ _ c.args.from c.args.to _ _ _ _ _ _ _ _ c.memory.view_is c.memory.invariant c.requires.thirty c.requires.from c.requires.to c.requires.inlet c.requires.outlet
     c.make_room-freed.ensures.exchanged c.make_room-freed.ensures.moves c.deref.ensures.0 c.deref-2.ensures.0 (c.deref-3.ensures.0 ∙ c.lift_all.ensures.lifted) c.lift_all.ensures.layout c.lay_all.ensures.layout
     c.make_room-freed.ensures.row_free c.make_room-freed.ensures.column_free in
-    let new = c.add.ensures.layout ∙ ap (λ l. with_path l from to slot) ready.layout_is in
-    let all : (x y : Slot) → IsSlot f.lines x → (Joins c.add.new.self.layout x y → Joins f.layout x y ⊎ ((x ≡ from) × (y ≡ to))) × (Joins f.layout x y ⊎ ((x ≡ from) × (y ≡ to)) → Joins c.add.new.self.layout x y) =
+    let new = c.insert.ensures.layout ∙ ap (λ l. with_path l from to slot) ready.layout_is in
+    let all : (x y : Slot) → IsSlot f.lines x → (Joins c.insert.new.self.layout x y → Joins f.layout x y ⊎ ((x ≡ from) × (y ≡ to))) × (Joins f.layout x y ⊎ ((x ≡ from) × (y ≡ to)) → Joins c.insert.new.self.layout x y) =
     λ x y in_x. subst (λ l. (Joins l x y → Joins f.layout x y ⊎ ((x ≡ from) × (y ≡ to))) × (Joins f.layout x y ⊎ ((x ≡ from) × (y ≡ to)) → Joins l x y)) (sym new)
     (pairs_after f.lines f.layout _ from to slot ready.beside.legal.inlets ready.can.from_inside ready.free.inlet ready.made.joins x y in_x) in
-    subst (λ (now : Fabric). (x y : Slot) → IsSlot now.lines x → (Joins c.add.new.self.layout x y → Joins now.layout x y ⊎ ((x ≡ from) × (y ≡ to))) × (Joins now.layout x y ⊎ ((x ≡ from) × (y ≡ to)) → Joins c.add.new.self.layout x y)) c.memory.view_is all
+    subst (λ (now : Fabric). (x y : Slot) → IsSlot now.lines x → (Joins c.insert.new.self.layout x y → Joins now.layout x y ⊎ ((x ≡ from) × (y ≡ to))) × (Joins now.layout x y ⊎ ((x ≡ from) × (y ≡ to)) → Joins c.insert.new.self.layout x y)) c.memory.view_is all
 
 pub returns-clause-moves : goal.returns-clause-moves
 returns-clause-moves g c =
@@ -99,5 +99,5 @@ returns-clause-moves g c =
     c.make_room-freed.ensures.exchanged c.make_room-freed.ensures.moves c.deref.ensures.0 c.deref-2.ensures.0 (c.deref-3.ensures.0 ∙ c.lift_all.ensures.lifted) c.lift_all.ensures.layout c.lay_all.ensures.layout
     c.make_room-freed.ensures.row_free c.make_room-freed.ensures.column_free in
     c.len.ensures.value ∙ ap length c.make_room-freed.ensures.moves ∙ sym ready.made.count
-    ∙ ap (moved c.memory.inside.paths.layout) (sym (c.add.ensures.layout ∙ ap (λ l. with_path l from to c.make_room-freed.result) ready.layout_is ∙ ap (with_path _ from to) c.make_room-freed.ensures.slot))
-    ∙ ap (λ (x : Fabric). moved x.layout c.add.new.self.layout) c.memory.view_is
+    ∙ ap (moved c.memory.inside.paths.layout) (sym (c.insert.ensures.layout ∙ ap (λ l. with_path l from to c.make_room-freed.result) ready.layout_is ∙ ap (with_path _ from to) c.make_room-freed.ensures.slot))
+    ∙ ap (λ (x : Fabric). moved x.layout c.insert.new.self.layout) c.memory.view_is

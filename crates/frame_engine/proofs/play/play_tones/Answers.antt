@@ -7,4 +7,4 @@ pub tone_octet-requires : goal.tone_octet-requires
 tone_octet-requires c =
     let word = c.index-heard-place in
     c.requires.tones c.loop-place.place c.in-Tone.kind c.in-Tone.since (search rules)
-    (get_or_default c.args.heard.now c.loop-place.place Silent word.result (search rules) ∙ sym word.is ∙ sym c.heard.ensures ∙ c.in-Tone.is)
+    (get_or_default c.args.heard.now c.loop-place.place Silent word.result (search rules) ∙ sym word.is ∙ sym c.to_heard.ensures ∙ c.in-Tone.is)

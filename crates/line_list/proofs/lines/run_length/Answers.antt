@@ -1,20 +1,20 @@
 use Rattle.std.proofs.Common.{arith}
-use Rattle.line_list.specs.declared.lines.Mark.{Mark}
+use Rattle.line_list.specs.declared.lines.LineEntry.{LineEntry}
 use Rattle.line_list.proofs.LineLemmas.{before_more}
 use Rattle.line_list.proofs.lines.run_length.Goals as goal
-use Rattle.line_list.proofs.lines.run_length.Goals.{else-count-gt0-via-then-count-gt0+else-mark-below, else-count-gt0-via-else-count-gt0}
+use Rattle.line_list.proofs.lines.run_length.Goals.{else-count-gt0-via-then-count-gt0+else-entry-below, else-count-gt0-via-else-count-gt0}
 
 -- what is nowhere
-abbrev none : Mark
+abbrev none : LineEntry
 none = record { place = 0; octets = 0; records = 0 }
 
-pub loop-mark-preserved : goal.loop-mark-preserved
-loop-mark-preserved c =
-    let inv = c.loop-mark.invariant in
+pub loop-entry-preserved : goal.loop-entry-preserved
+loop-entry-preserved c =
+    let inv = c.loop-entry.invariant in
     record {
       counted = let n = inv.counted in omega (arith, n);
       before = elim c.else-count-gt0.branch [
-        | else-count-gt0-via-then-count-gt0+else-mark-below w ↦ before_more c.args.below c.loop-mark.mark-index c.args.marks.now none c.loop-mark-test.true (λ some. w.if-mark-below.false) inv.before
-        | else-count-gt0-via-else-count-gt0 w ↦ let few = w.if-count-gt0.false in let n = inv.counted in before_more c.args.below c.loop-mark.mark-index c.args.marks.now none c.loop-mark-test.true (λ some. absurd (omega (arith, few, n, some))) inv.before
+        | else-count-gt0-via-then-count-gt0+else-entry-below w ↦ before_more c.args.below c.loop-entry.entry-index c.args.entries.now none c.loop-entry-test.true (λ some. w.if-entry-below.false) inv.before
+        | else-count-gt0-via-else-count-gt0 w ↦ let few = w.if-count-gt0.false in let n = inv.counted in before_more c.args.below c.loop-entry.entry-index c.args.entries.now none c.loop-entry-test.true (λ some. absurd (omega (arith, few, n, some))) inv.before
       ];
     }

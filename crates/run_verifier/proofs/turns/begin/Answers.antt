@@ -6,12 +6,12 @@ pub returns-then-segment-as_slice-clause-ends : goal.returns-then-segment-as_sli
 returns-then-segment-as_slice-clause-ends c = none_ends c.args.trace.now c.args.segment 0 c.requires.sound (search rules)
 
 pub returns-clause-ends : goal.returns-clause-ends
-returns-clause-ends c = ends_at c.args.trace.now c.args.segment c.numbers_of-first.result.0 c.numbers_of-first.result.1 c.numbers_of-first.ensures.all c.numbers_of-first.ensures.events
+returns-clause-ends c = ends_at c.args.trace.now c.args.segment c.event_range-first.result.0 c.event_range-first.result.1 c.event_range-first.ensures.all c.event_range-first.ensures.events
 
 pub returns-clause-own : goal.returns-clause-own
-returns-clause-own c = begins_own c.args.trace.now c.args.segment c.numbers_of-first.result.0 c.numbers_of-first.result.1 c.numbers_of-first.ensures.all c.numbers_of-first.ensures.events
+returns-clause-own c = begins_own c.args.trace.now c.args.segment c.event_range-first.result.0 c.event_range-first.result.1 c.event_range-first.ensures.all c.event_range-first.ensures.events
     c.first_events-next.result c.first_events-next.ensures.low c.first_events-next.ensures.own
 
 pub returns-clause-untouched : goal.returns-clause-untouched
-returns-clause-untouched c = begins_untouched c.args.trace.now c.args.segment c.numbers_of-first.result.0 c.numbers_of-first.result.1 c.numbers_of-first.ensures.all c.numbers_of-first.ensures.events
+returns-clause-untouched c = begins_untouched c.args.trace.now c.args.segment c.event_range-first.result.0 c.event_range-first.result.1 c.event_range-first.ensures.all c.event_range-first.ensures.events
     c.first_events-next.result c.first_events-next.ensures.low c.requires.sound c.first_events-next.ensures.passed

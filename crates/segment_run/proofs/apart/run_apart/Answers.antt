@@ -8,28 +8,28 @@ on_err : {A E P : Type 0} (r : Result A E) → P → OnErr r P
 on_err (Ok a) p = tt
 on_err (Err e) p = p
 
-pub numbers_of-first-requires-clause-sound : goal.numbers_of-first-requires-clause-sound
-numbers_of-first-requires-clause-sound g c = subst IsSound (sym c.requires.may.trace_is) ((g.met.B.Switchboard g.world.𝓛 g.world.𝓜 g.world.𝓡 ((λ s x. x), (λ x. x), (λ x. x), λ x. x)).sound_trace c.args.cx.now.board.now c.args.seat.now c.requires.seated)
+pub event_range-first-requires-clause-sound : goal.event_range-first-requires-clause-sound
+event_range-first-requires-clause-sound g c = subst IsSound (sym c.requires.may.trace_is) ((g.met.B.Switchboard g.world.𝓛 g.world.𝓜 g.world.𝓡 ((λ s x. x), (λ x. x), (λ x. x), λ x. x)).sound_trace c.args.cx.now.board.now c.args.seat.now c.requires.seated)
 
-pub returns-in_err-merge_or_cut-clause-kept : goal.returns-in_err-merge_or_cut-clause-kept
-returns-in_err-merge_or_cut-clause-kept g c =
-    on_err c.from_residual.result (λ kept held. c.in_err-merge_or_cut.ensures.kept kept held (λ whole.
+pub returns-in_err-merge_or_truncate-clause-kept : goal.returns-in_err-merge_or_truncate-clause-kept
+returns-in_err-merge_or_truncate-clause-kept g c =
+    on_err c.from_residual.result (λ kept held. c.in_err-merge_or_truncate.ensures.kept kept held (λ whole.
     let all = c.work_all-done.ensures.works.done whole in
     record { parts = all.parts; kept = all.kept; apart = all.apart }))
 
 pub returns-clause-whole : goal.returns-clause-whole
 returns-clause-whole g c =
-    let whole = c.in_ok-merge_or_cut.ensures.whole in
+    let whole = c.in_ok-merge_or_truncate.ensures.whole in
     let all = c.work_all-done.ensures.works.done whole in
     record { whole = all.whole; long = all.long; ready = all.ready }
 
 pub returns-clause-answered : goal.returns-clause-answered
 returns-clause-answered g c = λ kept held.
-    let whole = c.in_ok-merge_or_cut.ensures.whole in
+    let whole = c.in_ok-merge_or_truncate.ensures.whole in
     let all = c.work_all-done.ensures.works.done whole in
-    let first = c.numbers_of-first.result.0 in
-    let end = c.numbers_of-first.result.1 in
-    let size : length (events_of_segment c.args.cx.now.trace.now c.args.segment) ≡ end - first = ap length c.numbers_of-first.ensures.all ∙ long_range first (end - first) in
+    let first = c.event_range-first.result.0 in
+    let end = c.event_range-first.result.1 in
+    let size : length (events_of_segment c.args.cx.now.trace.now c.args.segment) ≡ end - first = ap length c.event_range-first.ensures.all ∙ long_range first (end - first) in
     let many = all.many in
-    let merged = c.in_ok-merge_or_cut.ensures.merged kept all.parts held all.kept all.apart (omega (arith, many, size)) in
+    let merged = c.in_ok-merge_or_truncate.ensures.merged kept all.parts held all.kept all.apart (omega (arith, many, size)) in
     record { answers = merged.answers; answered = all.answered merged.answers merged.merged; held = merged.held }

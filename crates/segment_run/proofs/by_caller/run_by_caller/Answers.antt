@@ -7,44 +7,44 @@ use Rattle.segment_run.proofs.by_caller.run_by_caller.Goals as goal
 pub returns-then-is_err-clause-chief : goal.returns-then-is_err-clause-chief
 returns-then-is_err-clause-chief g c =
     let K = g.B.Switchboard.known in
-    alone_chief c.args.cx.now.trace.now c.args.segment (K c.args.seat.now) (K c.run_alone-done.new.seat) (is_ok c.run_alone-done.result) c.run_alone-done.ensures.in_order
-    (turns_of (g.B.Switchboard.board c.args.cx.now.board.now)) c.requires.may.chief c.run_alone-done.ensures.settled
+    alone_chief c.args.cx.now.trace.now c.args.segment (K c.args.seat.now) (K c.run_sequential-done.new.seat) (is_ok c.run_sequential-done.result) c.run_sequential-done.ensures.in_order
+    (turns_of (g.B.Switchboard.board c.args.cx.now.board.now)) c.requires.may.chief c.run_sequential-done.ensures.settled
 
 pub returns-then-is_err-clause-ran : goal.returns-then-is_err-clause-ran
 returns-then-is_err-clause-ran g c =
     let K = g.B.Switchboard.known in
-    alone_ran c.args.cx.now.trace.now c.args.segment (K c.args.seat.now) (K c.run_alone-done.new.seat) (is_ok c.run_alone-done.result) c.run_alone-done.ensures.in_order
+    alone_ran c.args.cx.now.trace.now c.args.segment (K c.args.seat.now) (K c.run_sequential-done.new.seat) (is_ok c.run_sequential-done.result) c.run_sequential-done.ensures.in_order
 
 pub returns-then-is_err-clause-kept : goal.returns-then-is_err-clause-kept
 returns-then-is_err-clause-kept g c = λ kept have.
-    let works = c.run_alone-done.ensures.works in
-    c.cut.ensures kept works.answers (works.held kept have) (sym (c.count-kept.ensures kept have))
+    let works = c.run_sequential-done.ensures.works in
+    c.truncate.ensures kept works.answers (works.held kept have) (sym (c.len-kept.ensures kept have))
 
 pub returns-clause-chief : goal.returns-clause-chief
 returns-clause-chief g c =
     let K = g.B.Switchboard.known in
-    alone_chief c.args.cx.now.trace.now c.args.segment (K c.args.seat.now) (K c.run_alone-done.new.seat) (is_ok c.run_alone-done.result) c.run_alone-done.ensures.in_order
-    (turns_of (g.B.Switchboard.board c.args.cx.now.board.now)) c.requires.may.chief c.run_alone-done.ensures.settled
+    alone_chief c.args.cx.now.trace.now c.args.segment (K c.args.seat.now) (K c.run_sequential-done.new.seat) (is_ok c.run_sequential-done.result) c.run_sequential-done.ensures.in_order
+    (turns_of (g.B.Switchboard.board c.args.cx.now.board.now)) c.requires.may.chief c.run_sequential-done.ensures.settled
 
 pub returns-clause-ran : goal.returns-clause-ran
 returns-clause-ran g c =
     let K = g.B.Switchboard.known in
-    alone_ran c.args.cx.now.trace.now c.args.segment (K c.args.seat.now) (K c.run_alone-done.new.seat) (is_ok c.run_alone-done.result) c.run_alone-done.ensures.in_order
+    alone_ran c.args.cx.now.trace.now c.args.segment (K c.args.seat.now) (K c.run_sequential-done.new.seat) (is_ok c.run_sequential-done.result) c.run_sequential-done.ensures.in_order
 
 pub returns-clause-whole : goal.returns-clause-whole
 returns-clause-whole g c =
     let K = g.B.Switchboard.known in
-    let all : IsTrue (is_ok c.run_alone-done.result) = search rules in
-    let order = c.run_alone-done.ensures.in_order in
+    let all : IsTrue (is_ok c.run_sequential-done.result) = search rules in
+    let order = c.run_sequential-done.ensures.in_order in
     record {
-      whole = alone_whole c.args.cx.now.trace.now c.args.segment (K c.args.seat.now) (K c.run_alone-done.new.seat) (is_ok c.run_alone-done.result) order all;
-      long = alone_long c.args.cx.now.trace.now c.args.segment (K c.args.seat.now) (K c.run_alone-done.new.seat) (is_ok c.run_alone-done.result) order all;
-      ready = c.run_alone-done.ensures.ready;
+      whole = alone_whole c.args.cx.now.trace.now c.args.segment (K c.args.seat.now) (K c.run_sequential-done.new.seat) (is_ok c.run_sequential-done.result) order all;
+      long = alone_long c.args.cx.now.trace.now c.args.segment (K c.args.seat.now) (K c.run_sequential-done.new.seat) (is_ok c.run_sequential-done.result) order all;
+      ready = c.run_sequential-done.ensures.ready;
     }
 
 pub returns-clause-answered : goal.returns-clause-answered
 returns-clause-answered g c = λ kept have.
     let K = g.B.Switchboard.known in
-    let all : IsTrue (is_ok c.run_alone-done.result) = search rules in
-    alone_answers c.args.cx.now.trace.now c.args.segment (K c.args.seat.now) (K c.run_alone-done.new.seat) (is_ok c.run_alone-done.result) c.run_alone-done.ensures.in_order all
-    g.K.Keeper.holds g.C.Carrier.plays (table_of c.args.cx.now.trace.now.tones) (g.B.Switchboard.board c.args.cx.now.board.now) c.args.keeper.now c.run_alone-done.new.keeper c.run_alone-done.ensures.works kept have
+    let all : IsTrue (is_ok c.run_sequential-done.result) = search rules in
+    alone_answers c.args.cx.now.trace.now c.args.segment (K c.args.seat.now) (K c.run_sequential-done.new.seat) (is_ok c.run_sequential-done.result) c.run_sequential-done.ensures.in_order all
+    g.K.AnswerSink.holds g.C.Carrier.plays (table_of c.args.cx.now.trace.now.tones) (g.B.Switchboard.board c.args.cx.now.board.now) c.args.sink.now c.run_sequential-done.new.sink c.run_sequential-done.ensures.works kept have

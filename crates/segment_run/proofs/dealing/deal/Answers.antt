@@ -4,7 +4,7 @@ use Rattle.std.specs.List.{All}
 use Rattle.std.specs.declared.alloc.Global.{Global}
 use Rattle.std.specs.declared.vec.Vec.{Vec}
 use Rattle.std.proofs.lemmas.List.Elements.{All-push}
-use Rattle.seat_history.specs.declared.known.Known.{Known}
+use Rattle.seat_history.specs.declared.seat_knowledge.SeatKnowledge.{SeatKnowledge}
 use Rattle.segment_run.specs.declared.dealing.Job.{Job}
 use Rattle.segment_run.proofs.DealLemmas.{Dealing, dealing_moved, enough, none_dealt, none_yet, one_dealt}
 use Rattle.segment_run.proofs.dealing.deal.Goals.{then-turns-gt0, else-turns-gt0}
@@ -22,7 +22,7 @@ loop-worker-init g c =
       few = omega (arith, long);
       dealing = none_yet (λ (j : Job _ _). j.worker) (λ (j : Job _ _). K j.seat) c.args.trace.now c.args.segment (K c.args.seat.now) c.args.jobs.items none c.requires.chief.1;
       room = c.requires.room.0;
-      lent = let nine = c.requires.workplaces in omega (arith, long, nine);
+      lent = let nine = c.requires.unused in omega (arith, long, nine);
       kept = refl;
     }
 
@@ -44,7 +44,7 @@ loop-worker-preserved g c =
     let le : c.loop-worker.worker ≤ c.args.trace.now.processors = omega (arith, last, within) in
     let K = g.B.Switchboard.known in
     let number : Job _ _ → ℕ = λ j. j.worker in
-    let known : Job _ _ → Known = λ j. K j.seat in
+    let known : Job _ _ → SeatKnowledge = λ j. K j.seat in
     let S : Job _ _ → Type 0 = λ j. g.B.Switchboard.seated c.args.board.now j.seat in
     let trace = c.args.trace.now in
     let segment = c.args.segment in
@@ -55,7 +55,7 @@ loop-worker-preserved g c =
     let is = c.requires.loads i le in
     elim c.if-turns-gt0.branch [
       | then-turns-gt0 w ↦
-          let j : Job _ _ = record { worker = i; seat = w.split-mine.result; workplace = w.pop_workplace-workplace.result } in
+          let j : Job _ _ = record { worker = i; seat = w.split-mine.result; buffers = w.pop_unused-buffers.result } in
           let h = enough number known trace segment v i js (K c.loop-worker.seat) le inv.dealing.turns inv.dealing.all c.requires.turns in
           let d : Dealing number known trace segment v (i + 1) (js ++ j ∷ []) (K w.split-mine.new.seat) =
           one_dealt number known trace segment v i (slice_index_or c.args.loads.now i 0) (nat_eq i c.from-processors.result) js j (K c.loop-worker.seat) (K w.split-mine.new.seat) le is refl (omega (arith, h, is)) (ap (nat_eq i) last)

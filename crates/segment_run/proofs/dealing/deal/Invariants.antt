@@ -11,6 +11,6 @@ invariant-loop-worker g l = record {
   few : length l.jobs.items ≤ l.worker;
   dealing : Dealing (λ j. j.worker) (λ j. g.B.Switchboard.known j.seat) l.trace l.segment (g.B.Switchboard.known l.fn.seat) l.worker l.jobs.items (g.B.Switchboard.known l.seat);
   room : 9 ≤ vec_capacity l.jobs;
-  lent : length l.workplaces.items + length l.jobs.items ≡ 9;
-  kept : vec_capacity l.workplaces ≡ vec_capacity l.fn.workplaces;
+  lent : length l.unused.items + length l.jobs.items ≡ 9;
+  kept : vec_capacity l.unused ≡ vec_capacity l.fn.unused;
 }

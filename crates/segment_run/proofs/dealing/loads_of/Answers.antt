@@ -2,7 +2,7 @@ use Rattle.std.proofs.Common.{rules, ◌≡◌, ◌<◌, ◌+◌, ◌-◌, lengt
 use Rattle.std.proofs.lemmas.List.{length-set}
 use Rattle.exchange_events.specs.declared.trace.Event.{Event}
 use Rattle.exchange_events.proofs.EventNumbers.{event_at-is}
-use Rattle.segment_run.specs.Team.{worker_numbered}
+use Rattle.segment_run.specs.Workers.{worker_numbered}
 use Rattle.segment_run.proofs.ListLemmas.{got_read}
 use Rattle.segment_run.proofs.CountLemmas.{up_to_few, number_is, counted_more}
 use Rattle.segment_run.proofs.dealing.loads_of.Goals as goal
@@ -14,18 +14,18 @@ overflow_add-loads c =
     let some_one = c.requires.sound.processors.0 in
     let o = number_is trace (omega (arith, some_one)) c.index-events-event.result c.processor_of.result n c.processor_of.ensures (λ m e. search rules) (λ e. search rules) in
     let each = c.loop-event.invariant.each n o.0 in
-    let few = up_to_few trace (worker_numbered trace.processors n) c.numbers_of-first.result.0 c.loop-event.event in
+    let few = up_to_few trace (worker_numbered trace.processors n) c.event_range-first.result.0 c.loop-event.event in
     search (rules, each, few)
 
 pub loop-event-preserved : goal.loop-event-preserved
 loop-event-preserved c =
     let trace = c.args.trace.now in
     let n = c.unwrap_or-worker.result in
-    let first = c.numbers_of-first.result.0 in
+    let first = c.event_range-first.result.0 in
     let event = c.loop-event.event in
     let some_one = c.requires.sound.processors.0 in
     let o = number_is trace (omega (arith, some_one)) c.index-events-event.result c.processor_of.result n c.processor_of.ensures (λ m e. search rules) (λ e. search rules) in
-    let known = c.numbers_of-first.ensures.events event c.loop-event.invariant.from c.loop-event-test.true in
+    let known = c.event_range-first.ensures.events event c.loop-event.invariant.from c.loop-event-test.true in
     let low = known.0 in
     let high = known.1 in
     let same = c.as_slice-events.ensures in

@@ -1,6 +1,6 @@
 use Rattle.std.proofs.Common.{◌≡◌, ◌≤◌, ℕ, length, slice_index}
 use Rattle.call_processor.proofs.PartLemmas.{up_to}
-use Rattle.segment_run.specs.Team.{worker_numbered}
+use Rattle.segment_run.specs.Workers.{worker_numbered}
 use Rattle.segment_run.proofs.dealing.loads_of.Given as goal
 
 abbrev pub invariant-loop-event : goal.invariant-loop-event

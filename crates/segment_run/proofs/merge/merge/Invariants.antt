@@ -8,8 +8,8 @@ use Rattle.segment_run.proofs.merge.merge.Given as goal
 
 abbrev pub invariant-loop : goal.invariant-loop
 invariant-loop g l = record {
-  underway : (kept : List Placed) (parts : List (List Placed)) → g.K.Keeper.holds l.fn.into kept → Keep g.K.Keeper.holds l.fn.used.items parts → AreApart parts
-      → Underway g.K.Keeper.holds kept parts l.into l.used.items l.counter;
+  underway : (kept : List Placed) (parts : List (List Placed)) → g.K.AnswerSink.holds l.fn.into kept → Keep g.K.AnswerSink.holds l.fn.used.items parts → AreApart parts
+      → Underway g.K.AnswerSink.holds kept parts l.into l.used.items l.counter;
   count : length l.used.items ≡ length l.fn.used.items;
   room : vec_capacity l.used ≡ vec_capacity l.fn.used;
 }

@@ -7,7 +7,7 @@ use Rattle.segment_run.proofs.run.run_for_answers.Goals as goal
 
 pub returns-clause-answer : goal.returns-clause-answer
 returns-clause-answer g c =
-    let adds = c.in_ok-done.ensures.answered [] c.new-keeper.ensures in
+    let adds = c.in_ok-done.ensures.answered [] c.new-sink.ensures in
     let ran = c.in_ok-done.ensures.whole in
     let same : c.in_ok-answers.answers.items ≡ map (λ (p : Placed). p.answer) adds.answers = c.in_ok-answers.ensures ∙ ap (map (λ (p : Placed). p.answer)) adds.held in
     record {

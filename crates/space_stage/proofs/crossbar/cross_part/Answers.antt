@@ -9,8 +9,8 @@ use Rattle.space_stage.proofs.crossbar.cross_part.Goals.{then-start-part, else-s
 pub slice_bounds-gather_row-end : goal.slice_bounds-gather_row-end
 slice_bounds-gather_row-end c = let fits = row_fits (length c.loop-line.part) c.requires.part.rows c.args.slots (c.loop-line.line - c.args.first) (search rules) (search rules) in search (rules, fits)
 
-pub loop-line-preserved-then-gets_nothing : goal.loop-line-preserved-then-gets_nothing
-loop-line-preserved-then-gets_nothing c =
+pub loop-line-preserved-then-is_space_known_empty : goal.loop-line-preserved-then-is_space_known_empty
+loop-line-preserved-then-is_space_known_empty c =
     let m = c.args.image.now in
     let h = c.args.highway.now in
     let line = c.loop-line.line in
@@ -19,7 +19,7 @@ loop-line-preserved-then-gets_nothing c =
     record {
       size = c.loop-line.invariant.size;
       done = written_idle m.slots (gets m h) c.args.first line part c.loop-line.auto.line c.loop-line.invariant.done c.requires.part.rows whole
-          (λ at near. ap (λ (o : Option ℕ). fetched o (λ l. octet_on h l at)) (c.gets_nothing.ensures c.if-gets_nothing.true at near));
+          (λ at near. ap (λ (o : Option ℕ). fetched o (λ l. octet_on h l at)) (c.is_space_known_empty.ensures c.if-is_space_known_empty.true at near));
     }
 
 pub loop-line-preserved : goal.loop-line-preserved

@@ -7,11 +7,11 @@ use Rattle.space_stage.proofs.crossbar.gather_row.Goals as goal
 pub bounds-rows-start : goal.bounds-rows-start
 bounds-rows-start c =
     let h = c.args.highway.now in
-    let is = start_within h.slots h.lines (received c.args.image.now c.args.line) c.space_row-table.result.now c.args.starts.now c.rows_behind_idle-rows.result.now (octet_on h) (search rules) (search rules) (search rules) c.rows_behind_idle-rows.ensures.idle c.rows_behind_idle-rows.ensures.lines c.loop-slot.slot (search rules) in
+    let is = start_within h.slots h.lines (received c.args.image.now c.args.line) c.space_row-table.result.now c.args.starts.now c.rows_with_idle_first-rows.result.now (octet_on h) (search rules) (search rules) (search rules) c.rows_with_idle_first-rows.ensures.idle c.rows_with_idle_first-rows.ensures.lines c.loop-slot.slot (search rules) in
     search (rules, is)
 
 pub loop-slot-preserved : goal.loop-slot-preserved
 loop-slot-preserved c k below =
     let h = c.args.highway.now in
-    let is = gathered h.slots h.lines (received c.args.image.now c.args.line) c.space_row-table.result.now c.args.starts.now c.rows_behind_idle-rows.result.now (octet_on h) (search rules) (search rules) (search rules) c.rows_behind_idle-rows.ensures.idle c.rows_behind_idle-rows.ensures.lines c.loop-slot.slot (search rules) in
+    let is = gathered h.slots h.lines (received c.args.image.now c.args.line) c.space_row-table.result.now c.args.starts.now c.rows_with_idle_first-rows.result.now (octet_on h) (search rules) (search rules) (search rules) c.rows_with_idle_first-rows.ensures.idle c.rows_with_idle_first-rows.ensures.lines c.loop-slot.slot (search rules) in
     search (rules, is)

@@ -5,15 +5,15 @@ ghost use Rattle.frame_buffer.specs.Highways.{SameHighwaySize};
 ghost use Rattle.control_memory.specs.Image.{lines_of};
 
 use super::{Parts, parts_for};
-use circuit_model::{IDLE, PLACES, Slot};
+use circuit_model::{CHANNELS_PER_LINE, IDLE, Slot};
 use control_memory::Image;
 use frame_buffer::{Crossed, FrameBuffer, Highway};
-use space_stage::{cross, cross_by_halves, cross_part, cross_shared};
+use space_stage::{cross, cross_part, cross_shared, cross_split};
 use std::alloc::{AllocError, Global};
 use std::test::Fail;
 use std::thread::Threads;
 use time_stage::{
-    incoming, incoming_by_halves, incoming_shared, outgoing, outgoing_by_halves, outgoing_shared,
+    incoming, incoming_shared, incoming_split, outgoing, outgoing_shared, outgoing_split,
 };
 
 /// The way in which a stage is computed.
@@ -60,9 +60,9 @@ pub(super) fn carry_by(
             outgoing_shared(rt, crossed, image, out, levels);
         }
         Way::Halved => {
-            incoming_by_halves(rt, buffer, image, highway, levels, 0);
-            cross_by_halves(rt, highway, image, crossed, levels, 0);
-            outgoing_by_halves(rt, crossed, image, out, levels, 0);
+            incoming_split(rt, buffer, image, highway, levels, 0);
+            cross_split(rt, highway, image, crossed, levels, 0);
+            outgoing_split(rt, crossed, image, out, levels, 0);
         }
     }
 }
@@ -77,7 +77,7 @@ fn connect_all(image: &mut Image, lines: u8)
     ensures slots { image.new.slots ≡ 59 }
 {
     for line in 0..lines {
-        for place in 0..PLACES {
+        for place in 0..CHANNELS_PER_LINE {
             let at = u32::from(line) * 30 + u32::from(place);
             let from = Slot { line, place };
             let to = Slot {
@@ -108,7 +108,7 @@ fn carried(
 {
     let mut parts = parts_for(alloc, lines, 59)?;
     connect_all(&mut parts.image, lines);
-    fill(parts.buffer.filled());
+    fill(parts.buffer.filling_half_mut());
     parts.buffer.swap();
     carry_by(
         rt,
@@ -126,9 +126,9 @@ fn carried(
 // Returns the octets on both highways, and those that were read.
 fn octets_of(alloc: Global, parts: &mut Parts) -> Result<Vec<u8>, AllocError> {
     let mut octets = Vec::new(alloc);
-    octets.extend_from_slice(parts.highway.parts())?;
-    octets.extend_from_slice(parts.crossed.parts())?;
-    octets.extend_from_slice(parts.out.filled())?;
+    octets.extend_from_slice(parts.highway.rows_mut())?;
+    octets.extend_from_slice(parts.crossed.rows_mut())?;
+    octets.extend_from_slice(parts.out.filling_half_mut())?;
     Ok(octets)
 }
 
@@ -192,7 +192,7 @@ fn cross_alike(alloc: Global, lines: u8) -> Result<bool, AllocError>
 {
     let mut parts = parts_for(alloc, lines, 59)?;
     connect_all(&mut parts.image, lines);
-    fill(parts.buffer.filled());
+    fill(parts.buffer.filling_half_mut());
     parts.buffer.swap();
     incoming(&parts.buffer, &parts.image, &mut parts.highway);
     cross(&parts.highway, &parts.image, &mut parts.crossed);

@@ -6,13 +6,13 @@ use Rattle.frame_buffer.proofs.Parts.{IsWrittenTo, row_fits, written_past, writt
 use Rattle.time_stage.proofs.interchange.read_part.Goals as goal
 use Rattle.time_stage.proofs.interchange.read_part.Goals.{then-start-part, else-start-part}
 
-pub loop-line-preserved-then-reads_nothing : goal.loop-line-preserved-then-reads_nothing
-loop-line-preserved-then-reads_nothing c =
+pub loop-line-preserved-then-is_outgoing_known_empty : goal.loop-line-preserved-then-is_outgoing_known_empty
+loop-line-preserved-then-is_outgoing_known_empty c =
     let whole : length c.loop-line.part ≡ c.requires.part.rows * 30 = search rules in
     record {
       size = c.loop-line.invariant.size;
       done = written_idle 30 (reads c.args.table.now c.args.crossed.now) c.args.first c.loop-line.line c.loop-line.part c.loop-line.auto.line c.loop-line.invariant.done c.requires.part.rows whole
-          (λ at near. ap (λ (o : Option ℕ). fetched o (octet_on c.args.crossed.now c.loop-line.line)) (c.reads_nothing.ensures c.if-reads_nothing.true at near));
+          (λ at near. ap (λ (o : Option ℕ). fetched o (octet_on c.args.crossed.now c.loop-line.line)) (c.is_outgoing_known_empty.ensures c.if-is_outgoing_known_empty.true at near));
     }
 
 pub loop-line-preserved : goal.loop-line-preserved

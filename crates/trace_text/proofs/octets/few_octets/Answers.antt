@@ -8,4 +8,4 @@ returns-then-not-are_digits-clause-refused c = wide_lost c.args.digits.now _ c.r
 pub returns-clause-read : goal.returns-clause-read
 returns-clause-read c =
     wide_written c.args.digits.now _ c.octets_of-read.result c.requires.1 c.wide-text.ensures (c.octets_of-read.ensures _ c.values_of.ensures)
-    ∙ ap (λ (l : List ℕ). Some l) (sym c.few.ensures)
+    ∙ ap (λ (l : List ℕ). Some l) (sym c.from_short_slice.ensures)

@@ -14,14 +14,14 @@ loop-rest-preserved c =
 pub returns-in-Err-clause-refused : goal.returns-in-Err-clause-refused
 returns-in-Err-clause-refused c =
     fault_at c.args.bytes.now c.loop-rest.rest.now c.first_line.result.0.now c.first_line.result.1.now c.loop-rest.number c.loop-rest.draft c.in-Err.fault c.at_line.result c.loop-rest.invariant
-    (omega (arith, c.if-bytes-gt-MOST_BYTES.false)) c.first_line.ensures.first c.in-Err.ensures.refused c.at_line.ensures
+    (omega (arith, c.if-bytes-gt-MAX_BYTES.false)) c.first_line.ensures.first c.in-Err.ensures.refused c.at_line.ensures
 
 pub returns-clause-read : goal.returns-clause-read
 returns-clause-read c =
     let empty : length c.loop-rest.rest.now ≡ 0 = search rules in
-    ends_read _ _ _ _ c.loop-rest.invariant (omega (arith, c.if-bytes-gt-MOST_BYTES.false)) empty c.finish.result c.finish.ensures.read
+    ends_read _ _ _ _ c.loop-rest.invariant (omega (arith, c.if-bytes-gt-MAX_BYTES.false)) empty c.finish.result c.finish.ensures.read
 
 pub returns-clause-refused : goal.returns-clause-refused
 returns-clause-refused c =
     let empty : length c.loop-rest.rest.now ≡ 0 = search rules in
-    ends_refused _ _ _ _ c.loop-rest.invariant (omega (arith, c.if-bytes-gt-MOST_BYTES.false)) empty c.finish.result c.finish.ensures.refused
+    ends_refused _ _ _ _ c.loop-rest.invariant (omega (arith, c.if-bytes-gt-MAX_BYTES.false)) empty c.finish.result c.finish.ensures.refused

@@ -62,7 +62,7 @@ loop-place-preserved g c =
     )
 
 pub send-requires-clause-writable : goal.send-requires-clause-writable
-send-requires-clause-writable g c = subst IsWritable (sym c.acknowledgement.ensures) (acknowledgement_writable c.args.asked c.requires.on_line)
+send-requires-clause-writable g c = subst IsWritable (sym c.restart_acknowledge.ensures) (acknowledgement_writable c.args.asked c.requires.on_line)
 
 pub returns-clause-makes : goal.returns-clause-makes
 returns-clause-makes g c s w tones work =
@@ -70,5 +70,5 @@ returns-clause-makes g c s w tones work =
     let made = subst (λ n. Makes s.dimensions c.loop-place.self.map c.loop-place.self.legs c.loop-place.out.sends c.loop-place.out.moved
     (outcome_below s.dimensions s.tones c.args.asked c.args.line w n).making) end (c.loop-place.invariant.0 s w tones work).0 in
     makes_send s.dimensions c.loop-place.self.map c.loop-place.self.map c.loop-place.self.legs c.loop-place.self.legs c.loop-place.out.sends c.send.new.out.sends
-    c.loop-place.out.moved c.send.new.out.moved (outcome_below s.dimensions s.tones c.args.asked c.args.line w 30).making made c.args.line (outgoing_of c.acknowledgement.result) (acknowledgement c.args.asked)
-    c.acknowledgement.ensures c.send.ensures.sends c.send.ensures.moved
+    c.loop-place.out.moved c.send.new.out.moved (outcome_below s.dimensions s.tones c.args.asked c.args.line w 30).making made c.args.line (outgoing_of c.restart_acknowledge.result) (acknowledgement c.args.asked)
+    c.restart_acknowledge.ensures c.send.ensures.sends c.send.ensures.moved

@@ -13,7 +13,7 @@ pub record_ended-call-requires-clause-peer_external : goal.record_ended-call-req
 record_ended-call-requires-clause-peer_external g c =
     let work = c.requires.work in
     let now = c.args.self.now in
-    let at : leg_at now.legs c.args.x ≡ Some c.in-Some.leg = sym c.at.ensures.found ∙ c.in-Some.is in
+    let at : leg_at now.legs c.args.x ≡ Some c.in-Some.leg = sym c.get.ensures.found ∙ c.in-Some.is in
     external_of now.map.external c.peer_of-peer.result
     (peer_there work.0 c.args.tones.now now.map now.legs work.1 work.2 work.3 (record { slot = c.args.x; leg = c.in-Some.leg }) c.requires.external at c.peer_of-peer.result c.peer_of-peer.ensures)
 
@@ -21,13 +21,13 @@ pub restart_peer-requires-clause-there : goal.restart_peer-requires-clause-there
 restart_peer-requires-clause-there g c =
     let work = c.requires.work in
     let now = c.args.self.now in
-    let at : leg_at now.legs c.args.x ≡ Some c.in-Some.leg = sym c.at.ensures.found ∙ c.in-Some.is in
+    let at : leg_at now.legs c.args.x ≡ Some c.in-Some.leg = sym c.get.ensures.found ∙ c.in-Some.is in
     subst (λ n. IfSome c.peer_of-peer.result (λ other. IsThere n other)) (sym c.remove_leg.ensures.sizes.external)
     (peer_there work.0 c.args.tones.now now.map now.legs work.1 work.2 work.3 (record { slot = c.args.x; leg = c.in-Some.leg }) c.requires.external at c.peer_of-peer.result c.peer_of-peer.ensures)
 
 pub returns-clause-records : goal.returns-clause-records
 returns-clause-records g c d w holds =
-    let at : leg_at w.legs c.args.x ≡ Some c.in-Some.leg = ap (λ (ls : Legs). leg_at ls c.args.x) (sym holds.legs_are) ∙ sym c.at.ensures.found ∙ c.in-Some.is in
+    let at : leg_at w.legs c.args.x ≡ Some c.in-Some.leg = ap (λ (ls : Legs). leg_at ls c.args.x) (sym holds.legs_are) ∙ sym c.get.ensures.found ∙ c.in-Some.is in
     let restarted : is_restarted c.args.asked c.args.x.place ≡ true = search rules in
     c.record_also.ensures.all
     ∙ ap (λ (o : Option CallRecord). c.args.records.now ++ cons_option o []) (c.record_ended-call.ensures d w holds)

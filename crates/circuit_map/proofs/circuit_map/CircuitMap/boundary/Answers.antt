@@ -40,7 +40,7 @@ invariant_of-self g c = record {
 pub returns-clause-shows : goal.returns-clause-shows
 returns-clause-shows g c = λ h ports holds.
     let is = c.self.view_is in
-    let a = c.begin.ensures in
+    let a = c.reset_with.ensures in
     let b = c.write_tables.ensures in
     let width = c.self.invariant.width ∙ ap map_lines is in
     let lines = ap map_lines is in

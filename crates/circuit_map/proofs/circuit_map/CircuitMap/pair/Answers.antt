@@ -32,7 +32,7 @@ returns-clause-hears g c = λ z.
     let in_x = idle_seen _ _ x is c.requires.external_x c.requires.idle_x in
     let in_y = idle_seen _ _ y is c.requires.external_y c.requires.idle_y in
     let rows = c.self.inside.heard.items in
-    hears_two c.self.inside.external rows x y one two _ _ z c.number-at_x.ensures c.number-at_y.ensures c.self.invariant.listeners in_x.0 in_y.0
+    hears_two c.self.inside.external rows x y one two _ _ z c.to_index-at_x.ensures c.to_index-at_y.ensures c.self.invariant.listeners in_x.0 in_y.0
     ∙ swapped x y z one two (hears_in c.self.inside.external rows z) c.requires.distinct
     ∙ ap (λ (m : Connections). hears_after m (Connect x y) z) is
 
@@ -58,7 +58,7 @@ invariant_of-self g c =
     let none_x = idle_portless _ held.0 _ x held.1 in_x.1 in
     let none_y = idle_portless _ held.0 _ y held.1 in_y.1 in
     let long = c.self.invariant.listeners in
-    let one = shown_as _ _ _ _ _ _ _ c.set.ensures (shown_row _ _ _ _ _ _ x (Some (Pair y x c.self.inside.next)) _ c.self.invariant.shown long in_x.0.0 in_x.0.1 none_x c.number-at_x.ensures) in
+    let one = shown_as _ _ _ _ _ _ _ c.set.ensures (shown_row _ _ _ _ _ _ x (Some (Pair y x c.self.inside.next)) _ c.self.invariant.shown long in_x.0.0 in_x.0.1 none_x c.to_index-at_x.ensures) in
     record {
       few = c.self.invariant.few;
       width = c.connect_both-moves.ensures.width ∙ c.self.invariant.width;
@@ -70,5 +70,5 @@ invariant_of-self g c =
       held = held_after _ _ _ (Connect x y) is (returns-clause-holds g c) held;
       roomed = roomed_on (hears_at c.args.self.now) _ _ (roomed_seen _ _ _ is c.self.invariant.roomed)
           (λ z room since e. two_keep (hears_at c.args.self.now) _ x y _ _ (returns-clause-hears g c) c.requires.idle_x c.requires.idle_y z _ e);
-      shown = shown_as _ _ _ _ _ _ _ c.set-2.ensures (shown_row _ _ _ _ _ _ y (Some (Pair x y c.self.inside.next)) _ one (length-set c.self.inside.heard.items _ _ ∙ long) in_y.0.0 in_y.0.1 none_y c.number-at_y.ensures);
+      shown = shown_as _ _ _ _ _ _ _ c.set-2.ensures (shown_row _ _ _ _ _ _ y (Some (Pair x y c.self.inside.next)) _ one (length-set c.self.inside.heard.items _ _ ∙ long) in_y.0.0 in_y.0.1 none_y c.to_index-at_y.ensures);
     }

@@ -20,14 +20,14 @@ pub index_mut-requires-2 : goal.index_mut-requires-2
 index_mut-requires-2 g c =
     let far = (ends_of _ _ _ _ _ _ _ _ c.self.view_is c.self.invariant c.args.x c.args.y c.requires.connected.0 c.requires.connected.1 c.requires.external c.requires.connected.2).far in
     let inside = row_inside c.self.inside.external c.args.y far.0 far.1 in
-    omega (arith, inside, c.number-at_y.ensures, c.self.invariant.listeners, c.self.inside.heard.ok.0)
+    omega (arith, inside, c.to_index-at_y.ensures, c.self.invariant.listeners, c.self.inside.heard.ok.0)
 
 pub set-requires-2 : goal.set-requires-2
 set-requires-2 g c =
     let far = (ends_of _ _ _ _ _ _ _ _ c.self.view_is c.self.invariant c.args.x c.args.y c.requires.connected.0 c.requires.connected.1 c.requires.external c.requires.connected.2).far in
     let inside = row_inside c.self.inside.external c.args.y far.0 far.1 in
     let hearers = ap length c.set.ensures ∙ length-set c.self.inside.hearing _ _ ∙ c.self.invariant.shown.hearers in
-    omega (arith, inside, c.number-at_y.ensures, hearers)
+    omega (arith, inside, c.to_index-at_y.ensures, hearers)
 
 pub returns-clause-hears : goal.returns-clause-hears
 returns-clause-hears g c = λ z.
@@ -36,7 +36,7 @@ returns-clause-hears g c = λ z.
     let y = c.args.y in
     let held = c.self.invariant.held in
     let ends = ends_of _ _ _ _ _ _ _ _ is c.self.invariant x y c.requires.connected.0 c.requires.connected.1 c.requires.external c.requires.connected.2 in
-    hears_two c.self.inside.external c.self.inside.heard.items x y None None _ _ z c.number-at_x.ensures c.number-at_y.ensures c.self.invariant.listeners ends.near ends.far
+    hears_two c.self.inside.external c.self.inside.heard.items x y None None _ _ z c.to_index-at_x.ensures c.to_index-at_y.ensures c.self.invariant.listeners ends.near ends.far
     ∙ rows_two _ _ x y z c.requires.connected.1 (hearing_at _ held.0 _ held.1) ends.hears
     ∙ ap (λ (m : Connections). hears_after m (Clear x) z) is
 
@@ -74,7 +74,7 @@ invariant_of-self g c =
     let ends = ends_of _ _ _ _ _ _ _ _ is c.self.invariant x y c.requires.connected.0 s c.requires.external c.requires.connected.2 in
     let none_x = unseated_portless _ held.0 _ x (λ room at t e. no_member_too _ y x at s room t ends.hears e) held.1 in
     let none_y = unseated_portless _ held.0 _ y (λ room at t e. no_member_too _ x y at s room t ends.hears_back e) held.1 in
-    let one = shown_as _ _ _ _ _ _ _ c.set.ensures (shown_row _ _ _ _ _ _ x None _ c.self.invariant.shown long ends.near.0 ends.near.1 none_x c.number-at_x.ensures) in
+    let one = shown_as _ _ _ _ _ _ _ c.set.ensures (shown_row _ _ _ _ _ _ x None _ c.self.invariant.shown long ends.near.0 ends.near.1 none_x c.to_index-at_x.ensures) in
     record {
       few = c.self.invariant.few;
       width = c.disconnect_both.ensures.width ∙ c.self.invariant.width;
@@ -86,5 +86,5 @@ invariant_of-self g c =
       held = held_after _ _ _ (Clear x) is (returns-clause-holds g c) held;
       roomed = roomed_on (hears_at c.args.self.now) _ _ (roomed_seen _ _ _ is c.self.invariant.roomed)
           (others_hear_on (hears_at c.args.self.now) _ x (returns-clause-hears g c) (λ room t e. no_member_too _ y x x s room t ends.hears (ap (λ (m : Connections). hears_at m x) is ∙ e)));
-      shown = shown_as _ _ _ _ _ _ _ c.set-2.ensures (shown_row _ _ _ _ _ _ y None _ one (length-set c.self.inside.heard.items _ _ ∙ long) ends.far.0 ends.far.1 none_y c.number-at_y.ensures);
+      shown = shown_as _ _ _ _ _ _ _ c.set-2.ensures (shown_row _ _ _ _ _ _ y None _ one (length-set c.self.inside.heard.items _ _ ∙ long) ends.far.0 ends.far.1 none_y c.to_index-at_y.ensures);
     }

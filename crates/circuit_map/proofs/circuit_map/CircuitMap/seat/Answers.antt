@@ -89,7 +89,7 @@ returns-clause-hears g c = λ z.
     let is = c.self.view_is in
     let x = c.args.x in
     let near = (idle_seen _ _ x is c.requires.external c.requires.idle).0 in
-    hears_set c.self.inside.external c.self.inside.heard.items x (Some (Member c.args.room x c.self.inside.next)) _ z c.number-at_x.ensures c.self.invariant.listeners near.0 near.1
+    hears_set c.self.inside.external c.self.inside.heard.items x (Some (Member c.args.room x c.self.inside.next)) _ z c.to_index-at_x.ensures c.self.invariant.listeners near.0 near.1
     ∙ ap (λ (m : Connections). hears_after m (Seat x c.args.room) z) is
 
 pub returns-clause-holds : goal.returns-clause-holds
@@ -133,12 +133,12 @@ invariant_of-self-2 g c =
     let long = c.self.invariant.listeners in
     let held = c.self.invariant.held in
     let none = idle_portless _ held.0 _ x held.1 gets.idle in
-    let one = shown_as _ _ _ _ _ _ _ c.set.ensures (shown_row _ _ _ _ _ _ x seat _ c.self.invariant.shown long gets.near.0 gets.near.1 none c.number-at_x.ensures) in
-    let heard = set rows c.number-at_x.result seat in
+    let one = shown_as _ _ _ _ _ _ _ c.set.ensures (shown_row _ _ _ _ _ _ x seat _ c.self.invariant.shown long gets.near.0 gets.near.1 none c.to_index-at_x.ensures) in
+    let heard = set rows c.to_index-at_x.result seat in
     let hears : hears_in c.self.inside.external heard x ≡ seat =
-    hears_set c.self.inside.external rows x seat _ x c.number-at_x.ensures long gets.near.0 gets.near.1
+    hears_set c.self.inside.external rows x seat _ x c.to_index-at_x.ensures long gets.near.0 gets.near.1
     ∙ ap (λ b. if b then seat else hears_in c.self.inside.external rows x) (same_slot-refl x) in
-    let two = shown_as _ _ _ _ _ _ _ c.set-2.ensures (shown_given c.self.inside.external c.self.inside.bridges heard (members c.self.inside.ports.owners) _ _ x p gets.lowest.number seat _ _ one gets.lowest.lowest gets.lowest.is gets.lowest.inside hears c.number-at_port.ensures c.port_index-sits_at.ensures) in
+    let two = shown_as _ _ _ _ _ _ _ c.set-2.ensures (shown_given c.self.inside.external c.self.inside.bridges heard (members c.self.inside.ports.owners) _ _ x p gets.lowest.number seat _ _ one gets.lowest.lowest gets.lowest.is gets.lowest.inside hears c.to_index-at_port.ensures c.port_index-sits_at.ensures) in
     record {
       few = c.self.invariant.few;
       width = c.connect_both-moves.ensures.width ∙ c.self.invariant.width;
@@ -151,6 +151,6 @@ invariant_of-self-2 g c =
       roomed = subst (AreRoomed (hears_in c.self.inside.external heard)) (sym c.take.ensures.owners)
           (roomed_given (hears_in c.self.inside.external rows) (hears_in c.self.inside.external heard) c.self.inside.ports.owners x c.args.room c.self.inside.next gets.lowest.number c.self.invariant.roomed (sym (free_in_members c.self.inside.ports.owners) ∙ gets.lowest.lowest) hears
           (given_keeps (hears_in c.self.inside.external rows) (hears_in c.self.inside.external heard) x seat
-          (λ z. hears_set c.self.inside.external rows x seat _ z c.number-at_x.ensures long gets.near.0 gets.near.1) gets.idle));
+          (λ z. hears_set c.self.inside.external rows x seat _ z c.to_index-at_x.ensures long gets.near.0 gets.near.1) gets.idle));
       shown = shown_by _ _ _ _ _ _ _ c.take.ensures.members two;
     }

@@ -15,7 +15,7 @@ returns-clause-hears g c = λ z.
     let x = c.args.x in
     let held = c.self.invariant.held in
     let at = pathless_seen _ _ x is c.requires.external c.requires.pathless in
-    hears_set c.self.inside.external c.self.inside.heard.items x None _ z c.number-at.ensures c.self.invariant.listeners at.0.0 at.0.1
+    hears_set c.self.inside.external c.self.inside.heard.items x None _ z c.to_index-at.ensures c.self.invariant.listeners at.0.0 at.0.1
     ∙ rows_one _ _ x z (hearing_at _ held.0 _ held.1) (λ s e. pathless_pair _ z x s at.1 e)
     ∙ ap (λ (m : Connections). hears_after m (Clear x) z) is
 
@@ -55,5 +55,5 @@ invariant_of-self g c =
       held = held_after _ _ _ (Clear x) is (returns-clause-holds g c) held;
       roomed = roomed_on (hears_at c.args.self.now) _ _ (roomed_seen _ _ _ is c.self.invariant.roomed)
           (others_hear_on (hears_at c.args.self.now) _ x (returns-clause-hears g c) (λ room s e. pathless_member (hears_at c.args.self.now x) room x s c.requires.pathless e));
-      shown = shown_as _ _ _ _ _ _ _ c.set.ensures (shown_row _ _ _ _ _ _ x None _ c.self.invariant.shown c.self.invariant.listeners at.0.0 at.0.1 none c.number-at.ensures);
+      shown = shown_as _ _ _ _ _ _ _ c.set.ensures (shown_row _ _ _ _ _ _ x None _ c.self.invariant.shown c.self.invariant.listeners at.0.0 at.0.1 none c.to_index-at.ensures);
     }

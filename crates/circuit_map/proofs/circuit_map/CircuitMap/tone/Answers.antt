@@ -15,7 +15,7 @@ returns-clause-hears g c = λ z.
     let is = c.self.view_is in
     let x = c.args.x in
     let at = idle_seen _ _ x is c.requires.external c.requires.idle in
-    hears_set c.self.inside.external c.self.inside.heard.items x (Some (Tone c.args.kind x c.self.inside.next)) _ z c.number-at.ensures c.self.invariant.listeners at.0.0 at.0.1
+    hears_set c.self.inside.external c.self.inside.heard.items x (Some (Tone c.args.kind x c.self.inside.next)) _ z c.to_index-at.ensures c.self.invariant.listeners at.0.0 at.0.1
     ∙ ap (λ (m : Connections). hears_after m (Give_tone x c.args.kind) z) is
 
 pub returns-clause-holds : goal.returns-clause-holds
@@ -43,5 +43,5 @@ invariant_of-self g c =
       held = held_after _ _ _ (Give_tone x c.args.kind) is (returns-clause-holds g c) held;
       roomed = roomed_on (hears_at c.args.self.now) _ _ (roomed_seen _ _ _ is c.self.invariant.roomed)
           (λ z room since e. given_keeps (hears_at c.args.self.now) _ x (Some (Tone c.args.kind x c.args.self.now.next)) (returns-clause-hears g c) c.requires.idle z _ e);
-      shown = shown_as _ _ _ _ _ _ _ c.set.ensures (shown_row _ _ _ _ _ _ x (Some (Tone c.args.kind x c.self.inside.next)) _ c.self.invariant.shown c.self.invariant.listeners at.0.0 at.0.1 none c.number-at.ensures);
+      shown = shown_as _ _ _ _ _ _ _ c.set.ensures (shown_row _ _ _ _ _ _ x (Some (Tone c.args.kind x c.self.inside.next)) _ c.self.invariant.shown c.self.invariant.listeners at.0.0 at.0.1 none c.to_index-at.ensures);
     }

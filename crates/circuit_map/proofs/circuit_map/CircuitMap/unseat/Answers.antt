@@ -39,7 +39,7 @@ returns-clause-hears g c = λ z.
     let s = c.requires.seated in
     let held = c.self.invariant.held in
     let has = port_had _ _ _ _ _ _ _ _ is c.self.invariant x c.in-Some.port s.1 s.0 s.2 c.requires.external s.3 (sym c.port_of.ensures ∙ c.in-Some.is) in
-    hears_set c.self.inside.external c.self.inside.heard.items x None _ z c.number-at_x.ensures c.self.invariant.listeners has.near.0 has.near.1
+    hears_set c.self.inside.external c.self.inside.heard.items x None _ z c.to_index-at_x.ensures c.self.invariant.listeners has.near.0 has.near.1
     ∙ rows_one _ _ x z (hearing_at _ held.0 _ held.1) (λ t e. no_member_too _ z x x t s.0 s.2 e has.hears)
     ∙ ap (λ (m : Connections). hears_after m (Clear x) z) is
 
@@ -76,8 +76,8 @@ invariant_of-self g c =
     let s = c.requires.seated in
     let held = c.self.invariant.held in
     let has = port_had _ _ _ _ _ _ _ _ is c.self.invariant x p s.1 s.0 s.2 c.requires.external s.3 (sym c.port_of.ensures ∙ c.in-Some.is) in
-    let one = shown_as _ _ _ _ _ _ _ c.set.ensures (shown_returned c.self.inside.external c.self.inside.bridges _ _ _ _ x p _ _ c.self.invariant.shown has.port (one_port _ held.0 _ x held.1) has.inside c.number-at_port.ensures c.port_index-sits_at.ensures) in
-    let two = shown_as _ _ _ _ _ _ _ c.set-2.ensures (shown_row _ _ _ _ _ _ x None _ one c.self.invariant.listeners has.near.0 has.near.1 (returned_portless c.self.inside.external (members c.self.inside.ports.owners) x) c.number-at_x.ensures) in
+    let one = shown_as _ _ _ _ _ _ _ c.set.ensures (shown_returned c.self.inside.external c.self.inside.bridges _ _ _ _ x p _ _ c.self.invariant.shown has.port (one_port _ held.0 _ x held.1) has.inside c.to_index-at_port.ensures c.port_index-sits_at.ensures) in
+    let two = shown_as _ _ _ _ _ _ _ c.set-2.ensures (shown_row _ _ _ _ _ _ x None _ one c.self.invariant.listeners has.near.0 has.near.1 (returned_portless c.self.inside.external (members c.self.inside.ports.owners) x) c.to_index-at_x.ensures) in
     record {
       few = c.self.invariant.few;
       width = c.disconnect_both.ensures.width ∙ c.self.invariant.width;

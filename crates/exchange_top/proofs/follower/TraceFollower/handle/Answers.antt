@@ -3,7 +3,7 @@ use Rattle.exchange_top.proofs.Handled.{interrupted_here}
 use Rattle.exchange_top.proofs.HandledSteps.{count_few, is_read, refused_at, refused_by}
 use Rattle.exchange_top.proofs.SteppingLemmas.{err_is}
 use Rattle.exchange_top.proofs.follower.TraceFollower.handle.Goals as goal
-use Rattle.exchange_top.proofs.follower.TraceFollower.handle.Goals.{then-line-gt-MOST_LINE-via-then-line-gt-MOST_LINE, then-line-gt-MOST_LINE-via-else-line-gt-MOST_LINE+then-self-ge-MOST_LINES}
+use Rattle.exchange_top.proofs.follower.TraceFollower.handle.Goals.{then-line-gt-MAX_LINE-via-then-line-gt-MAX_LINE, then-line-gt-MAX_LINE-via-else-line-gt-MAX_LINE+then-self-ge-MAX_LINES}
 
 pub overflow_add-self : goal.overflow_add-self
 overflow_add-self g c =
@@ -11,33 +11,33 @@ overflow_add-self g c =
     let few = count_few (λ m. (goal.Meter-dyn g (m.vtable, m.value)).stands m.value) (λ m. (goal.Meter-dyn g (m.vtable, m.value)).text m.value) g.C.Carrier.carries g.C.Carrier.next g.C.Carrier.sizes g.C.Carrier.plays g.P.Fabric.slots g.P.Fabric.moves old old_spare c.args.self.now.metering.on.items c.args.self.now.metering.spare.items c.args.self.now.heading c.args.self.now.lines c.args.self.now.exchange ls [] said h in
     omega (arith, few)
 
-pub returns-then-line-gt-MOST_LINE-clause-refused : goal.returns-then-line-gt-MOST_LINE-clause-refused
-returns-then-line-gt-MOST_LINE-clause-refused g c failed old old_spare ls front h =
+pub returns-then-line-gt-MAX_LINE-clause-refused : goal.returns-then-line-gt-MAX_LINE-clause-refused
+returns-then-line-gt-MAX_LINE-clause-refused g c failed old old_spare ls front h =
     let why : (65535 < length c.args.line.now) ⊎ (4294967294 ≤ c.args.self.now.lines) =
-    elim c.then-line-gt-MOST_LINE.branch [
-      | then-line-gt-MOST_LINE-via-then-line-gt-MOST_LINE w ↦ inl (let long = w.if-line-gt-MOST_LINE.true in omega (arith, long))
-      | then-line-gt-MOST_LINE-via-else-line-gt-MOST_LINE+then-self-ge-MOST_LINES w ↦ inr (let many = w.if-self-ge-MOST_LINES.true in omega (arith, many))
+    elim c.then-line-gt-MAX_LINE.branch [
+      | then-line-gt-MAX_LINE-via-then-line-gt-MAX_LINE w ↦ inl (let long = w.if-line-gt-MAX_LINE.true in omega (arith, long))
+      | then-line-gt-MAX_LINE-via-else-line-gt-MAX_LINE+then-self-ge-MAX_LINES w ↦ inr (let many = w.if-self-ge-MAX_LINES.true in omega (arith, many))
     ] in
     refused_at (λ m. (goal.Meter-dyn g (m.vtable, m.value)).stands m.value) (λ m. (goal.Meter-dyn g (m.vtable, m.value)).text m.value) g.C.Carrier.carries g.C.Carrier.next g.C.Carrier.sizes g.C.Carrier.plays g.P.Fabric.slots g.P.Fabric.moves old old_spare c.args.self.now.metering.on.items c.args.self.now.metering.spare.items c.args.self.now.heading c.args.self.now.lines c.args.self.now.exchange ls front c.args.out.now.items h c.args.line.now c.refuse.new.text.items why (c.refuse.ensures.refused (err_is _ _ failed))
 
-pub returns-then-line-gt-MOST_LINE-clause-stranded : goal.returns-then-line-gt-MOST_LINE-clause-stranded
-returns-then-line-gt-MOST_LINE-clause-stranded g c failed old old_spare ls front h =
+pub returns-then-line-gt-MAX_LINE-clause-stranded : goal.returns-then-line-gt-MAX_LINE-clause-stranded
+returns-then-line-gt-MAX_LINE-clause-stranded g c failed old old_spare ls front h =
     rw (c.refuse.ensures.kept (err_is _ _ failed)) (interrupted_here (λ m. (goal.Meter-dyn g (m.vtable, m.value)).stands m.value) (λ m. (goal.Meter-dyn g (m.vtable, m.value)).text m.value) g.C.Carrier.carries g.C.Carrier.next g.C.Carrier.sizes g.C.Carrier.plays g.P.Fabric.slots g.P.Fabric.moves old old_spare c.args.self.now.metering.on.items c.args.self.now.metering.spare.items c.args.self.now.heading c.args.self.now.lines c.args.self.now.exchange ls (front ++ c.args.out.now.items) c.args.line.now h)
 
 pub take-requires-clause-read : goal.take-requires-clause-read
 take-requires-clause-read g c lifetimes outlive =
     let (old, old_spare, ls, said, h) = c.requires.at in
-    (old, old_spare, ls, c.args.line.now, said, is_read (λ m. (goal.Meter-dyn g (m.vtable, m.value)).stands m.value) (λ m. (goal.Meter-dyn g (m.vtable, m.value)).text m.value) g.C.Carrier.carries g.C.Carrier.next g.C.Carrier.sizes g.C.Carrier.plays g.P.Fabric.slots g.P.Fabric.moves old old_spare c.args.self.now.metering.on.items c.args.self.now.metering.spare.items c.args.self.now.heading c.args.self.now.lines c.args.self.now.exchange ls [] said h c.args.line.now (let short = c.if-line-gt-MOST_LINE.false in omega (arith, short)) (let few = c.if-self-ge-MOST_LINES.false in omega (arith, few)) c.for_lines.result c.for_lines.ensures c.in-Ok.happening c.read_line.new.self c.in-Ok.ensures.read)
+    (old, old_spare, ls, c.args.line.now, said, is_read (λ m. (goal.Meter-dyn g (m.vtable, m.value)).stands m.value) (λ m. (goal.Meter-dyn g (m.vtable, m.value)).text m.value) g.C.Carrier.carries g.C.Carrier.next g.C.Carrier.sizes g.C.Carrier.plays g.P.Fabric.slots g.P.Fabric.moves old old_spare c.args.self.now.metering.on.items c.args.self.now.metering.spare.items c.args.self.now.heading c.args.self.now.lines c.args.self.now.exchange ls [] said h c.args.line.now (let short = c.if-line-gt-MAX_LINE.false in omega (arith, short)) (let few = c.if-self-ge-MAX_LINES.false in omega (arith, few)) c.for_lines.result c.for_lines.ensures c.in-Ok.happening c.read_line.new.self c.in-Ok.ensures.read)
 
 pub returns-in-Ok-take-clause-done : goal.returns-in-Ok-take-clause-done
 returns-in-Ok-take-clause-done g c old old_spare ls front h =
     c.in-Ok-take.ensures.done old old_spare ls c.args.line.now front
-    (is_read (λ m. (goal.Meter-dyn g (m.vtable, m.value)).stands m.value) (λ m. (goal.Meter-dyn g (m.vtable, m.value)).text m.value) g.C.Carrier.carries g.C.Carrier.next g.C.Carrier.sizes g.C.Carrier.plays g.P.Fabric.slots g.P.Fabric.moves old old_spare c.args.self.now.metering.on.items c.args.self.now.metering.spare.items c.args.self.now.heading c.args.self.now.lines c.args.self.now.exchange ls front c.args.out.now.items h c.args.line.now (let short = c.if-line-gt-MOST_LINE.false in omega (arith, short)) (let few = c.if-self-ge-MOST_LINES.false in omega (arith, few)) c.for_lines.result c.for_lines.ensures c.in-Ok.happening c.read_line.new.self c.in-Ok.ensures.read)
+    (is_read (λ m. (goal.Meter-dyn g (m.vtable, m.value)).stands m.value) (λ m. (goal.Meter-dyn g (m.vtable, m.value)).text m.value) g.C.Carrier.carries g.C.Carrier.next g.C.Carrier.sizes g.C.Carrier.plays g.P.Fabric.slots g.P.Fabric.moves old old_spare c.args.self.now.metering.on.items c.args.self.now.metering.spare.items c.args.self.now.heading c.args.self.now.lines c.args.self.now.exchange ls front c.args.out.now.items h c.args.line.now (let short = c.if-line-gt-MAX_LINE.false in omega (arith, short)) (let few = c.if-self-ge-MAX_LINES.false in omega (arith, few)) c.for_lines.result c.for_lines.ensures c.in-Ok.happening c.read_line.new.self c.in-Ok.ensures.read)
 
 pub returns-in-Err-clause-stranded : goal.returns-in-Err-clause-stranded
 returns-in-Err-clause-stranded g c failed old old_spare ls front h =
     c.in-Err.ensures.stranded old old_spare ls c.args.line.now front
-    (is_read (λ m. (goal.Meter-dyn g (m.vtable, m.value)).stands m.value) (λ m. (goal.Meter-dyn g (m.vtable, m.value)).text m.value) g.C.Carrier.carries g.C.Carrier.next g.C.Carrier.sizes g.C.Carrier.plays g.P.Fabric.slots g.P.Fabric.moves old old_spare c.args.self.now.metering.on.items c.args.self.now.metering.spare.items c.args.self.now.heading c.args.self.now.lines c.args.self.now.exchange ls front c.args.out.now.items h c.args.line.now (let short = c.if-line-gt-MOST_LINE.false in omega (arith, short)) (let few = c.if-self-ge-MOST_LINES.false in omega (arith, few)) c.for_lines.result c.for_lines.ensures c.in-Ok.happening c.read_line.new.self c.in-Ok.ensures.read)
+    (is_read (λ m. (goal.Meter-dyn g (m.vtable, m.value)).stands m.value) (λ m. (goal.Meter-dyn g (m.vtable, m.value)).text m.value) g.C.Carrier.carries g.C.Carrier.next g.C.Carrier.sizes g.C.Carrier.plays g.P.Fabric.slots g.P.Fabric.moves old old_spare c.args.self.now.metering.on.items c.args.self.now.metering.spare.items c.args.self.now.heading c.args.self.now.lines c.args.self.now.exchange ls front c.args.out.now.items h c.args.line.now (let short = c.if-line-gt-MAX_LINE.false in omega (arith, short)) (let few = c.if-self-ge-MAX_LINES.false in omega (arith, few)) c.for_lines.result c.for_lines.ensures c.in-Ok.happening c.read_line.new.self c.in-Ok.ensures.read)
 
 pub returns-in-Err-Memory-clause-stranded : goal.returns-in-Err-Memory-clause-stranded
 returns-in-Err-Memory-clause-stranded g c failed old old_spare ls front h =
@@ -45,7 +45,7 @@ returns-in-Err-Memory-clause-stranded g c failed old old_spare ls front h =
 
 pub returns-in-Err-Refused-clause-refused : goal.returns-in-Err-Refused-clause-refused
 returns-in-Err-Refused-clause-refused g c failed old old_spare ls front h =
-    refused_by (λ m. (goal.Meter-dyn g (m.vtable, m.value)).stands m.value) (λ m. (goal.Meter-dyn g (m.vtable, m.value)).text m.value) g.C.Carrier.carries g.C.Carrier.next g.C.Carrier.sizes g.C.Carrier.plays g.P.Fabric.slots g.P.Fabric.moves old old_spare c.args.self.now.metering.on.items c.args.self.now.metering.spare.items c.args.self.now.heading c.args.self.now.lines c.args.self.now.exchange ls front c.args.out.now.items h c.args.line.now (let short = c.if-line-gt-MOST_LINE.false in omega (arith, short)) (let few = c.if-self-ge-MOST_LINES.false in omega (arith, few)) c.for_lines.result c.for_lines.ensures c.in-Err-Refused.reason c.refuse-in-Err-Refused.new.text.items
+    refused_by (λ m. (goal.Meter-dyn g (m.vtable, m.value)).stands m.value) (λ m. (goal.Meter-dyn g (m.vtable, m.value)).text m.value) g.C.Carrier.carries g.C.Carrier.next g.C.Carrier.sizes g.C.Carrier.plays g.P.Fabric.slots g.P.Fabric.moves old old_spare c.args.self.now.metering.on.items c.args.self.now.metering.spare.items c.args.self.now.heading c.args.self.now.lines c.args.self.now.exchange ls front c.args.out.now.items h c.args.line.now (let short = c.if-line-gt-MAX_LINE.false in omega (arith, short)) (let few = c.if-self-ge-MAX_LINES.false in omega (arith, few)) c.for_lines.result c.for_lines.ensures c.in-Err-Refused.reason c.refuse-in-Err-Refused.new.text.items
     (let fails = c.in-Err-Refused.ensures.refused in rw c.in-Err-Refused.field-0-is at fails) (c.refuse-in-Err-Refused.ensures.refused (err_is _ _ failed))
 
 pub returns-in-Err-Refused-clause-stranded : goal.returns-in-Err-Refused-clause-stranded

@@ -1,7 +1,7 @@
 use Rattle.std.proofs.Common.{arith, [], ◌∷◌}
 use Rattle.call_processor.specs.Keeping.{placed}
 use Rattle.line_list.specs.Lines.{line_of}
-use Rattle.line_list.specs.Marks.{mark_of}
+use Rattle.line_list.specs.Entries.{entry_of}
 use Rattle.line_list.proofs.LineLemmas.{left_after, marked_after, one_line}
 use Rattle.line_list.proofs.lines.Lines.push.Goals as goal
 
@@ -9,10 +9,10 @@ pub invariant_of-self : goal.invariant_of-self
 invariant_of-self c =
     let e = c.append_event.ensures in
     let l = line_of c.args.listing (placed c.args.place c.args.event c.args.response c.args.outbox.now c.args.octets.now) in
-    marked_after _ _ _ _ c.self.invariant c.append_event.result l.text l.records (mark_of l ∷ []) _ _ _ e.text e.records e.mark e.kept (omega arith) (omega arith)
+    marked_after _ _ _ _ c.self.invariant c.append_event.result l.text l.records (entry_of l ∷ []) _ _ _ e.text e.records e.entry e.kept (omega arith) (omega arith)
 
 pub returns-clause-line : goal.returns-clause-line
 returns-clause-line c =
     let e = c.append_event.ensures in
     let l = line_of c.args.listing (placed c.args.place c.args.event c.args.response c.args.outbox.now c.args.octets.now) in
-    rw (← c.self.view_is, ← one_line l) (left_after _ _ _ _ c.self.invariant c.append_event.result l.text l.records (mark_of l ∷ []) _ _ _ e.text e.records e.mark)
+    rw (← c.self.view_is, ← one_line l) (left_after _ _ _ _ c.self.invariant c.append_event.result l.text l.records (entry_of l ∷ []) _ _ _ e.text e.records e.entry)

@@ -14,15 +14,15 @@ pub unreachable-requires : goal.unreachable-requires
 unreachable-requires g c =
     let (s, w, given, at) = c.requires.at in
     let d = s.dimensions in
-    let fits = tool_at d c.args.event.now c.args.input.now c.args.self.now.desk.tool c.requires.frame at.image in
-    no_tool d c.args.event.now c.args.input.now c.happen-response.new.desk.tool c.requires.frame c.in_default.is (c.happen-response.ensures.tool d fits)
+    let fits = tool_at d c.args.event.now c.args.input.now c.args.self.now.context.tool c.requires.frame at.image in
+    no_tool d c.args.event.now c.args.input.now c.happen-response.new.context.tool c.requires.frame c.in_default.is (c.happen-response.ensures.tool d fits)
 
 pub frame-requires-clause-sizes : goal.frame-requires-clause-sizes
 frame-requires-clause-sizes g c =
     let (s, w, given, at) = c.requires.at in
     let d = s.dimensions in
-    let fits = tool_at d c.args.event.now c.args.input.now c.args.self.now.desk.tool c.requires.frame at.image in
-    let shown = is_shown d w c.args.event.now c.args.input.now c.happen-response.new.desk.tool c.in-Image.image c.requires.frame c.in-Image.is
+    let fits = tool_at d c.args.event.now c.args.input.now c.args.self.now.context.tool c.requires.frame at.image in
+    let shown = is_shown d w c.args.event.now c.args.input.now c.happen-response.new.context.tool c.in-Image.image c.requires.frame c.in-Image.is
     (c.happen-response.ensures.tool d fits) (c.happen-response.ensures.shows d w at.work.holds) in
     subst (λ (e : Dimensions). IsOfSize e c.in-Image.image) (sym at.sized) shown.size
 
@@ -30,8 +30,8 @@ pub frame-requires-clause-tones : goal.frame-requires-clause-tones
 frame-requires-clause-tones g c = λ x line place kind since sounds.
     let (s, w, given, at) = c.requires.at in
     let d = s.dimensions in
-    let fits = tool_at d c.args.event.now c.args.input.now c.args.self.now.desk.tool c.requires.frame at.image in
-    let shown = is_shown d w c.args.event.now c.args.input.now c.happen-response.new.desk.tool c.in-Image.image c.requires.frame c.in-Image.is
+    let fits = tool_at d c.args.event.now c.args.input.now c.args.self.now.context.tool c.requires.frame at.image in
+    let shown = is_shown d w c.args.event.now c.args.input.now c.happen-response.new.context.tool c.in-Image.image c.requires.frame c.in-Image.is
     (c.happen-response.ensures.tool d fits) (c.happen-response.ensures.shows d w at.work.holds) in
     subst (λ (t : Tones). Is_tone_given t kind) given.tones_are (sounds_given s.tones c.in-Image.image _ _ _ (made_so s w at.work.planned at.came).sounding shown.shows x line place kind since sounds)
 
@@ -39,8 +39,8 @@ pub returns-clause-world : goal.returns-clause-world
 returns-clause-world g c s w given at =
     let d = s.dimensions in
     let image = c.in-Image.image in
-    let fits = tool_at d c.args.event.now c.args.input.now c.args.self.now.desk.tool c.requires.frame at.image in
-    let shown = is_shown d w c.args.event.now c.args.input.now c.happen-response.new.desk.tool image c.requires.frame c.in-Image.is
+    let fits = tool_at d c.args.event.now c.args.input.now c.args.self.now.context.tool c.requires.frame at.image in
+    let shown = is_shown d w c.args.event.now c.args.input.now c.happen-response.new.context.tool image c.requires.frame c.in-Image.is
     (c.happen-response.ensures.tool d fits) (c.happen-response.ensures.shows d w at.work.holds) in
     let long : length c.frame.new.out ≡ length c.args.self.now.octets.items = search rules in
     let room : c.args.self.now.octets.len ≡ length c.args.self.now.octets.items = search rules in
@@ -54,8 +54,8 @@ pub returns-clause-played : goal.returns-clause-played
 returns-clause-played g c s w given at input frame =
     let d = s.dimensions in
     let image = c.in-Image.image in
-    let fits = tool_at d c.args.event.now c.args.input.now c.args.self.now.desk.tool c.requires.frame at.image in
-    let shown = is_shown d w c.args.event.now c.args.input.now c.happen-response.new.desk.tool image c.requires.frame c.in-Image.is
+    let fits = tool_at d c.args.event.now c.args.input.now c.args.self.now.context.tool c.requires.frame at.image in
+    let shown = is_shown d w c.args.event.now c.args.input.now c.happen-response.new.context.tool image c.requires.frame c.in-Image.is
     (c.happen-response.ensures.tool d fits) (c.happen-response.ensures.shows d w at.work.holds) in
     let long : length c.frame.new.out ≡ length c.args.self.now.octets.items = search rules in
     let room : c.args.self.now.octets.len ≡ length c.args.self.now.octets.items = search rules in

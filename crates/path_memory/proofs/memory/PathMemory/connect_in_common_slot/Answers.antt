@@ -30,11 +30,11 @@ place-requires-clause-missing_in_row c = (found c.self.inside.matrix c.self.insi
 pub place-requires-clause-missing_in_column : goal.place-requires-clause-missing_in_column
 place-requires-clause-missing_in_column c = (found c.self.inside.matrix c.self.inside.paths c.args.self.now c.self.view_is c.args.from c.args.to c.in_ok-slot.slot c.self.invariant c.requires.from c.requires.to c.requires.inlet c.requires.outlet c.in_ok-slot.ensures.lowest).column
 
-pub add-requires-clause-slot : goal.add-requires-clause-slot
-add-requires-clause-slot c = (found c.self.inside.matrix c.self.inside.paths c.args.self.now c.self.view_is c.args.from c.args.to c.in_ok-slot.slot c.self.invariant c.requires.from c.requires.to c.requires.inlet c.requires.outlet c.in_ok-slot.ensures.lowest).within
+pub insert-requires-clause-slot : goal.insert-requires-clause-slot
+insert-requires-clause-slot c = (found c.self.inside.matrix c.self.inside.paths c.args.self.now c.self.view_is c.args.from c.args.to c.in_ok-slot.slot c.self.invariant c.requires.from c.requires.to c.requires.inlet c.requires.outlet c.in_ok-slot.ensures.lowest).within
 
-pub add-requires-clause-free : goal.add-requires-clause-free
-add-requires-clause-free c = (found c.self.inside.matrix c.self.inside.paths c.args.self.now c.self.view_is c.args.from c.args.to c.in_ok-slot.slot c.self.invariant c.requires.from c.requires.to c.requires.inlet c.requires.outlet c.in_ok-slot.ensures.lowest).free
+pub insert-requires-clause-free : goal.insert-requires-clause-free
+insert-requires-clause-free c = (found c.self.inside.matrix c.self.inside.paths c.args.self.now c.self.view_is c.args.from c.args.to c.in_ok-slot.slot c.self.invariant c.requires.from c.requires.to c.requires.inlet c.requires.outlet c.in_ok-slot.ensures.lowest).free
 
 pub invariant_of-self : goal.invariant_of-self
 invariant_of-self c =
@@ -42,8 +42,8 @@ invariant_of-self c =
     let f = c.self.inside.paths in
     let can = can_of f c.args.self.now c.self.view_is c.args.from c.args.to c.requires.from c.requires.to c.requires.inlet c.requires.outlet in
     let common = in_common m f c.args.from c.args.to c.in_ok-slot.slot c.self.invariant can c.in_ok-slot.ensures.lowest in
-    kept_with f.lines f.slots m f.layout c.args.from c.args.to c.in_ok-slot.slot c.place.new.self c.add.new.self c.self.invariant.lines c.self.invariant.slots (beside_of m f c.self.invariant) can.from_inside can.to_inside common.below common.free
-    c.place.ensures.placed c.place.ensures.legal c.add.ensures.layout c.add.ensures.lines c.add.ensures.slots
+    kept_with f.lines f.slots m f.layout c.args.from c.args.to c.in_ok-slot.slot c.place.new.self c.insert.new.self c.self.invariant.lines c.self.invariant.slots (beside_of m f c.self.invariant) can.from_inside can.to_inside common.below common.free
+    c.place.ensures.placed c.place.ensures.legal c.insert.ensures.layout c.insert.ensures.lines c.insert.ensures.slots
 
 pub returns-clause-slot : goal.returns-clause-slot
 returns-clause-slot c = c.in_ok-slot.ensures.lowest ∙ looked c.self.inside.matrix c.self.inside.paths c.args.self.now c.self.view_is c.args.from c.args.to c.self.invariant

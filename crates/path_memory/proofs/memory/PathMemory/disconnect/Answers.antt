@@ -8,11 +8,11 @@ pub lift-requires : goal.lift-requires
 lift-requires c =
     let inside = subst (λ (x : Fabric). IsSlot x.lines c.args.from) (sym c.self.view_is) c.requires.from in
     let joined = subst (λ (x : Fabric). Joins x.layout c.args.from c.args.to) (sym c.self.view_is) c.requires.stands in
-    let at : hop_of c.self.inside.paths.layout c.args.from ≡ Some c.in-Some.hop = sym c.hop.ensures.hop ∙ c.in-Some.is in
+    let at : hop_of c.self.inside.paths.layout c.args.from ≡ Some c.in-Some.hop = sym c.get.ensures.hop ∙ c.in-Some.is in
     record { stands = (lifts_entry c.self.inside.matrix c.self.inside.paths c.args.from c.args.to c.in-Some.hop c.self.invariant inside joined at).1 }
 
 pub invariant_of-self : goal.invariant_of-self
 invariant_of-self c =
     let inside = subst (λ (x : Fabric). IsSlot x.lines c.args.from) (sym c.self.view_is) c.requires.from in
-    let at : hop_of c.self.inside.paths.layout c.args.from ≡ Some c.in-Some.hop = sym c.hop.ensures.hop ∙ c.in-Some.is in
-    kept_without c.self.inside.matrix c.self.inside.paths c.args.from c.in-Some.hop c.lift.new.self c.take.new.self c.self.invariant inside at c.lift.ensures.lifted c.take.ensures.layout c.take.ensures.lines c.take.ensures.slots
+    let at : hop_of c.self.inside.paths.layout c.args.from ≡ Some c.in-Some.hop = sym c.get.ensures.hop ∙ c.in-Some.is in
+    kept_without c.self.inside.matrix c.self.inside.paths c.args.from c.in-Some.hop c.lift.new.self c.remove.new.self c.self.invariant inside at c.lift.ensures.lifted c.remove.ensures.layout c.remove.ensures.lines c.remove.ensures.slots

@@ -1,9 +1,0 @@
-use Rattle.std.proofs.Common.{refl, ap, ◌∙◌}
-use Rattle.leg_table.specs.KeptNumbers.{legs_kept}
-use Rattle.leg_table.proofs.KeptNumberLemmas.{kept_still}
-use Rattle.leg_table.proofs.table.LegTable.expect_still.Goals as goal
-
-pub returns : goal.returns
-returns c octets keeps =
-    ap (λ held. legs_kept held c.self.inside.notes.items) c.put.ensures
-    ∙ kept_still c.self.inside.legs c.self.inside.notes.items c.args.self.now c.self.view_is _ c.args.x refl c.args.leg octets c.requires.state c.self.invariant keeps

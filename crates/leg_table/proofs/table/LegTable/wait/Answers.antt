@@ -1,9 +1,0 @@
-use Rattle.std.proofs.Common.{refl, ◌∙◌}
-use Rattle.leg_table.specs.KeptNumbers.{legs_kept}
-use Rattle.leg_table.proofs.KeptNumberLemmas.{kept_wait}
-use Rattle.leg_table.proofs.table.LegTable.wait.Goals as goal
-
-pub returns : goal.returns
-returns c =
-    (λ i. legs_kept (c.put.ensures i) (c.keep.ensures.items i))
-    ∙ kept_wait c.self.inside.legs c.self.inside.notes.items c.args.self.now c.self.view_is _ c.args.x refl c.args.leg c.args.pending c.requires.state c.self.invariant

@@ -1,9 +1,0 @@
-use Rattle.std.proofs.Common.{◌≡◌, ◌≤◌, vec_len}
-use Rattle.std.specs.Prelude.{vec_capacity}
-use Rattle.segment_run.proofs.workroom.Workroom.new.Given as goal
-
-abbrev pub invariant-loop : goal.invariant-loop
-invariant-loop g l = record {
-  count : vec_len l.workplaces ≡ l.counter;
-  room : 9 ≤ vec_capacity l.workplaces;
-}
