@@ -16,7 +16,7 @@ const ENTRIES: usize = 8191;
 /// A table of the octets of all values that have an interval.
 ///
 /// [`compress`] makes its 8191 octets once. One lookup takes about a third of the time of [`compress`].
-#[derive(Drop)]
+#[derive(Debug, Drop)]
 pub struct CodeTable {
     octets: Vec<u8>,
 }

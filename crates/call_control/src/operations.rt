@@ -29,7 +29,7 @@ use q931_codec::{Outgoing, write};
 
 /// The state of call control: the live circuits, with their paths and conference ports, and the legs of the calls. Each
 /// has its own invariant, and `Holds` joins them. No operation allocates.
-#[derive(Drop)]
+#[derive(Debug, Drop)]
 pub struct CallControl<P: PathMap> {
     /// The circuits, with their paths and conference ports.
     pub map: CircuitMap<P>,

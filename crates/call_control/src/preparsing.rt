@@ -10,7 +10,7 @@ use q931_codec::{Message, MessageKind, dialled_digits, read};
 use q931_elements::Elements;
 
 /// The number that a SETUP dials. It is looked up once, because several checks need it.
-#[derive(Clone, Copy)]
+#[derive(Clone, Copy, Debug)]
 pub struct DialledNumber {
     /// Whether all of it are digits.
     pub is_readable: bool,
@@ -19,7 +19,7 @@ pub struct DialledNumber {
 }
 
 /// A message that was parsed before its turn. Its elements stay in its octets.
-#[derive(Clone, Copy)]
+#[derive(Clone, Copy, Debug)]
 pub struct PreparsedMessage {
     /// The call reference flag.
     pub flag: bool,
@@ -32,7 +32,7 @@ pub struct PreparsedMessage {
 }
 
 /// A message as the user of a line has sent it: its octets, and the result of parsing them before the turn.
-#[derive(Clone, Copy)]
+#[derive(Clone, Copy, Debug)]
 pub struct Received<'a> {
     /// The octets.
     pub octets: &'a [u8],

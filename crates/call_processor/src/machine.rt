@@ -4,7 +4,7 @@ use exchange_core::{StepContext, Tool};
 use std::alloc::Global;
 
 /// The equipment that frames are processed with. `C` is the type of its engine.
-#[derive(Drop)]
+#[derive(Debug, Drop)]
 pub struct Machine<C> {
     /// The engine, which carries the frames of the history.
     pub engine: C,

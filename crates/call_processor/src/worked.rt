@@ -5,7 +5,7 @@ use exchange_events::Answer;
 use std::alloc::{AllocError, Global};
 
 /// An answer, and the position of its entry in the history, counted from 0.
-#[derive(Drop)]
+#[derive(Debug, Drop)]
 pub struct Placed {
     /// The position of its entry in the history.
     pub place: u32,
@@ -14,7 +14,7 @@ pub struct Placed {
 }
 
 /// The result of one worker's part of a segment.
-#[derive(Drop)]
+#[derive(Debug, Drop)]
 pub struct Worked<T> {
     /// The worker's seat.
     pub seat: T,
@@ -25,7 +25,7 @@ pub struct Worked<T> {
 }
 
 /// The result of the frame worker's part of a segment, with the engine and the control memory.
-#[derive(Drop)]
+#[derive(Debug, Drop)]
 pub struct Framed<T, C> {
     /// The result of its part.
     pub worked: Worked<T>,
@@ -37,7 +37,7 @@ pub struct Framed<T, C> {
 
 /// The buffers of a worker, which serve consecutive parts of segments. Each worker clears the data of the one before.
 /// `K` is the type of the sink.
-#[derive(Drop)]
+#[derive(Debug, Drop)]
 pub struct WorkerBuffers<K> {
     /// The context of commands and messages.
     pub context: Box<StepContext>,
@@ -46,7 +46,7 @@ pub struct WorkerBuffers<K> {
 }
 
 /// The result of one worker's part of a segment, with its buffers.
-#[derive(Drop)]
+#[derive(Debug, Drop)]
 pub struct WorkerOutput<T, K> {
     /// The worker's seat.
     pub seat: T,
@@ -58,7 +58,7 @@ pub struct WorkerOutput<T, K> {
 }
 
 /// The result of the frame worker's part of a segment, with its buffers and its machine.
-#[derive(Drop)]
+#[derive(Debug, Drop)]
 pub struct FrameWorkerOutput<T, C, K> {
     /// The result of its part.
     pub output: WorkerOutput<T, K>,

@@ -16,9 +16,11 @@ use conference_ports::Ports;
 use control_memory::{Heard, HeardTable, Image, PathMap, port_index};
 use std::alloc::{AllocError, Global};
 use std::marker::Model;
+use thiserror::Error;
 
 /// Every conference port is taken.
-#[derive(Clone, Copy, Debug, PartialEq, Eq)]
+#[derive(Clone, Copy, Debug, PartialEq, Eq, Error)]
+#[error("every conference port is taken")]
 pub struct NoPort;
 
 /// The circuits that exist, and the paths and conference ports that carry them.
@@ -26,7 +28,7 @@ pub struct NoPort;
 /// Contracts see the circuit by which each external slot receives, the member of each port and the layout of the paths.
 /// `Represents` relates these to a holding. The invariant requires only that some valid holding has them, so the map
 /// stores no holding. Only `new` allocates.
-#[derive(Drop)]
+#[derive(Debug, Drop)]
 pub struct CircuitMap<P: PathMap> {
     external: u8,
     bridges: u8,

@@ -13,7 +13,8 @@ ghost use Rattle.circuit_model.specs.Examples.{first, heard_in_frames, a_connect
 ///
 /// An octet that crossed in the frame before, by a circuit that a slot receives by, was therefore sent by that circuit.
 pub fn law_of_age()
-    ensures { (cs : List Command) (f : ℕ) (c : Circuit) → Contains (circuits_in_frame cs f) c → first_frame_of c < f → Contains (circuits_in_frame cs (f - 1)) c }
+    ensures { (cs : List Command) (f : ℕ) (c : Circuit)
+        → Contains (circuits_in_frame cs f) c → first_frame_of c < f → Contains (circuits_in_frame cs (f - 1)) c }
 {}
 
 /// The definitions of received octets, evaluated on small exchanges: octets pass after two frames, a reused slot lets

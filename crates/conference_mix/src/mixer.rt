@@ -17,7 +17,7 @@ const FREE: u16 = 256;
 const ROOMS: usize = 257;
 
 /// A member of a room, at a port of a bridge.
-#[derive(Clone, Copy)]
+#[derive(Clone, Copy, Debug)]
 pub struct RoomMember {
     /// The number of its room.
     pub room: u8,
@@ -30,7 +30,7 @@ pub struct RoomMember {
 ///
 /// Members are added in any order and to any rooms. Then each receives the total of its room without its own value. The
 /// work does not depend on the distribution of the members over rooms.
-#[derive(Drop)]
+#[derive(Debug, Drop)]
 pub struct Mixer {
     ports: usize,
     totals: [i32; ROOMS],

@@ -13,7 +13,7 @@ use std::marker::Model;
 /// The ports of all bridge lines, and their members.
 ///
 /// Contracts see the list of owners, port by port. One table lookup finds a member's port, or a port's owner.
-#[derive(Drop)]
+#[derive(Debug, Drop)]
 pub struct Ports {
     external: u8,
     lines: u8,

@@ -14,7 +14,7 @@ const NONE: u8 = 0xFF;
 /// A row is one piece of memory with one byte for each entry, because a boundary copies whole tables. A word marks the
 /// rows that may have a number, so that a stage makes an unmarked row idle without reading it. Rows share a mark modulo
 /// 64, and a row keeps its mark until the table is cleared or overwritten.
-#[derive(Drop)]
+#[derive(Debug, Drop)]
 pub struct ControlTable {
     rows: u8,
     columns: u8,

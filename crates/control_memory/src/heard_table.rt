@@ -15,7 +15,7 @@ use std::marker::Model;
 ///
 /// A word marks the lines that may receive something. A silent line then costs nothing, and a boundary copies only the
 /// lines that are marked in one of the two tables.
-#[derive(Drop)]
+#[derive(Debug, Drop)]
 pub struct HeardTable {
     lines: u8,
     words: Vec<HeardWord>,

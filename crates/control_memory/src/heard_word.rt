@@ -18,7 +18,7 @@ const SILENT: u64 = 3 << 32;
 
 /// The source of a slot's octets, as a number. One comparison finds whether a path is received yet, so a row needs no
 /// branch. Contracts see the [`Heard`].
-#[derive(Drop)]
+#[derive(Debug, Drop)]
 pub struct HeardWord {
     number: u64,
 }

@@ -17,7 +17,7 @@ use std::marker::Model;
 ///
 /// Lines are counted from 0, external lines first and bridge lines after them. The places of the
 /// bridge lines are the conference ports.
-#[derive(Drop)]
+#[derive(Debug, Drop)]
 pub struct Image {
     frame: u32,
     external: u8,

@@ -17,7 +17,7 @@ use std::marker::Model;
 /// the layout, in the form of a control memory.
 ///
 /// Contracts see the layout. It is legal from the first call on, and only `new` allocates.
-#[derive(Drop)]
+#[derive(Debug, Drop)]
 pub struct PathTable {
     lines: u8,
     slots: u8,

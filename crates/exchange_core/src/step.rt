@@ -35,7 +35,7 @@ use tone_rules::Tones;
 ///
 /// Contracts see the trace, the number of internal slots, the maximum number of live paths that a new path moves, and
 /// the journal. `world_of` defines the circuits and calls that exist after it. No call except `new` allocates.
-#[derive(Drop)]
+#[derive(Debug, Drop)]
 pub struct Core<'t, P: PathMap> {
     trace: &'t Trace,
     control: CallControl<P>,

@@ -9,7 +9,7 @@ use number_plan::Plan;
 
 /// The input and output of a step: the control memory of a frame, the message that was parsed ahead, and the outbox for
 /// messages and records. A worker reuses one context for all its events.
-#[derive(Drop)]
+#[derive(Debug, Drop)]
 pub struct StepContext {
     /// The control memory if the event is a frame.
     pub tool: Tool,

@@ -2,7 +2,7 @@
 use control_memory::Image;
 
 /// The output of a step in addition to its reply: the control memory of the next frame if the event is a frame.
-#[derive(Drop)]
+#[derive(Debug, Drop)]
 pub enum Tool {
     /// The event is not a frame.
     Nothing,

@@ -21,7 +21,7 @@ pub type Rows = ListOf<[u8; 30]>;
 
 /// A [`Reply`] with its lists on the heap, each of exactly its length, so that replies can be stored. Each variant is
 /// the reply of that name.
-#[derive(Drop)]
+#[derive(Debug, Drop)]
 pub enum Kept {
     Granted(u32, u32),
     Busy,
@@ -49,7 +49,7 @@ pub enum Kept {
 }
 
 /// The stored answer to an event, until it is reported.
-#[derive(Drop)]
+#[derive(Debug, Drop)]
 pub struct Answer {
     /// The number of the event, counted from 1.
     pub event: u32,

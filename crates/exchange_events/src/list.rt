@@ -1,10 +1,12 @@
 //! Lists that are made once and then read.
 ghost use Rattle.std.specs.Prelude.{◌≡◌};
+ghost use Rattle.std.specs.Slice.Iter.{iter_rest};
 
 use std::marker::Model;
+use std::slice;
 
 /// A list that is made once and then read. Contracts see its items.
-#[derive(Drop)]
+#[derive(Debug, Drop)]
 pub struct ListOf<T> {
     items: Vec<T>,
 }
@@ -30,5 +32,17 @@ impl<T> ListOf<T> {
         ensures { result.now ≡ self.now }
     {
         self.items.as_slice()
+    }
+}
+
+impl<'a, T> IntoIterator for &'a ListOf<T> {
+    type Item = &'a T;
+
+    type IntoIter = slice::Iter<'a, T>;
+
+    ghost into_iter_gives = { λ list it. iter_rest it ≡ list.now };
+
+    fn into_iter(self) -> Self::IntoIter {
+        self.as_slice().iter()
     }
 }

@@ -1,21 +1,23 @@
 //! The octets of a message.
 ghost use Rattle.std.specs.Prelude.{◌≡◌, ◌≤◌, length};
+ghost use Rattle.std.specs.Slice.Iter.{iter_rest};
 
 use arrayvec::ArrayVec;
 use std::marker::Model;
+use std::slice;
 
 /// The maximum number of octets of a message that is stored without an allocation. Most messages that clear a call or
 /// reply to one are shorter. Source: this project.
 pub const INLINE_OCTETS: usize = 16;
 
 /// The octets of a message from the user of a line. Contracts see their list.
-#[derive(Drop)]
+#[derive(Debug, Drop)]
 pub struct Octets {
     held: OctetStorage,
 }
 
 /// The storage of a message's octets: a short message is in the value itself.
-#[derive(Drop)]
+#[derive(Debug, Drop)]
 pub enum OctetStorage {
     Inline(ArrayVec<u8, INLINE_OCTETS>),
     Heap(Vec<u8>),
@@ -62,5 +64,17 @@ impl Octets {
             OctetStorage::Inline(octets) => octets.as_slice(),
             OctetStorage::Heap(octets) => octets.as_slice(),
         }
+    }
+}
+
+impl<'a> IntoIterator for &'a Octets {
+    type Item = &'a u8;
+
+    type IntoIter = slice::Iter<'a, u8>;
+
+    ghost into_iter_gives = { λ list it. iter_rest it ≡ list.now };
+
+    fn into_iter(self) -> Self::IntoIter {
+        self.as_slice().iter()
     }
 }

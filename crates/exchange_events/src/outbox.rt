@@ -7,7 +7,7 @@ use crate::reply::Reply;
 use crate::signal::Signals;
 
 /// The messages, moved paths and records of a step. Steps share one outbox, so that no step pays for its space.
-#[derive(Drop)]
+#[derive(Debug, Drop)]
 pub struct Outbox {
     /// The messages that were sent, in order.
     pub sends: Signals,

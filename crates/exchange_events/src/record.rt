@@ -1,10 +1,12 @@
 //! The records of calls that ended.
 ghost use Rattle.std.specs.Prelude.{◌≡◌, ◌==◌, ◌<◌, [], ◌∷◌, ◌++◌, length};
+ghost use Rattle.std.specs.Slice.Iter.{iter_rest};
 ghost use Rattle.exchange_events.specs.Limits.{max_records};
 
 use arrayvec::ArrayVec;
 use circuit_model::Slot;
 use std::marker::Model;
+use std::slice;
 
 /// The maximum number of calls that a step ends. Source: this project.
 pub const MAX_RECORDS: usize = 64;
@@ -49,7 +51,7 @@ impl Default for CallRecord {
 }
 
 /// The records of the calls that a step ended, in order, at most 64. Contracts see their list.
-#[derive(Drop)]
+#[derive(Debug, Drop)]
 pub struct Records {
     items: ArrayVec<CallRecord, MAX_RECORDS>,
 }
@@ -114,5 +116,17 @@ impl Records {
         ensures { self.new ≡ self.old ++ call ∷ [] }
     {
         self.items.push(call);
+    }
+}
+
+impl<'a> IntoIterator for &'a Records {
+    type Item = &'a CallRecord;
+
+    type IntoIter = slice::Iter<'a, CallRecord>;
+
+    ghost into_iter_gives = { λ list it. iter_rest it ≡ list.now };
+
+    fn into_iter(self) -> Self::IntoIter {
+        self.as_slice().iter()
     }
 }

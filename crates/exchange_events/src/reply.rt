@@ -3,7 +3,7 @@ use crate::record::Records;
 use crate::signal::Signals;
 
 /// The reply of the exchange to an event.
-#[derive(Drop)]
+#[derive(Debug, Drop)]
 pub enum Reply {
     /// The slots of a nail are connected. The numbers are the live paths of the fabric that moved for each of the two
     /// directions.

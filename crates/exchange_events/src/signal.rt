@@ -1,10 +1,13 @@
 //! Messages to the users of lines, as octets.
 ghost use Rattle.std.specs.Prelude.{◌≡◌, ◌==◌, ◌<◌, ◌+◌, [], ◌∷◌, ◌++◌, length};
+ghost use Rattle.std.specs.Slice.Iter.{iter_rest};
 ghost use Rattle.exchange_events.specs.Limits.{max_sends};
 
 use arrayvec::ArrayVec;
 use q931_elements::MAX_MESSAGE_LEN;
+use std::fmt::{self, Debug, Formatter, Write};
 use std::marker::Model;
+use std::slice;
 
 /// The maximum number of messages that a step sends. Source: this project.
 pub const MAX_SENDS: usize = 64;
@@ -59,6 +62,18 @@ impl Encoded {
             Ok(()) => {}
             Err(_) => unreachable!(),
         }
+    }
+}
+
+impl<'a> IntoIterator for &'a Encoded {
+    type Item = &'a u8;
+
+    type IntoIter = slice::Iter<'a, u8>;
+
+    ghost into_iter_gives = { λ list it. iter_rest it ≡ list.now };
+
+    fn into_iter(self) -> Self::IntoIter {
+        self.as_slice().iter()
     }
 }
 
@@ -151,5 +166,23 @@ impl Signals {
             self.items.push(signal);
         }
         self.count += 1;
+    }
+}
+
+impl Debug for Signals {
+    fn fmt<W: Write>(&self, f: &mut Formatter<W>) -> fmt::Result {
+        self.as_slice().fmt(f)
+    }
+}
+
+impl<'a> IntoIterator for &'a Signals {
+    type Item = &'a Signal;
+
+    type IntoIter = slice::Iter<'a, Signal>;
+
+    ghost into_iter_gives = { λ list it. iter_rest it ≡ list.now };
+
+    fn into_iter(self) -> Self::IntoIter {
+        self.as_slice().iter()
     }
 }

@@ -14,7 +14,7 @@ use tone_rules::Tones;
 pub type Input = ListOf<Option<[u8; 30]>>;
 
 /// One event of a trace.
-#[derive(Drop)]
+#[derive(Debug, Drop)]
 pub enum Event {
     /// Connect two slots, both ways.
     Nail(Slot, Slot),
@@ -39,7 +39,7 @@ pub type Changes = ListOf<u32>;
 
 /// A trace: the sizes of the exchange, its number plan, its tones and its timers, its events, and the places at which
 /// its meters change.
-#[derive(Drop)]
+#[derive(Debug, Drop)]
 pub struct Trace {
     /// The number of external lines, 1 to 32.
     pub external: u8,

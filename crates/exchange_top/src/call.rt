@@ -41,7 +41,7 @@ use strict_map::StrictMap;
 use trace_text::{MAX_BYTES, TraceFault, read_trace};
 
 /// The ending of a call of the exchange.
-#[derive(Drop)]
+#[derive(Debug, Drop)]
 pub struct Outcome<C: Carrier> {
     /// 0: the trace was run and its report or its summary was written, or the report that was read is correct for its
     /// trace. 1: the input is not a trace, or has none. 2: the arguments are not a command. 3: a read failed. 4: a

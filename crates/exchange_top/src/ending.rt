@@ -5,7 +5,7 @@ ghost use Rattle.exchange_top.specs.Endings.{status_of};
 use trace_text::Reason;
 
 /// The cause for which a call of the exchange ended.
-#[derive(Clone, Copy)]
+#[derive(Clone, Copy, Debug)]
 pub enum Ending {
     /// The trace was run and its report or its summary was written, or the report that was read is correct for its
     /// trace.

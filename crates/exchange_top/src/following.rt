@@ -27,7 +27,7 @@ use strict_map::StrictMap;
 use trace_text::Heading;
 
 /// The result of a call of [`follow`].
-#[derive(Drop)]
+#[derive(Debug, Drop)]
 pub struct FollowOutcome<C: Carrier> {
     /// 0: all lines were processed. 1: a line was refused, or there is no header. 3: a read failed. 4: a write failed.
     /// 5: an allocation failed.

@@ -26,7 +26,7 @@ use std::sync::Wait;
 use std::thread::Threads;
 
 /// The error that interrupted a run (defined by this project).
-#[derive(Clone, Copy)]
+#[derive(Clone, Copy, Debug)]
 pub enum RunError {
     /// An allocation failed.
     Memory,
@@ -140,7 +140,8 @@ fn carried_first<T: Drop, C: Carrier, L: ListingKind + Send + Drop>(
     requires sound { IsSound trace.now }
     requires slots { 1 ≤ slots × (slots ≤ 59) }
     ensures ready { IfOk result (λ r. (bound : ℕ)
-        → IsReady C.carries C.next C.sizes (record { trace = trace.now; slots = slots; bound = bound }) [] r.machine.value.engine r.machine.value.context.tool) }
+        → IsReady C.carries C.next C.sizes (record { trace = trace.now; slots = slots; bound = bound })
+        [] r.machine.value.engine r.machine.value.context.tool) }
 {
     let (external, bridges) = (trace.external, trace.bridges);
     let buffer_pool = BufferPool::new(alloc, lines)?;

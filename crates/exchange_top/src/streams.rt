@@ -12,7 +12,7 @@ use std::alloc::{AllocError, Global};
 const PIECE: usize = 65_536;
 
 /// The error of a failed input (defined by this project).
-#[derive(Clone, Copy)]
+#[derive(Clone, Copy, Debug)]
 pub enum ReadError {
     /// An allocation for the bytes failed.
     Memory,

@@ -26,7 +26,7 @@ pub const INTERNAL_SLOTS: u8 = 30;
 /// The live map of a rearrangeable fabric: 30 internal slots, one for each place of a line.
 ///
 /// Contracts see its layout.
-#[derive(Drop)]
+#[derive(Debug, Drop)]
 pub struct FabricMap {
     memory: PathMemory,
 }

@@ -11,7 +11,7 @@ use std::alloc::{AllocError, Global};
 use std::marker::Model;
 
 /// The output of the space stage: for each outgoing line an octet in every internal slot of the frame, line after line.
-#[derive(Drop)]
+#[derive(Debug, Drop)]
 pub struct Crossed {
     lines: u8,
     slots: u8,

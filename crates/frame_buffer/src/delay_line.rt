@@ -15,7 +15,7 @@ const IDLE_ROW: [u8; 30] = [IDLE; 30];
 ///
 /// In frame f call `back_two` first, and then `push` the octets that arrive in f. Two frames of storage are then
 /// enough. After the push it would return the octets of frame f-1.
-#[derive(Drop)]
+#[derive(Debug, Drop)]
 pub struct DelayLine {
     external: u8,
     latest: Vec<[u8; 30]>,

@@ -14,7 +14,7 @@ use std::marker::Model;
 ///
 /// An idle row comes before the rows of the lines. Its octets cross if a control table has no line. In front of the
 /// lines it leaves the borrowed rows as a suffix, so no borrower can change it.
-#[derive(Drop)]
+#[derive(Debug, Drop)]
 pub struct Highway {
     lines: u8,
     slots: u8,

@@ -14,7 +14,7 @@ use std::marker::Model;
 use std::mem;
 
 /// The speech memory of a frame, in two halves: one is filled while the other is read.
-#[derive(Drop)]
+#[derive(Debug, Drop)]
 pub struct FrameBuffer {
     lines: u8,
     filled: Vec<u8>,

@@ -35,7 +35,7 @@ const LEVELS: u8 = 3;
 ///
 /// Only `new` allocates. A frame's work is the same for all circuits. It takes no lock, and waits only for the halves
 /// of its stages, which return.
-#[derive(Drop)]
+#[derive(Debug, Drop)]
 pub struct Engine {
     external: u8,
     bridges: u8,

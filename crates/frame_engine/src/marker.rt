@@ -10,7 +10,7 @@ use std::thread::Threads;
 use tone_rules::Tones;
 
 /// An engine for tests: it outputs the number of the frame, modulo 256, on every slot.
-#[derive(Drop)]
+#[derive(Debug, Drop)]
 pub struct Marker {
     /// The number of external lines.
     pub external: u8,

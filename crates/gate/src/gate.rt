@@ -27,7 +27,7 @@ pub trait Gate: Sync {
 }
 
 /// The gate of the program. It holds no thread.
-#[derive(Clone, Copy)]
+#[derive(Clone, Copy, Debug)]
 pub struct OpenGate;
 
 impl Gate for OpenGate {

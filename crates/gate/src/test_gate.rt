@@ -12,7 +12,7 @@ const LOOKS: u32 = 200_000_000;
 /// the frame move.
 ///
 /// A hold ends after 200,000,000 loads of its flag in any case, and the gate then records that it gave up.
-#[derive(Drop)]
+#[derive(Debug, Drop)]
 pub struct TestGate {
     event: u32,
     frame: u32,

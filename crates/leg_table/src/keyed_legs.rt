@@ -18,7 +18,7 @@ use std::marker::Model;
 ///
 /// Each line has a row of keys, by which a message finds its leg in one pass without a branch. Each place has a frame
 /// before which no leg there is due. Contracts see neither, so a proof about a table of legs does not mention keys.
-#[derive(Drop)]
+#[derive(Debug, Drop)]
 pub(crate) struct KeyedLegs {
     lines: u8,
     legs: Vec<Option<Leg>>,

@@ -25,7 +25,7 @@ use std::marker::Model;
 
 /// The legs of all calls, by the slots that they hold. Contracts see for each external slot, by its number, the leg
 /// that holds it, the number that is pending there, and the message that is stored there.
-#[derive(Drop)]
+#[derive(Debug, Drop)]
 pub struct LegTable {
     legs: KeyedLegs,
     // The data of each slot, whose space is reserved before the first event. It counts by the state of the slot's leg,

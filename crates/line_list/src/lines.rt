@@ -44,7 +44,7 @@ const NONE: Extent = Extent {
 };
 
 /// The text of lines, their records of calls and their entries, each in sequence.
-#[derive(Drop)]
+#[derive(Debug, Drop)]
 pub struct Buffers {
     /// The text of the lines.
     pub text: Vec<u8>,
@@ -55,7 +55,7 @@ pub struct Buffers {
 }
 
 /// Lines, each with its position in the history and with the records of the calls that ended. The model is their list.
-#[derive(Drop)]
+#[derive(Debug, Drop)]
 pub struct Lines {
     // The lines that were moved to another list, and then the others. An entry has the length of its line, not its end,
     // so a run is appended unchanged, and nothing is shifted.

@@ -10,7 +10,7 @@ use std::alloc::{AllocError, Global};
 use std::marker::{Model, PhantomData};
 
 /// An answer sink that stores lines. Its model is their list. `L` states whether it has the lines of the report.
-#[derive(Drop)]
+#[derive(Debug, Drop)]
 pub struct LineList<L> {
     lines: Lines,
     kind: PhantomData<L>,

@@ -23,11 +23,11 @@ pub trait ListingKind {
 }
 
 /// The listing of the report.
-#[derive(Drop)]
+#[derive(Debug, Drop)]
 pub struct ReportLines;
 
 /// The empty listing.
-#[derive(Drop)]
+#[derive(Debug, Drop)]
 pub struct NoLines;
 
 impl ListingKind for ReportLines {

@@ -11,7 +11,7 @@ use std::marker::Model;
 pub const MAX_FRAMES: usize = 80;
 
 /// The octets of the frames that were sent, in order. A contract views them as a list of lists.
-#[derive(Drop)]
+#[derive(Debug, Drop)]
 pub struct Outbox {
     frames: ArrayVec<FrameOctets, MAX_FRAMES>,
 }

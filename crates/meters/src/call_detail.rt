@@ -15,7 +15,7 @@ use std::marker::Model;
 ///
 /// Its text has a line for each of them, the oldest first: `call CALLER CALLED FROM TO CAUSE`. A slot is `L/C`, its
 /// line and the number of its channel, and a room is `room R`.
-#[derive(Drop)]
+#[derive(Debug, Drop)]
 pub struct CallDetail {
     keep: u32,
     calls: VecDeque<CallRecord>,

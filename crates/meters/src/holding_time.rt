@@ -13,7 +13,7 @@ use std::marker::Model;
 ///
 /// Its text is the line `holding TOTAL LONGEST`. Both registers saturate at 18,446,744,073,709,551,615. No record
 /// reaches that for the longest call, but one rule serves all registers.
-#[derive(Drop)]
+#[derive(Debug, Drop)]
 pub struct HoldingTime {
     total: u64,
     longest: u64,

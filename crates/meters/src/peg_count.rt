@@ -12,7 +12,7 @@ use std::marker::Model;
 /// Counts calls, and the answered ones among them.
 ///
 /// Its text is the line `peg CALLS ANSWERED`. Both counts saturate at 18,446,744,073,709,551,615.
-#[derive(Drop)]
+#[derive(Debug, Drop)]
 pub struct PegCount {
     calls: u64,
     answered: u64,

@@ -3,6 +3,7 @@
 use arrayvec::ArrayVec;
 use std::cmp::Ordering;
 use std::marker::Model;
+use std::slice;
 
 /// The maximum number of digits of a number. Source: this project.
 pub const MAX_DIGITS: usize = 20;
@@ -42,6 +43,21 @@ impl Digits {
         ensures { result.now ≡ self.now }
     {
         self.octets.as_slice()
+    }
+}
+
+impl<'a> IntoIterator for &'a Digits {
+    ghost use Rattle.std.specs.Prelude.{◌≡◌};
+    ghost use Rattle.std.specs.Slice.Iter.{iter_rest};
+
+    type Item = &'a u8;
+
+    type IntoIter = slice::Iter<'a, u8>;
+
+    ghost into_iter_gives = { λ list it. iter_rest it ≡ list.now };
+
+    fn into_iter(self) -> Self::IntoIter {
+        self.as_slice().iter()
     }
 }
 

@@ -20,7 +20,7 @@ use std::sync::ledger::{Blank, Ledger};
 ///
 /// Contracts see the layout. Both parts are open to a fabric that moves paths, which writes them in sequence. Its proof
 /// shows that they agree again before the whole is used.
-#[derive(Drop)]
+#[derive(Debug, Drop)]
 pub struct PathMemory {
     /// The internal slots that each line uses, as Paull's matrix.
     pub matrix: PaullMatrix,

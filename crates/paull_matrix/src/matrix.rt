@@ -29,7 +29,7 @@ use std::sync::ledger::Ledger;
 ///
 /// No slot is in a row or in a column twice. Only `new` allocates. Contracts see the matrix as its sizes and the map
 /// from a row and a slot to the column.
-#[derive(Drop)]
+#[derive(Debug, Drop)]
 pub struct PaullMatrix {
     lines: u8,
     slots: u8,

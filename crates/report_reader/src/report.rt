@@ -8,16 +8,19 @@ use crate::line::read_report_line;
 use exchange_events::Answer;
 use memchr::memchr;
 use std::alloc::{AllocError, AllocFailed, Global};
+use thiserror::Error;
 
 /// The octet that ends a line.
 const LINE_FEED: u8 = b'\n';
 
 /// The error for bytes that are not a report.
-#[derive(Clone, Copy, Debug, PartialEq, Eq)]
+#[derive(Clone, Copy, Debug, PartialEq, Eq, Error)]
 pub enum ReportFault {
     /// An allocation failed.
+    #[error("out of memory")]
     Memory,
     /// The line with this number, counted from 1, is the first that encodes no answer or has no line feed.
+    #[error("line {0} is not a line of a report")]
     Line(u32),
 }
 

@@ -5,7 +5,7 @@ ghost use Rattle.report_reader.specs.Reading.{word_at};
 use crate::cut::behind;
 
 /// The kind of a reply. Each variant is the word of the reply with that name.
-#[derive(Clone, Copy)]
+#[derive(Clone, Copy, Debug)]
 pub enum Word {
     Granted,
     Busy,

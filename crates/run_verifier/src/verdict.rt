@@ -1,6 +1,7 @@
 //! The verdict on a report.
 
 use std::alloc::AllocError;
+use thiserror::Error;
 use trace_text::{Reason, TraceFault};
 
 /// The verdict on the report of a trace.
@@ -13,11 +14,13 @@ pub enum Verdict {
 }
 
 /// The error of a verification.
-#[derive(Clone, Copy, Debug, PartialEq, Eq)]
+#[derive(Clone, Copy, Debug, PartialEq, Eq, Error)]
 pub enum VerifyFault {
     /// An allocation failed.
+    #[error("out of memory")]
     Memory,
     /// The bytes of the trace are not a trace: the first line that fails, with its first failing check.
+    #[error("line {number} of the trace: {reason}")]
     Trace { number: u32, reason: Reason },
 }
 

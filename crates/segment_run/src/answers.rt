@@ -5,7 +5,7 @@ use exchange_core::Tool;
 use exchange_events::Answer;
 
 /// The result of a segment with complete answers.
-#[derive(Drop)]
+#[derive(Debug, Drop)]
 pub struct SegmentAnswer<C> {
     /// The answers, in the order of the history.
     pub answers: Vec<Answer>,
@@ -17,7 +17,7 @@ pub struct SegmentAnswer<C> {
 
 /// The result of a segment whose answers an answer sink stores. `T` is the type of the workers' seats and `K` the type
 /// of the sinks.
-#[derive(Drop)]
+#[derive(Debug, Drop)]
 pub struct SegmentOutput<T, C, K> {
     /// The machine, ready for the next frame.
     pub machine: Box<Machine<C>>,

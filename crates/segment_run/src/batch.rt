@@ -11,7 +11,7 @@ use std::sync::Wait;
 use std::thread::{Threads, join};
 
 /// The workers of a segment.
-#[derive(Drop)]
+#[derive(Debug, Drop)]
 pub struct JobBatch<T, K> {
     /// The jobs that no worker has begun.
     pub jobs: Vec<Job<T, K>>,

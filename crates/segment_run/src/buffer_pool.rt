@@ -13,7 +13,7 @@ const WORKERS: usize = 9;
 /// that a segment needs, and the lists of jobs and results. `T` is the type of the seats and `K` the type of the sinks.
 ///
 /// Its model is the number of workers for which it has capacity.
-#[derive(Drop)]
+#[derive(Debug, Drop)]
 pub struct BufferPool<T, K> {
     // The buffers that no worker uses.
     pub(crate) unused: Vec<WorkerBuffers<K>>,

@@ -11,7 +11,7 @@ use exchange_events::Trace;
 
 /// A worker with its seat and its buffers. The numbers of the call processors begin at 0. The number of the frame
 /// worker follows theirs.
-#[derive(Drop)]
+#[derive(Debug, Drop)]
 pub struct Job<T, K> {
     /// The number of the worker.
     pub worker: u32,

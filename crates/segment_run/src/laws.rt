@@ -26,7 +26,8 @@ pub fn first_seat_is_chief()
 /// After the segments before one, the history has one entry for each of their events. Seat 0 has a turn for each event
 /// of the next segment, and there are numbers left for the seats of its workers.
 pub fn segments_leave_room()
-    ensures long { (t : Trace) (k : ℕ) (v : SeatKnowledge) → IsSound t → k ≤ length t.segments → HasDoneBelow t k v → length v.seen ≡ events_before t.segments k }
+    ensures long { (t : Trace) (k : ℕ) (v : SeatKnowledge)
+        → IsSound t → k ≤ length t.segments → HasDoneBelow t k v → length v.seen ≡ events_before t.segments k }
     ensures turns { (b : Board) (k : ℕ) (v : SeatKnowledge) → IsSound b.trace → k < length b.trace.segments → IsChief (turns_of b) v
         → IsDoneBelow b.trace k (order_of v.seen) → HasTurns b.trace k v }
     ensures numbers { (t : Trace) (k made : ℕ) → IsSound t → k < length t.segments → made ≤ 9 * k → made + 10 < 2 ^ 32 }

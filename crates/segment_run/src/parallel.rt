@@ -18,7 +18,7 @@ use std::sync::Wait;
 use std::thread::{Threads, join};
 
 /// The results of the workers of a segment.
-#[derive(Drop)]
+#[derive(Debug, Drop)]
 pub struct BatchOutput<T, C, K> {
     /// The result of each, in the order of the jobs. No job is left.
     pub batch: JobBatch<T, K>,

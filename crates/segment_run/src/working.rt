@@ -18,7 +18,7 @@ use std::sync::Wait;
 use std::thread::Threads;
 
 /// The results of all workers of a segment, whose seats are joined.
-#[derive(Drop)]
+#[derive(Debug, Drop)]
 pub struct WorkerResults<T, C, K> {
     /// The buffers that no worker used.
     pub unused: Vec<WorkerBuffers<K>>,

@@ -14,7 +14,7 @@ pub const INTERNAL_SLOTS: u8 = 59;
 /// The live map of a strict-sense non-blocking fabric: 59 internal slots, and no path moves.
 ///
 /// Contracts see its layout.
-#[derive(Drop)]
+#[derive(Debug, Drop)]
 pub struct StrictMap {
     memory: PathMemory,
 }

@@ -9,7 +9,7 @@ use std::alloc::Global;
 use std::marker::Model;
 
 /// The octets of a tone, one for each frame, which repeat. Contracts see their list.
-#[derive(Drop)]
+#[derive(Debug, Drop)]
 pub struct ToneOctets {
     octets: Vec<u8>,
 }
@@ -48,7 +48,7 @@ impl ToneOctets {
 }
 
 /// The tones that a trace gives. A tone that is not given has no octets.
-#[derive(Drop)]
+#[derive(Debug, Drop)]
 pub struct Tones {
     /// Ringing tone: the called party is being alerted.
     pub ringback: ToneOctets,

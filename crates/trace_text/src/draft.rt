@@ -6,7 +6,7 @@ use exchange_events::{Changes, Event, Events, Segments, Trace};
 use std::alloc::{AllocError, Global};
 
 /// The result of the lines so far: the heading, the events, the ends of the segments, and the changes of meters.
-#[derive(Drop)]
+#[derive(Debug, Drop)]
 pub struct Draft {
     heading: Heading,
     events: Vec<Event>,

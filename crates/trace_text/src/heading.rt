@@ -21,7 +21,7 @@ use std::marker::Model;
 use tone_rules::Tones;
 
 /// The effect of a line.
-#[derive(Drop)]
+#[derive(Debug, Drop)]
 pub enum Happening {
     /// None: the line is blank, a comment, the header, a number, a tone or a timer.
     Nothing,
@@ -37,7 +37,7 @@ pub enum Happening {
 /// numbers of events and changes of meters. A contract views it as that record.
 ///
 /// It does not store the events, so its size does not depend on the number of lines.
-#[derive(Drop)]
+#[derive(Debug, Drop)]
 pub struct Heading {
     sizes: Option<Sizes>,
     plan: Plan,

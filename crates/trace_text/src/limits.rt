@@ -11,7 +11,7 @@ const MAX_CHANGES: u32 = 65_535;
 /// The maximum numbers of events and of changes of meters.
 ///
 /// Contracts use two values, [`Limits::for_trace`] and [`Limits::for_lines`].
-#[derive(Clone, Copy)]
+#[derive(Clone, Copy, Debug)]
 pub struct Limits {
     /// The maximum number of events.
     pub max_events: u32,

@@ -6,7 +6,7 @@ use number_plan::Number;
 use tone_rules::ToneOctets;
 
 /// The sizes in the header of a trace.
-#[derive(Clone, Copy)]
+#[derive(Clone, Copy, Debug)]
 pub struct Sizes {
     /// The number of external lines, 1 to 32.
     pub external: u8,
@@ -17,7 +17,7 @@ pub struct Sizes {
 }
 
 /// The kinds of line after the header.
-#[derive(Clone, Copy)]
+#[derive(Clone, Copy, Debug)]
 pub enum Kind {
     /// A frame arrives.
     Frame,
@@ -44,7 +44,7 @@ pub enum Kind {
 }
 
 /// The content of a line `tone`.
-#[derive(Drop)]
+#[derive(Debug, Drop)]
 pub struct GivenTone {
     /// The tone.
     pub kind: Tone,
@@ -53,7 +53,7 @@ pub struct GivenTone {
 }
 
 /// The content of a line of a trace.
-#[derive(Drop)]
+#[derive(Debug, Drop)]
 pub enum Said {
     /// A blank line or a comment.
     Nothing,

@@ -5,7 +5,7 @@ ghost use Rattle.trace_text.specs.TraceTimers.{no_timers, frames_given, with_tim
 use call_timers::Timers;
 
 /// A call timer (ITU-T Q.931, 9.1, table 9-1).
-#[derive(Clone, Copy)]
+#[derive(Clone, Copy, Debug)]
 pub enum TimerName {
     /// The timer of the state call received.
     T301,
@@ -22,7 +22,7 @@ pub enum TimerName {
 }
 
 /// The content of a line `timer`.
-#[derive(Clone, Copy)]
+#[derive(Clone, Copy, Debug)]
 pub struct GivenTimer {
     /// The timer.
     pub name: TimerName,
@@ -31,7 +31,7 @@ pub struct GivenTimer {
 }
 
 /// The durations in frames that the lines so far set. `None` for a timer without a line.
-#[derive(Clone, Copy)]
+#[derive(Clone, Copy, Debug)]
 pub struct GivenTimers {
     /// The timer of call received.
     pub t301: Option<u32>,
