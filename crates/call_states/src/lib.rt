@@ -13,12 +13,12 @@ mod act;
 mod laws;
 mod leg;
 mod pending;
-mod status_message;
+mod status;
 mod table;
 
 pub use act::Act;
 pub use laws::{law_of_channels, law_of_passed_causes, law_of_status};
 pub use leg::{HeldLeg, Leg, Peer, Side};
 pub use pending::{Contents, Pending};
-pub use status_message::{status_message, unexpected};
+pub use status::{status_message, unexpected};
 pub use table::on_message;
