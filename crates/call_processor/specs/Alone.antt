@@ -4,12 +4,13 @@ use Rattle.circuit_model.specs.declared.circuit.Kind.{Kind}
 use Rattle.seat_history.specs.declared.seat_knowledge.SeatKnowledge.{SeatKnowledge}
 use Rattle.seat_history.specs.Seats.{HasJoinedAll, Settled}
 use Rattle.exchange_core.specs.Boards.{Board, IsFrame}
+use Rattle.call_processor.specs.Borrowed.{Borrowed}
+use Rattle.call_processor.specs.declared.context.RunContext.{RunContext}
 use Rattle.call_processor.specs.declared.worked.Placed.{Placed}
 use Rattle.call_processor.specs.Frames.{HasFrame, Plays}
 use Rattle.call_processor.specs.Keeping.{HasKept, KeepsWork, has_no_octets}
 use Rattle.call_processor.specs.Work.{Did, entries_for}
 use Rattle.tone_rules.specs.Tables.{table_of}
-use Rattle.exchange_events.specs.declared.trace.Trace.{Trace}
 use Rattle.call_processor.specs.Parts.{events_of_segment}
 
 -- it is seat 0, and all other seats are joined, so that no other seat can process an event
@@ -39,12 +40,15 @@ HasOctets plays tones board seat p = HasFrame plays tones board seat p × ((IsFr
 abbrev pub HoldsBehind : {K : Type 0} → (K → List Placed → Type 0) → K → K → List Placed → Type 0
 HoldsBehind holds before after answers = (kept : List Placed) → holds before kept → holds after (kept ++ answers)
 
--- the seat processed the event and stored it, with the octets that the engine outputs if it is a frame
-abbrev pub KeepsNext : {K : Type 0} → (K → List Placed → Type 0) → Plays → (Kind → List ℕ) → Board → SeatKnowledge → ℕ → K → K → Type 0
-KeepsNext holds plays tones board seat event before after = HasKept holds board seat event (HasOctets plays tones board seat) before after
+module _ {B G R S K : Type 0} (holds : K → List Placed → Type 0) (plays : Plays) (board : B → Board) (known : S → SeatKnowledge) where
+  -- the seat processed the event and stored it, with the octets that the engine outputs if it is a frame
+  abbrev pub KeepsNext : RunContext B G R → ℕ → Borrowed S → Borrowed K → Type 0
+  KeepsNext cx event seat sink =
+      HasKept holds (board cx.board.now) (known seat.exit.now) event (HasOctets plays (table_of cx.trace.now.tones) (board cx.board.now) (known seat.exit.now)) sink.entry.now sink.exit.now
 
--- From v to w a prefix of the segment's events was processed in file order, and their answers follow the sink's
--- earlier contents.
-abbrev pub KeepsSegment : {K : Type 0} → (K → List Placed → Type 0) → Plays → Board → Trace → ℕ → SeatKnowledge → K → K → Bool → SeatKnowledge → Type 0
-KeepsSegment holds plays board trace segment v before after whole w =
-    KeepsWork (HoldsBehind holds before) board (HasOctets plays (table_of trace.tones) board) (events_of_segment trace segment) v after whole w
+  -- The seat processed a prefix of the segment's events in file order, and their answers follow the sink's earlier
+  -- contents.
+  abbrev pub KeepsSegment : RunContext B G R → (segment : ℕ) → Borrowed S → Borrowed K → Bool → Type 0
+  KeepsSegment cx segment seat sink whole =
+      KeepsWork (HoldsBehind holds sink.entry.now) (board cx.board.now) (HasOctets plays (table_of cx.trace.now.tones) (board cx.board.now)) (events_of_segment cx.trace.now segment) (known seat.entry.now)
+      sink.exit.now whole (known seat.exit.now)

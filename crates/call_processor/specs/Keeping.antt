@@ -6,11 +6,11 @@ use Rattle.exchange_events.specs.Kept.{kept_of}
 use Rattle.exchange_events.specs.Responses.{reply_of}
 use Rattle.seat_history.specs.declared.seat_knowledge.SeatKnowledge.{SeatKnowledge}
 use Rattle.exchange_core.specs.Boards.{Board}
+use Rattle.call_processor.specs.Borrowed.{Borrowed}
+use Rattle.call_processor.specs.declared.context.RunContext.{RunContext}
 use Rattle.call_processor.specs.declared.worked.Placed.{Placed}
 use Rattle.call_processor.specs.Work.{IsAnswer, Works}
-use Rattle.circuit_model.specs.declared.circuit.Kind.{Kind}
 use Rattle.tone_rules.specs.Tables.{table_of}
-use Rattle.exchange_events.specs.declared.trace.Trace.{Trace}
 use Rattle.exchange_events.specs.Orders.{Frame_worker, Processor}
 use Rattle.call_processor.specs.Frames.{HasFrame, Plays}
 use Rattle.call_processor.specs.Parts.{part_of}
@@ -81,17 +81,27 @@ pub record KeepsWork {K : Type 0} (holds : K → List Placed → Type 0) (board 
   pub works : Works board part v answers whole w
   pub said : All (octets w) answers
 
--- The seat processed the frame and stored it, with the octets that the engine outputs in it.
-abbrev pub KeepsFrame : {K : Type 0} → (K → List Placed → Type 0) → Plays → (Kind → List ℕ) → Board → SeatKnowledge → ℕ → K → K → Type 0
-KeepsFrame holds plays tones board seat event before after = HasKept holds board seat event (HasFrame plays tones board seat) before after
+-- ---- the same, of the context of a run, the seat and the sink
 
--- From v to w a call processor processed a prefix of its part, and the sink holds its answers, without octets.
-abbrev pub KeepsEvents : {K : Type 0} → (K → List Placed → Type 0) → Board → Trace → ℕ → ℕ → SeatKnowledge → K → Bool → SeatKnowledge → Type 0
-KeepsEvents holds board trace segment n v sink whole w =
-    KeepsWork holds board (λ seat. has_no_octets) (part_of trace segment (Processor n)) v sink whole w
+module _ {B G R S K : Type 0} (holds : K → List Placed → Type 0) (board : B → Board) (known : S → SeatKnowledge) where
+  -- a call processor processed the event and stored it, without octets
+  abbrev pub KeepsEvent : RunContext B G R → ℕ → Borrowed S → Borrowed K → Type 0
+  KeepsEvent cx event seat sink = HasKept holds (board cx.board.now) (known seat.exit.now) event has_no_octets sink.entry.now sink.exit.now
 
--- From v to w the frame worker processed a prefix of the segment's frames, and the sink holds their answers, with the
--- octets that the engine outputs.
-abbrev pub KeepsFrames : {K : Type 0} → (K → List Placed → Type 0) → Plays → Board → Trace → ℕ → SeatKnowledge → K → Bool → SeatKnowledge → Type 0
-KeepsFrames holds plays board trace segment v sink whole w =
-    KeepsWork holds board (HasFrame plays (table_of trace.tones) board) (part_of trace segment Frame_worker) v sink whole w
+  -- a call processor processed a prefix of its part, and the sink holds its answers, without octets
+  abbrev pub KeepsEvents : RunContext B G R → (segment processor : ℕ) → Borrowed S → Borrowed K → Bool → Type 0
+  KeepsEvents cx segment processor seat sink whole =
+      KeepsWork holds (board cx.board.now) (λ seat. has_no_octets) (part_of cx.trace.now segment (Processor processor)) (known seat.entry.now) sink.exit.now whole (known seat.exit.now)
+
+module _ {B G R S K : Type 0} (holds : K → List Placed → Type 0) (plays : Plays) (board : B → Board) (known : S → SeatKnowledge) where
+  -- the frame worker processed the frame and stored it, with the octets that the engine outputs in it
+  abbrev pub KeepsFrame : RunContext B G R → ℕ → Borrowed S → Borrowed K → Type 0
+  KeepsFrame cx event seat sink =
+      HasKept holds (board cx.board.now) (known seat.exit.now) event (HasFrame plays (table_of cx.trace.now.tones) (board cx.board.now) (known seat.exit.now)) sink.entry.now sink.exit.now
+
+  -- the frame worker processed a prefix of the segment's frames, and the sink holds their answers, with the octets that
+  -- the engine outputs
+  abbrev pub KeepsFrames : RunContext B G R → (segment : ℕ) → Borrowed S → Borrowed K → Bool → Type 0
+  KeepsFrames cx segment seat sink whole =
+      KeepsWork holds (board cx.board.now) (HasFrame plays (table_of cx.trace.now.tones) (board cx.board.now)) (part_of cx.trace.now segment Frame_worker) (known seat.entry.now) sink.exit.now whole
+      (known seat.exit.now)

@@ -1,3 +1,4 @@
+pub mod Borrowed
 pub mod Parts
 pub mod Work
 pub mod Frames

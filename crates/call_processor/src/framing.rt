@@ -58,7 +58,7 @@ pub(crate) fn do_frame<
     ensures next { IsOnly (B.known seat.old) → DidNext (turns_of (B.board cx.now.board.now)) (B.known seat.old) event (B.known seat.new) }
     ensures ready { IsReadyAt C.carries C.next C.sizes (B.board cx.now.board.now) (B.known seat.new) machine.new }
     ensures lines { length machine.new.octets.items ≡ (B.board cx.now.board.now).trace.external }
-    ensures kept { OnOk result (KeepsFrame K.holds C.plays (table_of cx.now.trace.now.tones) (B.board cx.now.board.now) (B.known seat.new) event sink.old sink.new) }
+    ensures kept { OnOk result (KeepsFrame K.holds C.plays B.board B.known cx.now event seat sink) }
     ensures refused { OnErr result ((answers : List Placed) → K.holds sink.old answers → K.holds sink.new answers) }
 {
     let worker = u32::from(cx.trace.processors);
@@ -114,7 +114,7 @@ fn do_frames<B: Switchboard, G: Gate, C: Carrier, K: AnswerSink, R: Threads + Wa
     requires seated { B.seated cx.now.board.now seat.old }
     requires may { MayDoFrames C.carries C.next C.sizes (B.board cx.now.board.now) cx.now.trace.now segment (B.known seat.old) machine.old }
     ensures seated { B.seated cx.now.board.now seat.new }
-    ensures works { KeepsFrames K.holds C.plays (B.board cx.now.board.now) cx.now.trace.now segment (B.known seat.old) sink.new (is_ok result) (B.known seat.new) }
+    ensures works { KeepsFrames K.holds C.plays B.board B.known cx.now segment seat sink (is_ok result) }
     ensures ready { IsReadyAt C.carries C.next C.sizes (B.board cx.now.board.now) (B.known seat.new) machine.new }
 {
     sink.clear();

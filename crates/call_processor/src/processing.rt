@@ -5,7 +5,7 @@ ghost use Rattle.exchange_core.specs.declared.tool.Tool.TheVariants.{Nothing};
 ghost use Rattle.exchange_events.specs.Orders.{IsEvent, Processor};
 ghost use Rattle.call_processor.specs.Alone.{DidNext, IsOnly};
 ghost use Rattle.call_processor.specs.declared.worked.Placed.{Placed};
-ghost use Rattle.call_processor.specs.Keeping.{HasKept, KeepsEvents, has_no_octets};
+ghost use Rattle.call_processor.specs.Keeping.{KeepsEvent, KeepsEvents};
 ghost use Rattle.call_processor.specs.Parts.{is_its, part_of};
 ghost use Rattle.call_processor.specs.Work.{DidEvent, MayWork};
 ghost use Rattle.call_processor.specs.WorkerOutputs.{HasAnswered, HasDoneEvents};
@@ -47,7 +47,7 @@ pub(crate) fn do_event<B: Switchboard, G: Gate, K: AnswerSink, R: Wait>(
     ensures handled { DidEvent (B.known seat.old) event (B.known seat.new) }
     ensures next { IsOnly (B.known seat.old) → DidNext (turns_of (B.board cx.now.board.now)) (B.known seat.old) event (B.known seat.new) }
     ensures tool { context.new.tool ≡ Nothing }
-    ensures kept { OnOk result (HasKept K.holds (B.board cx.now.board.now) (B.known seat.new) event has_no_octets sink.old sink.new) }
+    ensures kept { OnOk result (KeepsEvent K.holds B.board B.known cx.now event seat sink) }
     ensures refused { OnErr result ((answers : List Placed) → K.holds sink.old answers → K.holds sink.new answers) }
 {
     cx.gate.before_turn(processor, event);
@@ -73,7 +73,7 @@ fn do_events<B: Switchboard, G: Gate, K: AnswerSink, R: Wait>(
     requires processor { processor < cx.now.trace.now.processors }
     requires tool { context.old.tool ≡ Nothing }
     ensures seated { B.seated cx.now.board.now seat.new }
-    ensures works { KeepsEvents K.holds (B.board cx.now.board.now) cx.now.trace.now segment processor (B.known seat.old) sink.new (is_ok result) (B.known seat.new) }
+    ensures works { KeepsEvents K.holds B.board B.known cx.now segment processor seat sink (is_ok result) }
 {
     sink.clear();
     let (first, end) = event_range(cx.trace, segment);

@@ -4,7 +4,6 @@ ghost use Rattle.seat_history.specs.Seats.{Settled};
 ghost use Rattle.exchange_core.specs.Boards.{turns_of};
 ghost use Rattle.exchange_core.specs.declared.tool.Tool.TheVariants.{Nothing};
 ghost use Rattle.exchange_events.specs.Orders.{IsEvent};
-ghost use Rattle.tone_rules.specs.Tables.{table_of};
 ghost use Rattle.call_processor.specs.Alone.{DidInOrder, DidNext, IsOnly, KeepsNext, KeepsSegment};
 ghost use Rattle.call_processor.specs.Frames.{IsReadyAt};
 ghost use Rattle.call_processor.specs.Parts.{events_of_segment};
@@ -51,7 +50,7 @@ fn do_next<B: Switchboard, G: Gate, C: Carrier, K: AnswerSink, R: Threads + Wait
     ensures context { context.new.tool ≡ Nothing }
     ensures ready { IsReadyAt C.carries C.next C.sizes (B.board cx.now.board.now) (B.known seat.new) machine.new }
     ensures lines { length machine.new.octets.items ≡ (B.board cx.now.board.now).trace.external }
-    ensures kept { OnOk result (KeepsNext K.holds C.plays (table_of cx.now.trace.now.tones) (B.board cx.now.board.now) (B.known seat.new) event sink.old sink.new) }
+    ensures kept { OnOk result (KeepsNext K.holds C.plays B.board B.known cx.now event seat sink) }
     ensures refused { OnErr result ((answers : List Placed) → K.holds sink.old answers → K.holds sink.new answers) }
 {
     let Some(input) = input_of(cx.trace, event) else {
@@ -92,8 +91,7 @@ pub fn run_sequential<B: Switchboard, G: Gate, C: Carrier, K: AnswerSink, R: Thr
     ensures seated { B.seated cx.now.board.now seat.new }
     ensures in_order { DidInOrder (events_of_segment cx.now.trace.now segment) (B.known seat.old) (is_ok result) (B.known seat.new) }
     ensures settled { Settled (turns_of (B.board cx.now.board.now)) (B.known seat.old) → Settled (turns_of (B.board cx.now.board.now)) (B.known seat.new) }
-    ensures works { KeepsSegment K.holds C.plays (B.board cx.now.board.now) cx.now.trace.now segment
-        (B.known seat.old) sink.old sink.new (is_ok result) (B.known seat.new) }
+    ensures works { KeepsSegment K.holds C.plays B.board B.known cx.now segment seat sink (is_ok result) }
     ensures ready { IsReadyAt C.carries C.next C.sizes (B.board cx.now.board.now) (B.known seat.new) machine.new }
 {
     buffers.context.tool = Tool::Nothing;

@@ -21,7 +21,7 @@ use Rattle.segment_run.specs.Segments.{IsDoneBelow}
 use Rattle.call_processor.specs.Frames.{Carrying, CarriesFrames, Plays}
 use Rattle.line_list.specs.declared.listing.Listing.{Listing}
 use Rattle.meters.specs.Changing.{Step, lines_of, records_of}
-use Rattle.exchange_top.specs.Borrowed.{Borrowed}
+use Rattle.call_processor.specs.Borrowed.{Borrowed}
 use Rattle.ex_io.specs.declared.ends.Sink.{Ghosts as SinkMembers}
 use Rattle.frame_engine.specs.declared.carrier.Carrier.{Ghosts as CarrierMembers}
 use Rattle.exchange_top.specs.declared.call.CallEnd.{CallEnd}

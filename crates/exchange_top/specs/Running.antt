@@ -12,7 +12,7 @@ use Rattle.exchange_events.specs.declared.trace.Trace.{Trace}
 use Rattle.frame_engine.specs.declared.carrier.Carrier.{Ghosts as CarrierMembers}
 use Rattle.call_profile.specs.Step.{run, events_of, MovesAtMost}
 use Rattle.segment_run.specs.Segment.{new_events}
-use Rattle.exchange_top.specs.Borrowed.{Borrowed}
+use Rattle.call_processor.specs.Borrowed.{Borrowed}
 use Rattle.call_processor.specs.Frames.{IsReady, Plays}
 use Rattle.call_processor.specs.declared.worked.Placed.{Placed}
 use Rattle.line_list.specs.declared.listing.Listing.{Listing}

@@ -3,7 +3,7 @@
 use Rattle.std.specs.Prelude.{ℕ, ◌≤◌, List, length, take}
 use Rattle.std.specs.Io.KnownBytes.{Appends, Consumes, Keeps}
 use Rattle.std.specs.declared.option.Option.{Option}
-use Rattle.exchange_top.specs.Borrowed.{Borrowed}
+use Rattle.call_processor.specs.Borrowed.{Borrowed}
 use Rattle.ex_io.specs.Ends.{Rose}
 use Rattle.ex_io.specs.declared.ends.Sink.{Ghosts as SinkMembers}
 use Rattle.ex_io.specs.declared.ends.Source.{Ghosts as SourceMembers}
