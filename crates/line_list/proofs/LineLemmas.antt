@@ -4,12 +4,14 @@ use Rattle.std.specs.Prelude.{All}
 use Rattle.std.proofs.lemmas.List.{drop-append-le, drop-drop, drop-map, drop-take, length-map, length-take-le, map-append, drop_at, nil_from_length, take-append-le, take_all, take_at, take-map}
 use Rattle.std.proofs.lemmas.List.Elements.{All-nil, All-cons, All-head, All-more, All-tail}
 use Rattle.exchange_events.specs.declared.record.CallRecord.{CallRecord}
+use Rattle.call_processor.specs.Borrowed.{Borrowed}
 use Rattle.call_processor.specs.declared.worked.Placed.{Placed}
 use Rattle.call_processor.specs.Keeping.{HandsOn, first_place}
+use Rattle.line_list.specs.declared.lines.Buffers.{Buffers}
 use Rattle.line_list.specs.declared.lines.LineEntry.{LineEntry}
 use Rattle.line_list.specs.declared.lines.Extent.{Extent}
 use Rattle.line_list.specs.Lines.{HandsLines, Line, calls_of, first_line, text_of}
-use Rattle.line_list.specs.Entries.{AreBefore, AreMarked, BeginFrom, lines_in, lines_left, entry_of, octets_in, records_in}
+use Rattle.line_list.specs.Entries.{AreAppended, AreBefore, AreMarked, AreUnchanged, BeginFrom, lines_in, lines_left, entry_of, octets_in, records_in}
 
 -- ---- sums over lines
 
@@ -163,18 +165,9 @@ module _ (text : List ℕ) (records : List CallRecord) (entries : List LineEntry
       ∙ (λ i. lines_in (drop-append-le handed.octets text u (omega (arith, o)) i) (drop-append-le handed.records records s (omega (arith, k)) i) (drop-append-le handed.lines entries ns lines i))
       ∙ lines_append (drop handed.octets text) u (drop handed.records records) s left ns left_long left_many
 
-  -- after a call that put more behind them, or else left all as it was
-  pub marked_after : {A E : Type 0} (r : Result A E) (u : List ℕ) (s : List CallRecord) (ns : List LineEntry) (text' : List ℕ) (records' : List CallRecord) (entries' : List LineEntry)
-      → OnOk r (text' ≡ text ++ u) → OnOk r (records' ≡ records ++ s) → OnOk r (entries' ≡ entries ++ ns) → OnErr r ((text' ≡ text) × (records' ≡ records) × (entries' ≡ entries))
-      → length u ≡ octets_in ns → length s ≡ records_in ns → AreMarked text' records' entries' handed
-  marked_after (Ok x) u s ns text' records' entries' a b c none long many = marked_more u s ns text' records' entries' a b c long many
-  marked_after (Err e) u s ns text' records' entries' a b c none long many = rw (none.0, none.1, none.2) are
-
-  pub left_after : {A E : Type 0} (r : Result A E) (u : List ℕ) (s : List CallRecord) (ns : List LineEntry) (text' : List ℕ) (records' : List CallRecord) (entries' : List LineEntry)
-      → OnOk r (text' ≡ text ++ u) → OnOk r (records' ≡ records ++ s) → OnOk r (entries' ≡ entries ++ ns)
-      → OnOk r (lines_left text' records' entries' handed ≡ lines_left text records entries handed ++ lines_in u s ns)
-  left_after (Ok x) u s ns text' records' entries' a b c = left_more u s ns text' records' entries' a b c
-  left_after (Err e) u s ns text' records' entries' a b c = tt
+  -- a call left all unchanged
+  pub marked_same : (text' : List ℕ) (records' : List CallRecord) (entries' : List LineEntry) → text' ≡ text → records' ≡ records → entries' ≡ entries → AreMarked text' records' entries' handed
+  marked_same text' records' entries' a b c = rw (a, b, c) are
 
   pub left_kept : {A E : Type 0} (r : Result A E) (text' : List ℕ) (records' : List CallRecord) (entries' : List LineEntry) → OnErr r ((text' ≡ text) × (records' ≡ records) × (entries' ≡ entries))
       → OnErr r (lines_left text' records' entries' handed ≡ lines_left text records entries handed)
@@ -276,6 +269,27 @@ module _ (text : List ℕ) (records : List CallRecord) (entries : List LineEntry
         let count = lines_long (drop handed.octets text) (drop handed.records records) left in
         let size = ap length is in
         sym (take_all n (lines_left text records entries handed) (omega (arith, few, count, size)))
+
+-- ---- after a call that appended to the buffers, or left them unchanged
+
+pub appended : {A E : Type 0} (r : Result A E) (u : List ℕ) (s : List CallRecord) (ns : List LineEntry) (b : Borrowed Buffers)
+    → OnOk r (b.exit.now.text.items ≡ b.entry.now.text.items ++ u) → OnOk r (b.exit.now.records.items ≡ b.entry.now.records.items ++ s)
+    → OnOk r (b.exit.now.entries.items ≡ b.entry.now.entries.items ++ ns) → OnOk r (AreAppended u s ns b)
+appended (Ok x) u s ns b text records entries = record { text_is = text; records_are = records; marks_are = entries }
+appended (Err e) u s ns b text records entries = tt
+
+pub marked_after : {A E : Type 0} (r : Result A E) (u : List ℕ) (s : List CallRecord) (ns : List LineEntry) (b : Borrowed Buffers) (handed : Extent)
+    → AreMarked b.entry.now.text.items b.entry.now.records.items b.entry.now.entries.items handed → OnOk r (AreAppended u s ns b) → OnErr r (AreUnchanged b)
+    → length u ≡ octets_in ns → length s ≡ records_in ns → AreMarked b.exit.now.text.items b.exit.now.records.items b.exit.now.entries.items handed
+marked_after (Ok x) u s ns b handed are added kept long many = marked_more _ _ _ _ are u s ns _ _ _ added.text_is added.records_are added.marks_are long many
+marked_after (Err e) u s ns b handed are added kept long many = marked_same _ _ _ _ are _ _ _ kept.0 kept.1 kept.2
+
+pub left_after : {A E : Type 0} (r : Result A E) (u : List ℕ) (s : List CallRecord) (ns : List LineEntry) (b : Borrowed Buffers) (handed : Extent)
+    → AreMarked b.entry.now.text.items b.entry.now.records.items b.entry.now.entries.items handed → OnOk r (AreAppended u s ns b)
+    → OnOk r (lines_left b.exit.now.text.items b.exit.now.records.items b.exit.now.entries.items handed
+    ≡ lines_left b.entry.now.text.items b.entry.now.records.items b.entry.now.entries.items handed ++ lines_in u s ns)
+left_after (Ok x) u s ns b handed are added = left_more _ _ _ _ are u s ns _ _ _ added.text_is added.records_are added.marks_are
+left_after (Err e) u s ns b handed are added = tt
 
 -- ---- lines of answers
 

@@ -1,6 +1,8 @@
 -- Lines in one text, each with its entry. Source: this project.
-use Rattle.std.specs.Prelude.{◌≡◌, ℕ, ◌+◌, ◌<◌, ◌≤◌, List, [], ◌∷◌, length, take, drop, All}
+use Rattle.std.specs.Prelude.{◌≡◌, ℕ, ◌+◌, ◌<◌, ◌≤◌, List, [], ◌∷◌, ◌++◌, length, take, drop, All}
 use Rattle.exchange_events.specs.declared.record.CallRecord.{CallRecord}
+use Rattle.call_processor.specs.Borrowed.{Borrowed}
+use Rattle.line_list.specs.declared.lines.Buffers.{Buffers}
 use Rattle.line_list.specs.declared.lines.LineEntry.{LineEntry}
 use Rattle.line_list.specs.declared.lines.Extent.{Extent}
 use Rattle.line_list.specs.Lines.{Line}
@@ -41,3 +43,17 @@ AreBefore below entries = All (λ (m : LineEntry). m.place < below) entries
 -- there is no line, or the first one comes at this position or after it
 abbrev pub BeginFrom : ℕ → List LineEntry → Type 0
 BeginFrom below entries = All (λ (m : LineEntry). below ≤ m.place) (take 1 entries)
+
+-- a call appended this text, these records and these entries to the buffers
+pub record AreAppended (text : List ℕ) (records : List CallRecord) (entries : List LineEntry) (b : Borrowed Buffers) : Type 0 where
+  pub text_is : b.exit.now.text.items ≡ b.entry.now.text.items ++ text
+  pub records_are : b.exit.now.records.items ≡ b.entry.now.records.items ++ records
+  pub marks_are : b.exit.now.entries.items ≡ b.entry.now.entries.items ++ entries
+
+-- a call appended this line to the buffers, with its records and its entry
+abbrev pub IsAppended : Line → Borrowed Buffers → Type 0
+IsAppended line b = AreAppended line.text line.records (entry_of line ∷ []) b
+
+-- a call left the text, the records and the entries of the buffers unchanged
+abbrev pub AreUnchanged : Borrowed Buffers → Type 0
+AreUnchanged b = (b.exit.now.text.items ≡ b.entry.now.text.items) × (b.exit.now.records.items ≡ b.entry.now.records.items) × (b.exit.now.entries.items ≡ b.entry.now.entries.items)

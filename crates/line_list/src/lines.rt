@@ -6,7 +6,7 @@ ghost use Rattle.report_text.specs.Report.{response_line};
 ghost use Rattle.call_processor.specs.Keeping.{placed};
 ghost use Rattle.line_list.specs.Lines.{HandsLines, calls_of, first_line, line_of, listed, text_of};
 ghost use Rattle.call_profile.specs.CallsTold.{calls_kept};
-ghost use Rattle.line_list.specs.Entries.{AreBefore, BeginFrom, lines_in, entry_of, octets_in, records_in};
+ghost use Rattle.line_list.specs.Entries.{AreAppended, AreBefore, AreUnchanged, BeginFrom, IsAppended, lines_in, octets_in, records_in};
 
 use crate::listing::Listing;
 use exchange_events::{CallRecord, Outbox, Response};
@@ -207,10 +207,8 @@ fn append_event(
     outbox: &Outbox,
     octets: &[[u8; 30]],
 ) -> Result<(), AllocError>
-    ensures text { OnOk result (buffers.new.text.items ≡ buffers.old.text.items ++ listed listing (response_line octets.now event response outbox.now)) }
-    ensures records { OnOk result (buffers.new.records.items ≡ buffers.old.records.items ++ calls_kept (kept_of (reply_of response outbox.now))) }
-    ensures entry { OnOk result (buffers.new.entries.items ≡ buffers.old.entries.items ++ entry_of (line_of listing (placed place event response outbox.now octets.now)) ∷ []) }
-    ensures kept { OnErr result ((buffers.new.text.items ≡ buffers.old.text.items) × (buffers.new.records.items ≡ buffers.old.records.items) × (buffers.new.entries.items ≡ buffers.old.entries.items)) }
+    ensures line { OnOk result (IsAppended (line_of listing (placed place event response outbox.now octets.now)) buffers) }
+    ensures kept { OnErr result (AreUnchanged buffers) }
 {
     let start = buffers.text.len();
     append_listed(&mut buffers.text, listing, event, response, outbox, octets)?;
@@ -234,10 +232,8 @@ fn append_run(
     calls: &[CallRecord],
     known: &[LineEntry],
 ) -> Result<(), AllocError>
-    ensures text { OnOk result (buffers.new.text.items ≡ buffers.old.text.items ++ more.now) }
-    ensures records { OnOk result (buffers.new.records.items ≡ buffers.old.records.items ++ calls.now) }
-    ensures entries { OnOk result (buffers.new.entries.items ≡ buffers.old.entries.items ++ known.now) }
-    ensures kept { OnErr result ((buffers.new.text.items ≡ buffers.old.text.items) × (buffers.new.records.items ≡ buffers.old.records.items) × (buffers.new.entries.items ≡ buffers.old.entries.items)) }
+    ensures lines { OnOk result (AreAppended more.now calls.now known.now buffers) }
+    ensures kept { OnErr result (AreUnchanged buffers) }
 {
     let before = buffers.text.len();
     buffers.text.extend_from_slice(more)?;

@@ -36,7 +36,7 @@ invariant_of-to c =
     let octets = end.octets in
     let records = end.records in
     let e = c.append_run.ensures in
-    marked_after _ _ _ _ c.to.invariant c.append_run.result _ _ _ _ _ _ e.text e.records e.entries e.kept
+    marked_after c.append_run.result _ _ _ _ _ c.to.invariant e.lines e.kept
     (part_long c.self.inside.buffers.text.items _ _ _ _ octets (omega (arith, octets_most, octets)) c.between-text.ensures)
     (part_long c.self.inside.buffers.records.items _ _ _ _ records (omega (arith, records_most, records)) c.between-records.ensures)
 
@@ -48,7 +48,7 @@ invariant_of-to-2 c =
     let octets = end.octets in
     let records = end.records in
     let e = c.append_run.ensures in
-    marked_after _ _ _ _ c.to.invariant c.append_run.result _ _ _ _ _ _ e.text e.records e.entries e.kept
+    marked_after c.append_run.result _ _ _ _ _ c.to.invariant e.lines e.kept
     (part_long c.self.inside.buffers.text.items _ _ _ _ octets (omega (arith, octets_most, octets)) c.between-text.ensures)
     (part_long c.self.inside.buffers.records.items _ _ _ _ records (omega (arith, records_most, records)) c.between-records.ensures)
 
@@ -60,7 +60,7 @@ invariant_of-self c =
 pub returns-clause-handed : goal.returns-clause-handed
 returns-clause-handed c =
     let e = c.behind-end.ensures in
-    let more = c.in_ok-append_run.ensures in
+    let more = c.in_ok-append_run.ensures.lines in
     rw (← c.self.view_is, ← c.to.view_is)
     (hands_run _ _ _ _ c.self.invariant _ c.entries_left-left.ensures c.run_length.result c.run_length.ensures.within c.behind-end.result e.lines e.octets e.records
-    c.args.below _ _ _ _ c.between-text.ensures c.between-records.ensures c.run_length.ensures.some c.run_length.ensures.before c.run_length.ensures.stops (left_more _ _ _ _ c.to.invariant _ _ _ _ _ _ more.text more.records more.entries))
+    c.args.below _ _ _ _ c.between-text.ensures c.between-records.ensures c.run_length.ensures.some c.run_length.ensures.before c.run_length.ensures.stops (left_more _ _ _ _ c.to.invariant _ _ _ _ _ _ more.text_is more.records_are more.marks_are))

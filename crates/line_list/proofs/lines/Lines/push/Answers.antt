@@ -9,10 +9,10 @@ pub invariant_of-self : goal.invariant_of-self
 invariant_of-self c =
     let e = c.append_event.ensures in
     let l = line_of c.args.listing (placed c.args.place c.args.event c.args.response c.args.outbox.now c.args.octets.now) in
-    marked_after _ _ _ _ c.self.invariant c.append_event.result l.text l.records (entry_of l ∷ []) _ _ _ e.text e.records e.entry e.kept (omega arith) (omega arith)
+    marked_after c.append_event.result l.text l.records (entry_of l ∷ []) _ _ c.self.invariant e.line e.kept (omega arith) (omega arith)
 
 pub returns-clause-line : goal.returns-clause-line
 returns-clause-line c =
     let e = c.append_event.ensures in
     let l = line_of c.args.listing (placed c.args.place c.args.event c.args.response c.args.outbox.now c.args.octets.now) in
-    rw (← c.self.view_is, ← one_line l) (left_after _ _ _ _ c.self.invariant c.append_event.result l.text l.records (entry_of l ∷ []) _ _ _ e.text e.records e.entry)
+    rw (← c.self.view_is, ← one_line l) (left_after c.append_event.result l.text l.records (entry_of l ∷ []) _ _ c.self.invariant e.line)
