@@ -5,10 +5,12 @@ use Rattle.std.proofs.lemmas.List.{append-nil}
 use Rattle.std.specs.Io.KnownBytes.{Appends, Consumes, IsAtEnd}
 use Rattle.std.proofs.KnownBytes.{Appends-trans}
 use Rattle.trace_text.specs.declared.fault.Reason.{Reason}
+use Rattle.exchange_events.specs.declared.record.CallRecord.{CallRecord}
 use Rattle.exchange_events.specs.declared.trace.Trace.{Trace}
 use Rattle.trace_text.specs.TraceGrammar.{IsTrace, IsRefused, max_bytes}
 use Rattle.call_processor.specs.Frames.{Carrying, Plays}
 use Rattle.exchange_events.specs.Sizes.{Dimensions}
+use Rattle.frame_engine.specs.declared.carrier.Carrier.{Ghosts as CarrierMembers}
 use Rattle.command_words.specs.Words.{command_of}
 use Rattle.command_words.specs.declared.command.Command.{Command}
 use Rattle.command_words.specs.declared.command.Command.TheVariants.{Run, Generate, Check}
@@ -16,13 +18,13 @@ use Rattle.line_list.specs.declared.listing.Listing.{Listing}
 use Rattle.line_list.specs.declared.listing.Listing.TheVariants as listing
 use Rattle.exchange_top.specs.declared.ending.Ending.{Ending}
 use Rattle.exchange_top.specs.declared.ending.Ending.TheVariants as ended
-use Rattle.exchange_top.specs.Outcomes.{Fabric, HandsOut, IsIdle, IsRunWhole, IsRunWritten, Parties, Runs, SumsUp}
+use Rattle.exchange_top.specs.Outcomes.{Fabric, HandsOut, IsIdle, IsRunWhole, IsRunWritten, Parties, Runs, SumsUp, parties}
 use Rattle.exchange_top.specs.Checking.{Checks, Said, Not_read, No_memory, Finds, IsChecked, IsUnchecked, Too_much, No_trace, max_checked}
 use Rattle.exchange_top.specs.Inputs.{IsInputWithin}
 use Rattle.exchange_top.specs.Streams.{AppendsFront, ConsumesAtMost, IsUntouched, IsWritten, Stream}
 use Rattle.exchange_top.specs.Story.{story}
 use Rattle.exchange_top.specs.Summary.{summary_text}
-use Rattle.exchange_top.specs.Telling.{MeterStory}
+use Rattle.exchange_top.specs.Telling.{MeterStory, meter_story}
 use Rattle.exchange_top.specs.Refusals.{Says, Told_so, Untold, line_of}
 use Rattle.exchange_top.specs.Commands.{max_read, max_read_by, IsCheck, IsCheckOn, IsReading, IsRun, IsGeneration, IsNoCommand, fabric_of}
 use Rattle.exchange_top.specs.Endings.{status_of, IsTraceRead, IsTraceGenerated, IsFound, For_run, For_check, Reported, Summed, Found_valid, In_line, In_report, In_generation, In_summary, At_once, In_run, In_generated, Before_summary, HasEnded, IsDue, Arguments_decide, Trace_decides, Line_decides, Seed_decides, Report_decides, EndsAs}
@@ -298,3 +300,12 @@ module _ (arguments : List (List ℕ)) (input : Stream) (x : Parties) where
       let few = is.checked.few in
       found_due strict is.strict is.bytes known (ended.Invalid line) due is.asked check (record { front = is.read.front; whole = λ short. is.read.ended; few = omega (arith, few) }) left
       (is.trace, is.report, is.checked, is.invalid) found
+
+-- the meters of the lists that a call takes from its caller are its caller's
+module _ {M E : Type 0} (stands : M → List CallRecord → Type 0) (text : M → List CallRecord → List ℕ) (carrier : CarrierMembers E) (engine : Option E) (order : List ℕ) where
+  pub ends_taken : (arguments : List (List ℕ)) (input output : Stream) (ending : Ending) (taken taken_spare on spare new new_spare : List M) → taken ≡ on → taken_spare ≡ spare
+      → HasEnded arguments input (parties carrier engine order (meter_story stands text taken taken_spare new new_spare) output) ending
+      → HasEnded arguments input (parties carrier engine order (meter_story stands text on spare new new_spare) output) ending
+  ends_taken arguments input output ending taken taken_spare on spare new new_spare same same_spare ends =
+      subst (λ (l : List M). HasEnded arguments input (parties carrier engine order (meter_story stands text on l new new_spare) output) ending) same_spare
+      (subst (λ (l : List M). HasEnded arguments input (parties carrier engine order (meter_story stands text l taken_spare new new_spare) output) ending) same ends)

@@ -6,14 +6,13 @@ ghost use Rattle.trace_text.specs.TraceGrammar.{max_bytes};
 ghost use Rattle.exchange_top.specs.declared.ending.Ending.{Ending};
 ghost use Rattle.exchange_top.specs.declared.ending.Ending.TheVariants.{Completed, ReadFailed, WriteFailed};
 ghost use Rattle.exchange_top.specs.Commands.{IsReading, max_read, texts};
-ghost use Rattle.exchange_top.specs.Endings.{Ends, EndsAs, GenerationEnds, HasEnded, InputEnds, IsDue, RunEnds, status_of};
+ghost use Rattle.exchange_top.specs.Endings.{Ends, EndsAs, GenerationEnds, InputEnds, IsDue, PartEnds, RunEnds, status_of};
 ghost use Rattle.exchange_top.specs.Inputs.{max_bytes_read};
-ghost use Rattle.exchange_top.specs.Outcomes.{SumsUp, part, parties, whole};
+ghost use Rattle.exchange_top.specs.Outcomes.{SumsUp, part, whole};
 ghost use Rattle.exchange_top.specs.Refusals.{Says};
 ghost use Rattle.exchange_top.specs.Running.{RunsOn, board_for, board_on};
-ghost use Rattle.exchange_top.specs.Streams.{ConsumesAtMost, input, output, stream};
+ghost use Rattle.exchange_top.specs.Streams.{ConsumesAtMost, input, output};
 ghost use Rattle.exchange_top.specs.Summary.{summary_text};
-ghost use Rattle.exchange_top.specs.Telling.{meter_story};
 
 use crate::call_context::{CallContext, Metering, PendingText};
 use crate::checking::check;
@@ -293,10 +292,8 @@ fn answer_words<S: Source, K: Sink, G: Gate, C: Carrier, R: Threads + Wait + Syn
     sink: &mut K,
     metering: &mut Metering,
 ) -> CallEnd<C>
-    ensures ends { HasEnded (texts words.now) (stream S.left S.faults source.old source.new)
-        (parties C.Carrier result.engine result.order.items (meter_story (λ m. stands m) (λ m. text m)
-        metering.old.on.items metering.old.spare.items metering.new.on.items metering.new.spare.items)
-        (stream K.written K.faults sink.old sink.new)) result.ending }
+    ensures ends { PartEnds (texts words.now) (input S.Source source)
+        (part C.Carrier result K.Sink sink stands text metering) }
     ensures unread { ¬ IsReading (texts words.now) → source.new ≡ source.old }
     ensures stops { ConsumesAtMost (max_read (texts words.now)) (S.left source.old) (S.left source.new) }
     ensures reads { (result.ending ≡ ReadFailed) ⊎ (S.faults source.new ≡ S.faults source.old) }
