@@ -17,6 +17,10 @@ pub(crate) fn first_line(bytes: &[u8]) -> (&[u8], &[u8])
     ensures first { lines bytes.now ≡ result.0.now ∷ lines result.1.now }
     ensures shorter { length result.1.now < length bytes.now }
 {
+    // Most lines of a trace of messages are `sync`.
+    if let [b's', b'y', b'n', b'c', LINE_FEED, others @ ..] = bytes {
+        return (&bytes[..4], others);
+    }
     match memchr(LINE_FEED, bytes) {
         Some(end) => (&bytes[..end], &bytes[end + 1..]),
         None => (bytes, &[]),

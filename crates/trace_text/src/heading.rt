@@ -73,7 +73,7 @@ fn give(tones: &mut Tones, given: GivenTone)
 }
 
 impl Heading {
-    ghost use Rattle.std.specs.Prelude.{◌≡◌, [], Ok, OnOk, OnErr, IfOk, IfErr, IfSome};
+    ghost use Rattle.std.specs.Prelude.{◌≡◌, [], IsTrue, Ok, OnOk, OnErr, IfOk, IfErr, IfSome};
     ghost use Rattle.trace_text.specs.TraceWords.{words};
     ghost use Rattle.trace_text.specs.TraceTimers.{timers_by};
     ghost use Rattle.trace_text.specs.TraceLines.{number, numbered, tone, toned, timer, timed, before_events, by_kind, reads, joins, says, Fails, Gives};
@@ -138,6 +138,7 @@ impl Heading {
     }
 
     // Adds the content of a line, if it passes the last checks.
+    #[inline(always)]
     fn take(&mut self, limits: Limits, said: Said) -> Result<Happening, LineError>
         requires { Suits self.old said }
         ensures taken { OnOk result (self.new ≡ with_said self.old said) }
@@ -246,6 +247,13 @@ impl Heading {
         }
     }
 
+    // Returns whether a line is `sync` in the common form, after the header.
+    fn is_sync(&self, line: &[u8]) -> bool
+        ensures { IsTrue result → reads self.now line.now ≡ Ok Said.Sync }
+    {
+        self.sizes.is_some() && matches!(line, [b's', b'y', b'n', b'c'])
+    }
+
     // Reads a line, without the last checks.
     fn reads(&self, alloc: Global, line: &[u8]) -> Result<Said, LineError>
         ensures reads { Gives result (reads self.now line.now) }
@@ -253,13 +261,6 @@ impl Heading {
     {
         if line.first() == Some(&b'#') {
             return Ok(Said::Nothing);
-        }
-        // Most lines of a trace of messages are `sync`.
-        if self.sizes.is_some() && line == b"sync".as_slice() {
-            return Ok(Said::Sync);
-        }
-        if let Some(event) = self.plain_event(alloc, line)? {
-            return Ok(Said::Happens(event));
         }
         let Some((kind, rest)) = first_word(line) else {
             return Ok(Said::Nothing);
@@ -274,6 +275,22 @@ impl Heading {
         self.line_of_kind(alloc, sizes.external, kind_of(kind), rest)
     }
 
+    // Reads a line in any form. It is a separate function because it clears the large local values of rare lines.
+    #[inline(never)]
+    fn read_any_line(
+        &mut self,
+        alloc: Global,
+        limits: Limits,
+        line: &[u8],
+    ) -> Result<Happening, LineError>
+        ensures read { IfOk result (λ happening. IsLineRead limits self.old line.now happening self.new) }
+        ensures refused { IfErr result (λ e. Fails e (says limits self.old line.now)) }
+        ensures kept { OnErr result (self.new ≡ self.old) }
+    {
+        let said = self.reads(alloc, line)?;
+        self.take(limits, said)
+    }
+
     /// Reads one more line, within the limits, and returns its effect.
     ///
     /// # Errors
@@ -282,6 +299,7 @@ impl Heading {
     /// - [`LineError::Memory`] if an allocation fails.
     ///
     /// The heading is unchanged then.
+    #[inline(always)]
     pub fn read_line(
         &mut self,
         alloc: Global,
@@ -293,7 +311,13 @@ impl Heading {
         ensures refused { IfErr result (λ e. Fails e (says limits self.old line.now)) }
         ensures kept { OnErr result (self.new ≡ self.old) }
     {
-        let said = self.reads(alloc, line)?;
-        self.take(limits, said)
+        // Most lines of a trace of messages are `sync`.
+        if self.is_sync(line) {
+            return self.take(limits, Said::Sync);
+        }
+        if let Some(event) = self.plain_event(alloc, line)? {
+            return self.take(limits, Said::Happens(event));
+        }
+        self.read_any_line(alloc, limits, line)
     }
 }
