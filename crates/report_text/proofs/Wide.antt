@@ -8,18 +8,6 @@ use Rattle.hex.specs.Hex.{encode_with, encode_upper, upper_digits}
 use Rattle.hex.proofs.HexLemmas.{length-encode_with}
 use Rattle.hex.proofs.Pairs.{take-two_writes, encode_with-drop}
 
-with_true : (b : Bool) → (b && true) ≡ b
-with_true true = refl
-with_true false = refl
-
--- idle octets behind a row don't tell whether it is idle
-pub idle_wide : (octets more : List ℕ) (p : ℕ → Bool) → list_all p more ≡ true → list_all p (octets ++ more) ≡ list_all p octets
-idle_wide octets more p all = list_all-append p octets more ∙ ap (λ b. list_all p octets && b) all ∙ with_true (list_all p octets)
-
--- the idle octets behind the thirty of a line
-pub more_idle : (n : ℕ) → n ≡ 30 → list_all (λ octet. eqb octet idle_octet) (replicate (32 - n) idle_octet) ≡ true
-more_idle n thirty = rw thirty refl
-
 pub encode-append : (t xs ys : List ℕ) → encode_with t (xs ++ ys) ≡ encode_with t xs ++ encode_with t ys
 unfolding encode_with
 encode-append t [] ys = refl

@@ -18,12 +18,12 @@ pub(crate) fn wide_row(octets: &[u8]) -> [u8; 32]
     row
 }
 
-// Returns whether all octets of a row are idle. Every octet is tested.
-pub(crate) fn is_idle(row: &[u8; 32]) -> bool
-    ensures { result ≡ list_all (λ octet. octet == idle_octet) row.now }
+// Returns whether all octets of a line are idle. Every octet is tested, several at once.
+pub(crate) fn is_idle(octets: &[u8; 30]) -> bool
+    ensures { result ≡ list_all (λ octet. octet == idle_octet) octets.now }
 {
     let mut all = true;
-    for octet in row {
+    for octet in octets {
         all &= *octet == IDLE;
     }
     all

@@ -268,10 +268,10 @@ fn put_part(out: &mut Vec<u8>, line: usize, octets: &[u8; 30]) -> Result<(), All
     ensures part { OnOk result (out.new.items ≡ out.old.items ++ part line octets.now) }
     ensures front { take (length out.old.items) out.new.items ≡ out.old.items }
 {
-    let row = wide_row(octets);
-    if is_idle(&row) {
+    if is_idle(octets) {
         return Ok(());
     }
+    let row = wide_row(octets);
     put_sent(out, line, &row, 30)
 }
 
