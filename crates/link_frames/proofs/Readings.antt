@@ -9,7 +9,7 @@ use Rattle.link_frames.specs.declared.frame.Control.{Control}
 use Rattle.link_frames.specs.declared.frame.Control.TheVariants as control
 use Rattle.link_frames.specs.declared.frame.Frame.{Frame}
 use Rattle.link_frames.specs.Fields.{address_octet, supervisory_octet, sabme, disc, ua, dm, bit}
-use Rattle.link_frames.specs.Reading.{command_of, control_of, frame_with, reading}
+use Rattle.link_frames.specs.Reading.{command_of, control_of, framed, frame_with, reading}
 use Rattle.link_frames.specs.Writing.{IsWritable, fields_of, encoding}
 
 command_back : (s : Sender) (command : Bool) → command_of s (address_octet s command) ≡ Some command
@@ -37,7 +37,7 @@ bit_back n false = ap (λ r. eqb r 1) (remainder_is n 0 (omega arith))
 
 -- the control field that begins with this octet
 abbrev Reads : Bool → Control → ℕ → List ℕ → Type 0
-Reads command c first rest = control_of command first rest ≡ c
+Reads command c first rest = control_of command first rest ≡ Some c
 
 information_back : (poll : Bool) (ns nr : ℕ) (information : List ℕ) → length information ≤ 260 → Reads true (control.Information poll ns nr information) (2 * ns) ((2 * nr + bit poll) ∷ information)
 information_back poll ns nr information short = rw (even ns, le-leb (length information) 260 short, half ns, half_with nr poll, bit_back nr poll) refl
@@ -47,13 +47,10 @@ supervisory_back command Rr pf nr = rw (half_with nr pf, bit_back nr pf) refl
 supervisory_back command Rnr pf nr = rw (half_with nr pf, bit_back nr pf) refl
 supervisory_back command Rej pf nr = rw (half_with nr pf, bit_back nr pf) refl
 
-abbrev framed : Bool → Control → Frame
-framed command c = record { command = command; control = c }
+frame_back : (s : Sender) (command : Bool) (c : Control) (first : ℕ) (rest : List ℕ) → Reads command c first rest → reading s (address_octet s command ∷ 1 ∷ first ∷ rest) ≡ framed command (Some c)
+frame_back s command c first rest reads = ap (λ (o : Option Bool). frame_with o first rest) (command_back s command) ∙ ap (λ (x : Option Control). framed command x) reads
 
-frame_back : (s : Sender) (command : Bool) (c : Control) (first : ℕ) (rest : List ℕ) → Reads command c first rest → reading s (address_octet s command ∷ 1 ∷ first ∷ rest) ≡ Some (framed command c)
-frame_back s command c first rest reads = ap (λ (o : Option Bool). frame_with o first rest) (command_back s command) ∙ ap (λ (x : Control). Some (framed command x)) reads
-
-pub control_back : (s : Sender) (command : Bool) (c : Control) → IsWritable command c → reading s (address_octet s command ∷ 1 ∷ fields_of c) ≡ Some (framed command c)
+pub control_back : (s : Sender) (command : Bool) (c : Control) → IsWritable command c → reading s (address_octet s command ∷ 1 ∷ fields_of c) ≡ framed command (Some c)
 control_back s true (control.Information poll ns nr information) h = frame_back s true _ _ _ (information_back poll ns nr information h.2)
 control_back s false (control.Information poll ns nr information) h = absurd h
 control_back s true (control.Supervisory kind pf nr) h = frame_back s true _ _ _ (supervisory_back true kind pf nr)

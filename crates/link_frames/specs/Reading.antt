@@ -22,12 +22,16 @@ command_of sender octet =
     else None
 
 -- an I frame (3.4.1): a command with an information field of at most N201 octets
-abbrev pub numbered_information : Bool → ℕ → List ℕ → Control
-numbered_information command first [] = control.Invalid
-numbered_information command first (last ∷ information) =
+abbrev pub information_with : Bool → ℕ → ℕ → List ℕ → Control
+information_with command first last information =
     if command && nat_le (length information) max_information_len
     then control.Information (last_bit last) (first / 2) (receive_number last) information
     else control.Invalid
+
+-- none if the control field has one octet: a frame with sequence numbers has two (2.9)
+abbrev pub numbered_information : Bool → ℕ → List ℕ → Option Control
+numbered_information command first [] = None
+numbered_information command first (last ∷ information) = Some (information_with command first last information)
 
 -- the S frame with this control octet
 abbrev pub kind_of : ℕ → Option Supervisory
@@ -41,10 +45,11 @@ abbrev pub supervisory_with : Option Supervisory → ℕ → Control
 supervisory_with None last = control.Invalid
 supervisory_with (Some kind) last = control.Supervisory kind (last_bit last) (receive_number last)
 
--- an S frame (3.4.2): two octets of control field and no information field
-abbrev pub supervisory : ℕ → List ℕ → Control
-supervisory first (last ∷ []) = supervisory_with (kind_of first) last
-supervisory first _ = control.Invalid
+-- an S frame (3.4.2): two octets of control field and no information field; none if the control field has one octet (2.9)
+abbrev pub supervisory : ℕ → List ℕ → Option Control
+supervisory first [] = None
+supervisory first (last ∷ []) = Some (supervisory_with (kind_of first) last)
+supervisory first _ = Some control.Invalid
 
 -- a U frame without an information field (3.4.3, table 5)
 abbrev pub unnumbered : Bool → ℕ → Bool → Control
@@ -70,20 +75,25 @@ any_unnumbered command first rest =
     else without_information command first rest
 
 -- the control field and the octets after it: the last two bits of its first octet determine the format (table 4)
-abbrev pub control_of : Bool → ℕ → List ℕ → Control
+abbrev pub control_of : Bool → ℕ → List ℕ → Option Control
 control_of command first rest =
     if first % 2 == 0 then numbered_information command first rest
     else if first % 4 == 1 then supervisory first rest
-    else any_unnumbered command first rest
+    else Some (any_unnumbered command first rest)
+
+abbrev pub framed : Bool → Option Control → Option Frame
+framed command None = None
+framed command (Some c) = Some record { command = command; control = c }
 
 abbrev pub frame_with : Option Bool → ℕ → List ℕ → Option Frame
 frame_with None first rest = None
-frame_with (Some command) first rest = Some record { command = command; control = control_of command first rest }
+frame_with (Some command) first rest = framed command (control_of command first rest)
 
 abbrev pub frame_of : Sender → ℕ → ℕ → ℕ → List ℕ → Option Frame
 frame_of sender address tei first rest = if tei == tei_octet then frame_with (command_of sender address) first rest else None
 
--- the frame of these octets of the sender; none if they are discarded (2.9): fewer than three octets, or another address
+-- the frame of these octets of the sender; none if they are discarded (2.9): fewer than three octets, fewer than four in a frame with sequence
+-- numbers, or another address
 abbrev pub reading : Sender → List ℕ → Option Frame
 reading sender (address ∷ tei ∷ first ∷ rest) = frame_of sender address tei first rest
 reading sender _ = None

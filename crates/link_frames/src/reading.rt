@@ -11,7 +11,7 @@ use crate::information::Information;
 const MAX_INFORMATION_LEN: usize = 260;
 
 /// Returns the frame of these octets from `sender`. `None` if they are discarded (Q.921, 2.9): fewer than three octets,
-/// another SAPI or TEI, or a wrong EA bit.
+/// fewer than four octets of an I or S frame, another SAPI or TEI, or a wrong EA bit.
 pub fn read(sender: Sender, octets: &[u8]) -> Option<Frame<'_>>
     ensures computed { result ≡ spec.reading sender octets.now }
     ensures numbered { IfSome result (λ f. spec.IsNumbered f.control) }
@@ -19,10 +19,8 @@ pub fn read(sender: Sender, octets: &[u8]) -> Option<Frame<'_>>
     match octets {
         [address, TEI, control, rest @ ..] => {
             let command = command_of(sender, *address)?;
-            Some(Frame {
-                command,
-                control: control_of(command, *control, rest),
-            })
+            let control = control_of(command, *control, rest)?;
+            Some(Frame { command, control })
         }
         _ => None,
     }
@@ -41,50 +39,67 @@ fn command_of(sender: Sender, address: u8) -> Option<bool>
     }
 }
 
-// Returns the control field. The last two bits of its first octet determine the format.
-fn control_of(command: bool, first: u8, rest: &[u8]) -> Control<'_>
+// Returns the control field. The last two bits of its first octet determine the format. `None` for an I or S frame
+// whose control field has one octet.
+fn control_of(command: bool, first: u8, rest: &[u8]) -> Option<Control<'_>>
     ensures computed { result ≡ spec.control_of command first rest.now }
-    ensures numbered { spec.IsNumbered result }
+    ensures numbered { IfSome result (λ c. spec.IsNumbered c) }
 {
     if first % 2 == 0 {
         numbered_information(command, first, rest)
     } else if first % 4 == 1 {
         supervisory(first, rest)
     } else {
-        unnumbered(command, first, rest)
+        Some(unnumbered(command, first, rest))
     }
 }
 
-fn numbered_information(command: bool, first: u8, rest: &[u8]) -> Control<'_>
+fn numbered_information(command: bool, first: u8, rest: &[u8]) -> Option<Control<'_>>
     ensures computed { result ≡ spec.numbered_information command first rest.now }
+    ensures numbered { IfSome result (λ c. spec.IsNumbered c) }
+{
+    let (last, information) = rest.split_first()?;
+    Some(information_with(command, first, *last, information))
+}
+
+fn information_with(command: bool, first: u8, last: u8, information: &[u8]) -> Control<'_>
+    ensures computed { result ≡ spec.information_with command first last information.now }
     ensures numbered { spec.IsNumbered result }
 {
-    match rest {
-        [last, information @ ..] if command && information.len() <= MAX_INFORMATION_LEN =>
-            Control::Information {
-                poll: *last % 2 == 1,
-                send: first / 2,
-                receive: *last / 2,
-                information: Information::of(information),
-            },
-        _ => Control::Invalid,
+    if command && information.len() <= MAX_INFORMATION_LEN {
+        Control::Information {
+            poll: last % 2 == 1,
+            send: first / 2,
+            receive: last / 2,
+            information: Information::of(information),
+        }
+    } else {
+        Control::Invalid
     }
 }
 
-fn supervisory(first: u8, rest: &[u8]) -> Control<'_>
+fn supervisory(first: u8, rest: &[u8]) -> Option<Control<'_>>
     ensures computed { result ≡ spec.supervisory first rest.now }
-    ensures numbered { spec.IsNumbered result }
+    ensures numbered { IfSome result (λ c. spec.IsNumbered c) }
 {
     match rest {
-        [last] => match kind_of(first) {
-            Some(kind) => Control::Supervisory {
-                kind,
-                poll_final: *last % 2 == 1,
-                receive: *last / 2,
-            },
-            None => Control::Invalid,
+        [] => None,
+        [last] => Some(supervisory_with(first, *last)),
+        _ => Some(Control::Invalid),
+    }
+}
+
+fn supervisory_with(first: u8, last: u8) -> Control<'static>
+    ensures computed { result ≡ spec.supervisory_with (spec.kind_of first) last }
+    ensures numbered { spec.IsNumbered result }
+{
+    match kind_of(first) {
+        Some(kind) => Control::Supervisory {
+            kind,
+            poll_final: last % 2 == 1,
+            receive: last / 2,
         },
-        _ => Control::Invalid,
+        None => Control::Invalid,
     }
 }
 
