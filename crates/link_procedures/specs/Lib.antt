@@ -3,3 +3,4 @@ pub mod Sending
 pub mod Establishment
 pub mod Receiving
 pub mod Timing
+pub mod AnyPeer

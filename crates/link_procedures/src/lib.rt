@@ -8,10 +8,14 @@
 //! - The link after each call is the link of the definition in `specs/` (`link`), and so are the frames (`out`) and the
 //!   indication to layer 3 (`indication`). The definitions have the cases of the SDL diagrams of annex B.
 //! - Each call requires capacity in the outbox for the frames that it can send.
+//! - For any peer, at most seven messages are sent and not acknowledged ([`law_of_windows`]). A message leaves the queue
+//!   only if N(R) acknowledges it, or with all others, and layer 3 is informed ([`law_of_losses`]). The frames sent are
+//!   well formed ([`law_of_frames`]), and a message is delivered only if its number is V(R) ([`law_of_deliveries`]).
 //!
 //! No function allocates.
 #![tactic(auto)]
 
+mod laws;
 mod link;
 mod message;
 mod outbox;
@@ -21,6 +25,7 @@ mod sending;
 mod state;
 mod turning;
 
+pub use laws::{law_of_deliveries, law_of_frames, law_of_losses, law_of_windows};
 pub use link::Link;
 pub use message::Message;
 pub use outbox::{MAX_FRAMES, Outbox};

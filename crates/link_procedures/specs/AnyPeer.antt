@@ -1,0 +1,128 @@
+-- What a step of a link can lose, send and deliver, for any peer (ITU-T Q.921 (09/97), 5.5 to 5.8).
+use Rattle.std.specs.Prelude.{◌≡◌, ◌≢◌, ◌⊎◌, ℕ, ◌+◌, ◌%◌, ◌<◌, ◌≤◌, true, false, List, [], ◌∷◌, ◌++◌, length, drop, slice_index_or, Option, Some, None, All, if◌then◌else◌}
+use Rattle.link_frames.specs.declared.frame.Sender.TheVariants.{Network}
+use Rattle.link_frames.specs.declared.frame.Control.{Control}
+use Rattle.link_frames.specs.declared.frame.Control.TheVariants as control
+use Rattle.link_frames.specs.declared.frame.Frame.{Frame}
+use Rattle.link_frames.specs.Reading.{reading}
+use Rattle.link_procedures.specs.declared.state.Indication.{Indication}
+use Rattle.link_procedures.specs.declared.state.Indication.TheVariants as indication
+use Rattle.link_procedures.specs.Links.{SendQueue, DataLink, Step, distance, is_valid, is_multiple_frame}
+use Rattle.link_procedures.specs.Establishment.{Outcome}
+
+-- the octets of a message of layer 3 that a link can carry
+abbrev pub IsShort : List ℕ → Type 0
+IsShort message = length message ≤ 112
+
+-- at most seven messages are sent and not acknowledged (5.9.5), at most 64 wait, and V(A) is a number modulo 128
+pub record IsQueue (q : SendQueue) : Type 0 where
+  pub window : q.sent ≤ 7
+  pub sent : q.sent ≤ length q.waiting
+  pub few : length q.waiting ≤ 64
+  pub short : All IsShort q.waiting
+  pub number : q.acknowledged < 128
+
+-- the variables of a link are in their ranges (3.5.2)
+pub record IsLink (l : DataLink) : Type 0 where
+  pub queue : IsQueue l.queue
+  pub next : l.received < 128
+  pub counter : l.retries ≤ 3
+
+-- ---- what is lost
+
+-- the number of messages that N(R) acknowledges; none if it is not valid (5.6.3.2, 5.8.2)
+abbrev pub accepted : SendQueue → ℕ → ℕ
+accepted q nr = if is_valid q nr then distance q nr else 0
+
+abbrev pub acknowledged_in : Control → SendQueue → ℕ
+acknowledged_in (control.Information poll ns nr information) q = accepted q nr
+acknowledged_in (control.Supervisory kind pf nr) q = accepted q nr
+acknowledged_in _ q = 0
+
+-- the number of messages that the frame acknowledges: only in states 7 and 8
+abbrev pub acknowledged_by : Control → DataLink → ℕ
+acknowledged_by c l = if is_multiple_frame l.state then acknowledged_in c l.queue else 0
+
+-- the messages after the first n go on waiting, and no loss is forgotten
+abbrev pub Keeps : ℕ → DataLink → DataLink → Type 0
+Keeps n before after = (after.queue.waiting ≡ drop n before.queue.waiting) × (after.owed ≡ before.owed)
+
+-- layer 3 is informed that its messages may be lost: DL-ESTABLISH or DL-RELEASE
+abbrev pub IsLossIndication : Option Indication → Type 0
+IsLossIndication (Some indication.Established) = Unit {0}
+IsLossIndication (Some indication.Released) = Unit {0}
+IsLossIndication _ = ⊥
+
+-- layer 3 is informed at once; the messages before it are discarded, and no loss is left to tell
+abbrev pub IsLossTold : Outcome → Type 0
+IsLossTold o = (o.link.queue.waiting ≡ []) × (o.link.owed ≡ false) × IsLossIndication o.indication
+
+-- a loss of which layer 3 was not informed is told
+abbrev pub IsDebtSettled : DataLink → Outcome → Type 0
+IsDebtSettled before o = (before.owed ≡ true) × (o.link.queue.waiting ≡ before.queue.waiting) × (o.link.owed ≡ false) × IsLossIndication o.indication
+
+-- the message waits behind the others
+abbrev pub IsAdded : List ℕ → DataLink → DataLink → Type 0
+IsAdded message before after = (after.queue.waiting ≡ before.queue.waiting ++ message ∷ []) × (after.owed ≡ before.owed)
+
+-- all messages are discarded, and layer 3 is informed in the link's next turn
+abbrev pub IsLossOwed : DataLink → Type 0
+IsLossOwed l = (l.queue.waiting ≡ []) × (l.owed ≡ true)
+
+-- only what the frame acknowledges leaves the queue, or all messages do and layer 3 is informed
+abbrev pub KeepsOrTells : Control → DataLink → Outcome → Type 0
+KeepsOrTells c before o = Keeps (acknowledged_by c before) before o.link ⊎ IsLossTold o
+
+-- the message is not taken, it waits behind the others, or all are lost
+abbrev pub AddsOrOwes : List ℕ → DataLink → DataLink → Type 0
+AddsOrOwes message before after = Keeps 0 before after ⊎ IsAdded message before after ⊎ IsLossOwed after
+
+-- nothing leaves the queue, or layer 3 is informed
+abbrev pub KeepsOrSettles : DataLink → Outcome → Type 0
+KeepsOrSettles before o = Keeps 0 before o.link ⊎ IsLossTold o ⊎ IsDebtSettled before o
+
+-- ---- what is sent
+
+-- an I frame carries the message of its number: N(S) is one of the seven numbers from V(A) (5.5.1, 5.9.5)
+abbrev pub CarriesItsMessage : SendQueue → ℕ → List ℕ → Type 0
+CarriesItsMessage q ns information = (distance q ns < 7) × (distance q ns < length q.waiting) × (information ≡ slice_index_or q.waiting (distance q ns) [])
+
+abbrev pub IsInWindow : SendQueue → Control → Type 0
+IsInWindow q (control.Information poll ns nr information) = CarriesItsMessage q ns information
+IsInWindow q _ = Unit {0}
+
+-- the peer reads the octets as one frame
+pub record IsFormed (q : SendQueue) (octets : List ℕ) : Type 0 where
+  pub frame : Frame
+  pub read : reading Network octets ≡ Some frame
+  pub inside : IsInWindow q frame.control
+
+-- the frames sent are appended, and each is well formed
+pub record HasSent (q : SendQueue) (before after : List (List ℕ)) : Type 0 where
+  pub sent : List (List ℕ)
+  pub appended : after ≡ before ++ sent
+  pub formed : All (IsFormed q) sent
+
+abbrev pub SendsFrames : Step → DataLink → List (List ℕ) → Type 0
+SendsFrames s after out = IsLink s.link → HasSent after.queue s.out out
+
+-- ---- what is delivered
+
+abbrev pub send_number : Control → Option ℕ
+send_number (control.Information poll ns nr information) = Some ns
+send_number _ = None
+
+-- V(S), V(A) and V(R) are 0: an establishment
+abbrev pub IsRenumbered : DataLink → Type 0
+IsRenumbered l = (l.queue.sent ≡ 0) × (l.queue.acknowledged ≡ 0) × (l.received ≡ 0)
+
+abbrev pub IsSequenced : Control → DataLink → DataLink → Option Indication → Type 0
+IsSequenced c before after (Some indication.Data) = (send_number c ≡ Some before.received) × (after.received ≡ (before.received + 1) % 128)
+IsSequenced c before after _ = (after.received ≡ before.received) ⊎ IsRenumbered after
+
+-- the message of the frame is delivered only if N(S) is V(R), which then becomes the next number; otherwise V(R) changes only by an establishment
+abbrev pub IsInSequence : Control → DataLink → Outcome → Type 0
+IsInSequence c before o = IsSequenced c before o.link o.indication
+
+abbrev pub DeliversNothing : DataLink → Outcome → Type 0
+DeliversNothing before o = (o.indication ≢ Some indication.Data) × (o.link.received ≡ before.received)
