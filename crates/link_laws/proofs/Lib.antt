@@ -1,2 +1,3 @@
 pub mod WindowLemmas
 pub mod HandshakeLemmas
+pub mod TwoLinksLemmas

@@ -1,6 +1,6 @@
 -- Each event preserves the window.
 use Rattle.std.proofs.Common.{◌≡◌, ℕ, zero, suc, ◌+◌, ◌-◌, ◌<◌, ◌≤◌, Bool, true, false, nat_lt, List, [], ◌∷◌, ◌++◌, length, take, refl, sym, ap, ◌∙◌, arith, subst, if◌then◌else◌}
-use Rattle.std.specs.Prelude.{◌%◌, ◌==◌, ◌&&◌, nat_le, slice_index, max}
+use Rattle.std.specs.Prelude.{◌%◌, ◌==◌, ◌&&◌, nat_le, slice_index_or, max}
 use Rattle.std.proofs.lemmas.Bool.{ltb-true, leb-true, eqb-true}
 use Rattle.std.proofs.lemmas.List.{take_more}
 use Rattle.std.proofs.Math.Nat.{le-max_left, le-max_right}
@@ -91,7 +91,7 @@ keep_if : (b : Bool) (x y : Direction) → (b ≡ true → Holds x) → (b ≡ f
 keep_if true x y f g = f refl
 keep_if false x y f g = g refl
 
-both_true : (a b : Bool) → (a && b) ≡ true → (a ≡ true) × (b ≡ true)
+pub both_true : (a b : Bool) → (a && b) ≡ true → (a ≡ true) × (b ≡ true)
 both_true true b e = (refl, e)
 both_true false b e = absurd (cc)
 
@@ -101,16 +101,16 @@ le_max a b = (le-max_left a b, le-max_right a b)
 max_below : (a b c : ℕ) → a ≤ c → b ≤ c → max a b ≤ c
 max_below a b c p q = omega (arith, p, q)
 
-take_longer : (n : ℕ) (xs ys : List ℕ) → n ≤ length xs → take n (xs ++ ys) ≡ take n xs
+pub take_longer : (n : ℕ) (xs ys : List (List ℕ)) → n ≤ length xs → take n (xs ++ ys) ≡ take n xs
 take_longer zero xs ys h = refl
 take_longer (suc n) [] ys h = absurd (omega (arith, h))
 take_longer (suc n) (x ∷ xs) ys h = ap (λ zs. x ∷ zs) (take_longer n xs ys (omega (arith, h)))
 
-one_more : (xs : List ℕ) (x : ℕ) → length (xs ++ x ∷ []) ≡ length xs + 1
+pub one_more : (xs : List (List ℕ)) (x : List ℕ) → length (xs ++ x ∷ []) ≡ length xs + 1
 one_more [] x = refl
 one_more (y ∷ xs) x = let e = one_more xs x in omega (arith, e)
 
-submits : (w : Direction) (x : ℕ) → Holds w → Holds (happens w (Submit x))
+pub submits : (w : Direction) (x : List ℕ) → Holds w → Holds (happens w (Submit x))
 submits w x h =
     let long = one_more w.submitted x in
     let enough = h.reached_submitted in
@@ -125,7 +125,7 @@ submits w x h =
       acknowledgements = h.acknowledgements;
     }
 
-sends_one : (w : Direction) → Holds w → w.sent < 7 → w.acknowledged + w.sent < length w.submitted → Holds (with_next w)
+pub sends_one : (w : Direction) → Holds w → w.sent < 7 → w.acknowledged + w.sent < length w.submitted → Holds (with_next w)
 sends_one w h ajar waits =
     let a = h.delivered_acknowledged in let b = h.delivered_reached in let c = h.reached_acknowledged in let d = h.reached_submitted in let e = h.sent_reached in
     let m = le_max w.reached (w.acknowledged + w.sent + 1) in record {
@@ -145,7 +145,7 @@ sends w h = keep_if (may_send w) (with_next w) w
     sends_one w h (ltb-true w.sent 7 b.0) (ltb-true (w.acknowledged + w.sent) (length w.submitted) b.1))
     (λ no. h)
 
-goes_back : (w : Direction) → Holds w → Holds (happens w GoBack)
+pub goes_back : (w : Direction) → Holds w → Holds (happens w GoBack)
 goes_back w h = let a = h.delivered_acknowledged in let b = h.delivered_reached in record {
   delivered_acknowledged = h.delivered_acknowledged;
   delivered_reached = h.delivered_reached;
@@ -159,16 +159,16 @@ goes_back w h = let a = h.delivered_acknowledged in let b = h.delivered_reached 
 
 -- a frame arrives
 
-taken_prefix : (submitted delivered : List ℕ) (c : ℕ) → delivered ≡ take (length delivered) submitted → c ≡ length delivered → c < length submitted → (delivered ++ slice_index submitted c ∷ []) ≡ take (length (delivered ++ slice_index submitted c ∷ [])) submitted
+taken_prefix : (submitted delivered : List (List ℕ)) (c : ℕ) → delivered ≡ take (length delivered) submitted → c ≡ length delivered → c < length submitted → (delivered ++ slice_index_or submitted c [] ∷ []) ≡ take (length (delivered ++ slice_index_or submitted c [] ∷ [])) submitted
 taken_prefix submitted delivered c same at below =
-    let more : take (c + 1) submitted ≡ take c submitted ++ slice_index submitted c ∷ [] = take_more submitted c 0 below in
-    let long : length (delivered ++ slice_index submitted c ∷ []) ≡ c + 1 = one_more delivered (slice_index submitted c) ∙ ap (λ n. n + 1) (sym at) in
+    let more : take (c + 1) submitted ≡ take c submitted ++ slice_index_or submitted c [] ∷ [] = take_more submitted c [] below in
+    let long : length (delivered ++ slice_index_or submitted c [] ∷ []) ≡ c + 1 = one_more delivered (slice_index_or submitted c []) ∙ ap (λ n. n + 1) (sym at) in
     let front : delivered ≡ take c submitted = same ∙ ap (λ n. take n submitted) (sym at) in
-    ap (λ ys. ys ++ slice_index submitted c ∷ []) front ∙ sym more ∙ ap (λ n. take n submitted) (sym long)
+    ap (λ ys. ys ++ slice_index_or submitted c [] ∷ []) front ∙ sym more ∙ ap (λ n. take n submitted) (sym long)
 
-takes_one : (w : Direction) (c : ℕ) (rest : List ℕ) → Holds w → Frames w.acknowledged w.reached (length w.delivered) (c ∷ rest) → c ≡ length w.delivered → Holds (takes w c rest)
+pub takes_one : (w : Direction) (c : ℕ) (rest : List ℕ) → Holds w → Frames w.acknowledged w.reached (length w.delivered) (c ∷ rest) → c ≡ length w.delivered → Holds (takes w c rest)
 takes_one w c rest h f at =
-    let long : length (w.delivered ++ slice_index w.submitted c ∷ []) ≡ c + 1 = one_more w.delivered (slice_index w.submitted c) ∙ ap (λ n. n + 1) (sym at) in
+    let long : length (w.delivered ++ slice_index_or w.submitted c [] ∷ []) ≡ c + 1 = one_more w.delivered (slice_index_or w.submitted c []) ∙ ap (λ n. n + 1) (sym at) in
     let a = h.delivered_acknowledged in let sent = f.1 in let d = h.reached_submitted in record {
       delivered_acknowledged = omega (arith, long, a, at);
       delivered_reached = omega (arith, long, sent);
@@ -177,10 +177,10 @@ takes_one w c rest h f at =
       sent_reached = h.sent_reached;
       prefix = taken_prefix w.submitted w.delivered c h.prefix at (omega (arith, sent, d));
       frames = subst (λ n. Frames w.acknowledged w.reached n rest) (sym long) (frames_taken w.acknowledged w.reached (length w.delivered) c rest f.3 f.4);
-      acknowledgements = acknowledgements_more w.acknowledged (length w.delivered) (length (w.delivered ++ slice_index w.submitted c ∷ [])) w.replies (omega (arith, long, at)) h.acknowledgements;
+      acknowledgements = acknowledgements_more w.acknowledged (length w.delivered) (length (w.delivered ++ slice_index_or w.submitted c [] ∷ [])) w.replies (omega (arith, long, at)) h.acknowledgements;
     }
 
-drops_one : (w : Direction) (c : ℕ) (rest : List ℕ) → Holds w → Frames w.acknowledged w.reached (length w.delivered) (c ∷ rest) → Holds (drops w rest)
+pub drops_one : (w : Direction) (c : ℕ) (rest : List ℕ) → Holds w → Frames w.acknowledged w.reached (length w.delivered) (c ∷ rest) → Holds (drops w rest)
 drops_one w c rest h f = record {
   delivered_acknowledged = h.delivered_acknowledged;
   delivered_reached = h.delivered_reached;
@@ -192,20 +192,20 @@ drops_one w c rest h f = record {
   acknowledgements = h.acknowledgements;
 }
 
-arrives_keeps : (w : Direction) (underway : List ℕ) → Holds w → Frames w.acknowledged w.reached (length w.delivered) underway → Holds (arrives w underway)
+pub arrives_keeps : (w : Direction) (underway : List ℕ) → Holds w → Frames w.acknowledged w.reached (length w.delivered) underway → Holds (arrives w underway)
 arrives_keeps w [] h f = h
 arrives_keeps w (c ∷ rest) h f = keep_if (c % 128 == length w.delivered % 128) (takes w c rest) (drops w rest)
     (λ yes. let first = f.0 in let low = h.delivered_acknowledged in let third = f.2 in
     takes_one w c rest h f (same_count c (length w.delivered) (omega (arith, first, low)) third (eqb-true (c % 128) (length w.delivered % 128) yes)))
     (λ no. drops_one w c rest h f)
 
-loses_keeps : (w : Direction) (underway : List ℕ) → Holds w → Frames w.acknowledged w.reached (length w.delivered) underway → Holds (loses w underway)
+pub loses_keeps : (w : Direction) (underway : List ℕ) → Holds w → Frames w.acknowledged w.reached (length w.delivered) underway → Holds (loses w underway)
 loses_keeps w [] h f = h
 loses_keeps w (c ∷ rest) h f = drops_one w c rest h f
 
 -- an acknowledgement
 
-answers : (w : Direction) → Holds w → Holds (happens w Answer)
+pub answers : (w : Direction) → Holds w → Holds (happens w Answer)
 answers w h = record {
   delivered_acknowledged = h.delivered_acknowledged;
   delivered_reached = h.delivered_reached;
@@ -217,7 +217,7 @@ answers w h = record {
   acknowledgements = acknowledgements_end w.acknowledged (length w.delivered) w.replies h.delivered_acknowledged h.acknowledgements;
 }
 
-hears_one : (w : Direction) (a d : ℕ) (rest : List ℕ) → Holds w → Acknowledgements w.acknowledged (length w.delivered) (a ∷ rest) → d ≡ a - w.acknowledged → d ≤ w.sent → Holds (moved w d rest)
+pub hears_one : (w : Direction) (a d : ℕ) (rest : List ℕ) → Holds w → Acknowledgements w.acknowledged (length w.delivered) (a ∷ rest) → d ≡ a - w.acknowledged → d ≤ w.sent → Holds (moved w d rest)
 hears_one w a d rest h f at within =
     let low = f.0 in let high = f.1 in let b = h.reached_acknowledged in let e = h.sent_reached in
     let now : w.acknowledged + d ≡ a = omega (arith, at, low) in record {
@@ -246,18 +246,18 @@ passes w a rest h f = let b = h.reached_acknowledged in let e = h.sent_reached i
     same : w.acknowledged ≡ w.acknowledged + 0
     same = omega arith
 
-hears_keeps : (w : Direction) (replies : List ℕ) → Holds w → Acknowledgements w.acknowledged (length w.delivered) replies → Holds (takes_acknowledgement w replies)
+pub hears_keeps : (w : Direction) (replies : List ℕ) → Holds w → Acknowledgements w.acknowledged (length w.delivered) replies → Holds (takes_acknowledgement w replies)
 hears_keeps w [] h f = h
 hears_keeps w (a ∷ rest) h f = keep_if (nat_le (beyond w.acknowledged a) w.sent) (moved w (beyond w.acknowledged a) rest) (moved w 0 rest)
     (λ yes. let low = f.0 in let high = f.1 in let b = h.delivered_reached in let c = h.reached_acknowledged in
     hears_one w a (beyond w.acknowledged a) rest h f (told_exactly w.acknowledged a low (omega (arith, high, b, c))) (leb-true (beyond w.acknowledged a) w.sent yes))
     (λ no. passes w a rest h f)
 
-misses_keeps : (w : Direction) (replies : List ℕ) → Holds w → Acknowledgements w.acknowledged (length w.delivered) replies → Holds (loses_acknowledgement w replies)
+pub misses_keeps : (w : Direction) (replies : List ℕ) → Holds w → Acknowledgements w.acknowledged (length w.delivered) replies → Holds (loses_acknowledgement w replies)
 misses_keeps w [] h f = h
 misses_keeps w (a ∷ rest) h f = passes w a rest h f
 
-keeps : (w : Direction) (e : Event) → Holds w → Holds (happens w e)
+pub keeps : (w : Direction) (e : Event) → Holds w → Holds (happens w e)
 keeps w (Submit x) h = submits w x h
 keeps w Send h = sends w h
 keeps w GoBack h = goes_back w h
@@ -267,7 +267,7 @@ keeps w Answer h = answers w h
 keeps w Acknowledge h = hears_keeps w w.replies h h.acknowledgements
 keeps w Miss h = misses_keeps w w.replies h h.acknowledgements
 
-all_keep : (es : List Event) (w : Direction) → Holds w → Holds (run es w)
+pub all_keep : (es : List Event) (w : Direction) → Holds w → Holds (run es w)
 all_keep [] w h = h
 all_keep (e ∷ es) w h = all_keep es (happens w e) (keeps w e h)
 
@@ -282,3 +282,41 @@ holds_always es = all_keep es start (record {
   frames = tt;
   acknowledgements = tt;
 })
+
+-- ---- the oldest frames and acknowledgements, by name
+
+pub if_true : (b : Bool) (x y : Direction) → b ≡ true → Holds (if b then x else y) → Holds x
+if_true true x y e h = h
+if_true false x y e h = absurd (cc)
+
+pub if_false : (b : Bool) (x y : Direction) → b ≡ false → Holds (if b then x else y) → Holds y
+if_false true x y e h = absurd (cc)
+if_false false x y e h = h
+
+pub heard : (w : Direction) (a : ℕ) (rest : List ℕ) → w.replies ≡ a ∷ rest → nat_le (beyond w.acknowledged a) w.sent ≡ true → Holds w → Holds (moved w (beyond w.acknowledged a) rest)
+heard w a rest e valid h = if_true (nat_le (beyond w.acknowledged a) w.sent) _ _ valid (hears_keeps w (a ∷ rest) h (subst (λ rs. Acknowledgements w.acknowledged (length w.delivered) rs) e h.acknowledgements))
+
+pub missed : (w : Direction) (a : ℕ) (rest : List ℕ) → w.replies ≡ a ∷ rest → Holds w → Holds (moved w 0 rest)
+missed w a rest e h = misses_keeps w (a ∷ rest) h (subst (λ rs. Acknowledgements w.acknowledged (length w.delivered) rs) e h.acknowledgements)
+
+pub taken_one : (w : Direction) (c : ℕ) (rest : List ℕ) → w.underway ≡ c ∷ rest → (c % 128 == length w.delivered % 128) ≡ true → Holds w → Holds (takes w c rest)
+taken_one w c rest e equal h = if_true (c % 128 == length w.delivered % 128) _ _ equal (arrives_keeps w (c ∷ rest) h (subst (λ cs. Frames w.acknowledged w.reached (length w.delivered) cs) e h.frames))
+
+pub dropped_one : (w : Direction) (c : ℕ) (rest : List ℕ) → w.underway ≡ c ∷ rest → Holds w → Holds (drops w rest)
+dropped_one w c rest e h = loses_keeps w (c ∷ rest) h (subst (λ cs. Frames w.acknowledged w.reached (length w.delivered) cs) e h.frames)
+
+-- the window of a direction whose link was just established with these messages
+abbrev pub fresh : List (List ℕ) → Direction
+fresh messages = record { submitted = messages; acknowledged = 0; sent = 0; reached = 0; delivered = []; underway = []; replies = [] }
+
+pub fresh_holds : (messages : List (List ℕ)) → Holds (fresh messages)
+fresh_holds messages = record {
+  delivered_acknowledged = omega arith;
+  delivered_reached = omega arith;
+  reached_acknowledged = omega arith;
+  reached_submitted = omega arith;
+  sent_reached = omega arith;
+  prefix = refl;
+  frames = tt;
+  acknowledgements = tt;
+}

@@ -1,16 +1,16 @@
 -- The window of a data link: one direction between two establishments, over a wire that loses and delays frames and preserves their order (ITU-T
 -- Q.921 (09/97), 5.6).
-use Rattle.std.specs.Prelude.{◌≡◌, ℕ, ◌+◌, ◌-◌, ◌%◌, ◌==◌, ◌&&◌, nat_lt, nat_le, Bool, List, [], ◌∷◌, ◌++◌, length, take, slice_index, if◌then◌else◌, max}
+use Rattle.std.specs.Prelude.{◌≡◌, ℕ, ◌+◌, ◌-◌, ◌%◌, ◌==◌, ◌&&◌, nat_lt, nat_le, Bool, List, [], ◌∷◌, ◌++◌, length, take, slice_index_or, if◌then◌else◌, max}
 
 -- one direction: the submitted messages of layer 3; the number of acknowledged messages, V(A) without modulo; the number of sent messages after them;
 -- the greatest number of messages ever sent; the messages that arrived; the I frames on the wire, oldest first, each as the number of messages before
 -- it; and the acknowledgements on the wire, each as the number of messages that it acknowledges
 pub record Direction : Type 0 where
-  pub submitted : List ℕ
+  pub submitted : List (List ℕ)
   pub acknowledged : ℕ
   pub sent : ℕ
   pub reached : ℕ
-  pub delivered : List ℕ
+  pub delivered : List (List ℕ)
   pub underway : List ℕ
   pub replies : List ℕ
 
@@ -20,7 +20,7 @@ start = record { submitted = []; acknowledged = 0; sent = 0; reached = 0; delive
 -- a message is submitted; the next I frame is sent; V(S) becomes V(A); the oldest I frame arrives, or is lost; an
 -- acknowledgement is sent; the oldest one arrives, or is lost
 pub data Event : Type 0 where
-  Submit : ℕ → Event
+  Submit : List ℕ → Event
   Send : Event
   GoBack : Event
   Arrive : Event
@@ -46,7 +46,7 @@ with_next w = record {
 
 -- an I frame arrives: N(S) is its number modulo 128, and its message is accepted if N(S) is V(R)
 abbrev pub takes : Direction → ℕ → List ℕ → Direction
-takes w c rest = record { submitted = w.submitted; acknowledged = w.acknowledged; sent = w.sent; reached = w.reached; delivered = w.delivered ++ slice_index w.submitted c ∷ []; underway = rest; replies = w.replies }
+takes w c rest = record { submitted = w.submitted; acknowledged = w.acknowledged; sent = w.sent; reached = w.reached; delivered = w.delivered ++ slice_index_or w.submitted c [] ∷ []; underway = rest; replies = w.replies }
 
 abbrev pub drops : Direction → List ℕ → Direction
 drops w rest = record { submitted = w.submitted; acknowledged = w.acknowledged; sent = w.sent; reached = w.reached; delivered = w.delivered; underway = rest; replies = w.replies }

@@ -5,12 +5,17 @@
 //! - [`numberings_agree`]: an accepted I or S frame has the numberings of its receiver, across establishments. The
 //!   condition is that T200 is longer than the round trip.
 //!
-//! They are theorems on the protocol. No clause relates them to the code of a link.
+//! - [`in_order_between_links`]: between two establishments, two links as `link_procedures` defines them deliver each
+//!   other's messages at most once and in order. The wires carry their octets.
+//!
+//! [`in_order`] and [`numberings_agree`] are theorems on the protocol. No clause relates the latter to the code of a
+//! link.
 #![tactic(auto)]
 
 ghost use Rattle.std.specs.Prelude.{◌+◌, ◌≤◌, List, length};
 ghost use Rattle.link_laws.specs.Window.{Event, IsInOrder, after};
 ghost use Rattle.link_laws.specs.Handshake as handshake;
+ghost use Rattle.link_laws.specs.TwoLinks as links;
 
 /// For every loss and every time of a retransmission, the messages that arrived are a prefix of the submitted ones,
 /// each once. All acknowledged messages arrived, and at most 7 more.
@@ -24,4 +29,11 @@ pub fn in_order()
 /// has the numbering of the side's own frames.
 pub fn numberings_agree()
     ensures { (events : List handshake.Event) → handshake.IsAgreed (handshake.run events handshake.start) }
+{}
+
+/// For every loss and every time, until a link leaves multiple frame operation: the messages that a link delivered are
+/// a prefix of those submitted to the other one. The messages that left the queue of the latter arrived, and at most 7
+/// more. The links begin with all numbers at 0, and nothing is on the wires.
+pub fn in_order_between_links()
+    ensures { (events : List links.Event) (p : links.Pair) → links.IsFresh p → links.IsDeliveredBothWays (links.run events p) }
 {}
