@@ -1,3 +1,4 @@
 pub mod WindowLemmas
 pub mod HandshakeLemmas
 pub mod TwoLinksLemmas
+pub mod NumberingsLemmas

@@ -1,3 +1,4 @@
 pub mod Window
 pub mod Handshake
 pub mod TwoLinks
+pub mod Numberings

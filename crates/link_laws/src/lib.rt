@@ -8,13 +8,17 @@
 //! - [`in_order_between_links`]: between two establishments, two links as `link_procedures` defines them deliver each
 //!   other's messages at most once and in order. The wires carry their octets.
 //!
-//! [`in_order`] and [`numberings_agree`] are theorems on the protocol. No clause relates the latter to the code of a
-//! link.
+//! - [`links_follow_the_handshake`]: two such links, from their start and across establishments, are the sides of which
+//!   `numberings_agree` speaks.
+//!
+//! No theorem joins the windows of consecutive numberings: that a message lost at a re-establishment is told to its
+//! sender is tested only.
 #![tactic(auto)]
 
 ghost use Rattle.std.specs.Prelude.{◌+◌, ◌≤◌, List, length};
 ghost use Rattle.link_laws.specs.Window.{Event, IsInOrder, after};
 ghost use Rattle.link_laws.specs.Handshake as handshake;
+ghost use Rattle.link_laws.specs.Numberings.{IsStart, IsTimely, FollowsSome, run as run_links};
 ghost use Rattle.link_laws.specs.TwoLinks as links;
 
 /// For every loss and every time of a retransmission, the messages that arrived are a prefix of the submitted ones,
@@ -36,4 +40,11 @@ pub fn numberings_agree()
 /// more. The links begin with all numbers at 0, and nothing is on the wires.
 pub fn in_order_between_links()
     ensures { (events : List links.Event) (p : links.Pair) → links.IsFresh p → links.IsDeliveredBothWays (links.run events p) }
+{}
+
+/// For every loss, two links establish and re-establish as the sides of the handshake do, and their wires carry its
+/// frames. So [`numberings_agree`] holds of them. The premise is that T200 does not expire in state 5 while SABME or its
+/// UA is on a wire.
+pub fn links_follow_the_handshake()
+    ensures { (events : List links.Event) (p : links.Pair) → IsStart p → IsTimely events p → FollowsSome (run_links events p) }
 {}

@@ -35,7 +35,7 @@ by_test P false x y f g = g refl
 sent_none : (q : SendQueue) (o : List (List ℕ)) → HasSent q o o
 sent_none q o = record { sent = []; appended = sym (append-nil o); formed = All-nil (IsFormed q) }
 
-sent_one : (q : SendQueue) (o : List (List ℕ)) (f : Frame) → IsWritable f.command f.control → IsInWindow q f.control → HasSent q o (o ++ encoding Network f ∷ [])
+pub sent_one : (q : SendQueue) (o : List (List ℕ)) (f : Frame) → IsWritable f.command f.control → IsInWindow q f.control → HasSent q o (o ++ encoding Network f ∷ [])
 sent_one q o f w i = record {
   sent = encoding Network f ∷ [];
   appended = refl;
@@ -64,10 +64,10 @@ same l m queue next counter h = record {
   counter = subst (λ n. n ≤ 3) (sym counter) h.counter;
 }
 
-quiet_none : (s : Step) → Quiet 0 s.link.received s s
+pub quiet_none : (s : Step) → Quiet 0 s.link.received s s
 quiet_none s = record { keeps = (refl, refl); next = refl; ranges = λ h. h; sent = λ h q. sent_none q s.out }
 
-quiet_both : (n r : ℕ) (s t u : Step) → Quiet 0 r s t → Quiet n t.link.received t u → Quiet n r s u
+pub quiet_both : (n r : ℕ) (s t u : Step) → Quiet 0 r s t → Quiet n t.link.received t u → Quiet n r s u
 quiet_both n r s t u h k = record {
   keeps = (k.keeps.0 ∙ ap (λ w. drop n w) h.keeps.0, k.keeps.1 ∙ h.keeps.1);
   next = k.next ∙ h.next;
@@ -75,7 +75,7 @@ quiet_both n r s t u h k = record {
   sent = λ l q. sent_both q s.out t.out u.out (h.sent l q) (k.sent (h.ranges l) q);
 }
 
-acknowledges_quiet : (final : Bool) (s : Step) → Quiet 0 s.link.received s (acknowledges final s)
+pub acknowledges_quiet : (final : Bool) (s : Step) → Quiet 0 s.link.received s (acknowledges final s)
 unfolding acknowledges
 acknowledges_quiet final s = record {
   keeps = (refl, refl);
@@ -84,7 +84,7 @@ acknowledges_quiet final s = record {
   sent = λ h q. sent_one q s.out (response (receive_ready final s.link)) h.next tt;
 }
 
-enquires_quiet : (s : Step) → Quiet 0 s.link.received s (enquires s)
+pub enquires_quiet : (s : Step) → Quiet 0 s.link.received s (enquires s)
 unfolding enquires
 enquires_quiet s = record {
   keeps = (refl, refl);
@@ -93,7 +93,7 @@ enquires_quiet s = record {
   sent = λ h q. sent_one q s.out (command (receive_ready true s.link)) h.next tt;
 }
 
-rejects_quiet : (final : Bool) (s : Step) → Quiet 0 s.link.received s (rejects final s)
+pub rejects_quiet : (final : Bool) (s : Step) → Quiet 0 s.link.received s (rejects final s)
 unfolding rejects
 rejects_quiet final s = record {
   keeps = (refl, refl);
@@ -102,7 +102,7 @@ rejects_quiet final s = record {
   sent = λ h q. sent_one q s.out (response (control.Supervisory Rej final s.link.received)) h.next tt;
 }
 
-establishes_quiet : (asked : Bool) (at : ℕ) (s : Step) → Quiet 0 s.link.received s (establishes asked at s)
+pub establishes_quiet : (asked : Bool) (at : ℕ) (s : Step) → Quiet 0 s.link.received s (establishes asked at s)
 unfolding establishes
 establishes_quiet asked at s = record {
   keeps = (refl, refl);
@@ -118,7 +118,7 @@ ua_sent final s q = sent_one q s.out (response (control.Ua final)) tt tt
 dm_sent : (final : Bool) (s : Step) (q : SendQueue) → HasSent q s.out (answers (control.Dm final) s).out
 dm_sent final s q = sent_one q s.out (response (control.Dm final)) tt tt
 
-answers_enquiry_quiet : (b : Bool) (s : Step) → Quiet 0 s.link.received s (answers_enquiry b s)
+pub answers_enquiry_quiet : (b : Bool) (s : Step) → Quiet 0 s.link.received s (answers_enquiry b s)
 unfolding answers_enquiry
 answers_enquiry_quiet true s = acknowledges_quiet true s
 answers_enquiry_quiet false s = quiet_none s
@@ -208,7 +208,7 @@ numbered_is nr at l number valid = by_test (Acknowledged (distance l.queue nr) l
 quiet_of : (n : ℕ) (s : Step) (m : DataLink) → Acknowledged n s.link m → Quiet n s.link.received s (step m s.out)
 quiet_of n s m h = record { keeps = h.keeps; next = h.next; ranges = h.ranges; sent = λ l q. sent_none q s.out }
 
-valid_quiet : (command : Bool) (kind : Supervisory) (pf : Bool) (nr at : ℕ) (s : Step) → nr < 128 → Quiet (accepted s.link.queue nr) s.link.received s (on_valid command kind pf nr at s)
+pub valid_quiet : (command : Bool) (kind : Supervisory) (pf : Bool) (nr at : ℕ) (s : Step) → nr < 128 → Quiet (accepted s.link.queue nr) s.link.received s (on_valid command kind pf nr at s)
 unfolding on_valid
 valid_quiet command kind pf nr at s number = cases (is_valid s.link.queue nr) refl
   where
@@ -216,7 +216,7 @@ valid_quiet command kind pf nr at s number = cases (is_valid s.link.queue nr) re
     cases true e = quiet_of (distance s.link.queue nr) s _ (applied_is command kind pf nr at s.link number e)
     cases false e = establishes_quiet false at s
 
-acknowledgement_quiet : (nr at : ℕ) (s : Step) → nr < 128 → Quiet (accepted s.link.queue nr) s.link.received s (by_acknowledgement nr at s)
+pub acknowledgement_quiet : (nr at : ℕ) (s : Step) → nr < 128 → Quiet (accepted s.link.queue nr) s.link.received s (by_acknowledgement nr at s)
 unfolding by_acknowledgement
 acknowledgement_quiet nr at s number = cases (is_valid s.link.queue nr) refl
   where
@@ -229,7 +229,7 @@ unfolding answers_enquiry acknowledges
 enquiry_queue true s = refl
 enquiry_queue false s = refl
 
-busied_quiet : (kind : Supervisory) (s : Step) → Quiet 0 s.link.received s (step (busy_by kind s.link) s.out)
+pub busied_quiet : (kind : Supervisory) (s : Step) → Quiet 0 s.link.received s (step (busy_by kind s.link) s.out)
 busied_quiet kind s = record { keeps = (refl, refl); next = refl; ranges = λ h. record { queue = h.queue; next = h.next; counter = h.counter }; sent = λ h q. sent_none q s.out }
 
 supervisory_quiet : (command : Bool) (kind : Supervisory) (pf : Bool) (nr at : ℕ) (s : Step) → nr < 128 → Quiet (acknowledged_by (control.Supervisory kind pf nr) s.link) s.link.received s (on_supervisory command kind pf nr at s)
@@ -260,10 +260,10 @@ unfolding acknowledges
 later_queue true s = refl
 later_queue false s = refl
 
-next_quiet : (poll : Bool) (s : Step) → Quiet 0 ((s.link.received + 1) % 128) s (acknowledges_later poll (step (in_sequence s.link) s.out))
+pub next_quiet : (poll : Bool) (s : Step) → Quiet 0 ((s.link.received + 1) % 128) s (acknowledges_later poll (step (in_sequence s.link) s.out))
 next_quiet poll s = quiet_both 0 ((s.link.received + 1) % 128) s (step (in_sequence s.link) s.out) _ (in_sequence_quiet s) (later_quiet poll (step (in_sequence s.link) s.out))
 
-out_quiet : (poll : Bool) (s : Step) → Quiet 0 s.link.received s (out_of_sequence poll s)
+pub out_quiet : (poll : Bool) (s : Step) → Quiet 0 s.link.received s (out_of_sequence poll s)
 out_quiet poll s = by_test (Quiet 0 s.link.received s) s.link.rejecting _ _ (λ e. answers_enquiry_quiet poll s) (λ e. rejects_quiet poll s)
 
 out_queue : (poll : Bool) (s : Step) → (out_of_sequence poll s).link.queue ≡ s.link.queue
@@ -449,7 +449,7 @@ both_true : (a b : Bool) → (a && b) ≡ true → (a ≡ true) × (b ≡ true)
 both_true true b e = (refl, e)
 both_true false b e = absurd (cc)
 
-number_is : (q : SendQueue) → q.acknowledged < 128 → next_number q < 128
+pub number_is : (q : SendQueue) → q.acknowledged < 128 → next_number q < 128
 unfolding next_number
 number_is q low = omega arith
 
@@ -457,11 +457,11 @@ distance_is : (q k : SendQueue) → k.acknowledged ≡ q.acknowledged → q.ackn
 unfolding next_number distance
 distance_is q k same_number low few = omega (arith, same_number, low, few)
 
-may_send_is : (q : SendQueue) → may_send q ≡ true → (q.sent < 7) × (q.sent < length q.waiting)
+pub may_send_is : (q : SendQueue) → may_send q ≡ true → (q.sent < 7) × (q.sent < length q.waiting)
 unfolding may_send
 may_send_is q e = let b = both_true (nat_lt q.sent 7) (nat_lt q.sent (length q.waiting)) e in (ltb-true q.sent 7 b.0, ltb-true q.sent (length q.waiting) b.1)
 
-free_is : (l : DataLink) → is_free l ≡ true → may_send l.queue ≡ true
+pub free_is : (l : DataLink) → is_free l ≡ true → may_send l.queue ≡ true
 unfolding is_free
 free_is l e = (both_true (is_established l.state && not l.busy) (may_send l.queue) e).1
 
@@ -486,7 +486,7 @@ one_number : (q : SendQueue) → (one_more_sent q).acknowledged ≡ q.acknowledg
 unfolding one_more_sent
 one_number q = refl
 
-next_flushed : (at : ℕ) (s : Step) → Flushed s (sends_next at s)
+pub next_flushed : (at : ℕ) (s : Step) → Flushed s (sends_next at s)
 unfolding sends_next
 next_flushed at s = by_test (Flushed s) (is_free s.link) _ _ (λ e. sent (may_send_is s.link.queue (free_is s.link e))) (λ e. flushed_none s)
   where
@@ -503,11 +503,11 @@ waiting_flushed : (n at : ℕ) (s : Step) → Flushed s (sends_waiting n at s)
 waiting_flushed zero at s = flushed_none s
 waiting_flushed (suc n) at s = flushed_both s (sends_next at s) (sends_waiting n at (sends_next at s)) (next_flushed at s) (waiting_flushed n at (sends_next at s))
 
-flushes_flushed : (at : ℕ) (s : Step) → Flushed s (flushes at s)
+pub flushes_flushed : (at : ℕ) (s : Step) → Flushed s (flushes at s)
 unfolding flushes
 flushes_flushed at s = waiting_flushed 7 at s
 
-pending_flushed : (s : Step) → Flushed s (acknowledges_pending s)
+pub pending_flushed : (s : Step) → Flushed s (acknowledges_pending s)
 unfolding acknowledges_pending acknowledges
 pending_flushed s = by_test (Flushed s) (s.link.pending && is_multiple_frame s.link.state) _ _
     (λ e. record { keeps = (refl, refl); number = refl; next = refl; ranges = λ h. record { queue = h.queue; next = h.next; counter = h.counter }; sent = λ h q w a. sent_one q s.out (response (receive_ready false s.link)) h.next tt })
@@ -528,7 +528,7 @@ pub record Taken (m : List ℕ) (s t : Step) : Type 0 where
   pub ranges : IsShort m → IsLink s.link → IsLink t.link
   pub sent : IsShort m → IsLink s.link → HasSent t.link.queue s.out t.out
 
-overflows_taken : (m : List ℕ) (at : ℕ) (s : Step) → Taken m s (overflows at s)
+pub overflows_taken : (m : List ℕ) (at : ℕ) (s : Step) → Taken m s (overflows at s)
 unfolding overflows establishes emptied
 overflows_taken m at s = by_test (Taken m s) (is_awaiting s.link.state) _ _
     (λ e. record {
@@ -594,7 +594,7 @@ released_taken e = absurd (cc)
 quietly_turned : (s t : Step) → Quiet 0 s.link.received s t → Turned s (quietly t)
 quietly_turned s t h = record { losses = inl h.keeps; untaken = nothing_taken; next = h.next; ranges = h.ranges; sent = λ l. h.sent l t.link.queue }
 
-enquires_at_quiet : (retries at : ℕ) (s : Step) → retries ≤ 3 → Quiet 0 s.link.received s (enquires_at retries at s)
+pub enquires_at_quiet : (retries at : ℕ) (s : Step) → retries ≤ 3 → Quiet 0 s.link.received s (enquires_at retries at s)
 unfolding enquires_at
 enquires_at_quiet retries at s few = let h = enquires_quiet s in record {
   keeps = h.keeps;
