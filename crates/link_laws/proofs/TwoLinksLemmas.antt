@@ -30,7 +30,7 @@ by_test P false x y f g = g refl
 
 -- ---- the frames on a wire
 
--- an I frame, with the number of messages before it, the number that its N(R) acknowledges, and its message; or an S frame, with the latter number
+-- an I frame, with the number of messages before it, the number that its N(R) acknowledges, and its message; or an S frame, with the number that its N(R) acknowledges
 pub data Item : Type 0 where
   Info : ℕ → ℕ → List ℕ → Item
   Sup : Bool → Supervisory → Bool → ℕ → Item

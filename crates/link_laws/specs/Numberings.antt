@@ -92,7 +92,7 @@ Carries [] (t ∷ ts) = ⊥
 Carries (octets ∷ rest) [] = ⊥
 Carries (octets ∷ rest) (t ∷ ts) = IsSignal (reading Network octets) t × Carries rest ts
 
--- the links and the wires are those of the handshake
+-- the handshake has these links and wires
 pub record Follows (p : Pair) (w : Handshake) : Type 0 where
   pub first : IsSide p.first w.first
   pub second : IsSide p.second w.second

@@ -49,7 +49,7 @@ pub data Event : Type 0 where
   First : Act → Event
   Second : Act → Event
 
--- the first link is that of the step, and the frames of the step are on the wire
+-- the first link and the frames sent come from the step
 abbrev pub stepped : Pair → Step → List (List ℕ) → List (List ℕ) → List (List ℕ) → Pair
 stepped p t rest messages delivered = record {
   first = t.link;

@@ -11,8 +11,8 @@
 //! - [`links_follow_the_handshake`]: two such links, from their start and across establishments, are the sides of which
 //!   `numberings_agree` speaks.
 //!
-//! No theorem joins the windows of consecutive numberings: that a message lost at a re-establishment is told to its
-//! sender is tested only.
+//! No theorem joins the windows of consecutive numberings. `link_tests` tests that layer 3 is informed of the messages
+//! that a re-establishment loses.
 #![tactic(auto)]
 
 ghost use Rattle.std.specs.Prelude.{◌+◌, ◌≤◌, List, length};
@@ -36,8 +36,8 @@ pub fn numberings_agree()
 {}
 
 /// For every loss and every time, until a link leaves multiple frame operation: the messages that a link delivered are
-/// a prefix of those submitted to the other one. The messages that left the queue of the latter arrived, and at most 7
-/// more. The links begin with all numbers at 0, and nothing is on the wires.
+/// a prefix of the messages submitted to the other one. The messages that left the sender's queue arrived, and at most
+/// 7 more. The links begin with all numbers at 0, and nothing is on the wires.
 pub fn in_order_between_links()
     ensures { (events : List links.Event) (p : links.Pair) → links.IsFresh p → links.IsDeliveredBothWays (links.run events p) }
 {}

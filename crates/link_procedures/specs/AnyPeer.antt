@@ -53,15 +53,15 @@ IsLossIndication (Some indication.Established) = Unit {0}
 IsLossIndication (Some indication.Released) = Unit {0}
 IsLossIndication _ = ⊥
 
--- layer 3 is informed at once; the messages before it are discarded, and no loss is left to tell
+-- layer 3 is informed at once; all messages are discarded, and every loss is known to it
 abbrev pub IsLossTold : Outcome → Type 0
 IsLossTold o = (o.link.queue.waiting ≡ []) × (o.link.owed ≡ false) × IsLossIndication o.indication
 
--- a loss of which layer 3 was not informed is told
+-- layer 3 is informed of an earlier loss
 abbrev pub IsDebtSettled : DataLink → Outcome → Type 0
 IsDebtSettled before o = (before.owed ≡ true) × (o.link.queue.waiting ≡ before.queue.waiting) × (o.link.owed ≡ false) × IsLossIndication o.indication
 
--- the message waits behind the others
+-- the message waits after the others
 abbrev pub IsAdded : List ℕ → DataLink → DataLink → Type 0
 IsAdded message before after = (after.queue.waiting ≡ before.queue.waiting ++ message ∷ []) × (after.owed ≡ before.owed)
 
@@ -73,7 +73,7 @@ IsLossOwed l = (l.queue.waiting ≡ []) × (l.owed ≡ true)
 abbrev pub KeepsOrTells : Control → DataLink → Outcome → Type 0
 KeepsOrTells c before o = Keeps (acknowledged_by c before) before o.link ⊎ IsLossTold o
 
--- the message is not taken, it waits behind the others, or all are lost
+-- the message is not taken, it waits after the others, or all are lost
 abbrev pub AddsOrOwes : List ℕ → DataLink → DataLink → Type 0
 AddsOrOwes message before after = Keeps 0 before after ⊎ IsAdded message before after ⊎ IsLossOwed after
 

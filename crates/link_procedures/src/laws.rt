@@ -20,8 +20,8 @@ pub fn law_of_windows()
     ensures turned { (t : Timers) (at : ℕ) (s : Step) → IsLink s.link → IsLink (turned t at s).link }
 {}
 
-/// A message leaves the queue only if a valid N(R) acknowledges it, or with all others. Layer 3 is informed of the
-/// latter in the same step, or in the next turn.
+/// A message leaves the queue only if a valid N(R) acknowledges it, or with all others. In the second case layer 3 is
+/// informed, in the same step or in the next turn.
 pub fn law_of_losses()
     ensures received { (f : Frame) (at : ℕ) (s : Step) → IsNumbered f.control → KeepsOrTells f.control s.link (received f at s) }
     ensures submitted { (m : List ℕ) (at : ℕ) (s : Step) → AddsOrOwes m s.link (submitted m at s).link }

@@ -1,5 +1,5 @@
-//! Two links over wires that lose and delay frames at random: each message arrives at most once and in order, and a lost
-//! one is told.
+//! Two links over wires that lose and delay frames at random: each message arrives at most once and in order, and layer
+//! 3 is informed of a lost one.
 use super::bench::Random;
 use arrayvec::ArrayVec;
 use link_frames::{Control, MAX_FRAME_LEN, Sender, read};
@@ -179,7 +179,7 @@ fn rates(random: &mut Random) -> (u8, u8) {
 }
 
 // Runs two links for 240 frames with random loss, and for 80 without. Returns whether all messages arrived in order, and
-// those of the last epoch arrived.
+// all of the last epoch.
 fn delivers(seed: u64, timers: Timers) -> bool {
     let mut pair = Pair {
         out: Outbox::new(),

@@ -201,7 +201,7 @@ fn follows_the_sequences(rt: HostRuntime) {
     assert!(rt; holds(&IDLE));
 }
 
-// Whether 300 messages are sent one after another, each with the next number modulo 128.
+// Whether 300 messages are sent in sequence, each with the next number modulo 128.
 fn sends_all_numbers() -> bool {
     let mut link = Link::new(0);
     let mut out = Outbox::new();
