@@ -2,3 +2,4 @@ pub mod WindowLemmas
 pub mod HandshakeLemmas
 pub mod TwoLinksLemmas
 pub mod NumberingsLemmas
+pub mod RenumberingLemmas

@@ -2,3 +2,4 @@ pub mod Window
 pub mod Handshake
 pub mod TwoLinks
 pub mod Numberings
+pub mod Renumbering

@@ -4,18 +4,23 @@
 //!   acknowledged only if it arrived (`prefix`, `arrived`, `window`).
 //! - [`numberings_agree`]: an accepted I or S frame has the numberings of its receiver, across establishments. The
 //!   condition is that T200 is longer than the round trip.
-//!
 //! - [`in_order_between_links`]: between two establishments, two links as `link_procedures` defines them deliver each
 //!   other's messages at most once and in order. The wires carry their octets.
-//!
 //! - [`links_follow_the_handshake`]: two such links, from their start and across establishments, are the sides of which
 //!   `numberings_agree` speaks.
+//! - [`law_of_silent_renumbering`]: if V(R) returns to 0 without an indication, all messages go on waiting, and no frame
+//!   was unacknowledged.
 //!
 //! No theorem joins the windows of consecutive numberings. `link_tests` tests that layer 3 is informed of the messages
 //! that a re-establishment loses.
 #![tactic(auto)]
 
-ghost use Rattle.std.specs.Prelude.{◌+◌, ◌≤◌, List, length};
+ghost use Rattle.std.specs.Prelude.{◌+◌, ◌≤◌, ℕ, List, length};
+ghost use Rattle.link_frames.specs.declared.frame.Frame.{Frame};
+ghost use Rattle.link_frames.specs.Reading.{IsNumbered};
+ghost use Rattle.link_procedures.specs.Links.{Step};
+ghost use Rattle.link_procedures.specs.Receiving.{received};
+ghost use Rattle.link_laws.specs.Renumbering.{IsSilent};
 ghost use Rattle.link_laws.specs.Window.{Event, IsInOrder, after};
 ghost use Rattle.link_laws.specs.Handshake as handshake;
 ghost use Rattle.link_laws.specs.Numberings.{IsStart, IsTimely, FollowsSome, run as run_links};
@@ -47,4 +52,10 @@ pub fn in_order_between_links()
 /// UA is on a wire.
 pub fn links_follow_the_handshake()
     ensures { (events : List links.Event) (p : links.Pair) → IsStart p → IsTimely events p → FollowsSome (run_links events p) }
+{}
+
+/// If a frame that delivers nothing changes V(R) without an indication, it begins a new numbering. Then no I frame was
+/// unacknowledged, and the messages go on waiting.
+pub fn law_of_silent_renumbering()
+    ensures { (f : Frame) (at : ℕ) (s : Step) → IsNumbered f.control → IsSilent s.link (received f at s) }
 {}
