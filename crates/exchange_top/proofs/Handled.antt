@@ -29,7 +29,7 @@ use Rattle.lone_exchange.specs.declared.exchange.LoneExchange.{LoneExchange}
 use Rattle.lone_exchange.specs.At.{Carrying, IsAt}
 use Rattle.exchange_top.specs.Following.{IsInterrupted, IsLineRefused, MovesFewIn, No_line, Read, Unread, course, follows, setting_said, story_said, world_said}
 use Rattle.exchange_top.specs.Handling.{HasHandled, IsAfter, IsDriven, IsSaid}
-use Rattle.exchange_top.specs.Refusals.{refusal}
+use Rattle.report_check.specs.Refusals.{refusal}
 use Rattle.exchange_top.specs.Telling.{AreTold, AreToldFront}
 use Rattle.exchange_top.proofs.FollowedLines.{each_length, each_push, follows_as, follows_long, follows_many}
 use Rattle.exchange_top.proofs.FollowedSteps.{due_by, due_steps, setting_by, story_more}

@@ -33,7 +33,7 @@ use Rattle.lone_exchange.specs.At.{Carrying, IsAt}
 use Rattle.exchange_top.specs.Following.{IsEndRefused, IsInterrupted, IsLineRefused, MovesFewIn, course, setting_said, story_by, story_said, world_said}
 use Rattle.exchange_top.specs.Handling.{HasFinished, HasRead, IsDriven}
 use Rattle.exchange_top.specs.Stepping.{HasHappened, IsEventDue, IsHeard, IsRunning, calls_at}
-use Rattle.exchange_top.specs.Refusals.{refusal}
+use Rattle.report_check.specs.Refusals.{refusal}
 use Rattle.exchange_top.specs.Telling.{AreTold, AreToldFront}
 use Rattle.exchange_top.proofs.FollowedLines.{each_few, each_length}
 use Rattle.exchange_top.proofs.FollowedSteps.{due_by, setting_by}

@@ -8,8 +8,6 @@ pub mod Steps
 pub mod Making
 pub mod Kept
 pub mod Tellings
-pub mod Divisions
-pub mod Dues
 pub mod Endings
 pub mod Sums
 pub mod FollowedLines

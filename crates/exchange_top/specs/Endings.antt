@@ -7,25 +7,16 @@ use Rattle.trace_text.specs.TraceGrammar.{IsTrace, IsRefused, max_bytes}
 use Rattle.generated_trace.specs.Generated.{IsTrafficOf}
 use Rattle.run_verifier.specs.Verdicts.{IsInvalidAt, IsValid}
 use Rattle.line_list.specs.declared.listing.Listing.TheVariants as listing
-use Rattle.exchange_top.specs.declared.ending.Ending.{Ending}
-use Rattle.exchange_top.specs.declared.ending.Ending.TheVariants as ended
-use Rattle.exchange_top.specs.Checking.{Finds, IsChecked, IsUnchecked, max_checked, slots_of}
+use Rattle.report_check.specs.declared.ending.Ending.{Ending}
+use Rattle.report_check.specs.declared.ending.Ending.TheVariants as ended
+use Rattle.report_check.specs.Checking.{Finds, IsChecked, IsUnchecked, max_checked, slots_of}
 use Rattle.exchange_top.specs.Commands.{IsCheck, IsCheckOn, IsGeneration, IsNoCommand, IsReading, IsRun, IsRunOn, fabric_of, texts}
-use Rattle.exchange_top.specs.Inputs.{IsInputWithin, IsWholeInput}
+use Rattle.report_check.specs.Inputs.{IsInputWithin, IsWholeInput}
 use Rattle.exchange_top.specs.Outcomes.{IsIdle, IsHandedOut, IsRunInterrupted, IsRunUnwritten, IsRunWhole, IsRunWritten, Part, Parties, Whole}
-use Rattle.exchange_top.specs.Refusals.{invalid_line, line_of, refusal, valid_line, words_refusal}
-use Rattle.exchange_top.specs.Streams.{HasFailed, IsUntouched, IsWritten, IsWrittenInPart, Stream}
+use Rattle.report_check.specs.Refusals.{invalid_line, line_of, refusal, valid_line, words_refusal}
+use Rattle.report_check.specs.Statuses.{status_of}
+use Rattle.report_check.specs.Streams.{HasFailed, IsUntouched, IsWritten, IsWrittenInPart, Stream}
 use Rattle.exchange_top.specs.Summary.{summary_text}
-
--- the status of each ending
-abbrev pub status_of : Ending → ℕ
-status_of ended.Completed = 0
-status_of (ended.Refused line reason) = 1
-status_of ended.WrongArguments = 2
-status_of ended.ReadFailed = 3
-status_of ended.WriteFailed = 4
-status_of ended.OutOfMemory = 5
-status_of (ended.Invalid line) = 6
 
 -- ---- the command of a call
 

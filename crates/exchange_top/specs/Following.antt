@@ -27,7 +27,7 @@ use Rattle.line_follower.specs.declared.following.Following.{Following}
 use Rattle.line_follower.specs.declared.following.Following.TheVariants as followed
 use Rattle.call_processor.specs.Frames.{Carrying}
 use Rattle.exchange_top.specs.Outcomes.{HandsOut}
-use Rattle.exchange_top.specs.Refusals.{refusal}
+use Rattle.report_check.specs.Refusals.{refusal}
 use Rattle.exchange_top.specs.Telling.{MeterStory, meter_story}
 
 -- ---- lines that follow one another

@@ -26,11 +26,11 @@ use Rattle.ex_io.specs.declared.ends.Sink.{Ghosts as SinkMembers}
 use Rattle.frame_engine.specs.declared.carrier.Carrier.{Ghosts as CarrierMembers}
 use Rattle.exchange_top.specs.declared.call.CallEnd.{CallEnd}
 use Rattle.exchange_top.specs.declared.call.Outcome.{Outcome}
-use Rattle.exchange_top.specs.declared.ending.Ending.{Ending}
-use Rattle.exchange_top.specs.declared.ending.Ending.TheVariants as ended
+use Rattle.report_check.specs.declared.ending.Ending.{Ending}
+use Rattle.report_check.specs.declared.ending.Ending.TheVariants as ended
 use Rattle.exchange_top.specs.declared.call_context.Metering.{Metering}
 use Rattle.exchange_top.specs.Story.{story}
-use Rattle.exchange_top.specs.Streams.{HasFailed, IsWritten, IsWrittenInPart, Stream, output}
+use Rattle.report_check.specs.Streams.{HasFailed, IsWritten, IsWrittenInPart, Stream, output}
 use Rattle.exchange_top.specs.Telling.{AreLeft, AreTold, MeterStory, metered, metered_together}
 use Rattle.call_profile.specs.CallsTold.{calls_told}
 

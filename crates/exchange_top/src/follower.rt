@@ -1,18 +1,18 @@
 //! A trace whose lines are processed in sequence.
 ghost use Rattle.std.specs.Prelude.{◌≡◌, ◌<◌, ◌≤◌, ◌++◌, length, OnOk, OnErr, IsErrOf};
 ghost use Rattle.line_follower.specs.declared.handler.Stop.TheVariants.{OutOfMemory, Refused};
-ghost use Rattle.exchange_top.specs.Refusals.{refusal};
+ghost use Rattle.report_check.specs.Refusals.{refusal};
 
 use crate::call_context::Metering;
 use crate::changing::change_once;
 use crate::fabrics::Fabric;
-use crate::refusals::refusal;
 use crate::stepping::{advance, ready};
 use control_memory::PathMap;
 use frame_engine::Carrier;
 use line_follower::Stop;
 use lone_exchange::LoneExchange;
 use meters::Meter;
+use report_check::refusal;
 use std::alloc::{AllocError, Global};
 use std::thread::Threads;
 use trace_text::{Happening, Heading, Limits, LineError, Reason};

@@ -1,5 +1,5 @@
-//! Theorems: a strict fabric moves no path, a run without changes has one report, an input has one trace and one report,
-//! and a trace that is followed has the report of a run in file order.
+//! Theorems: a strict fabric moves no path, a run without changes has one report, and a trace that is followed has the
+//! report of a run in file order.
 ghost use Rattle.std.specs.Prelude.{◌≡◌, ◌≤◌, ℕ, List, [], All, length, true};
 ghost use Rattle.exchange_events.specs.declared.trace.Trace.{Trace};
 ghost use Rattle.exchange_events.specs.Orders.{IsEvent, IsLawful, file_order};
@@ -13,7 +13,6 @@ ghost use Rattle.trace_text.specs.declared.said.Said.{Said};
 ghost use Rattle.trace_text.specs.TraceGrammar.{IsTrace, IsWhatLinesSay};
 ghost use Rattle.trace_text.specs.TraceWords.{lines};
 ghost use Rattle.exchange_top.specs.Following.{EachFollows, HasValidStories, max_line, story_said};
-ghost use Rattle.exchange_top.specs.Checking.{IsDivided};
 ghost use Rattle.exchange_top.specs.Commands.{fabric_of};
 ghost use Rattle.exchange_top.specs.Outcomes.{MovesFew, MovesNone, NotesAll};
 ghost use Rattle.exchange_top.specs.Story.{story};
@@ -47,9 +46,4 @@ pub fn followed_traces_are_runs<M: Meter>()
 pub fn traces_are_followed()
     ensures { (bytes : List ℕ) (t : Trace) → IsTrace bytes t → All (λ line. length line ≤ max_line) (lines bytes)
         → (told : List Said) × EachFollows [] (lines bytes) told × IsWhatLinesSay t told }
-{}
-
-/// An input is divided into a trace and a report in only one way.
-pub fn law_of_divisions()
-    ensures { (bytes trace report also other : List ℕ) → IsDivided bytes trace report → IsDivided bytes also other → (trace ≡ also) × (report ≡ other) }
 {}

@@ -35,25 +35,21 @@
 mod call;
 mod call_context;
 mod changing;
-mod checking;
-mod ending;
 mod fabrics;
 mod follow_loop;
 mod follower;
 mod following;
 mod laws;
-mod refusals;
 mod run;
 mod segments;
 mod stepping;
-mod streams;
 mod summary;
 mod telling;
 
 pub use call::{Outcome, exchange};
-pub use ending::Ending;
 pub use following::{FollowOutcome, follow};
 pub use laws::{
-    followed_traces_are_runs, law_of_divisions, law_of_unchanged_meters, strict_runs_move_nothing,
+    followed_traces_are_runs, law_of_unchanged_meters, strict_runs_move_nothing,
     traces_are_followed,
 };
+pub use report_check::{Ending, law_of_divisions};

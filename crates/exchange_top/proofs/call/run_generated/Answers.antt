@@ -1,7 +1,7 @@
 use Rattle.std.proofs.Common.{◌≡◌, ap, inl, inr, map, [], subst}
 use Rattle.std.specs.List.{concat}
 use Rattle.exchange_top.specs.Summary.{summary_text}
-use Rattle.exchange_top.specs.declared.ending.Ending.TheVariants as ended
+use Rattle.report_check.specs.declared.ending.Ending.TheVariants as ended
 use Rattle.generated_trace.specs.Generated.{IsTrafficOf}
 use Rattle.generated_trace.proofs.Told.{unchanged}
 use Rattle.line_list.specs.declared.listing.Listing.TheVariants as listing

@@ -1,6 +1,6 @@
 //! The endings of a call.
 ghost use Rattle.std.specs.Prelude.{◌≡◌};
-ghost use Rattle.exchange_top.specs.Endings.{status_of};
+ghost use Rattle.report_check.specs.Statuses.{status_of};
 
 use trace_text::Reason;
 

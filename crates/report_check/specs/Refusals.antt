@@ -2,9 +2,9 @@
 use Rattle.std.specs.Prelude.{ℕ, List, [], codes, decimal, ◌++◌, ◌≡◌}
 use Rattle.trace_text.specs.declared.fault.Reason.{Reason}
 use Rattle.trace_text.specs.declared.fault.Reason.TheVariants as reason
-use Rattle.exchange_top.specs.declared.ending.Ending.{Ending}
-use Rattle.exchange_top.specs.declared.ending.Ending.TheVariants as ended
-use Rattle.exchange_top.specs.Streams.{HasFailed, IsWritten, IsWrittenInPart, Stream}
+use Rattle.report_check.specs.declared.ending.Ending.{Ending}
+use Rattle.report_check.specs.declared.ending.Ending.TheVariants as ended
+use Rattle.report_check.specs.Streams.{HasFailed, IsWritten, IsWrittenInPart, Stream}
 
 -- the name of a reason in a refusal
 abbrev pub reason_name : Reason → List ℕ

@@ -1,8 +1,8 @@
 //! The lines that refuse an input, and the write of a line that ends a call.
 ghost use Rattle.std.specs.Prelude.{◌≡◌, ◌⊎◌, IfOk};
-ghost use Rattle.exchange_top.specs.declared.ending.Ending.TheVariants.{WriteFailed};
-ghost use Rattle.exchange_top.specs.Refusals.{Says, reason_name, refusal};
-ghost use Rattle.exchange_top.specs.Streams.{stream};
+ghost use Rattle.report_check.specs.declared.ending.Ending.TheVariants.{WriteFailed};
+ghost use Rattle.report_check.specs.Refusals.{Says, reason_name, refusal};
+ghost use Rattle.report_check.specs.Streams.{stream};
 
 use crate::ending::Ending;
 use crate::streams::write_all;

@@ -1,6 +1,6 @@
 use Rattle.std.proofs.Common.{length}
-use Rattle.exchange_top.proofs.Divisions.{GoesOn}
-use Rattle.exchange_top.proofs.checking.divided.Given as goal
+use Rattle.report_check.proofs.Divisions.{GoesOn}
+use Rattle.report_check.proofs.checking.divided.Given as goal
 
 abbrev pub invariant-loop-rest : goal.invariant-loop-rest
 invariant-loop-rest l = GoesOn l.fn.bytes l.rest

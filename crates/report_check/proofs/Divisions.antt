@@ -8,7 +8,7 @@ use Rattle.std.proofs.lemmas.List.Elements.{All-nil, All-cons, All-head, All-tai
 use Rattle.std.proofs.Math.Seq.{take-append_seam}
 use Rattle.trace_text.specs.TraceWords.{AreEnded, lines}
 use Rattle.trace_text.proofs.LineLemmas.{HasLines, NoFeed, fed_line, first_step, has_lines, lines_behind, unfed_line}
-use Rattle.exchange_top.specs.Checking.{HaveNoDivider, IsDivided, By_line, By_end, By_none, IsFirstLine, Fed, Unfed, divider}
+use Rattle.report_check.specs.Checking.{HaveNoDivider, IsDivided, By_line, By_end, By_none, IsFirstLine, Fed, Unfed, divider}
 
 -- ---- the lines of octets
 

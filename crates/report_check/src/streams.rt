@@ -2,8 +2,8 @@
 ghost use Rattle.std.specs.Prelude.{◌≡◌, ◌+◌, ◌≤◌, length, IfOk, OnOk, OnErr, IsErrOf};
 ghost use Rattle.std.specs.Io.KnownBytes.{Appends, Consumes, IsAtEnd};
 ghost use Rattle.ex_io.specs.Ends.{Rose};
-ghost use Rattle.exchange_top.specs.Streams.{ConsumesAtMost, AppendsFront};
-ghost use Rattle.exchange_top.specs.declared.streams.ReadError.TheVariants.{Memory, Read};
+ghost use Rattle.report_check.specs.Streams.{ConsumesAtMost, AppendsFront};
+ghost use Rattle.report_check.specs.declared.streams.ReadError.TheVariants.{Memory, Read};
 
 use ex_io::{Failed, Sink, Source};
 use std::alloc::{AllocError, Global};

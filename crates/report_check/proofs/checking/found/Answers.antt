@@ -1,8 +1,8 @@
 use Rattle.std.proofs.Common.{rules, arith, ℕ, ap, refl, sym, subst, Ok, Err, IfOk, Result}
 use Rattle.run_verifier.specs.Verdicts.{IsInvalidAt, IsValid}
-use Rattle.exchange_top.specs.declared.ending.Ending.{Ending}
-use Rattle.exchange_top.specs.Checking.{Finds, No_trace, Too_much}
-use Rattle.exchange_top.proofs.checking.found.Goals as goal
+use Rattle.report_check.specs.declared.ending.Ending.{Ending}
+use Rattle.report_check.specs.Checking.{Finds, No_trace, Too_much}
+use Rattle.report_check.proofs.checking.found.Goals as goal
 
 -- what is said of a value that there may be says something else of it
 ok_then : {T E : Type 0} (P Q : T → Type 0) → ((x : T) → P x → Q x) → (r : Result T E) → IfOk r P → IfOk r Q

@@ -6,11 +6,11 @@ use Rattle.trace_text.specs.declared.fault.Reason.TheVariants as reason
 use Rattle.trace_text.specs.TraceGrammar.{IsTrace, IsRefused}
 use Rattle.trace_text.specs.TraceWords.{AreEnded, lines}
 use Rattle.run_verifier.specs.Verdicts.{IsInvalidAt, IsValid}
-use Rattle.exchange_top.specs.Inputs.{IsInputWithin}
-use Rattle.exchange_top.specs.Refusals.{Says, line_of}
-use Rattle.exchange_top.specs.Streams.{HasFailed, IsUntouched, Stream}
-use Rattle.exchange_top.specs.declared.ending.Ending.{Ending}
-use Rattle.exchange_top.specs.declared.ending.Ending.TheVariants as ended
+use Rattle.report_check.specs.Inputs.{IsInputWithin}
+use Rattle.report_check.specs.Refusals.{Says, line_of}
+use Rattle.report_check.specs.Streams.{HasFailed, IsUntouched, Stream}
+use Rattle.report_check.specs.declared.ending.Ending.{Ending}
+use Rattle.report_check.specs.declared.ending.Ending.TheVariants as ended
 
 -- ---- a trace and its report in one input
 

@@ -1,10 +1,10 @@
 //! A report that is read with its trace, and verified against it.
 ghost use Rattle.std.specs.Prelude.{◌≡◌, ◌⊎◌, IfOk};
-ghost use Rattle.exchange_top.specs.declared.ending.Ending.TheVariants.{ReadFailed, Refused, WriteFailed};
-ghost use Rattle.exchange_top.specs.Checking.{Checks, Finds, IsDivided, IsFirstLine, max_checked, slots_of};
-ghost use Rattle.exchange_top.specs.Inputs.{max_bytes_read};
-ghost use Rattle.exchange_top.specs.Refusals.{invalid_line, line_of};
-ghost use Rattle.exchange_top.specs.Streams.{ConsumesAtMost, stream};
+ghost use Rattle.report_check.specs.declared.ending.Ending.TheVariants.{ReadFailed, Refused, WriteFailed};
+ghost use Rattle.report_check.specs.Checking.{Checks, Finds, IsDivided, IsFirstLine, max_checked, slots_of};
+ghost use Rattle.report_check.specs.Inputs.{max_bytes_read};
+ghost use Rattle.report_check.specs.Refusals.{invalid_line, line_of};
+ghost use Rattle.report_check.specs.Streams.{ConsumesAtMost, stream};
 
 use crate::ending::Ending;
 use crate::refusals::{refusal, say};

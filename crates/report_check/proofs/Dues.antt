@@ -6,11 +6,11 @@ use Rattle.trace_text.specs.TraceGrammar.{IsTrace, IsRefused}
 use Rattle.trace_text.proofs.TraceReadings.{never_both, one_trace}
 use Rattle.run_verifier.specs.Verdicts.{IsInvalidAt, IsValid}
 use Rattle.run_verifier.proofs.VerdictLemmas.{never_both as never_verdicts}
-use Rattle.exchange_top.specs.declared.ending.Ending.{Ending}
-use Rattle.exchange_top.specs.declared.ending.Ending.TheVariants as ended
-use Rattle.exchange_top.specs.Checking.{Finds, IsChecked, IsUnchecked, Too_much, No_trace, slots_of}
-use Rattle.exchange_top.specs.Endings.{status_of}
-use Rattle.exchange_top.proofs.Divisions.{one_division}
+use Rattle.report_check.specs.declared.ending.Ending.{Ending}
+use Rattle.report_check.specs.declared.ending.Ending.TheVariants as ended
+use Rattle.report_check.specs.Checking.{Finds, IsChecked, IsUnchecked, Too_much, No_trace, slots_of}
+use Rattle.report_check.specs.Statuses.{status_of}
+use Rattle.report_check.proofs.Divisions.{one_division}
 
 -- an input has one trace and one report
 same_checked : (bytes report other : List ℕ) (t u : Trace) → IsChecked bytes t report → IsChecked bytes u other → (t ≡ u) × (report ≡ other)

@@ -1,8 +1,8 @@
 use Rattle.std.proofs.Common.{subst}
-use Rattle.exchange_top.specs.Checking.{Said}
-use Rattle.exchange_top.specs.Refusals.{Says}
-use Rattle.exchange_top.specs.Streams.{stream}
-use Rattle.exchange_top.proofs.checking.check.Goals as goal
+use Rattle.report_check.specs.Checking.{Said}
+use Rattle.report_check.specs.Refusals.{Says}
+use Rattle.report_check.specs.Streams.{stream}
+use Rattle.report_check.proofs.checking.check.Goals as goal
 
 pub returns-in-Ok-found-clause-ends : goal.returns-in-Ok-found-clause-ends
 returns-in-Ok-found-clause-ends g c =

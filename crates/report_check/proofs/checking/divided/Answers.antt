@@ -1,9 +1,9 @@
 use Rattle.std.proofs.Common.{◌≡◌, ◌≢◌, refl}
 use Rattle.std.proofs.lemmas.Bool.Decides.{Decides-eqb}
 use Rattle.std.proofs.lemmas.Slice.Eq.{slice_eq-Decides}
-use Rattle.exchange_top.specs.Checking.{divider}
-use Rattle.exchange_top.proofs.Divisions.{divided_later, goes_here, goes_then}
-use Rattle.exchange_top.proofs.checking.divided.Goals as goal
+use Rattle.report_check.specs.Checking.{divider}
+use Rattle.report_check.proofs.Divisions.{divided_later, goes_here, goes_then}
+use Rattle.report_check.proofs.checking.divided.Goals as goal
 
 pub loop-rest-preserved : goal.loop-rest-preserved
 loop-rest-preserved c =

@@ -1,7 +1,7 @@
 use Rattle.std.proofs.Common.{arith, take-add, length-drop, ◌∙◌}
 use Rattle.std.proofs.lemmas.List.{take_rest}
 use Rattle.std.proofs.KnownBytes.{Appends-trans}
-use Rattle.exchange_top.proofs.streams.write_all.Goals as goal
+use Rattle.report_check.proofs.streams.write_all.Goals as goal
 
 -- what was written before, and then a prefix of the rest
 pub loop-done-preserved : goal.loop-done-preserved

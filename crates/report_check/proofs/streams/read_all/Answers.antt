@@ -2,8 +2,8 @@ use Rattle.std.proofs.Common.{ℕ, ◌+◌, ◌≤◌, List, ◌++◌, length, O
 use Rattle.std.specs.Io.KnownBytes.{Consumes}
 use Rattle.std.proofs.KnownBytes.{Consumes-trans}
 use Rattle.std.proofs.lemmas.Result.{err_from_is_err_and}
-use Rattle.exchange_top.specs.Streams.{ConsumesAtMost}
-use Rattle.exchange_top.proofs.streams.read_all.Goals as goal
+use Rattle.report_check.specs.Streams.{ConsumesAtMost}
+use Rattle.report_check.proofs.streams.read_all.Goals as goal
 
 -- what was read before, and then one piece more
 lost_more : (limit piece : ℕ) (old mid new : Option (List ℕ)) (bytes more : List ℕ) → length bytes ≤ limit → length more ≤ piece → Consumes old mid bytes → Consumes mid new more → ConsumesAtMost (limit + piece) old new

@@ -1,0 +1,5 @@
+pub mod Statuses
+pub mod Streams
+pub mod Inputs
+pub mod Refusals
+pub mod Checking
