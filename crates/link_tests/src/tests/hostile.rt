@@ -7,7 +7,7 @@ use std::test::*;
 const FRAMES: u32 = 10_000;
 
 // The most frames of a step: an answer, SABME or REJ, seven I frames and RR.
-const MOST_SENT: usize = 10;
+const MAX_SENT: usize = 10;
 
 // A frame of the link: often with a control field that is defined, and often with the numbers 0 to 3.
 fn random_frame(random: &mut Random) -> [u8; 6] {
@@ -36,7 +36,7 @@ fn random_frame(random: &mut Random) -> [u8; 6] {
 
 // Whether all octets sent are frames of a known kind, and not too many.
 fn is_bounded(out: &Outbox) -> bool {
-    if out.as_slice().len() > MOST_SENT {
+    if out.as_slice().len() > MAX_SENT {
         return false;
     }
     for frame in out.as_slice() {

@@ -7,7 +7,7 @@ use link_procedures::{Indication, Link, Outbox, Timers};
 use std::test::*;
 
 // The most frames on a wire. A frame beyond them is lost.
-const MOST_ON_WIRE: usize = 48;
+const MAX_ON_WIRE: usize = 48;
 
 // The longest time that a frame is on a wire.
 const DELAY: u32 = 5;
@@ -27,7 +27,7 @@ struct Sent {
 // The frames from one link to the other, the oldest first.
 #[derive(Drop)]
 struct Wire {
-    frames: ArrayVec<Sent, MOST_ON_WIRE>,
+    frames: ArrayVec<Sent, MAX_ON_WIRE>,
 }
 
 impl Wire {
@@ -41,7 +41,7 @@ impl Wire {
         for frame in out.as_slice() {
             let mut octets = ArrayVec::new();
             if octets.try_extend_from_slice(frame.as_slice()).is_ok()
-                && self.frames.len() < MOST_ON_WIRE
+                && self.frames.len() < MAX_ON_WIRE
             {
                 self.frames.push(Sent { since: at, octets });
             }
@@ -149,7 +149,7 @@ impl Pair {
     // A frame of time at one side: what arrives, a message, and the turn of its link. `loss` and `load` are parts of 256.
     fn step(&mut self, side: &mut Side, to: &mut Wire, from: &mut Wire, rates: (u8, u8), at: u32) {
         let (loss, load) = rates;
-        for _ in 0..MOST_ON_WIRE {
+        for _ in 0..MAX_ON_WIRE {
             if let Some(frame) = from.take(at, &mut self.random) {
                 if !self.random.is_within(loss) {
                     side.receive(frame.octets.as_slice(), at, &mut self.out);
