@@ -3,9 +3,9 @@
 //! - [`CallControl`] holds the circuits, with their paths and ports, and the legs of the calls, with the numbers in
 //!   overlap sending. The two represent an exchange state (`Holds`), and each operation changes it as its definition
 //!   states.
-//! - `message` sends the replies of the rules and replaces the exchange state by the next one (`makes`, `records`), for
-//!   any octets. It moves few paths (`few`), and does not allocate.
-//! - `expire` processes the legs of a frame whose timers have expired (`makes`, `records`).
+//! - `handle_message` sends the replies of the rules and replaces the exchange state by the next one (`makes`,
+//!   `records`), for any octets. It moves few paths (`few`), and does not allocate.
+//! - `handle_timers` processes the legs of a frame whose timers have expired (`makes`, `records`).
 //! - [`preparse`] parses a message before its turn: the result depends only on the octets and the number plan
 //!   (`read`).
 #![tactic(auto)]
