@@ -42,8 +42,8 @@ loop-event-preserved-in_default g c =
       lines = c.loop-event.invariant.lines;
     }
 
-pub returns-then-is_told-clause-works : goal.returns-then-is_told-clause-works
-returns-then-is_told-clause-works g c =
+pub returns-then-is_set-clause-works : goal.returns-then-is_set-clause-works
+returns-then-is_set-clause-works g c =
     keeps_front _ _ _ _ _ _ _ _ _ (front_here c.args.cx.now.trace.now _ _ _ _ _ (c.event_range-first.ensures.parts Frame_worker) c.loop-event.invariant.from c.loop-event-test.true) c.loop-event.invariant.keeps
 
 pub do_frame-requires-clause-known : goal.do_frame-requires-clause-known

@@ -39,8 +39,8 @@ loop-event-preserved-then-not-is_of_processor g c =
       tool = c.loop-event.invariant.tool;
     }
 
-pub returns-then-is_told-clause-works : goal.returns-then-is_told-clause-works
-returns-then-is_told-clause-works g c =
+pub returns-then-is_set-clause-works : goal.returns-then-is_set-clause-works
+returns-then-is_set-clause-works g c =
     let W = Processor c.args.processor in
     let trace = c.args.cx.now.trace.now in
     let part = part_of trace c.args.segment W in
