@@ -1,5 +1,5 @@
 //! The stores of a worker for the events that it processed.
-ghost use Rattle.std.specs.Prelude.{◌≡◌, List, [], ◌++◌, length, OnOk, OnErr};
+ghost use Rattle.std.specs.Prelude.{◌≡◌, List, [], ◌++◌, ◌==◌, length, OnOk, OnErr};
 ghost use Rattle.call_processor.specs.declared.worked.Placed.{Placed};
 ghost use Rattle.call_processor.specs.Keeping.{HandsOn, StillHolds, IsKept, first_place, placed};
 
@@ -42,6 +42,13 @@ pub trait AnswerSink: Sized + Send + Drop {
     /// Returns the number of its events.
     fn len(&self) -> usize
         ensures { (answers : List Placed) → holds self.now answers → result ≡ length answers };
+
+    /// Returns whether it has no event.
+    fn is_empty(&self) -> bool
+        ensures { (answers : List Placed) → holds self.now answers → result ≡ (length answers == 0) }
+    {
+        self.len() == 0
+    }
 
     /// Removes all events but the first n.
     fn truncate(&mut self, count: usize)

@@ -1,5 +1,5 @@
 //! Lines in one text, in sequence.
-ghost use Rattle.std.specs.Prelude.{◌≡◌, ◌+◌, ◌-◌, ◌<◌, ◌≤◌, ◌++◌, ◌∷◌, ◌^◌, [], All, OnOk, OnErr, length, take, drop};
+ghost use Rattle.std.specs.Prelude.{◌≡◌, ◌+◌, ◌-◌, ◌<◌, ◌≤◌, ◌==◌, ◌++◌, ◌∷◌, ◌^◌, [], All, OnOk, OnErr, length, take, drop};
 ghost use Rattle.exchange_events.specs.Kept.{kept_of};
 ghost use Rattle.exchange_events.specs.Responses.{reply_of};
 ghost use Rattle.report_text.specs.Report.{response_line};
@@ -136,6 +136,13 @@ impl Lines {
         ensures { result ≡ length self.now }
     {
         self.buffers.entries.len() - self.handed.lines
+    }
+
+    /// Returns whether there is no line.
+    pub fn is_empty(&self) -> bool
+        ensures { result ≡ (length self.now == 0) }
+    {
+        self.len() == 0
     }
 
     /// Removes all lines but the first n.
