@@ -1,4 +1,4 @@
-// A meter that counts the calls with one cause.
+//! A meter that counts the calls with one cause.
 ghost use Rattle.std.specs.Prelude.{◌≡◌, ◌++◌, [], ◌∷◌, List, string_bytes, OnOk, OnErr, IsOk, IfOk};
 ghost use Rattle.exchange_events.specs.declared.record.CallRecord.{CallRecord};
 ghost use Rattle.library_example.specs.Causes.{IsCountOf, calls_with, cause_line, text_with};
@@ -11,8 +11,8 @@ use std::marker::Model;
 
 /// Counts the calls that were cleared with one cause. Its text is the line `cause C: N`, where N saturates at
 /// 18,446,744,073,709,551,615.
-#[derive(Drop)]
-pub(crate) struct CauseCount {
+#[derive(Debug, Drop)]
+pub struct CauseCount {
     cause: u8,
     calls: u64,
 }
@@ -27,7 +27,7 @@ impl Model for CauseCount {
 
 impl CauseCount {
     /// Returns a count of the calls with this cause, which has recorded no call. It does not allocate.
-    pub(crate) fn new(cause: u8) -> CauseCount
+    pub fn new(cause: u8) -> CauseCount
         ensures stands { IsCountOf [] result }
         ensures text { (calls : List CallRecord) → text_with result calls ≡ cause_line cause (register_value (calls_with cause calls)) }
     {
