@@ -47,6 +47,12 @@ pub fn in_order_between_links()
     ensures { (events : List links.Event) (p : links.Pair) → links.IsFresh p → links.IsDeliveredBothWays (links.run events p) }
 {}
 
+/// For every loss and every time, until a link leaves multiple frame operation: if a link has no unacknowledged I frame,
+/// its queue holds exactly the messages that have not arrived. So a new numbering loses no message and repeats none.
+pub fn waiting_is_undelivered()
+    ensures { (events : List links.Event) (p : links.Pair) → links.IsFresh p → links.WaitsBothWays (links.run events p) }
+{}
+
 /// For every loss, two links establish and re-establish as the sides of the handshake do, and their wires carry its
 /// frames. So [`numberings_agree`] holds of them. The premise is that T200 does not expire in state 5 while SABME or its
 /// UA is on a wire.
