@@ -24,11 +24,11 @@ use Rattle.link_laws.specs.Window.{Direction, Submit as WindowSubmit, GoBack, An
 use Rattle.link_laws.proofs.WindowLemmas.{Acknowledgements, told_exactly, Holds, keeps, sends_one, both_true, one_more, heard, missed, taken_one, dropped_one, fresh, fresh_holds}
 use Rattle.link_laws.specs.TwoLinks.{Pair, mirror, Act, Submit, Turn, Arrive, Lose, Event, First, Second, stepped, as_step, message_of, submits, turns, takes, arrives, loses, acts, next, is_running, run, IsFresh, IsDelivered, IsDeliveredBothWays, WaitsBothWays}
 
-by_test : {A : Type 0} (P : A → Type 0) (b : Bool) (x y : A) → (b ≡ true → P x) → (b ≡ false → P y) → P (if b then x else y)
+pub by_test : {A : Type 0} (P : A → Type 0) (b : Bool) (x y : A) → (b ≡ true → P x) → (b ≡ false → P y) → P (if b then x else y)
 by_test P true x y f g = f refl
 by_test P false x y f g = g refl
 
-clash : {A : Type 0} (b : Bool) → b ≡ true → b ≡ false → A
+pub clash : {A : Type 0} (b : Bool) → b ≡ true → b ≡ false → A
 clash true e f = absurd (cc)
 clash false e f = absurd (cc)
 
@@ -39,29 +39,29 @@ pub data Item : Type 0 where
   Info : ℕ → ℕ → List ℕ → Item
   Sup : Bool → Supervisory → Bool → ℕ → Item
 
-abbrev supervisory : Bool → Supervisory → Bool → ℕ → Frame
+abbrev pub supervisory : Bool → Supervisory → Bool → ℕ → Frame
 supervisory cmd kind pf nr = record { command = cmd; control = control.Supervisory kind pf nr }
 
-abbrev frame : Item → Frame
+abbrev pub frame : Item → Frame
 frame (Info c a m) = command (control.Information false (c % 128) (a % 128) m)
 frame (Sup cmd kind pf a) = supervisory cmd kind pf (a % 128)
 
-abbrev wire : List Item → List (List ℕ)
+abbrev pub wire : List Item → List (List ℕ)
 wire [] = []
 wire (i ∷ is) = encoding Network (frame i) ∷ wire is
 
-abbrev counts : List Item → List ℕ
+abbrev pub counts : List Item → List ℕ
 counts [] = []
 counts (Info c a m ∷ is) = c ∷ counts is
 counts (Sup cmd kind pf a ∷ is) = counts is
 
-abbrev acks : List Item → List ℕ
+abbrev pub acks : List Item → List ℕ
 acks [] = []
 acks (Info c a m ∷ is) = a ∷ acks is
 acks (Sup cmd kind pf a ∷ is) = a ∷ acks is
 
 -- each message is the submitted one of its number, and RNR is not sent
-abbrev Genuine : List (List ℕ) → List Item → Type 0
+abbrev pub Genuine : List (List ℕ) → List Item → Type 0
 Genuine sub [] = Unit {0}
 Genuine sub (Info c a m ∷ is) = (c < length sub) × (m ≡ slice_index_or sub c []) × Genuine sub is
 Genuine sub (Sup cmd kind pf a ∷ is) = (is_not_ready kind ≡ false) × Genuine sub is
@@ -70,12 +70,12 @@ wire_append : (is js : List Item) → wire (is ++ js) ≡ wire is ++ wire js
 wire_append [] js = refl
 wire_append (i ∷ is) js = ap (λ ws. encoding Network (frame i) ∷ ws) (wire_append is js)
 
-counts_append : (is js : List Item) → counts (is ++ js) ≡ counts is ++ counts js
+pub counts_append : (is js : List Item) → counts (is ++ js) ≡ counts is ++ counts js
 counts_append [] js = refl
 counts_append (Info c a m ∷ is) js = ap (λ cs. c ∷ cs) (counts_append is js)
 counts_append (Sup cmd kind pf a ∷ is) js = counts_append is js
 
-acks_append : (is js : List Item) → acks (is ++ js) ≡ acks is ++ acks js
+pub acks_append : (is js : List Item) → acks (is ++ js) ≡ acks is ++ acks js
 acks_append [] js = refl
 acks_append (Info c a m ∷ is) js = ap (λ cs. a ∷ cs) (acks_append is js)
 acks_append (Sup cmd kind pf a ∷ is) js = ap (λ cs. a ∷ cs) (acks_append is js)
@@ -90,7 +90,7 @@ index_longer [] xs c lt = absurd (omega (arith, lt))
 index_longer (x ∷ sub) xs zero lt = refl
 index_longer (x ∷ sub) xs (suc c) lt = index_longer sub xs c (omega (arith, lt))
 
-genuine_longer : (sub : List (List ℕ)) (m : List ℕ) (is : List Item) → Genuine sub is → Genuine (sub ++ m ∷ []) is
+pub genuine_longer : (sub : List (List ℕ)) (m : List ℕ) (is : List Item) → Genuine sub is → Genuine (sub ++ m ∷ []) is
 genuine_longer sub m [] h = tt
 genuine_longer sub m (Info c a x ∷ is) h = let long = one_more sub m in let lt = h.0 in (omega (arith, long, lt), h.1 ∙ index_longer sub (m ∷ []) c lt, genuine_longer sub m is h.2)
 genuine_longer sub m (Sup cmd kind pf a ∷ is) h = (h.0, genuine_longer sub m is h.1)
@@ -149,7 +149,7 @@ pub record Sim (s t : Step) (w v : Direction) (u r : List ℕ) (d : List (List �
   pub got : theirs.delivered ≡ d
 
 -- nothing arrives in this part
-abbrev Plain : Step → Step → Direction → Direction → Type 0
+abbrev pub Plain : Step → Step → Direction → Direction → Type 0
 Plain s t w v = Sim s t w v v.underway w.replies v.delivered
 
 sim_as : (s t : Step) (w v : Direction) (u r u' r' : List ℕ) (d d' : List (List ℕ)) → u ≡ u' → r ≡ r' → d ≡ d' → Sim s t w v u r d → Sim s t w v u' r' d'
@@ -173,7 +173,7 @@ sim_as s t w v u r u' r' d d' p q e h = record {
   got = h.got ∙ e;
 }
 
-sim_both : (s t x : Step) (w v : Direction) (u r u' r' : List ℕ) (d d' : List (List ℕ)) (h : Sim s t w v u r d) → Sim t x h.mine h.theirs u' r' d' → Sim s x w v u' r' d'
+pub sim_both : (s t x : Step) (w v : Direction) (u r u' r' : List ℕ) (d d' : List (List ℕ)) (h : Sim s t w v u r d) → Sim t x h.mine h.theirs u' r' d' → Sim s x w v u' r' d'
 sim_both s t x w v u r u' r' d d' h k = record {
   mine = k.mine;
   theirs = k.theirs;
@@ -195,7 +195,7 @@ sim_both s t x w v u r u' r' d d' h k = record {
 }
 
 -- a part after which nothing else arrives
-sim_then : (s t x : Step) (w v : Direction) (u r : List ℕ) (d : List (List ℕ)) (h : Sim s t w v u r d) → Plain t x h.mine h.theirs → Sim s x w v u r d
+pub sim_then : (s t x : Step) (w v : Direction) (u r : List ℕ) (d : List (List ℕ)) (h : Sim s t w v u r d) → Plain t x h.mine h.theirs → Sim s x w v u r d
 sim_then s t x w v u r d h k = sim_as s x w v _ _ u r _ d h.rest h.told h.got (sim_both s t x w v u r _ _ d _ h k)
 
 -- the windows are others, and nothing is sent
@@ -231,10 +231,10 @@ alike l m w v queue next sure h = record {
   other = h.other;
 }
 
-plain_alike : (s : Step) (m : DataLink) (w v : Direction) → m.queue ≡ s.link.queue → m.received ≡ s.link.received → (ready m ≡ false → Full w) → Local s.link w v → Plain s (step m s.out) w v
+pub plain_alike : (s : Step) (m : DataLink) (w v : Direction) → m.queue ≡ s.link.queue → m.received ≡ s.link.received → (ready m ≡ false → Full w) → Local s.link w v → Plain s (step m s.out) w v
 plain_alike s m w v queue next sure h = changed s m w v w v v.underway w.replies v.delivered (alike s.link m w v queue next sure h) refl refl refl refl refl refl refl refl refl refl refl
 
-plain_none : (s : Step) (w v : Direction) → Local s.link w v → Plain s s w v
+pub plain_none : (s : Step) (w v : Direction) → Local s.link w v → Plain s s w v
 plain_none s w v h = plain_alike s s.link w v refl refl h.sure h
 
 -- an S frame is sent
@@ -352,7 +352,7 @@ waiting_plain (suc n) at s w v h =
     let k = next_plain at s w v h in
     sim_then s (sends_next at s) (sends_waiting n at (sends_next at s)) w v _ _ _ k (waiting_plain n at (sends_next at s) k.mine k.theirs k.local)
 
-flushes_plain : (at : ℕ) (s : Step) (w v : Direction) → Local s.link w v → Plain s (flushes at s) w v
+pub flushes_plain : (at : ℕ) (s : Step) (w v : Direction) → Local s.link w v → Plain s (flushes at s) w v
 unfolding flushes
 flushes_plain at s w v h = waiting_plain 7 at s w v h
 
@@ -367,7 +367,7 @@ finished_plain at s w v h = let k = flushes_plain at s w v h in sim_then s (flus
 -- ---- N(R)
 
 -- a part in which N(R) is taken
-then_taken : (s t x : Step) (w v : Direction) (u q r : List ℕ) (d : List (List ℕ)) (h : Sim s t w v u q d) → Sim t x h.mine h.theirs h.theirs.underway r h.theirs.delivered → Sim s x w v u r d
+pub then_taken : (s t x : Step) (w v : Direction) (u q r : List ℕ) (d : List (List ℕ)) (h : Sim s t w v u q d) → Sim t x h.mine h.theirs h.theirs.underway r h.theirs.delivered → Sim s x w v u r d
 then_taken s t x w v u q r d h k = sim_as s x w v _ r u r _ d h.rest refl h.got (sim_both s t x w v u q _ r d _ h k)
 
 distance_is : (q : SendQueue) (a n : ℕ) → q.acknowledged ≡ n % 128 → distance q (a % 128) ≡ beyond n a
@@ -434,7 +434,7 @@ supervised_sim s Rr now w v a r at valid on idle h = retimed_sim s (has_moved (a
 supervised_sim s Rnr now w v a r at valid on idle h = taken_sim s _ w v a r at valid refl refl refl h
 supervised_sim s Rej now w v a r at valid on idle h = back_sim s _ w v a r at valid refl refl (ready_now s.link on idle) h
 
-established_is : is_established state.MultipleFrameEstablished ≡ true
+pub established_is : is_established state.MultipleFrameEstablished ≡ true
 unfolding is_established
 established_is = refl
 
@@ -452,7 +452,7 @@ unfolding establishes is_multiple_frame is_established is_recovering
 establishes_stopped asked now s = refl
 
 -- N(R) is always valid
-valid_always : (l : DataLink) (w v : Direction) (a : ℕ) (r : List ℕ) → w.replies ≡ a ∷ r → Full w → Local l w v → is_valid l.queue (a % 128) ≡ true
+pub valid_always : (l : DataLink) (w v : Direction) (a : ℕ) (r : List ℕ) → w.replies ≡ a ∷ r → Full w → Local l w v → is_valid l.queue (a % 128) ≡ true
 unfolding is_valid
 valid_always l w v a r at full h =
     let acks_at = subst (λ rs. Acknowledgements w.acknowledged (length w.delivered) rs) at h.one.acknowledgements in
@@ -488,7 +488,7 @@ may_then : {P Q : Type 0} (t : Step) → (P → Q) → MayStop P t → MayStop Q
 may_then t f (inl p) = inl (f p)
 may_then t f (inr e) = inr e
 
-enquiry_queue : (b : Bool) (s : Step) → (answers_enquiry b s).link.queue ≡ s.link.queue
+pub enquiry_queue : (b : Bool) (s : Step) → (answers_enquiry b s).link.queue ≡ s.link.queue
 unfolding answers_enquiry acknowledges
 enquiry_queue true s = refl
 enquiry_queue false s = refl
@@ -547,7 +547,7 @@ numbered_sim false s w v c a u m other at genuine h =
     (λ e. sim_then s s _ w v _ _ _ first (enquiry_plain false s first.mine first.theirs first.local))
     (λ e. sim_then s s _ w v _ _ _ first (rejects_plain false s first.mine first.theirs first.local))
 
-by_queue : (b : Bool) (s : Step) → (if b then acknowledges_later false (step (in_sequence s.link) s.out) else out_of_sequence false s).link.queue ≡ s.link.queue
+pub by_queue : (b : Bool) (s : Step) → (if b then acknowledges_later false (step (in_sequence s.link) s.out) else out_of_sequence false s).link.queue ≡ s.link.queue
 unfolding rejects answers_enquiry
 by_queue true s = refl
 by_queue false s = by_test (λ (t : Step). t.link.queue ≡ s.link.queue) s.link.rejecting _ _ (λ e. refl) (λ e. refl)
@@ -568,14 +568,14 @@ information_sim now s w v c a u r m running at acked genuine full h =
 
 -- ---- the turn
 
-running_only : (st : State) (P : Type 0) → is_multiple_frame st ≡ true → (st ≡ state.MultipleFrameEstablished → P) → (st ≡ state.TimerRecovery → P) → P
+pub running_only : (st : State) (P : Type 0) → is_multiple_frame st ≡ true → (st ≡ state.MultipleFrameEstablished → P) → (st ≡ state.TimerRecovery → P) → P
 unfolding is_multiple_frame is_established is_recovering
 running_only state.TeiAssigned P e f g = clash false e refl
 running_only state.AwaitingEstablishment P e f g = clash false e refl
 running_only state.MultipleFrameEstablished P e f g = f refl
 running_only state.TimerRecovery P e f g = g refl
 
-enquires_at_plain : (retries now : ℕ) (s : Step) (w v : Direction) → Full w → Local s.link w v → Plain s (enquires_at retries now s) w v
+pub enquires_at_plain : (retries now : ℕ) (s : Step) (w v : Direction) → Full w → Local s.link w v → Plain s (enquires_at retries now s) w v
 unfolding enquires_at enquires
 enquires_at_plain retries now s w v full h = plain_supervisory true Rr true s _ w v rr_is_ready refl refl (λ e. full) h
 
@@ -598,7 +598,7 @@ turned_sim t now s w v running full h =
 
 -- ---- the end of a step
 
-next_state : (now : ℕ) (s : Step) → (sends_next now s).link.state ≡ s.link.state
+pub next_state : (now : ℕ) (s : Step) → (sends_next now s).link.state ≡ s.link.state
 unfolding sends_next
 next_state now s = by_test (λ (t : Step). t.link.state ≡ s.link.state) (is_free s.link) _ _ (λ e. refl) (λ e. refl)
 
@@ -606,7 +606,7 @@ waiting_state : (n now : ℕ) (s : Step) → (sends_waiting n now s).link.state 
 waiting_state zero now s = refl
 waiting_state (suc n) now s = waiting_state n now (sends_next now s) ∙ next_state now s
 
-flushes_state : (now : ℕ) (s : Step) → (flushes now s).link.state ≡ s.link.state
+pub flushes_state : (now : ℕ) (s : Step) → (flushes now s).link.state ≡ s.link.state
 unfolding flushes
 flushes_state now s = waiting_state 7 now s
 
@@ -614,7 +614,7 @@ pending_state : (s : Step) → (acknowledges_pending s).link.state ≡ s.link.st
 unfolding acknowledges_pending acknowledges
 pending_state s = by_test (λ (t : Step). t.link.state ≡ s.link.state) (s.link.pending && is_multiple_frame s.link.state) _ _ (λ e. refl) (λ e. refl)
 
-finished_state : (now : ℕ) (s : Step) → (finished now s).link.state ≡ s.link.state
+pub finished_state : (now : ℕ) (s : Step) → (finished now s).link.state ≡ s.link.state
 unfolding finished
 finished_state now s = pending_state (flushes now s) ∙ flushes_state now s
 
@@ -627,7 +627,7 @@ next_more : (now : ℕ) (s : Step) → is_free s.link ≡ true → (sends_next n
 unfolding sends_next one_more_sent
 next_more now s e = rw e refl
 
-next_shut : (n now : ℕ) (s : Step) → is_free s.link ≡ false → sends_waiting n now s ≡ s
+pub next_shut : (n now : ℕ) (s : Step) → is_free s.link ≡ false → sends_waiting n now s ≡ s
 next_shut zero now s e = refl
 next_shut (suc n) now s e = ap (sends_waiting n now) (next_idle now s e) ∙ next_shut n now s e
 
@@ -660,7 +660,7 @@ free_same : (l m : DataLink) → m.state ≡ l.state → m.busy ≡ l.busy → m
 unfolding is_free
 free_same l m a b c = rw (a, b, c) refl
 
-finished_shut : (now : ℕ) (s : Step) → is_free (finished now s).link ≡ false
+pub finished_shut : (now : ℕ) (s : Step) → is_free (finished now s).link ≡ false
 unfolding finished acknowledges_pending acknowledges
 finished_shut now s = by_test (λ (t : Step). is_free t.link ≡ false) ((flushes now s).link.pending && is_multiple_frame (flushes now s).link.state) _ _
     (λ e. free_same (flushes now s).link _ refl refl refl ∙ flushes_shut now s) (λ e. free_same (flushes now s).link _ refl refl refl ∙ flushes_shut now s)
@@ -752,7 +752,7 @@ turned_over p w v h = record {
   running_back = h.running;
 }
 
-full_same : (v u : Direction) → u.acknowledged ≡ v.acknowledged → u.sent ≡ v.sent → u.reached ≡ v.reached → Full v → Full u
+pub full_same : (v u : Direction) → u.acknowledged ≡ v.acknowledged → u.sent ≡ v.sent → u.reached ≡ v.reached → Full v → Full u
 full_same v u a b c h = omega (arith, a, b, c, h)
 
 settled : (p : Pair) (w v : Direction) (t : Step) (u r : List ℕ) (d now : List (List ℕ)) (rest : List Item) → Inv p w v → (k : Sim (step p.first []) t w v u r d) → u ≡ counts rest → r ≡ acks rest → Genuine v.submitted rest → now ≡ d → Full k.mine → is_multiple_frame t.link.state ≡ true → Inv (stepped p t (wire rest) p.submitted now) k.mine k.theirs
@@ -805,12 +805,12 @@ turns_keep p w v t at h running =
 
 -- a message is submitted
 
-drop_longer : (n : ℕ) (xs ys : List (List ℕ)) → n ≤ length xs → drop n (xs ++ ys) ≡ drop n xs ++ ys
+pub drop_longer : (n : ℕ) (xs ys : List (List ℕ)) → n ≤ length xs → drop n (xs ++ ys) ≡ drop n xs ++ ys
 drop_longer zero xs ys h = refl
 drop_longer (suc n) [] ys h = absurd (omega (arith, h))
 drop_longer (suc n) (x ∷ xs) ys h = drop_longer n xs ys (omega (arith, h))
 
-queued_local : (l m : DataLink) (w v : Direction) (x : List ℕ) → m.queue ≡ queued x l.queue → m.received ≡ l.received → ready m ≡ ready l → Local l w v → Local m (happens w (WindowSubmit x)) v
+pub queued_local : (l m : DataLink) (w v : Direction) (x : List ℕ) → m.queue ≡ queued x l.queue → m.received ≡ l.received → ready m ≡ ready l → Local l w v → Local m (happens w (WindowSubmit x)) v
 unfolding queued
 queued_local l m w v x queue next same h =
     let a = h.one.delivered_acknowledged in let b = h.one.delivered_reached in let c = h.one.reached_submitted in record {
@@ -878,7 +878,7 @@ overflows_stopped now s running = by_test (λ (t : Step). is_multiple_frame t.li
     not_awaiting : (st : State) → is_multiple_frame st ≡ true → is_awaiting st ≡ false
     not_awaiting st e = running_only st (is_awaiting st ≡ false) e (λ d. ap (λ x. is_awaiting x) d ∙ established_waits) (λ d. ap (λ x. is_awaiting x) d ∙ recovery_waits)
 
-running_is_up : (l : DataLink) → is_multiple_frame l.state ≡ true → is_up l ≡ true
+pub running_is_up : (l : DataLink) → is_multiple_frame l.state ≡ true → is_up l ≡ true
 unfolding is_up
 running_is_up l e = or_left (is_multiple_frame l.state) _ e
 
@@ -909,7 +909,7 @@ submits_keep p w v m at short h =
 message_short : (sub : List (List ℕ)) (c : ℕ) (m : List ℕ) → All IsShort sub → c < length sub → m ≡ slice_index_or sub c [] → length m ≤ 260
 message_short sub c m all lt e = let b : length (slice_index_or sub c []) ≤ 112 = all c [] lt in let l : length m ≡ length (slice_index_or sub c []) = ap length e in omega (arith, b, l)
 
-read_item : (i : Item) (sub : List (List ℕ)) (is : List Item) → All IsShort sub → Genuine sub (i ∷ is) → reading Network (encoding Network (frame i)) ≡ Some (frame i)
+pub read_item : (i : Item) (sub : List (List ℕ)) (is : List Item) → All IsShort sub → Genuine sub (i ∷ is) → reading Network (encoding Network (frame i)) ≡ Some (frame i)
 read_item (Info c a m) sub is all g = reading_of_encoding Network (frame (Info c a m)) (omega arith, omega arith, message_short sub c m all g.0 g.1)
 read_item (Sup true kind pf a) sub is all g = reading_of_encoding Network (frame (Sup true kind pf a)) (omega arith)
 read_item (Sup false kind pf a) sub is all g = reading_of_encoding Network (frame (Sup false kind pf a)) (omega arith)
@@ -939,7 +939,7 @@ plus_none n = omega arith
 less_none : (n : ℕ) → n - 0 ≡ n
 less_none n = omega arith
 
-lost_sim : (s : Step) (i : Item) (rest : List Item) (w v : Direction) → v.underway ≡ counts (i ∷ rest) → w.replies ≡ acks (i ∷ rest) → Local s.link w v → Sim s (step s.link s.out) w v (counts rest) (acks rest) v.delivered
+pub lost_sim : (s : Step) (i : Item) (rest : List Item) (w v : Direction) → v.underway ≡ counts (i ∷ rest) → w.replies ≡ acks (i ∷ rest) → Local s.link w v → Sim s (step s.link s.out) w v (counts rest) (acks rest) v.delivered
 lost_sim s (Info c a m) rest w v x y h = changed s s.link w v (moved w 0 (acks rest)) (drops v (counts rest)) _ _ _
     (record {
       number = h.number ∙ ap (λ n. n % 128) (sym (plus_none w.acknowledged));
@@ -961,7 +961,7 @@ lost_sim s (Sup cmd kind pf a) rest w v x y h = changed s s.link w v (moved w 0 
       other = h.other;
     }) refl refl refl refl refl refl refl refl x refl refl
 
-lost_full : (s : Step) (i : Item) (rest : List Item) (w v : Direction) (x : v.underway ≡ counts (i ∷ rest)) (y : w.replies ≡ acks (i ∷ rest)) (h : Local s.link w v) → Full w → Full (lost_sim s i rest w v x y h).mine
+pub lost_full : (s : Step) (i : Item) (rest : List Item) (w v : Direction) (x : v.underway ≡ counts (i ∷ rest)) (y : w.replies ≡ acks (i ∷ rest)) (h : Local s.link w v) → Full w → Full (lost_sim s i rest w v x y h).mine
 unfolding lost_sim changed
 lost_full s (Info c a m) rest w v x y h full = moved_full w 0 (acks rest) (omega arith) full
 lost_full s (Sup cmd kind pf a) rest w v x y h full = moved_full w 0 (acks rest) (omega arith) full
@@ -1028,7 +1028,7 @@ fresh_inv p h = (
   },
 )
 
-within : {a b c : ℕ} → a ≤ b → b ≤ c → a ≤ c
+pub within : {a b c : ℕ} → a ≤ b → b ≤ c → a ≤ c
 within p q = omega (arith, p, q)
 
 delivered_is : (l : DataLink) (w v : Direction) (submitted delivered : List (List ℕ)) → Local l w v → submitted ≡ w.submitted → delivered ≡ w.delivered → IsDelivered submitted delivered l.queue.waiting
