@@ -182,7 +182,7 @@ add_data E S (Ua u ∷ ts) m n o none f h = (add_data E S ts (after_ua m u) n o 
 add_data E S (Numbered k l ∷ ts) m n o none f h = (h.0, add_data E S ts m n o none f h.1)
 
 -- the end if all frames are lost
-end_of : (E S : Mode → Type 0) (ts : List Signal) (m : Mode) → Fits E S m ts → E m
+pub end_of : (E S : Mode → Type 0) (ts : List Signal) (m : Mode) → Fits E S m ts → E m
 end_of E S [] m h = h
 end_of E S (Sabme n ∷ ts) m h = end_of E S ts m h.1
 end_of E S (Ua u ∷ ts) m h = end_of E S ts m h.1
@@ -564,13 +564,13 @@ lose_keeps w (Numbered k l ∷ rest) all h o = record {
 
 -- ---- all
 
-over : (w : Pair) → is_over w ≡ true → (sabmes w.there ≡ 0) × (uas w.back ≡ 0)
+pub over : (w : Pair) → is_over w ≡ true → (sabmes w.there ≡ 0) × (uas w.back ≡ 0)
 over w empty = none_left (same_least (eqb-true (sabmes w.there + uas w.back) 0 empty))
   where
     same_least : {a : ℕ} → a ≡ 0 → a ≤ 0
     same_least e = omega (arith, e)
 
-happens_keeps : (w : Pair) (e : Happening) → Holds w → Holds (happens w e)
+pub happens_keeps : (w : Pair) (e : Happening) → Holds w → Holds (happens w e)
 happens_keeps w Call h = calls_keep w w.first h h.one h.other
 happens_keeps w Expire h = keep_if (is_over w) (calls_again w w.first) w (λ yes. let e = over w yes in again_keep w w.first h e.0 e.1 h.one h.other) (λ no_more. h)
 happens_keeps w GiveUp h = keep_if (is_over w) (gives_up w w.first) w (λ yes. let e = over w yes in given_up_keep w w.first h e.0 e.1 h.one h.other) (λ no_more. h)
@@ -578,10 +578,10 @@ happens_keeps w Send h = sends_keep w w.first h h.one h.other
 happens_keeps w Arrive h = arrive_keeps w w.there h h.one h.other
 happens_keeps w Lose h = lose_keeps w w.there h h.one h.other
 
-turned : (w : Pair) → Holds w → Holds (mirror w)
+pub turned : (w : Pair) → Holds w → Holds (mirror w)
 turned w h = record { one = h.other; other = h.one }
 
-next_keeps : (w : Pair) (e : Event) → Holds w → Holds (next w e)
+pub next_keeps : (w : Pair) (e : Event) → Holds w → Holds (next w e)
 next_keeps w (First e) h = happens_keeps w e h
 next_keeps w (Second e) h = turned (happens (mirror w) e) (happens_keeps (mirror w) e (turned w h))
 

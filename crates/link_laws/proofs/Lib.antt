@@ -3,3 +3,9 @@ pub mod HandshakeLemmas
 pub mod TwoLinksLemmas
 pub mod NumberingsLemmas
 pub mod RenumberingLemmas
+pub mod WireLemmas
+pub mod TaleLemmas
+pub mod LaneLemmas
+pub mod StageLemmas
+pub mod PartLemmas
+pub mod EpochLemmas

@@ -215,11 +215,11 @@ establishes_goes asked now s a running side link =
 running_side : (l m : DataLink) (a : Side) → is_multiple_frame l.state ≡ true → is_multiple_frame m.state ≡ true → IsSide l a → IsSide m a
 running_side l m a h k side = let o = on_side l a side h in subst (λ x. IsSide m x) (sym o.2) k
 
-established_runs : is_multiple_frame state.MultipleFrameEstablished ≡ true
+pub established_runs : is_multiple_frame state.MultipleFrameEstablished ≡ true
 unfolding is_multiple_frame is_established is_recovering
 established_runs = refl
 
-recovery_runs : is_multiple_frame state.TimerRecovery ≡ true
+pub recovery_runs : is_multiple_frame state.TimerRecovery ≡ true
 unfolding is_multiple_frame is_established is_recovering
 recovery_runs = refl
 
@@ -238,10 +238,10 @@ unfolding recovering_by
 recovering_runs true nr now l h = established_runs
 recovering_runs false nr now l h = h
 
-applied_runs : (cmd : Bool) (kind : Supervisory) (pf : Bool) (nr now : ℕ) (l : DataLink) → is_multiple_frame l.state ≡ true → is_multiple_frame (supervisory_applied cmd kind pf nr now l).state ≡ true
+pub applied_runs : (cmd : Bool) (kind : Supervisory) (pf : Bool) (nr now : ℕ) (l : DataLink) → is_multiple_frame l.state ≡ true → is_multiple_frame (supervisory_applied cmd kind pf nr now l).state ≡ true
 applied_runs cmd kind pf nr now l h = by_test (λ (m : DataLink). is_multiple_frame m.state ≡ true) (is_recovering l.state) _ _ (λ e. recovering_runs (not cmd && pf) nr now l h) (λ e. ap (λ st. is_multiple_frame st) (supervised_state kind nr now l) ∙ h)
 
-numbered_runs : (nr now : ℕ) (l : DataLink) → is_multiple_frame l.state ≡ true → is_multiple_frame (numbered_by nr now l).state ≡ true
+pub numbered_runs : (nr now : ℕ) (l : DataLink) → is_multiple_frame l.state ≡ true → is_multiple_frame (numbered_by nr now l).state ≡ true
 numbered_runs nr now l h = by_test (λ (m : DataLink). is_multiple_frame m.state ≡ true) (is_established l.state && not l.busy) _ _ (λ e. ap (λ st. is_multiple_frame st) (retimed_state (has_moved nr l) now (acknowledge nr l)) ∙ h) (λ e. h)
 
 valid_goes : (cmd : Bool) (kind : Supervisory) (pf : Bool) (nr now : ℕ) (s : Step) (a : Side) → nr < 128 → is_multiple_frame s.link.state ≡ true → IsSide s.link a → IsLink s.link → GoesOn s (on_valid cmd kind pf nr now s) a
@@ -260,7 +260,7 @@ acknowledgement_goes nr now s a number running side link = cases (is_valid s.lin
     cases true k = (a, emits_none s (numbered_by nr now s.link) a (running_side s.link (numbered_by nr now s.link) a running (numbered_runs nr now s.link running) side) k)
     cases false k = establishes_goes false now s a running side link
 
-enquiry_state : (b : Bool) (s : Step) → (answers_enquiry b s).link.state ≡ s.link.state
+pub enquiry_state : (b : Bool) (s : Step) → (answers_enquiry b s).link.state ≡ s.link.state
 unfolding answers_enquiry acknowledges
 enquiry_state true s = refl
 enquiry_state false s = refl
@@ -297,7 +297,7 @@ unfolding acknowledges
 later_state true s = refl
 later_state false s = refl
 
-number_state : (poll : Bool) (ns : ℕ) (s : Step) → (by_number poll ns s).link.state ≡ s.link.state
+pub number_state : (poll : Bool) (ns : ℕ) (s : Step) → (by_number poll ns s).link.state ≡ s.link.state
 unfolding by_number rejects
 number_state poll ns s = by_test (λ (t : Step). t.link.state ≡ s.link.state) (ns == s.link.received) _ _ (λ e. later_state poll (step (in_sequence s.link) s.out)) (λ e. by_test (λ (t : Step). t.link.state ≡ s.link.state) s.link.rejecting _ _ (λ d. enquiry_state poll s) (λ d. refl))
 
@@ -385,31 +385,31 @@ numbered_arrives p w now f rest n k ts del h e numbers carries =
     ends p w now (as_step (received f now s)) rest ts g.0 m.octets m.signals p.submitted del h m.out m.carries m.side m.link
     (reaches_both w y (after w g.0 m.signals ts) (numbered_drops w n k ts e) (m.acts y refl)) carries
 
-ua_read : reading Network (encoding Network (response (control.Ua true))) ≡ Some (response (control.Ua true))
+pub ua_read : reading Network (encoding Network (response (control.Ua true))) ≡ Some (response (control.Ua true))
 ua_read = reading_of_encoding Network (response (control.Ua true)) tt
 
 -- the frame that answers SABME
 ua_carries : (g : ℕ) → Carries (encoding Network (response (control.Ua true)) ∷ []) (Ua g ∷ [])
 ua_carries g = (ua_read, tt)
 
-begun_runs : (is_new : Bool) (now : ℕ) (l : DataLink) → is_multiple_frame (begun is_new now l).state ≡ true
+pub begun_runs : (is_new : Bool) (now : ℕ) (l : DataLink) → is_multiple_frame (begun is_new now l).state ≡ true
 unfolding begun established
 begun_runs true now l = established_runs
 begun_runs false now l = established_runs
 
-assigned_waits : is_awaiting state.TeiAssigned ≡ false
+pub assigned_waits : is_awaiting state.TeiAssigned ≡ false
 unfolding is_awaiting
 assigned_waits = refl
 
-assigned_stops : is_multiple_frame state.TeiAssigned ≡ false
+pub assigned_stops : is_multiple_frame state.TeiAssigned ≡ false
 unfolding is_multiple_frame is_established is_recovering
 assigned_stops = refl
 
-awaiting_waits : is_awaiting state.AwaitingEstablishment ≡ true
+pub awaiting_waits : is_awaiting state.AwaitingEstablishment ≡ true
 unfolding is_awaiting
 awaiting_waits = refl
 
-running_waits : (st : State) → is_multiple_frame st ≡ true → is_awaiting st ≡ false
+pub running_waits : (st : State) → is_multiple_frame st ≡ true → is_awaiting st ≡ false
 unfolding is_multiple_frame is_established is_recovering is_awaiting
 running_waits state.TeiAssigned e = refl
 running_waits state.AwaitingEstablishment e = clash false e refl
@@ -518,7 +518,7 @@ loses_leads p w h (o ∷ os) (t ∷ ts) e c = (
 
 -- ---- the turn
 
-no_sabmes : (os : List (List ℕ)) (ts : List Signal) → Carries os ts → Without is_sabme os → sabmes ts ≡ 0
+pub no_sabmes : (os : List (List ℕ)) (ts : List Signal) → Carries os ts → Without is_sabme os → sabmes ts ≡ 0
 no_sabmes [] [] c n = refl
 no_sabmes [] (t ∷ ts) c n = elim c [ ]
 no_sabmes (o ∷ os) [] c n = elim c [ ]
@@ -526,7 +526,7 @@ no_sabmes (o ∷ os) (Sabme k ∷ ts) c n = clash true refl (ap (λ x. is_in is_
 no_sabmes (o ∷ os) (Ua k ∷ ts) c n = no_sabmes os ts c.1 n.1
 no_sabmes (o ∷ os) (Numbered k l ∷ ts) c n = no_sabmes os ts c.1 n.1
 
-no_uas : (os : List (List ℕ)) (ts : List Signal) → Carries os ts → Without is_ua os → uas ts ≡ 0
+pub no_uas : (os : List (List ℕ)) (ts : List Signal) → Carries os ts → Without is_ua os → uas ts ≡ 0
 no_uas [] [] c n = refl
 no_uas [] (t ∷ ts) c n = elim c [ ]
 no_uas (o ∷ os) [] c n = elim c [ ]
@@ -540,7 +540,7 @@ over_is p w h n =
     let b = no_uas p.back w.back h.follows.back n.1 in
     eq-eqb (sabmes w.there + uas w.back) 0 (omega (arith, a, b))
 
-if_over : (b : Bool) (x y : Handshake) → b ≡ true → (if b then x else y) ≡ x
+pub if_over : (b : Bool) (x y : Handshake) → b ≡ true → (if b then x else y) ≡ x
 if_over true x y e = refl
 if_over false x y e = absurd (cc)
 
@@ -622,7 +622,7 @@ turns_leads p w t now h timely = cases ((turned_turned t now (step p.first []) h
 
 -- ---- a message of layer 3
 
-up_runs : (l : DataLink) → is_up l ≡ true → is_awaiting l.state ≡ false → is_multiple_frame l.state ≡ true
+pub up_runs : (l : DataLink) → is_up l ≡ true → is_awaiting l.state ≡ false → is_multiple_frame l.state ≡ true
 unfolding is_up
 up_runs l up waits = cases (is_multiple_frame l.state) refl
   where

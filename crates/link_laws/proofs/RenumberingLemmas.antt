@@ -19,7 +19,7 @@ by_test : {A : Type 0} (P : A → Type 0) (b : Bool) (x y : A) → (b ≡ true �
 by_test P true x y f g = f refl
 by_test P false x y f g = g refl
 
-certain_is : (q : SendQueue) → is_uncertain q ≡ false → q.sent ≡ 0
+pub certain_is : (q : SendQueue) → is_uncertain q ≡ false → q.sent ≡ 0
 certain_is q e = let few = ltb-false 0 q.sent e in omega (arith, few)
 
 begun_silent : (b : Bool) (now : ℕ) (l : DataLink) → (b ≡ false → l.queue.sent ≡ 0) → GoesOnSilently l (begun b now l) (begun_indication b)

@@ -7,18 +7,18 @@ use Rattle.std.proofs.Math.Nat.{le-max_left, le-max_right}
 use Rattle.link_laws.specs.Window.{Direction, Event, Submit, Send, GoBack, Arrive, Lose, Answer, Acknowledge, Miss, start, may_send, with_next, takes, drops, arrives, loses, beyond, moved, takes_acknowledgement, loses_acknowledgement, happens, run}
 
 -- by cases over a list
-abbrev Each : (ℕ → Type 0) → List ℕ → Type 0
+abbrev pub Each : (ℕ → Type 0) → List ℕ → Type 0
 Each P [] = Unit {0}
 Each P (x ∷ xs) = P x × Each P xs
 
 -- each frame is in the window after V(A), was sent, and is at most a window behind the messages that arrived; and none is a
 -- window ahead of a later one
-abbrev Frames : ℕ → ℕ → ℕ → List ℕ → Type 0
+abbrev pub Frames : ℕ → ℕ → ℕ → List ℕ → Type 0
 Frames acknowledged reached have [] = Unit {0}
 Frames acknowledged reached have (c ∷ cs) = (c < acknowledged + 7) × (c < reached) × (have ≤ c + 7) × Each (λ d. c < d + 7) cs × Frames acknowledged reached have cs
 
 -- each acknowledgement is at least V(A), and at most the number of messages that arrived; they rise
-abbrev Acknowledgements : ℕ → ℕ → List ℕ → Type 0
+abbrev pub Acknowledgements : ℕ → ℕ → List ℕ → Type 0
 Acknowledgements acknowledged have [] = Unit {0}
 Acknowledgements acknowledged have (a ∷ more) = (acknowledged ≤ a) × (a ≤ have) × Each (λ b. a ≤ b) more × Acknowledgements acknowledged have more
 
@@ -82,7 +82,7 @@ acknowledgements_heard acknowledged a have (b ∷ bs) near h = (near.0, h.1, h.2
 same_count : (c have : ℕ) → c < have + 7 → have ≤ c + 7 → c % 128 ≡ have % 128 → c ≡ have
 same_count c have high low same = omega (arith, high, low, same)
 
-told_exactly : (acknowledged told : ℕ) → acknowledged ≤ told → told ≤ acknowledged + 7 → (told % 128 + 128 - acknowledged % 128) % 128 ≡ told - acknowledged
+pub told_exactly : (acknowledged told : ℕ) → acknowledged ≤ told → told ≤ acknowledged + 7 → (told % 128 + 128 - acknowledged % 128) % 128 ≡ told - acknowledged
 told_exactly acknowledged told low high = omega (arith, low, high)
 
 -- ---- each event

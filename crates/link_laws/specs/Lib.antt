@@ -3,3 +3,4 @@ pub mod Handshake
 pub mod TwoLinks
 pub mod Numberings
 pub mod Renumbering
+pub mod Epochs

@@ -25,6 +25,7 @@ ghost use Rattle.link_laws.specs.Window.{Event, IsInOrder, after};
 ghost use Rattle.link_laws.specs.Handshake as handshake;
 ghost use Rattle.link_laws.specs.Numberings.{IsStart, IsTimely, FollowsSome, run as run_links};
 ghost use Rattle.link_laws.specs.TwoLinks as links;
+ghost use Rattle.link_laws.specs.Epochs as epochs;
 
 /// For every loss and every time of a retransmission, the messages that arrived are a prefix of the submitted ones,
 /// each once. All acknowledged messages arrived, and at most 7 more.
@@ -47,6 +48,12 @@ pub fn in_order_between_links()
     ensures { (events : List links.Event) (p : links.Pair) → links.IsFresh p → links.IsDeliveredBothWays (links.run events p) }
 {}
 
+/// For every loss and every time, until a link leaves multiple frame operation: if a link has no unacknowledged I frame,
+/// its queue holds exactly the messages that have not arrived. So a new numbering loses no message and repeats none.
+pub fn waiting_is_undelivered()
+    ensures { (events : List links.Event) (p : links.Pair) → links.IsFresh p → links.WaitsBothWays (links.run events p) }
+{}
+
 /// For every loss, two links establish and re-establish as the sides of the handshake do, and their wires carry its
 /// frames. So [`numberings_agree`] holds of them. The premise is that T200 does not expire in state 5 while SABME or its
 /// UA is on a wire.
@@ -58,4 +65,13 @@ pub fn links_follow_the_handshake()
 /// unacknowledged, and the messages go on waiting.
 pub fn law_of_silent_renumbering()
     ensures { (f : Frame) (at : ℕ) (s : Step) → IsNumbered f.control → IsSilent s.link (received f at s) }
+{}
+
+/// For every loss, each message is delivered at most once and in order, across establishments. Of the messages that a side
+/// submits between two indications, a first part is delivered, and the rest is lost (`order`). While a link is up, the
+/// messages that left its queue since the last indication were delivered, and at most 7 more (`arrived`). The premise is that
+/// T200 does not expire in state 5 while SABME or its UA is on a wire.
+pub fn in_order_or_told()
+    ensures order { (events : List links.Event) (p : links.Pair) → IsStart p → IsTimely events p → epochs.IsInOrderOrTold (epochs.run events (epochs.begin p)) }
+    ensures arrived { (events : List links.Event) (p : links.Pair) → IsStart p → IsTimely events p → epochs.HasArrivedBothWays (epochs.run events (epochs.begin p)) }
 {}
