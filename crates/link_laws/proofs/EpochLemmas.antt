@@ -1,40 +1,37 @@
 -- Each step of one of two links preserves what its epochs and its windows say of the messages delivered.
-use Rattle.std.proofs.Common.{◌≡◌, ◌⊎◌, ℕ, suc, ◌+◌, ◌≤◌, Bool, true, false, List, [], ◌∷◌, ◌++◌, length, refl, sym, ap, ◌∙◌, subst, inl, inr, arith, append-nil, Option, Some, None, if◌then◌else◌, ◌&&◌}
+use Rattle.std.proofs.Common.{◌≡◌, ℕ, ◌+◌, ◌≤◌, Bool, true, false, List, [], ◌∷◌, ◌++◌, length, refl, sym, ap, ◌∙◌, subst, inl, inr, arith, append-nil, Option, if◌then◌else◌}
 use Rattle.std.specs.Prelude.{◌==◌, not, nat_le}
 use Rattle.std.proofs.lemmas.Bool.{eq-eqb, leb-true, or_parts}
 use Rattle.std.proofs.lemmas.List.Elements.{All-nil}
 use Rattle.link_frames.specs.declared.frame.Sender.TheVariants.{Network}
-use Rattle.link_frames.specs.declared.frame.Control.{Control}
 use Rattle.link_frames.specs.declared.frame.Control.TheVariants as control
 use Rattle.link_frames.specs.declared.frame.Frame.{Frame}
-use Rattle.link_frames.specs.Reading.{reading}
 use Rattle.link_frames.specs.Writing.{encoding}
 use Rattle.link_frames.proofs.Readings.{reading_of_encoding}
 use Rattle.link_procedures.specs.declared.state.State.{State}
 use Rattle.link_procedures.specs.declared.state.State.TheVariants as state
-use Rattle.link_procedures.specs.declared.state.Indication.{Indication}
 use Rattle.link_procedures.specs.declared.state.Timers.{Timers}
-use Rattle.link_procedures.specs.Links.{DataLink, Step, step, initial, is_multiple_frame, is_established, is_recovering, is_awaiting, is_up, emptied}
+use Rattle.link_procedures.specs.Links.{DataLink, Step, step, initial, is_multiple_frame, is_established, is_recovering, is_awaiting, is_up}
 use Rattle.link_procedures.specs.Sending.{command, response, enquires, flushes, finished}
 use Rattle.link_procedures.specs.Establishment.{Outcome, quietly, establishes, begun, begun_indication, begins, is_uncertain, released, overflowed, overflows, queued, submitted}
-use Rattle.link_procedures.specs.Receiving.{answers, on_sabme, on_ua, is_solicited, is_new, answered, answer_indication, on_supervisory, on_information, on_control, received}
+use Rattle.link_procedures.specs.Receiving.{answers, on_sabme, on_ua, is_new, answered, answer_indication, on_supervisory, on_information, on_control, received}
 use Rattle.link_procedures.specs.Timing.{is_due, calling_again, calls_or_releases, enquires_at, first_retries, on_expiry, settled, turned}
 use Rattle.link_procedures.specs.AnyPeer.{IsShort}
 use Rattle.link_procedures.proofs.AnyPeerLemmas.{finished_flushed, flushes_flushed}
 use Rattle.link_laws.specs.Window.{Direction}
-use Rattle.link_laws.specs.Handshake.{Signal, Sabme, Ua, Side, Off, Calling, On, Call, Expire, GiveUp, Arrive as HandArrive, Second as HandSecond, start, sabmes, uas, is_over, gives_up, calls_again as hand_calls_again}
+use Rattle.link_laws.specs.Handshake.{Ua, Side, Off, Calling, On, Call, Expire, GiveUp, Arrive as HandArrive, Second as HandSecond, sabmes, uas, is_over, gives_up, calls_again as hand_calls_again}
 use Rattle.link_laws.specs.TwoLinks.{Pair, mirror, Act, Submit, Turn, Arrive, Lose, Event, First, Second, stepped, as_step, message_of, submits, turns, takes, arrives, loses, acts}
 use Rattle.link_laws.specs.Numberings.{begun as at_start, IsStart, is_sabme, is_ua, is_in, Without, IsTimelyAct, IsTimely, IsSide}
-use Rattle.link_laws.specs.Epochs.{after_indication, with_message, indication_of, indication_at, epochs_after, Story, begin, next, run, IsParted, IsInOrderOrTold, HasArrivedBothWays}
+use Rattle.link_laws.specs.Epochs.{after_indication, with_message, indication_of, indication_at, epochs_after, Story, begin, next, run, IsInOrderOrTold, HasArrivedBothWays}
 use Rattle.link_laws.proofs.HandshakeLemmas.{Holds as HandHolds, mine, happens_keeps, next_keeps, holds_always}
 use Rattle.link_laws.proofs.RenumberingLemmas.{certain_is}
 use Rattle.link_laws.proofs.NumberingsLemmas.{awaiting_waits, assigned_waits, running_waits, recovery_runs, if_over}
 use Rattle.link_laws.proofs.TwoLinksLemmas.{by_test, clash, Item, Info, Sup, frame, sim_then, flushes_plain, finished_plain, finished_shut, finished_state, flushes_state, enquires_at_plain, running_is_up}
-use Rattle.link_laws.proofs.WireLemmas.{Token, Calls, Answers, Data, signals, octets_of, octets, ahead, ahead_holds}
-use Rattle.link_laws.proofs.TaleLemmas.{Sending, Told, Current, Tale, told_submits, parted_of, arrived_of}
-use Rattle.link_laws.proofs.LaneLemmas.{Receives, Lane, Lanes, hands, Joint, Goes, goes, joint_mirror, plain_goes}
+use Rattle.link_laws.proofs.WireLemmas.{Token, Calls, Answers, Data, signals, octets, ahead, ahead_holds}
+use Rattle.link_laws.proofs.TaleLemmas.{Told, Tale, told_submits, parted_of, arrived_of}
+use Rattle.link_laws.proofs.LaneLemmas.{Receives, Lane, hands, Joint, Goes, joint_mirror, plain_goes}
 use Rattle.link_laws.proofs.StageLemmas.{pass_call, pass_answer, drops_goes}
-use Rattle.link_laws.proofs.PartLemmas.{up_same, off_down, asked_down, off_stops, calling_stops, flushes_still, hand_append, hand_none, quiet_goes, sending_alike, alike_goes, finish_goes, call_goes, begins_goes, queued_goes, data_goes}
+use Rattle.link_laws.proofs.PartLemmas.{up_same, off_down, asked_down, off_stops, calling_stops, flushes_still, hand_append, hand_none, quiet_goes, sending_alike, finish_goes, call_goes, begins_goes, queued_goes, data_goes}
 
 -- ---- the start of a step
 
@@ -319,7 +316,7 @@ sabme_begins p now b' es fs a b n ts bs d e why hand h =
     let out = encoding Network (response (control.Ua true)) ∷ [] in
     let same = h.hand.other.plain.0 in
     let k = begins_goes p b' now s out (octets bs) p.submitted p.returned es fs a b n ts (Answers (mine a + 1) ∷ []) bs d e (λ x. absurd (omega (arith, same, x))) refl (λ m. refl) (λ w x. (λ y. x, tt)) why
-        (hand_append (On (mine a + 1) n) b ts (Answers (mine a + 1) ∷ []) (signals bs) hand) refl h.second h.there refl (pass_call p.first p.second a b n ts bs d e es fs p.arrived p.returned h.lanes) in
+    (hand_append (On (mine a + 1) n) b ts (Answers (mine a + 1) ∷ []) (signals bs) hand) refl h.second h.there refl (pass_call p.first p.second a b n ts bs d e es fs p.arrived p.returned h.lanes) in
     returned_nothing p (finished now (step (begun b' now p.first) out)) (octets bs) (message_of (command (control.Sabme true)) (begun_indication b')) (after_indication (begun_indication b') es) fs (no_message (command (control.Sabme true)) b')
     (finish_goes p now (step (begun b' now p.first) out) (octets bs) p.submitted p.returned (after_indication (begun_indication b') es) fs (On (mine a + 1) n) b (ts ++ Answers (mine a + 1) ∷ []) bs k.0 e k.1)
 
@@ -360,8 +357,8 @@ ua_goes p now es fs (Calling g) b u ts bs d e h = subst (Comes p now (octets bs)
     let b' : Bool = is_new p.first in
     let hand : HandHolds (hands (On (g + 1) u) b ts bs) = next_keeps (hands (Calling g) b ts (Answers u ∷ bs)) (HandSecond HandArrive) h.hand in
     let k = begins_goes p b' now s [] (octets bs) p.submitted p.returned es fs (Calling g) b u ts [] bs d e h.lanes.two.good.0 refl (λ m. refl) (λ w x. tt)
-        (λ x. let o = or_parts p.first.asked (is_uncertain p.first.queue) x in (up_unasked p.first h.first o.0, certain_is p.first.queue o.1))
-        (hand_none (On (g + 1) u) b ts bs hand) refl h.second h.there refl (pass_answer p.first p.second (Calling g) b u ts bs d e es fs p.arrived p.returned h.lanes) in
+    (λ x. let o = or_parts p.first.asked (is_uncertain p.first.queue) x in (up_unasked p.first h.first o.0, certain_is p.first.queue o.1))
+    (hand_none (On (g + 1) u) b ts bs hand) refl h.second h.there refl (pass_answer p.first p.second (Calling g) b u ts bs d e es fs p.arrived p.returned h.lanes) in
     returned_nothing p (finished now (step (begun b' now p.first) [])) (octets bs) (message_of (response (control.Ua true)) (begun_indication b')) (after_indication (begun_indication b') es) fs (no_message (response (control.Ua true)) b')
     (finish_goes p now (step (begun b' now p.first) []) (octets bs) p.submitted p.returned (after_indication (begun_indication b') es) fs (On (g + 1) u) b (ts ++ []) bs k.0 e k.1))
 
@@ -435,14 +432,22 @@ start_tale : (l : DataLink) → l.state ≡ state.TeiAssigned → Tale l (ahead 
 start_tale l is = down_tale l (ahead [] []) ([] ∷ []) [] (off_down l is) (inl (record { base = []; lost = []; before = []; whole = refl; got = refl; parted = refl }))
 
 start_goes : (first second : ℕ) → Goes (at_start first second) ([] ∷ []) ([] ∷ [])
-start_goes first second = (Off 0, Off 0, [], [], ahead [] [], ahead [] [], record {
-  hand = holds_always [];
-  first = refl;
-  second = refl;
-  there = refl;
-  back = refl;
-  lanes = record { one = start_lane (initial first) (initial second) refl; two = start_lane (initial second) (initial first) refl; first = start_tale (initial first) refl; second = start_tale (initial second) refl };
-})
+start_goes first second = (
+  Off 0,
+  Off 0,
+  [],
+  [],
+  ahead [] [],
+  ahead [] [],
+  record {
+    hand = holds_always [];
+    first = refl;
+    second = refl;
+    there = refl;
+    back = refl;
+    lanes = record { one = start_lane (initial first) (initial second) refl; two = start_lane (initial second) (initial first) refl; first = start_tale (initial first) refl; second = start_tale (initial second) refl };
+  },
+)
 
 always : (events : List Event) (p : Pair) → IsStart p → IsTimely events p → Goes (run events (begin p)).pair (run events (begin p)).first (run events (begin p)).second
 always events p at timely = all_goes events (begin p) timely (subst (λ q. Goes q ([] ∷ []) ([] ∷ [])) (sym at.2) (start_goes at.0 at.1))

@@ -1,20 +1,18 @@
 -- Two links with the handshake, the frames of each numbering, and the epochs of each side: what a part of a step of the first link does to them.
-use Rattle.std.proofs.Common.{◌≡◌, ◌⊎◌, ℕ, zero, suc, ◌+◌, ◌-◌, ◌%◌, ◌<◌, ◌≤◌, Bool, true, false, List, [], ◌∷◌, ◌++◌, length, take, drop, refl, sym, ap, ◌∙◌, subst, inl, inr, arith, append_assoc, append-nil, Option, Some, None}
-use Rattle.std.specs.Prelude.{◌==◌, All}
-use Rattle.std.proofs.lemmas.Bool.{eqb-true, eqb-false}
-use Rattle.link_procedures.specs.Links.{DataLink, Step, step, is_multiple_frame, is_up}
+use Rattle.std.proofs.Common.{◌≡◌, ◌⊎◌, ℕ, ◌+◌, ◌%◌, ◌≤◌, true, false, List, [], ◌∷◌, ◌++◌, length, drop, refl, sym, ap, ◌∙◌, subst, inl, inr, arith, append_assoc, append-nil, Option, Some, None}
+use Rattle.std.specs.Prelude.{All}
+use Rattle.link_procedures.specs.Links.{DataLink, Step, is_multiple_frame, is_up}
 use Rattle.link_procedures.specs.Sending.{is_free}
 use Rattle.link_procedures.specs.AnyPeer.{IsShort}
-use Rattle.link_laws.specs.Window.{Direction, Answer, drops, moved, happens}
-use Rattle.link_laws.specs.Handshake.{Signal, Sabme, Ua, Numbered, Side, Off, Calling, On, Pair as Handshake, Send, Lose as HandLose, Second as HandSecond, uas}
+use Rattle.link_laws.specs.Window.{Direction}
+use Rattle.link_laws.specs.Handshake.{Signal, Numbered, Side, Off, Calling, On, Pair as Handshake, Send, uas}
 use Rattle.link_laws.specs.TwoLinks.{Pair, mirror, stepped}
 use Rattle.link_laws.specs.Numberings.{IsSide}
-use Rattle.link_laws.proofs.WindowLemmas.{Holds, Acknowledgements, missed, dropped_one}
-use Rattle.link_laws.proofs.HandshakeLemmas.{Holds as HandHolds, Mode, Live, E_of, mine, end_of, happens_keeps, next_keeps, turned}
-use Rattle.link_laws.proofs.TwoLinksLemmas.{Item, Info, Sup, wire, counts, acks, Genuine, Local, Sim, Plain, Full, full_at_end, full_same, running_is_up}
-use Rattle.link_laws.proofs.WireLemmas.{Token, Calls, Answers, Data, signal, signals, octets_of, octets, count_of, infos, ack_of, acks_of, tagged, signals_append, octets_append, infos_append, acks_of_append, octets_tagged, infos_tagged, acks_tagged, acks_tagged_other, count_same, count_other, ack_same, ack_other, Good, AllGood, good_append, good_same, good_beside, ahead, good_begun, good_tagged, none_infos, none_acks, ahead_holds}
-use Rattle.link_laws.specs.Epochs.{IsParted}
-use Rattle.link_laws.proofs.TaleLemmas.{Sending, Told, Current, Tale, told_of, told_moves, current_moves}
+use Rattle.link_laws.proofs.WindowLemmas.{Holds, Acknowledgements}
+use Rattle.link_laws.proofs.HandshakeLemmas.{Holds as HandHolds, Live, E_of, mine, end_of, happens_keeps, turned}
+use Rattle.link_laws.proofs.TwoLinksLemmas.{Item, wire, counts, acks, Genuine, Local, Sim, Plain, full_at_end, full_same, running_is_up}
+use Rattle.link_laws.proofs.WireLemmas.{Token, signals, octets, infos, acks_of, tagged, signals_append, octets_append, infos_append, acks_of_append, octets_tagged, infos_tagged, acks_tagged, acks_tagged_other, AllGood, good_append, good_same, ahead, good_tagged, ahead_holds}
+use Rattle.link_laws.proofs.TaleLemmas.{Sending, Tale, told_moves, current_moves}
 
 -- V(R) of a side with a link counts the messages of the other side's numbering g, or it is 0 for the next one
 abbrev pub Receives : DataLink → Side → ℕ → Direction → Type 0
@@ -201,14 +199,22 @@ pub plain_goes : (p : Pair) (s t : Step) (rest sub ret : List (List ℕ)) (es fs
 plain_goes p s t rest sub ret es fs g q b ts bs d e h f shut running owed = cases (near_of g q b ts bs h.hand)
   where
     on : (is : List Item) (d' e' : Direction) → t.out ≡ s.out ++ wire is → Lanes t.link p.second (On g q) b (ts ++ tagged g q is) bs d' e' es fs p.arrived ret → Goes (stepped p t rest sub ret) es fs
-    on is d' e' out lanes = (On g q, b, ts ++ tagged g q is, bs, d', e', record {
-      hand = hand_tagged g q b is ts bs h.hand;
-      first = running;
-      second = h.second;
-      there = octets_then p.there s.out t.out ts (tagged g q is) h.there (out ∙ ap (λ o. s.out ++ o) (sym (octets_tagged g q is)));
-      back = h.back;
-      lanes = lanes;
-    })
+    on is d' e' out lanes = (
+      On g q,
+      b,
+      ts ++ tagged g q is,
+      bs,
+      d',
+      e',
+      record {
+        hand = hand_tagged g q b is ts bs h.hand;
+        first = running;
+        second = h.second;
+        there = octets_then p.there s.out t.out ts (tagged g q is) h.there (out ∙ ap (λ o. s.out ++ o) (sym (octets_tagged g q is)));
+        back = h.back;
+        lanes = lanes;
+      },
+    )
 
     cases : (q ≡ mine b) ⊎ (q ≡ mine b + 1) → Goes (stepped p t rest sub ret) es fs
     cases (inl near) =

@@ -1,6 +1,6 @@
 -- The parts of a step of the first link, as the code's definitions have them.
-use Rattle.std.proofs.Common.{◌≡◌, ◌≢◌, ◌⊎◌, ℕ, zero, suc, ◌+◌, ◌-◌, ◌%◌, ◌<◌, ◌≤◌, Bool, true, false, List, [], ◌∷◌, ◌++◌, length, take, drop, refl, sym, ap, ◌∙◌, subst, inl, inr, arith, append_assoc, append-nil, Option, Some, None, if◌then◌else◌, ◌&&◌, ◌||◌}
-use Rattle.std.specs.Prelude.{◌==◌, All, not, nat_le}
+use Rattle.std.proofs.Common.{◌≡◌, ◌⊎◌, ℕ, ◌+◌, ◌%◌, ◌≤◌, Bool, true, false, List, [], ◌∷◌, ◌++◌, length, refl, sym, ap, ◌∙◌, subst, inl, inr, arith, append-nil, Option, ◌&&◌, ◌||◌}
+use Rattle.std.specs.Prelude.{◌==◌, All, not}
 use Rattle.std.proofs.lemmas.Bool.{and_left, and_right}
 use Rattle.std.proofs.lemmas.List.Elements.{All-nil, All-push, All-drop}
 use Rattle.link_frames.specs.declared.frame.Sender.TheVariants.{Network}
@@ -9,29 +9,26 @@ use Rattle.link_frames.specs.declared.frame.Control.TheVariants as control
 use Rattle.link_frames.specs.declared.frame.Frame.{Frame}
 use Rattle.link_frames.specs.Reading.{IsNumbered}
 use Rattle.link_frames.specs.Writing.{encoding}
-use Rattle.link_procedures.specs.declared.state.State.{State}
 use Rattle.link_procedures.specs.declared.state.State.TheVariants as state
-use Rattle.link_procedures.specs.declared.state.Indication.{Indication}
-use Rattle.link_procedures.specs.declared.state.Indication.TheVariants as indication
-use Rattle.link_procedures.specs.Links.{SendQueue, DataLink, Step, step, is_valid, is_multiple_frame, is_established, is_recovering, is_awaiting, is_up, emptied, renumbered}
+use Rattle.link_procedures.specs.Links.{DataLink, Step, step, is_valid, is_multiple_frame, is_established, is_recovering, is_awaiting, is_up, emptied, renumbered}
 use Rattle.link_procedures.specs.Sending.{command, acknowledging, is_free, flushes, acknowledges_pending, finished}
 use Rattle.link_procedures.specs.Establishment.{Outcome, established, lost, begun, begun_indication, queued}
-use Rattle.link_procedures.specs.Receiving.{busy_by, supervisory_applied, numbered_by, answers_enquiry, on_valid, on_supervisory, by_number, by_acknowledgement, taken, on_information, on_control, received}
+use Rattle.link_procedures.specs.Receiving.{busy_by, answers_enquiry, on_valid, on_supervisory, by_number, by_acknowledgement, taken, on_information, on_control, received}
 use Rattle.link_procedures.specs.AnyPeer.{IsShort, Keeps, acknowledged_by, IsLossTold}
 use Rattle.link_procedures.proofs.AnyPeerLemmas.{received_processed, finished_flushed}
 use Rattle.link_laws.specs.Window.{Direction, Submit as WindowSubmit, happens}
-use Rattle.link_laws.specs.Handshake.{Signal, Sabme, Ua, Numbered, Side, Off, Calling, On, Call, Lose as HandLose, Second as HandSecond, uas}
+use Rattle.link_laws.specs.Handshake.{Signal, Sabme, Side, Off, Calling, On, Lose as HandLose, Second as HandSecond}
 use Rattle.link_laws.specs.TwoLinks.{Pair, stepped, as_step, message_of}
 use Rattle.link_laws.specs.Numberings.{IsSide}
 use Rattle.link_laws.specs.Epochs.{after_indication, with_message}
 use Rattle.link_laws.proofs.WindowLemmas.{Holds, keeps}
-use Rattle.link_laws.proofs.HandshakeLemmas.{Holds as HandHolds, Mode, Live, mode_of, E_of, S_of, told, mine, end_of, happens_keeps, next_keeps}
+use Rattle.link_laws.proofs.HandshakeLemmas.{Holds as HandHolds, mode_of, E_of, S_of, told, mine, end_of, next_keeps}
 use Rattle.link_laws.proofs.NumberingsLemmas.{enquiry_state, numbered_runs, applied_runs, number_state, begun_runs}
-use Rattle.link_laws.proofs.TwoLinksLemmas.{by_test, clash, Item, Info, Sup, frame, wire, counts, acks, Genuine, Local, Sim, Full, sim_then, finished_plain, finished_shut, finished_state, next_shut, drop_longer, running_is_up, valid_always, enquiry_queue, by_queue, information_sim, supervisory_sim}
-use Rattle.link_laws.proofs.WireLemmas.{Token, Calls, Answers, Data, signals, octets, infos, acks_of, tagged, signals_append, octets_tagged, count_same, ack_same, ack_other, AllGood, good_longer, ahead}
-use Rattle.link_laws.proofs.TaleLemmas.{Sending, Told, Current, Tale, told_of, current_submits, told_begins, told_goes_on}
-use Rattle.link_laws.proofs.LaneLemmas.{Receives, Lane, Lanes, hands, Joint, Goes, receives_same, near_of, no_answers, hand_tagged, octets_then, runs_abreast, local_abreast, plain_goes}
-use Rattle.link_laws.proofs.StageLemmas.{pass_call, quiet_lanes, begins_lanes}
+use Rattle.link_laws.proofs.TwoLinksLemmas.{by_test, clash, Item, Info, Sup, frame, counts, acks, Genuine, Sim, sim_then, finished_plain, finished_shut, finished_state, next_shut, drop_longer, running_is_up, valid_always, enquiry_queue, by_queue, information_sim, supervisory_sim}
+use Rattle.link_laws.proofs.WireLemmas.{Token, Calls, Data, signals, octets, infos, acks_of, tagged, signals_append, octets_tagged, count_same, ack_same, ack_other, AllGood, good_longer, ahead}
+use Rattle.link_laws.proofs.TaleLemmas.{Sending, Current, Tale, told_of, current_submits, told_begins, told_goes_on}
+use Rattle.link_laws.proofs.LaneLemmas.{Receives, Lanes, hands, Joint, Goes, receives_same, near_of, no_answers, hand_tagged, octets_then, runs_abreast, local_abreast, plain_goes}
+use Rattle.link_laws.proofs.StageLemmas.{quiet_lanes, begins_lanes}
 
 -- ---- links
 
@@ -160,17 +157,20 @@ pub begins_goes : (p : Pair) (b' : Bool) (now : ℕ) (s : Step) (out rest sub re
 begins_goes p b' now s out rest sub ret es fs a b u ts us bs d e clean none quiet good why hand outs second there back h = cases b' why
   where
     joined : (es' : List (List (List ℕ))) (l' : DataLink) (waiting : List (List ℕ)) → is_multiple_frame l'.state ≡ true → IsBegun s.link l' waiting → l'.owed ≡ false → All IsShort waiting → Current (ahead waiting (acks_of (mine a + 1) bs)) es' p.arrived → (d' : Direction) × Joint (stepped p (step l' out) rest sub ret) es' fs (On (mine a + 1) u) b (ts ++ us) bs d' e
-    joined es' l' waiting running k owed short current = (ahead l'.queue.waiting (acks_of (mine a + 1) bs), record {
-      hand = hand;
-      first = running;
-      second = second;
-      there = octets_then p.there s.out out ts us there outs;
-      back = back;
-      lanes = begins_lanes s.link l' p.second a b u ts us bs d e es es' fs p.arrived ret
-          (receives_begun p.second b (told (signals bs)) (mine a) u d l'.queue.waiting (acks_of (mine a + 1) bs) (end_of (E_of (On (mine a + 1) u) (told (signals bs))) (S_of (On (mine a + 1) u)) (signals (ts ++ us)) (mode_of b) hand.one.fits) h.one.receives) clean none quiet
-          (good (ahead l'.queue.waiting (acks_of (mine a + 1) bs)) refl) k.received k.sent k.acknowledged owed (subst (All IsShort) (sym k.waits) short)
-          (subst (λ ms. Current (ahead ms (acks_of (mine a + 1) bs)) es' p.arrived) (sym k.waits) current) h;
-    })
+    joined es' l' waiting running k owed short current = (
+      ahead l'.queue.waiting (acks_of (mine a + 1) bs),
+      record {
+        hand = hand;
+        first = running;
+        second = second;
+        there = octets_then p.there s.out out ts us there outs;
+        back = back;
+        lanes = begins_lanes s.link l' p.second a b u ts us bs d e es es' fs p.arrived ret
+            (receives_begun p.second b (told (signals bs)) (mine a) u d l'.queue.waiting (acks_of (mine a + 1) bs) (end_of (E_of (On (mine a + 1) u) (told (signals bs))) (S_of (On (mine a + 1) u)) (signals (ts ++ us)) (mode_of b) hand.one.fits) h.one.receives) clean none quiet
+            (good (ahead l'.queue.waiting (acks_of (mine a + 1) bs)) refl) k.received k.sent k.acknowledged owed (subst (All IsShort) (sym k.waits) short)
+            (subst (λ ms. Current (ahead ms (acks_of (mine a + 1) bs)) es' p.arrived) (sym k.waits) current) h;
+      },
+    )
 
     cases : (c : Bool) → (c ≡ false → (is_up s.link ≡ true) × (s.link.queue.sent ≡ 0)) → (d' : Direction) × Joint (stepped p (step (begun c now s.link) out) rest sub ret) (after_indication (begun_indication c) es) fs (On (mine a + 1) u) b (ts ++ us) bs d' e
     cases true f = let k = begun_anew now s.link in joined ([] ∷ es) (begun true now s.link) [] (begun_runs true now s.link) k.0 k.1 (All-nil IsShort) (told_begins d (acks_of (mine a + 1) bs) es p.arrived h.one.holds h.first.told)
@@ -284,16 +284,23 @@ information_epochs ns nr now s es = by_test (λ (o : Outcome). after_indication 
 heard_goes : (p : Pair) (s t : Step) (rest rest' sub ret ms : List (List ℕ)) (es fs : List (List (List ℕ))) (g q : ℕ) (b : Side) (n k : ℕ) (i : Item) (ts bs : List Token) (d e : Direction) (u r : List ℕ) (dd : List (List ℕ)) → rest' ≡ octets bs → q ≡ mine b → k ≡ g → Joint (stepped p s rest sub ret) es fs (On g q) b ts (Data n k i ∷ bs) d e
     → Sim s t d e u r dd → is_free t.link ≡ false → is_multiple_frame t.link.state ≡ true → t.link.owed ≡ false → u ≡ infos (mine b) bs → r ≡ acks_of g bs → dd ≡ e.delivered ++ ms → Goes (stepped p t rest' sub (ret ++ ms)) es fs
 heard_goes p s t rest rest' sub ret ms es fs g q b n k i ts bs d e u r dd back near same h x shut running owed a1 a2 more =
-    let hand : HandHolds (hands (On g q) b ts bs) = next_keeps (hands (On g q) b ts (Data n k i ∷ bs)) (HandSecond HandLose) h.hand in
-    (On g q, b, ts ++ tagged g q x.items, bs, x.mine, x.theirs, record {
-      hand = hand_tagged g q b x.items ts bs hand;
-      first = running;
-      second = h.second;
-      there = octets_then p.there s.out t.out ts (tagged g q x.items) h.there (x.out ∙ ap (λ o. s.out ++ o) (sym (octets_tagged g q x.items)));
-      back = back;
-      lanes = runs_abreast s t p.second g q b ts (Data n k i ∷ bs) bs d e es fs p.arrived ret (ret ++ ms) ms u r dd near x shut h.first owed a1 a2
-          (sym (ap (λ y. y ++ acks_of (g + 1) bs) (ack_other n k (g + 1) i (λ c. omega (arith, c, same))))) h.lanes.two.good.1 (no_answers g q b ts bs hand) refl more h.lanes;
-    })
+    let hand : HandHolds (hands (On g q) b ts bs) = next_keeps (hands (On g q) b ts (Data n k i ∷ bs)) (HandSecond HandLose) h.hand in (
+      On g q,
+      b,
+      ts ++ tagged g q x.items,
+      bs,
+      x.mine,
+      x.theirs,
+      record {
+        hand = hand_tagged g q b x.items ts bs hand;
+        first = running;
+        second = h.second;
+        there = octets_then p.there s.out t.out ts (tagged g q x.items) h.there (x.out ∙ ap (λ o. s.out ++ o) (sym (octets_tagged g q x.items)));
+        back = back;
+        lanes = runs_abreast s t p.second g q b ts (Data n k i ∷ bs) bs d e es fs p.arrived ret (ret ++ ms) ms u r dd near x shut h.first owed a1 a2
+            (sym (ap (λ y. y ++ acks_of (g + 1) bs) (ack_other n k (g + 1) i (λ c. omega (arith, c, same))))) h.lanes.two.good.1 (no_answers g q b ts bs hand) refl more h.lanes;
+      },
+    )
 
 comes_goes : (p : Pair) (now : ℕ) (s : Step) (rest rest' sub ret : List (List ℕ)) (es fs : List (List (List ℕ))) (g q : ℕ) (b : Side) (n k : ℕ) (i j : Item) (ts bs : List Token) (d e : Direction) → rest' ≡ octets bs → q ≡ mine b → k ≡ g → Joint (stepped p s rest sub ret) es fs (On g q) b ts (Data n k i ∷ bs) d e
     → Genuine e.submitted (j ∷ []) → d.replies ≡ acks (j ∷ []) ++ acks_of g bs → e.underway ≡ counts (j ∷ []) ++ infos (mine b) bs

@@ -1,15 +1,16 @@
 -- The messages of two links across establishments, divided by the indications to layer 3 (ITU-T Q.921 (09/97), 5.5 and 5.7). An epoch is what a side
 -- submits between two indications DL-ESTABLISH or DL-RELEASE that it gets.
-use Rattle.std.specs.Prelude.{◌≡◌, ℕ, ◌+◌, ◌≤◌, nat_le, Bool, true, List, [], ◌∷◌, ◌++◌, length, take, drop, Option, Some, None, if◌then◌else◌}
+use Rattle.std.specs.Prelude.{◌≡◌, ℕ, ◌+◌, ◌≤◌, nat_le, true, List, [], ◌∷◌, ◌++◌, length, take, drop, Option, Some, None, if◌then◌else◌}
 use Rattle.link_frames.specs.declared.frame.Sender.TheVariants.{Network}
 use Rattle.link_frames.specs.declared.frame.Frame.{Frame}
 use Rattle.link_frames.specs.Reading.{reading}
 use Rattle.link_procedures.specs.declared.state.Indication.{Indication}
 use Rattle.link_procedures.specs.declared.state.Indication.TheVariants as indication
-use Rattle.link_procedures.specs.Links.{DataLink, step, is_up}
+use Rattle.link_procedures.specs.Links.{SendQueue, step, is_up}
 use Rattle.link_procedures.specs.Receiving.{received}
 use Rattle.link_procedures.specs.Timing.{turned}
 use Rattle.link_laws.specs.TwoLinks.{Pair, mirror, Act, Submit, Turn, Arrive, Lose, Event, First, Second, acts}
+use Rattle.link_laws.specs.Numberings.{IsStart, IsTimely}
 
 -- ---- epochs, newest first
 
@@ -64,35 +65,39 @@ abbrev pub run : List Event → Story → Story
 run [] s = s
 run (e ∷ es) s = run es (next s e)
 
+-- after any events, from the start of both links, if T200 is longer than the way there and back
+abbrev pub Always : (Story → Type 0) → Type 0
+Always Holds = (events : List Event) (p : Pair) → IsStart p → IsTimely events p → Holds (run events (begin p))
+
 -- ---- what is delivered
 
--- of each epoch a first part, in order; the rest of an epoch is lost
+-- a prefix of each epoch is delivered, oldest epoch first: what an epoch loses is its end, and the indication that ends the epoch follows the loss
 abbrev pub IsParted : List (List (List ℕ)) → List (List ℕ) → Type 0
 IsParted [] delivered = delivered ≡ []
 IsParted (epoch ∷ older) delivered = (n : ℕ) × (before : List (List ℕ)) × (delivered ≡ before ++ take n epoch) × IsParted older before
 
--- the side was told of each loss: only the newest epoch can go on
 abbrev pub IsInOrderOrTold : Story → Type 0
 IsInOrderOrTold s = IsParted s.first s.pair.arrived × IsParted s.second s.pair.returned
 
--- of the newest epoch, the messages that left the queue were delivered, and at most seven more
-pub record HasArrived (waiting epoch : List (List ℕ)) (older : List (List (List ℕ))) (delivered : List (List ℕ)) : Type 0 where
+-- the newest epoch loses nothing: its messages that left the queue were delivered, and no more of them than are sent and not acknowledged
+pub record HasArrived (queue : SendQueue) (epoch : List (List ℕ)) (older : List (List (List ℕ))) (delivered : List (List ℕ)) : Type 0 where
   pub before : List (List ℕ)
   pub parted : IsParted older before
   pub part : ℕ
   pub taken : delivered ≡ before ++ take part epoch
-  pub acknowledged : ℕ
-  pub kept : waiting ≡ drop acknowledged epoch
-  pub arrived : acknowledged ≤ part
-  pub window : part ≤ acknowledged + 7
   pub submitted : part ≤ length epoch
+  pub acknowledged : ℕ
+  pub kept : queue.waiting ≡ drop acknowledged epoch
+  pub arrived : acknowledged ≤ part
+  pub unacknowledged : part ≤ acknowledged + queue.sent
+  pub window : queue.sent ≤ 7
 
-abbrev pub HasArrivedFrom : List (List ℕ) → List (List (List ℕ)) → List (List ℕ) → Type 0
-HasArrivedFrom waiting [] delivered = ⊥
-HasArrivedFrom waiting (epoch ∷ older) delivered = HasArrived waiting epoch older delivered
+abbrev pub HasArrivedFrom : SendQueue → List (List (List ℕ)) → List (List ℕ) → Type 0
+HasArrivedFrom queue [] delivered = ⊥
+HasArrivedFrom queue (epoch ∷ older) delivered = HasArrived queue epoch older delivered
 
 -- while the link is up for layer 3
 abbrev pub HasArrivedBothWays : Story → Type 0
 HasArrivedBothWays s =
-    (is_up s.pair.first ≡ true → HasArrivedFrom s.pair.first.queue.waiting s.first s.pair.arrived)
-    × (is_up s.pair.second ≡ true → HasArrivedFrom s.pair.second.queue.waiting s.second s.pair.returned)
+    (is_up s.pair.first ≡ true → HasArrivedFrom s.pair.first.queue s.first s.pair.arrived)
+    × (is_up s.pair.second ≡ true → HasArrivedFrom s.pair.second.queue s.second s.pair.returned)

@@ -10,9 +10,11 @@
 //!   `numberings_agree` speaks.
 //! - [`law_of_silent_renumbering`]: if V(R) returns to 0 without an indication, all messages go on waiting, and no frame
 //!   was unacknowledged.
-//!
-//! No theorem joins the windows of consecutive numberings. `link_tests` tests that layer 3 is informed of the messages
-//! that a re-establishment loses.
+//! - [`waiting_is_undelivered`]: between two establishments, the queue of a link without unacknowledged I frames holds
+//!   exactly the messages that have not arrived.
+//! - [`in_order_or_told`]: from their start and across establishments, two links deliver each other's messages at most
+//!   once and in order. A side can lose only the last messages that it submits before an indication, or while its link is
+//!   down. `links_follow_the_handshake` has the same condition.
 #![tactic(auto)]
 
 ghost use Rattle.std.specs.Prelude.{◌+◌, ◌≤◌, ℕ, List, length};
@@ -67,11 +69,11 @@ pub fn law_of_silent_renumbering()
     ensures { (f : Frame) (at : ℕ) (s : Step) → IsNumbered f.control → IsSilent s.link (received f at s) }
 {}
 
-/// For every loss, each message is delivered at most once and in order, across establishments. Of the messages that a side
-/// submits between two indications, a first part is delivered, and the rest is lost (`order`). While a link is up, the
-/// messages that left its queue since the last indication were delivered, and at most 7 more (`arrived`). The premise is that
-/// T200 does not expire in state 5 while SABME or its UA is on a wire.
+/// For every loss and across establishments, each message is delivered at most once and in order. A side can lose only the
+/// last messages that it submits before an indication (`order`). While a link is up, no message since the last indication
+/// is lost: those that left the queue were delivered, and of the others at most the unacknowledged ones (`arrived`). The
+/// premise is that T200 does not expire in state 5 while SABME or its UA is on a wire.
 pub fn in_order_or_told()
-    ensures order { (events : List links.Event) (p : links.Pair) → IsStart p → IsTimely events p → epochs.IsInOrderOrTold (epochs.run events (epochs.begin p)) }
-    ensures arrived { (events : List links.Event) (p : links.Pair) → IsStart p → IsTimely events p → epochs.HasArrivedBothWays (epochs.run events (epochs.begin p)) }
+    ensures order { epochs.Always epochs.IsInOrderOrTold }
+    ensures arrived { epochs.Always epochs.HasArrivedBothWays }
 {}
