@@ -1,20 +1,22 @@
 //! Theorems on the data link of ITU-T Q.921 (09/97), over wires that lose frames and preserve their order.
 //!
+//! The main theorem is [`in_order_or_told`]: from their start and across establishments, two links as `link_procedures`
+//! defines them deliver each other's messages at most once and in order. The wires carry their octets. An epoch is what a
+//! side submits between two indications to its layer 3. Only the last messages of an epoch can be lost, and none of the
+//! newest epoch while the link is up. The condition is that T200 is longer than the round trip.
+//!
 //! - [`in_order`]: between two establishments each message arrives at most once and in order, and a message counts as
 //!   acknowledged only if it arrived (`prefix`, `arrived`, `window`).
 //! - [`numberings_agree`]: an accepted I or S frame has the numberings of its receiver, across establishments. The
 //!   condition is that T200 is longer than the round trip.
-//! - [`in_order_between_links`]: between two establishments, two links as `link_procedures` defines them deliver each
-//!   other's messages at most once and in order. The wires carry their octets.
-//! - [`links_follow_the_handshake`]: two such links, from their start and across establishments, are the sides of which
+//! - [`links_follow_the_handshake`]: two links, from their start and across establishments, are the sides of which
 //!   `numberings_agree` speaks.
-//! - [`law_of_silent_renumbering`]: if V(R) returns to 0 without an indication, all messages go on waiting, and no frame
-//!   was unacknowledged.
+//! - [`in_order_between_links`]: between two establishments, two links deliver each other's messages at most once and in
+//!   order, also if T200 is shorter.
 //! - [`waiting_is_undelivered`]: between two establishments, the queue of a link without unacknowledged I frames holds
 //!   exactly the messages that have not arrived.
-//! - [`in_order_or_told`]: from their start and across establishments, two links deliver each other's messages at most
-//!   once and in order. A side can lose only the last messages that it submits before an indication, or while its link is
-//!   down. `links_follow_the_handshake` has the same condition.
+//! - [`law_of_silent_renumbering`]: if V(R) returns to 0 without an indication, all messages go on waiting, and no frame
+//!   was unacknowledged.
 #![tactic(auto)]
 
 ghost use Rattle.std.specs.Prelude.{◌+◌, ◌≤◌, ℕ, List, length};
