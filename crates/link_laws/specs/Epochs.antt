@@ -6,11 +6,70 @@ use Rattle.link_frames.specs.declared.frame.Frame.{Frame}
 use Rattle.link_frames.specs.Reading.{reading}
 use Rattle.link_procedures.specs.declared.state.Indication.{Indication}
 use Rattle.link_procedures.specs.declared.state.Indication.TheVariants as indication
-use Rattle.link_procedures.specs.Links.{SendQueue, step, is_up}
+use Rattle.link_procedures.specs.declared.state.Timers.{Timers}
+use Rattle.link_procedures.specs.Links.{SendQueue, Step, step, is_awaiting, is_up}
+use Rattle.link_procedures.specs.Sending.{finished}
+use Rattle.link_procedures.specs.Establishment.{Outcome, quietly, submitted}
 use Rattle.link_procedures.specs.Receiving.{received}
-use Rattle.link_procedures.specs.Timing.{turned}
-use Rattle.link_laws.specs.TwoLinks.{Pair, mirror, Act, Submit, Turn, Arrive, Lose, Event, First, Second, acts}
-use Rattle.link_laws.specs.Numberings.{IsStart, IsTimely}
+use Rattle.link_procedures.specs.Timing.{is_due, turned}
+use Rattle.link_laws.specs.TwoLinks.{Pair, mirror, stepped, as_step, message_of, loses}
+use Rattle.link_laws.specs.Numberings.{IsStart, is_sabme, is_ua, Without}
+
+-- ---- a step of the first link
+
+-- a step begins with the oldest frame on the wire, with the turn of the link, or with messages of layer 3 only
+pub data Cause : Type 0 where
+  Arrival : Cause
+  Turn : Timers → Cause
+  Request : Cause
+
+-- a step, with the messages that layer 3 submits in it, in a frame of the exchange; or the loss of the oldest frame on the wire to the link
+pub data Act : Type 0 where
+  Steps : Cause → List (List ℕ) → ℕ → Act
+  Lose : Act
+
+pub data Event : Type 0 where
+  First : Act → Event
+  Second : Act → Event
+
+abbrev pub oldest : List (List ℕ) → Option Frame
+oldest [] = None
+oldest (octets ∷ rest) = reading Network octets
+
+abbrev pub younger : List (List ℕ) → List (List ℕ)
+younger [] = []
+younger (octets ∷ rest) = rest
+
+abbrev pub outcome_of : Pair → ℕ → Option Frame → Outcome
+outcome_of p at None = quietly (step p.first [])
+outcome_of p at (Some f) = received f at (step p.first [])
+
+abbrev pub outcome : Pair → Cause → ℕ → Outcome
+outcome p Arrival at = outcome_of p at (oldest p.back)
+outcome p (Turn t) at = turned t at (step p.first [])
+outcome p Request at = quietly (step p.first [])
+
+abbrev pub remaining : Pair → Cause → List (List ℕ)
+remaining p Arrival = younger p.back
+remaining p _ = p.back
+
+-- the message that the step delivers
+abbrev pub message_in : Pair → ℕ → Option Frame → List (List ℕ)
+message_in p at None = []
+message_in p at (Some f) = message_of f (received f at (step p.first [])).indication
+
+abbrev pub delivery : Pair → Cause → ℕ → List (List ℕ)
+delivery p Arrival at = message_in p at (oldest p.back)
+delivery p _ at = []
+
+-- the messages of layer 3 have at most 112 octets
+abbrev pub submits : List (List ℕ) → ℕ → Step → Step
+submits [] at s = s
+submits (m ∷ messages) at s = submits messages at (if nat_le (length m) 112 then submitted m at s else s)
+
+abbrev pub acts : Pair → Act → Pair
+acts p (Steps cause messages at) = stepped p (finished at (submits messages at (as_step (outcome p cause at)))) (remaining p cause) (p.submitted ++ messages) (p.returned ++ delivery p cause at)
+acts p Lose = loses p p.back
 
 -- ---- epochs, newest first
 
@@ -25,27 +84,14 @@ abbrev pub with_message : List ℕ → List (List (List ℕ)) → List (List (Li
 with_message m [] = (m ∷ []) ∷ []
 with_message m (epoch ∷ older) = (epoch ++ m ∷ []) ∷ older
 
--- what an act of the first side submits, and the indication that it brings to that side
-abbrev pub after_submission : Act → List (List (List ℕ)) → List (List (List ℕ))
-after_submission (Submit m at) epochs = if nat_le (length m) 112 then with_message m epochs else epochs
-after_submission _ epochs = epochs
+abbrev pub with_messages : List (List ℕ) → List (List (List ℕ)) → List (List (List ℕ))
+with_messages [] epochs = epochs
+with_messages (m ∷ messages) epochs = with_messages messages (if nat_le (length m) 112 then with_message m epochs else epochs)
 
-abbrev pub indication_of : Pair → ℕ → Option Frame → Option Indication
-indication_of p at None = None
-indication_of p at (Some f) = (received f at (step p.first [])).indication
-
-abbrev pub indication_at : Pair → ℕ → List (List ℕ) → Option Indication
-indication_at p at [] = None
-indication_at p at (octets ∷ rest) = indication_of p at (reading Network octets)
-
-abbrev pub indication_by : Pair → Act → Option Indication
-indication_by p (Submit m at) = None
-indication_by p (Turn t at) = (turned t at (step p.first [])).indication
-indication_by p (Arrive at) = indication_at p at p.back
-indication_by p Lose = None
-
+-- layer 3 submits messages after the indication that the step brings
 abbrev pub epochs_after : Pair → Act → List (List (List ℕ)) → List (List (List ℕ))
-epochs_after p a epochs = after_indication (indication_by p a) (after_submission a epochs)
+epochs_after p (Steps cause messages at) epochs = with_messages messages (after_indication (outcome p cause at).indication epochs)
+epochs_after p Lose epochs = epochs
 
 -- ---- two links, and the epochs of each side
 
@@ -65,9 +111,22 @@ abbrev pub run : List Event → Story → Story
 run [] s = s
 run (e ∷ es) s = run es (next s e)
 
+-- T200 of a link in state 5 expires only if neither its SABME nor the UA is on the wires
+abbrev pub IsTimelyAct : Pair → Act → Type 0
+IsTimelyAct p (Steps (Turn t) messages at) = is_awaiting p.first.state ≡ true → is_due t at p.first.timer ≡ true → Without is_sabme p.there × Without is_ua p.back
+IsTimelyAct p _ = Unit {0}
+
+abbrev pub IsTimelyEvent : Pair → Event → Type 0
+IsTimelyEvent p (First a) = IsTimelyAct p a
+IsTimelyEvent p (Second a) = IsTimelyAct (mirror p) a
+
+abbrev pub IsTimely : List Event → Story → Type 0
+IsTimely [] s = Unit {0}
+IsTimely (e ∷ es) s = IsTimelyEvent s.pair e × IsTimely es (next s e)
+
 -- after any events, from the start of both links, if T200 is longer than the way there and back
 abbrev pub Always : (Story → Type 0) → Type 0
-Always Holds = (events : List Event) (p : Pair) → IsStart p → IsTimely events p → Holds (run events (begin p))
+Always Holds = (events : List Event) (p : Pair) → IsStart p → IsTimely events (begin p) → Holds (run events (begin p))
 
 -- ---- what is delivered
 

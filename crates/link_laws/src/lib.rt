@@ -73,8 +73,9 @@ pub fn law_of_silent_renumbering()
 
 /// For every loss and across establishments, each message is delivered at most once and in order. A side can lose only the
 /// last messages that it submits before an indication (`order`). While a link is up, no message since the last indication
-/// is lost: those that left the queue were delivered, and of the others at most the unacknowledged ones (`arrived`). The
-/// premise is that T200 does not expire in state 5 while SABME or its UA is on a wire.
+/// is lost: those that left the queue were delivered, and of the others at most the unacknowledged ones (`arrived`). A step
+/// begins with a frame, a turn or neither, and layer 3 submits any messages in it. The premise is that T200 does not expire
+/// in state 5 while SABME or its UA is on a wire.
 pub fn in_order_or_told()
     ensures order { epochs.Always epochs.IsInOrderOrTold }
     ensures arrived { epochs.Always epochs.HasArrivedBothWays }
