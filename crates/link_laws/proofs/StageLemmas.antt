@@ -1,19 +1,18 @@
 -- The other parts of a step: SABME and UA are sent, a numbering begins, a frame is lost.
-use Rattle.std.proofs.Common.{◌≡◌, ◌≢◌, ◌⊎◌, ℕ, zero, suc, ◌+◌, ◌-◌, ◌%◌, ◌<◌, ◌≤◌, Bool, true, false, List, [], ◌∷◌, ◌++◌, length, take, drop, refl, sym, ap, ◌∙◌, subst, inl, inr, arith, append_assoc, append-nil, Option, Some, None}
+use Rattle.std.proofs.Common.{◌≡◌, ℕ, ◌+◌, ◌-◌, ◌%◌, Bool, true, false, List, [], ◌∷◌, ◌++◌, length, refl, sym, ap, ◌∙◌, subst, inl, arith, append-nil}
 use Rattle.std.specs.Prelude.{◌==◌, All}
 use Rattle.std.proofs.lemmas.Bool.{eqb-true, eqb-false}
-use Rattle.link_procedures.specs.Links.{DataLink, Step, step, is_multiple_frame, is_up}
+use Rattle.link_procedures.specs.Links.{DataLink, Step, is_up}
 use Rattle.link_procedures.specs.AnyPeer.{IsShort}
 use Rattle.link_laws.specs.Window.{Direction, drops, moved}
-use Rattle.link_laws.specs.Handshake.{Signal, Sabme, Ua, Numbered, Side, Off, Calling, On, Lose as HandLose, Second as HandSecond, uas}
+use Rattle.link_laws.specs.Handshake.{Side, On, Lose as HandLose, Second as HandSecond}
 use Rattle.link_laws.specs.TwoLinks.{Pair, stepped}
-use Rattle.link_laws.specs.Numberings.{IsSide}
 use Rattle.link_laws.proofs.WindowLemmas.{Holds, Acknowledgements, missed, dropped_one}
-use Rattle.link_laws.proofs.HandshakeLemmas.{Holds as HandHolds, mine, next_keeps}
-use Rattle.link_laws.proofs.TwoLinksLemmas.{Item, Info, Sup, counts, acks, Full}
-use Rattle.link_laws.proofs.WireLemmas.{Token, Calls, Answers, Data, signals, octets, infos, acks_of, infos_append, acks_of_append, count_same, count_other, ack_same, ack_other, AllGood, good_append, good_same, good_beside, ahead, good_begun, none_infos, none_acks, ahead_holds}
-use Rattle.link_laws.proofs.TaleLemmas.{Sending, Told, Current, Tale, told_of, told_moves, current_moves}
-use Rattle.link_laws.proofs.LaneLemmas.{Receives, Lane, Lanes, hands, Joint, Goes, receives_same, sending_same, octets_then}
+use Rattle.link_laws.proofs.HandshakeLemmas.{mine, next_keeps}
+use Rattle.link_laws.proofs.TwoLinksLemmas.{Item, Info, Sup, counts, acks, Full, full_same}
+use Rattle.link_laws.proofs.WireLemmas.{Token, Calls, Answers, Data, octets, infos, acks_of, infos_append, acks_of_append, count_same, count_other, ack_same, ack_other, AllGood, good_append, good_same, good_beside, ahead, good_begun, none_infos, none_acks, ahead_holds}
+use Rattle.link_laws.proofs.TaleLemmas.{Sending, Current, Tale, told_of, told_moves, current_moves}
+use Rattle.link_laws.proofs.LaneLemmas.{Receives, Lane, Lanes, hands, Joint, receives_same, sending_same}
 
 none_more : (g : ℕ) (ts us : List Token) → acks_of g us ≡ [] → acks_of g (ts ++ us) ≡ acks_of g ts
 none_more g ts us e = acks_of_append g ts us ∙ ap (λ x. acks_of g ts ++ x) e ∙ append-nil (acks_of g ts)
@@ -29,6 +28,7 @@ pass_call l m a b n ts bs d e es fs arrived returned h = record {
   two = record { holds = h.two.holds; next = h.two.next; underway = h.two.underway; replies = h.two.replies; good = h.two.good.1; short = h.two.short; sending = h.two.sending; receives = h.two.receives };
   first = h.first;
   second = h.second;
+  rests = h.rests;
 }
 
 pub pass_answer : (l m : DataLink) (a b : Side) (n : ℕ) (ts bs : List Token) (d e : Direction) (es fs : List (List (List ℕ))) (arrived returned : List (List ℕ)) → Lanes l m a b ts (Answers n ∷ bs) d e es fs arrived returned → Lanes l m a b ts bs d e es fs arrived returned
@@ -37,6 +37,7 @@ pass_answer l m a b n ts bs d e es fs arrived returned h = record {
   two = record { holds = h.two.holds; next = h.two.next; underway = h.two.underway; replies = h.two.replies; good = h.two.good.1; short = h.two.short; sending = h.two.sending; receives = h.two.receives };
   first = h.first;
   second = h.second;
+  rests = h.rests;
 }
 
 -- ---- an I or S frame is passed over
@@ -70,26 +71,32 @@ unheard : (d : Direction) (g h k : ℕ) (i : Item) (bs : List Token) → Holds d
 unheard d g h k i bs holds at = cases (k == g) refl
   where
     cases : (b : Bool) → (k == g) ≡ b → (e : Direction) × Unheard d e (acks_of g bs)
-    cases true same = (moved d 0 (acks_of g bs), record {
-      holds = missed d (ack_number i) (acks_of g bs) (at ∙ ap (λ x. x ++ acks_of g bs) (ack_same h k g i (eqb-true k g same) ∙ acks_one i)) holds;
-      told = refl;
-      submitted = refl;
-      delivered = refl;
-      underway = refl;
-      acknowledged = plus_none d.acknowledged;
-      sent = less_none d.sent;
-      reached = refl;
-    })
-    cases false other = (d, record {
-      holds = holds;
-      told = at ∙ ap (λ x. x ++ acks_of g bs) (ack_other h k g i (eqb-false k g other));
-      submitted = refl;
-      delivered = refl;
-      underway = refl;
-      acknowledged = refl;
-      sent = refl;
-      reached = refl;
-    })
+    cases true same = (
+      moved d 0 (acks_of g bs),
+      record {
+        holds = missed d (ack_number i) (acks_of g bs) (at ∙ ap (λ x. x ++ acks_of g bs) (ack_same h k g i (eqb-true k g same) ∙ acks_one i)) holds;
+        told = refl;
+        submitted = refl;
+        delivered = refl;
+        underway = refl;
+        acknowledged = plus_none d.acknowledged;
+        sent = less_none d.sent;
+        reached = refl;
+      },
+    )
+    cases false other = (
+      d,
+      record {
+        holds = holds;
+        told = at ∙ ap (λ x. x ++ acks_of g bs) (ack_other h k g i (eqb-false k g other));
+        submitted = refl;
+        delivered = refl;
+        underway = refl;
+        acknowledged = refl;
+        sent = refl;
+        reached = refl;
+      },
+    )
 
 record Unseen (d e : Direction) (underway : List ℕ) : Type 0 where
   pub holds : Holds e
@@ -130,51 +137,62 @@ tale_same l d e es taken a b h = record {
   owed = h.owed;
 }
 
-pass_data : (l m : DataLink) (a b : Side) (n q : ℕ) (i : Item) (ts bs : List Token) (d e : Direction) (es fs : List (List (List ℕ))) (arrived returned : List (List ℕ)) → Lanes l m a b ts (Data n q i ∷ bs) d e es fs arrived returned → (d' : Direction) × (e' : Direction) × Lanes l m a b ts bs d' e' es fs arrived returned
+pass_data : (l m : DataLink) (a b : Side) (n q : ℕ) (i : Item) (ts bs : List Token) (d e : Direction) (es fs : List (List (List ℕ))) (arrived returned : List (List ℕ)) → Lanes l m a b ts (Data n q i ∷ bs) d e es fs arrived returned → (d' : Direction) × (e' : Direction) × Lanes l m a b ts bs d' e' es fs arrived returned × (Full d → Full d')
 pass_data l m a b n q i ts bs d e es fs arrived returned h =
     let x = unheard d (mine a) n q i bs h.one.holds h.one.replies in
     let y = unseen e (mine b) n q i bs h.two.holds h.two.underway in
-    let k = x.1 in let j = y.1 in (x.0, y.0, record {
-      one = record {
-        holds = k.holds;
-        next = next_unheard (mine a + 1) n q i bs h.one.next;
-        underway = k.underway ∙ h.one.underway;
-        replies = k.told;
-        good = good_same (mine a) (mine b) d x.0 ts k.submitted (inl k.delivered) h.one.good;
-        short = subst (All IsShort) (sym k.submitted) h.one.short;
-        sending = λ up. sending_same l d x.0 k.submitted k.acknowledged k.sent k.reached (h.one.sending up);
-        receives = receives_same m b (mine a) d x.0 k.delivered h.one.receives;
-      };
-      two = record {
-        holds = j.holds;
-        next = h.two.next;
-        underway = j.rest;
-        replies = j.replies ∙ h.two.replies;
-        good = good_same (mine b) (mine a) e y.0 bs j.submitted (inl j.delivered) h.two.good.1;
-        short = subst (All IsShort) (sym j.submitted) h.two.short;
-        sending = λ up. sending_same m e y.0 j.submitted j.acknowledged j.sent j.reached (h.two.sending up);
-        receives = receives_same l a (mine b) e y.0 j.delivered h.two.receives;
-      };
-      first = tale_same l d x.0 es arrived k.submitted k.delivered h.first;
-      second = tale_same m e y.0 fs returned j.submitted j.delivered h.second;
-    })
+    let k = x.1 in let j = y.1 in (
+      x.0,
+      y.0,
+      record {
+        one = record {
+          holds = k.holds;
+          next = next_unheard (mine a + 1) n q i bs h.one.next;
+          underway = k.underway ∙ h.one.underway;
+          replies = k.told;
+          good = good_same (mine a) (mine b) d x.0 ts k.submitted (inl k.delivered) h.one.good;
+          short = subst (All IsShort) (sym k.submitted) h.one.short;
+          sending = λ up. sending_same l d x.0 k.submitted k.acknowledged k.sent k.reached (h.one.sending up);
+          receives = receives_same m b (mine a) d x.0 k.delivered h.one.receives;
+        };
+        two = record {
+          holds = j.holds;
+          next = h.two.next;
+          underway = j.rest;
+          replies = j.replies ∙ h.two.replies;
+          good = good_same (mine b) (mine a) e y.0 bs j.submitted (inl j.delivered) h.two.good.1;
+          short = subst (All IsShort) (sym j.submitted) h.two.short;
+          sending = λ up. sending_same m e y.0 j.submitted j.acknowledged j.sent j.reached (h.two.sending up);
+          receives = receives_same l a (mine b) e y.0 j.delivered h.two.receives;
+        };
+        first = tale_same l d x.0 es arrived k.submitted k.delivered h.first;
+        second = tale_same m e y.0 fs returned j.submitted j.delivered h.second;
+        rests = λ up. full_same e y.0 j.acknowledged j.sent j.reached (h.rests up);
+      },
+      λ f. full_same d x.0 k.acknowledged k.sent k.reached f,
+    )
 
-pass_any : (l m : DataLink) (a b : Side) (t : Token) (ts bs : List Token) (d e : Direction) (es fs : List (List (List ℕ))) (arrived returned : List (List ℕ)) → Lanes l m a b ts (t ∷ bs) d e es fs arrived returned → (d' : Direction) × (e' : Direction) × Lanes l m a b ts bs d' e' es fs arrived returned
-pass_any l m a b (Calls n) ts bs d e es fs arrived returned h = (d, e, pass_call l m a b n ts bs d e es fs arrived returned h)
-pass_any l m a b (Answers n) ts bs d e es fs arrived returned h = (d, e, pass_answer l m a b n ts bs d e es fs arrived returned h)
+pass_any : (l m : DataLink) (a b : Side) (t : Token) (ts bs : List Token) (d e : Direction) (es fs : List (List (List ℕ))) (arrived returned : List (List ℕ)) → Lanes l m a b ts (t ∷ bs) d e es fs arrived returned → (d' : Direction) × (e' : Direction) × Lanes l m a b ts bs d' e' es fs arrived returned × (Full d → Full d')
+pass_any l m a b (Calls n) ts bs d e es fs arrived returned h = (d, e, pass_call l m a b n ts bs d e es fs arrived returned h, λ f. f)
+pass_any l m a b (Answers n) ts bs d e es fs arrived returned h = (d, e, pass_answer l m a b n ts bs d e es fs arrived returned h, λ f. f)
 pass_any l m a b (Data n q i) ts bs d e es fs arrived returned h = pass_data l m a b n q i ts bs d e es fs arrived returned h
 
 -- the oldest frame is lost, or passed over
-pub drops_goes : (p : Pair) (s : Step) (rest rest' sub ret : List (List ℕ)) (es fs : List (List (List ℕ))) (a b : Side) (t : Token) (ts bs : List Token) (d e : Direction) → rest' ≡ octets bs → Joint (stepped p s rest sub ret) es fs a b ts (t ∷ bs) d e → (d' : Direction) × (e' : Direction) × Joint (stepped p s rest' sub ret) es fs a b ts bs d' e'
+pub drops_goes : (p : Pair) (s : Step) (rest rest' sub ret : List (List ℕ)) (es fs : List (List (List ℕ))) (a b : Side) (t : Token) (ts bs : List Token) (d e : Direction) → rest' ≡ octets bs → Joint (stepped p s rest sub ret) es fs a b ts (t ∷ bs) d e → (d' : Direction) × (e' : Direction) × Joint (stepped p s rest' sub ret) es fs a b ts bs d' e' × (Full d → Full d')
 drops_goes p s rest rest' sub ret es fs a b t ts bs d e back h =
-    let k = pass_any s.link p.second a b t ts bs d e es fs p.arrived ret h.lanes in (k.0, k.1, record {
-      hand = next_keeps (hands a b ts (t ∷ bs)) (HandSecond HandLose) h.hand;
-      first = h.first;
-      second = h.second;
-      there = h.there;
-      back = back;
-      lanes = k.2;
-    })
+    let k = pass_any s.link p.second a b t ts bs d e es fs p.arrived ret h.lanes in (
+      k.0,
+      k.1,
+      record {
+        hand = next_keeps (hands a b ts (t ∷ bs)) (HandSecond HandLose) h.hand;
+        first = h.first;
+        second = h.second;
+        there = h.there;
+        back = back;
+        lanes = k.2;
+      },
+      k.3,
+    )
 
 -- ---- the link calls, gives up, or answers: its numbering stays
 
@@ -202,6 +220,7 @@ quiet_lanes l l' m a a' b ts us bs d e es es' fs arrived returned same deaf none
   });
   first = tale;
   second = h.second;
+  rests = h.rests;
 }
 
 -- ---- a numbering begins
@@ -217,7 +236,7 @@ begins_lanes l l' m a b u ts us bs d e es es' fs arrived returned receives clean
     replies = refl;
     good = good_append (mine a + 1) (mine b) (ahead l'.queue.waiting (acks_of (mine a + 1) bs)) ts us (good_begun (mine a) (mine b) d l'.queue.waiting (acks_of (mine a + 1) bs) ts h.one.good) good;
     short = short;
-    sending = λ up. record { number = zero_acknowledged; sent = zero_sent; waiting = refl; full = omega arith };
+    sending = λ up. record { number = zero_acknowledged; sent = zero_sent; waiting = refl; sure = λ x. omega arith };
     receives = receives;
   };
   two = record {
@@ -232,4 +251,5 @@ begins_lanes l l' m a b u ts us bs d e es es' fs arrived returned receives clean
   };
   first = record { told = told_of _ es' arrived current; current = λ up. current; owed = λ up. owed };
   second = h.second;
+  rests = h.rests;
 }

@@ -1,10 +1,10 @@
 -- What of a side's epochs was delivered, from the window of its numbering.
-use Rattle.std.proofs.Common.{◌≡◌, ◌⊎◌, ℕ, zero, suc, ◌+◌, ◌%◌, ◌<◌, ◌≤◌, Bool, true, false, List, [], ◌∷◌, ◌++◌, length, take, drop, refl, sym, ap, ◌∙◌, subst, inl, inr, arith, append_assoc, append-nil, length-append}
+use Rattle.std.proofs.Common.{◌≡◌, ◌⊎◌, ℕ, zero, suc, ◌+◌, ◌%◌, ◌≤◌, true, false, List, [], ◌∷◌, ◌++◌, length, take, drop, refl, sym, ap, ◌∙◌, inl, inr, arith, append_assoc, append-nil, length-append}
 use Rattle.link_procedures.specs.Links.{DataLink, is_up}
 use Rattle.link_laws.specs.Window.{Direction, Submit as WindowSubmit, happens}
-use Rattle.link_laws.specs.Epochs.{with_message, IsParted, HasArrived, HasArrivedFrom}
+use Rattle.link_laws.specs.Epochs.{with_message, IsParted, HasArrivedFrom}
 use Rattle.link_laws.proofs.WindowLemmas.{Holds, take_longer}
-use Rattle.link_laws.proofs.TwoLinksLemmas.{Full}
+use Rattle.link_laws.proofs.TwoLinksLemmas.{Full, ready}
 use Rattle.link_laws.proofs.WireLemmas.{ahead}
 
 -- the queue of a link is what its window has not acknowledged
@@ -12,7 +12,7 @@ pub record Sending (l : DataLink) (d : Direction) : Type 0 where
   pub number : l.queue.acknowledged ≡ d.acknowledged % 128
   pub sent : l.queue.sent ≡ d.sent
   pub waiting : l.queue.waiting ≡ drop d.acknowledged d.submitted
-  pub full : Full d
+  pub sure : ready l ≡ false → Full d
 
 -- the messages of the window belong to this epoch: after base, and before what was lost
 pub record Active (d : Direction) (epoch : List (List ℕ)) (older : List (List (List ℕ))) (taken : List (List ℕ)) : Type 0 where
@@ -75,14 +75,17 @@ told_submits d m (epoch ∷ older) taken (inl h) = inl (record {
 
 pub current_submits : (d : Direction) (m : List ℕ) (es : List (List (List ℕ))) (taken : List (List ℕ)) → Current d es taken → Current (happens d (WindowSubmit m)) (with_message m es) taken
 current_submits d m [] taken h = elim h [ ]
-current_submits d m (epoch ∷ older) taken h = (record {
-  base = h.0.base;
-  lost = [];
-  before = h.0.before;
-  whole = ap (λ x. x ++ m ∷ []) (h.0.whole ∙ ap (λ x. h.0.base ++ (d.submitted ++ x)) h.1 ∙ ap (λ x. h.0.base ++ x) (append-nil d.submitted)) ∙ append_assoc h.0.base d.submitted (m ∷ []) ∙ ap (λ x. h.0.base ++ x) (sym (append-nil (d.submitted ++ m ∷ [])));
-  got = h.0.got;
-  parted = h.0.parted;
-}, refl)
+current_submits d m (epoch ∷ older) taken h = (
+  record {
+    base = h.0.base;
+    lost = [];
+    before = h.0.before;
+    whole = ap (λ x. x ++ m ∷ []) (h.0.whole ∙ ap (λ x. h.0.base ++ (d.submitted ++ x)) h.1 ∙ ap (λ x. h.0.base ++ x) (append-nil d.submitted)) ∙ append_assoc h.0.base d.submitted (m ∷ []) ∙ ap (λ x. h.0.base ++ x) (sym (append-nil (d.submitted ++ m ∷ [])));
+    got = h.0.got;
+    parted = h.0.parted;
+  },
+  refl,
+)
 
 -- ---- what follows
 
@@ -116,9 +119,9 @@ drop_base (x ∷ base) submitted n = ap (λ k. drop k (x ∷ (base ++ submitted)
 plus : (a b c : ℕ) → a ≡ b → c + a ≡ c + b
 plus a b c e = omega (arith, e)
 
-pub arrived_of : (l : DataLink) (d : Direction) (es : List (List (List ℕ))) (taken : List (List ℕ)) → Holds d → Sending l d → Current d es taken → HasArrivedFrom l.queue.waiting es taken
-arrived_of l d [] taken k s h = h
-arrived_of l d (epoch ∷ older) taken k s h =
+pub arrived_of : (l : DataLink) (d : Direction) (es : List (List (List ℕ))) (taken : List (List ℕ)) → Holds d → Sending l d → Full d → Current d es taken → HasArrivedFrom l.queue es taken
+arrived_of l d [] taken k s full h = h
+arrived_of l d (epoch ∷ older) taken k s full h =
     let base = h.0.base in
     let whole : epoch ≡ base ++ d.submitted = h.0.whole ∙ ap (λ x. base ++ (d.submitted ++ x)) h.1 ∙ ap (λ x. base ++ x) (append-nil d.submitted) in
     let long : length (base ++ d.delivered) ≡ length base + length d.delivered = length-append base d.delivered in
@@ -132,7 +135,8 @@ arrived_of l d (epoch ∷ older) taken k s h =
       acknowledged = length base + d.acknowledged;
       kept = s.waiting ∙ sym (ap (λ x. drop (length base + d.acknowledged) x) whole ∙ drop_base base d.submitted d.acknowledged);
       arrived = omega (arith, long, a);
-      window = omega (arith, long, b, c);
+      unacknowledged = let f = full in let g = s.sent in omega (arith, long, b, f, g);
+      window = let g = s.sent in let f = k.sent_reached in omega (arith, c, f, g);
       submitted = omega (arith, long, all, b, e);
     }
 
@@ -149,16 +153,19 @@ settled_split submitted delivered waiting n e f g = sym (ap (λ x. x ++ waiting)
     take_drop (suc n) [] = refl
     take_drop (suc n) (x ∷ xs) = ap (λ ys. x ∷ ys) (take_drop n xs)
 
-pub told_goes_on : (l : DataLink) (d : Direction) (replies : List ℕ) (es : List (List (List ℕ))) (taken : List (List ℕ)) → Holds d → Sending l d → l.queue.sent ≡ 0 → Current d es taken → Current (ahead l.queue.waiting replies) es taken
-told_goes_on l d replies [] taken k s none h = h
-told_goes_on l d replies (epoch ∷ older) taken k s none h =
-    let a = k.delivered_acknowledged in let b = k.delivered_reached in let c = s.full in let e = s.sent in
+pub told_goes_on : (l : DataLink) (d : Direction) (replies : List ℕ) (es : List (List (List ℕ))) (taken : List (List ℕ)) → Holds d → Sending l d → Full d → l.queue.sent ≡ 0 → Current d es taken → Current (ahead l.queue.waiting replies) es taken
+told_goes_on l d replies [] taken k s full none h = h
+told_goes_on l d replies (epoch ∷ older) taken k s full none h =
+    let a = k.delivered_acknowledged in let b = k.delivered_reached in let c = full in let e = s.sent in
     let at : length d.delivered ≡ d.acknowledged = omega (arith, a, b, c, e, none) in
-    let split = settled_split d.submitted d.delivered l.queue.waiting d.acknowledged k.prefix at s.waiting in (record {
-      base = h.0.base ++ d.delivered;
-      lost = [];
-      before = h.0.before;
-      whole = h.0.whole ∙ ap (λ x. h.0.base ++ (d.submitted ++ x)) h.1 ∙ ap (λ x. h.0.base ++ x) (append-nil d.submitted) ∙ ap (λ x. h.0.base ++ x) split ∙ sym (append_assoc h.0.base d.delivered l.queue.waiting) ∙ ap (λ x. (h.0.base ++ d.delivered) ++ x) (sym (append-nil l.queue.waiting));
-      got = h.0.got ∙ ap (λ x. h.0.before ++ x) (sym (append-nil (h.0.base ++ d.delivered)));
-      parted = h.0.parted;
-    }, refl)
+    let split = settled_split d.submitted d.delivered l.queue.waiting d.acknowledged k.prefix at s.waiting in (
+      record {
+        base = h.0.base ++ d.delivered;
+        lost = [];
+        before = h.0.before;
+        whole = h.0.whole ∙ ap (λ x. h.0.base ++ (d.submitted ++ x)) h.1 ∙ ap (λ x. h.0.base ++ x) (append-nil d.submitted) ∙ ap (λ x. h.0.base ++ x) split ∙ sym (append_assoc h.0.base d.delivered l.queue.waiting) ∙ ap (λ x. (h.0.base ++ d.delivered) ++ x) (sym (append-nil l.queue.waiting));
+        got = h.0.got ∙ ap (λ x. h.0.before ++ x) (sym (append-nil (h.0.base ++ d.delivered)));
+        parted = h.0.parted;
+      },
+      refl,
+    )

@@ -113,7 +113,7 @@ Full w = w.reached ≤ w.acknowledged + w.sent
 abbrev pub ready : DataLink → Bool
 ready l = is_established l.state && not l.busy
 
-ready_same : (l m : DataLink) → m.state ≡ l.state → m.busy ≡ l.busy → ready m ≡ ready l
+pub ready_same : (l m : DataLink) → m.state ≡ l.state → m.busy ≡ l.busy → ready m ≡ ready l
 ready_same l m a b = rw (a, b) refl
 
 ready_now : (l : DataLink) → is_established l.state ≡ true → l.busy ≡ false → ready l ≡ true
@@ -677,22 +677,25 @@ le_or_lt a b = cases (nat_le a b) refl
     cases false e = inr (leb-false a b e)
 
 -- V(S) has reached all that was sent
-pub full_at_end : (l : DataLink) (w v : Direction) → is_free l ≡ false → Local l w v → Full w
-full_at_end l w v shut h = cases (ready l) refl
+pub full_from : (l : DataLink) (w : Direction) → is_free l ≡ false → l.queue.sent ≡ w.sent → l.queue.waiting ≡ drop w.acknowledged w.submitted → (ready l ≡ false → Full w) → Holds w → Full w
+full_from l w shut same waiting sure h = cases (ready l) refl
   where
     all : (length l.queue.waiting ≤ l.queue.sent) ⊎ (l.queue.sent < length l.queue.waiting) → l.queue.sent < 7 → ready l ≡ true → Full w
     all (inl none) few e =
-        let long : length l.queue.waiting ≡ length w.submitted - w.acknowledged = ap length h.waiting ∙ length-drop w.acknowledged w.submitted in
-        let same = h.sent in let most = h.one.reached_submitted in omega (arith, none, long, same, most)
+        let long : length l.queue.waiting ≡ length w.submitted - w.acknowledged = ap length waiting ∙ length-drop w.acknowledged w.submitted in
+        let most = h.reached_submitted in omega (arith, none, long, same, most)
     all (inr some) few e = clash (is_free l) (free_from l e few some) shut
 
     wide : (7 ≤ l.queue.sent) ⊎ (l.queue.sent < 7) → ready l ≡ true → Full w
-    wide (inl many) e = let same = h.sent in let most = h.one.reached_acknowledged in omega (arith, many, same, most)
+    wide (inl many) e = let most = h.reached_acknowledged in omega (arith, many, same, most)
     wide (inr few) e = all (le_or_lt (length l.queue.waiting) l.queue.sent) few e
 
     cases : (b : Bool) → ready l ≡ b → Full w
-    cases false e = h.sure e
+    cases false e = sure e
     cases true e = wide (le_or_lt 7 l.queue.sent) e
+
+pub full_at_end : (l : DataLink) (w v : Direction) → is_free l ≡ false → Local l w v → Full w
+full_at_end l w v shut h = full_from l w shut h.sent h.waiting h.sure h.one
 
 -- a step after which the link is in multiple frame operation did not stop
 finished_sim : (now : ℕ) (s t : Step) (w v : Direction) (u r : List ℕ) (d : List (List ℕ)) → is_multiple_frame (finished now t).link.state ≡ true → MayStop (Sim s t w v u r d) t → Sim s (finished now t) w v u r d

@@ -1,15 +1,15 @@
 -- What is on the wires across establishments: the frames of each numbering, apart.
-use Rattle.std.proofs.Common.{◌≡◌, ◌≢◌, ◌⊎◌, ℕ, zero, suc, ◌+◌, ◌-◌, ◌%◌, ◌<◌, ◌≤◌, Bool, true, false, List, [], ◌∷◌, ◌++◌, length, take, drop, refl, sym, ap, ◌∙◌, subst, inl, inr, arith, if◌then◌else◌, append_assoc, append-nil, Some, None, Option}
-use Rattle.std.specs.Prelude.{◌==◌, slice_index_or, All}
-use Rattle.std.proofs.lemmas.Bool.{eq-eqb, eqb-true, eqb-false, ne_eqb}
+use Rattle.std.proofs.Common.{◌≡◌, ◌≢◌, ◌⊎◌, ℕ, ◌+◌, ◌≤◌, Bool, true, false, List, [], ◌∷◌, ◌++◌, refl, sym, ap, ◌∙◌, subst, inl, inr, arith, if◌then◌else◌, append_assoc, Some}
+use Rattle.std.specs.Prelude.{◌==◌, All}
+use Rattle.std.proofs.lemmas.Bool.{eq-eqb, ne_eqb}
 use Rattle.link_frames.specs.declared.frame.Sender.TheVariants.{Network}
 use Rattle.link_frames.specs.declared.frame.Control.TheVariants as control
 use Rattle.link_frames.specs.Reading.{reading}
 use Rattle.link_frames.specs.Writing.{encoding}
 use Rattle.link_procedures.specs.Sending.{command, response}
 use Rattle.link_procedures.specs.AnyPeer.{IsShort}
-use Rattle.link_laws.specs.Window.{Direction, Submit as WindowSubmit, Answer, happens}
-use Rattle.link_laws.specs.Handshake.{Signal, Sabme, Ua, Numbered, sabmes, uas}
+use Rattle.link_laws.specs.Window.{Direction, Submit as WindowSubmit, happens}
+use Rattle.link_laws.specs.Handshake.{Signal, Sabme, Ua, Numbered, uas}
 use Rattle.link_laws.proofs.WindowLemmas.{Holds, Acknowledgements}
 use Rattle.link_laws.proofs.TwoLinksLemmas.{Item, Info, Sup, frame, wire, counts, acks, Genuine, genuine_longer, read_item, clash}
 

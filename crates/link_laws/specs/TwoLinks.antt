@@ -134,7 +134,7 @@ pub record IsDelivered (submitted delivered waiting : List (List ℕ)) : Type 0 
 abbrev pub IsDeliveredBothWays : Pair → Type 0
 IsDeliveredBothWays p = IsDelivered p.submitted p.arrived p.first.queue.waiting × IsDelivered p.replied p.returned p.second.queue.waiting
 
--- if no sent message is unacknowledged, the messages that have not arrived are those that wait
+-- if no sent message is unacknowledged, exactly the messages that have not arrived are waiting
 abbrev pub WaitsUndelivered : DataLink → List (List ℕ) → List (List ℕ) → Type 0
 WaitsUndelivered l submitted delivered = l.queue.sent ≡ 0 → l.queue.waiting ≡ drop (length delivered) submitted
 

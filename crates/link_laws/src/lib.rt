@@ -1,18 +1,22 @@
 //! Theorems on the data link of ITU-T Q.921 (09/97), over wires that lose frames and preserve their order.
 //!
+//! The main theorem is [`in_order_or_told`]: from their start and across establishments, two links as `link_procedures`
+//! defines them deliver each other's messages at most once and in order. The wires carry their octets. An epoch is what a
+//! side submits between two indications to its layer 3. Only the last messages of an epoch can be lost, and none of the
+//! newest epoch while the link is up. The condition is that T200 is longer than the round trip.
+//!
 //! - [`in_order`]: between two establishments each message arrives at most once and in order, and a message counts as
 //!   acknowledged only if it arrived (`prefix`, `arrived`, `window`).
 //! - [`numberings_agree`]: an accepted I or S frame has the numberings of its receiver, across establishments. The
 //!   condition is that T200 is longer than the round trip.
-//! - [`in_order_between_links`]: between two establishments, two links as `link_procedures` defines them deliver each
-//!   other's messages at most once and in order. The wires carry their octets.
-//! - [`links_follow_the_handshake`]: two such links, from their start and across establishments, are the sides of which
+//! - [`links_follow_the_handshake`]: two links, from their start and across establishments, are the sides of which
 //!   `numberings_agree` speaks.
+//! - [`in_order_between_links`]: between two establishments, two links deliver each other's messages at most once and in
+//!   order, also if T200 is shorter.
+//! - [`waiting_is_undelivered`]: between two establishments, the queue of a link without unacknowledged I frames holds
+//!   exactly the messages that have not arrived.
 //! - [`law_of_silent_renumbering`]: if V(R) returns to 0 without an indication, all messages go on waiting, and no frame
 //!   was unacknowledged.
-//!
-//! No theorem joins the windows of consecutive numberings. `link_tests` tests that layer 3 is informed of the messages
-//! that a re-establishment loses.
 #![tactic(auto)]
 
 ghost use Rattle.std.specs.Prelude.{◌+◌, ◌≤◌, ℕ, List, length};
@@ -67,11 +71,12 @@ pub fn law_of_silent_renumbering()
     ensures { (f : Frame) (at : ℕ) (s : Step) → IsNumbered f.control → IsSilent s.link (received f at s) }
 {}
 
-/// For every loss, each message is delivered at most once and in order, across establishments. Of the messages that a side
-/// submits between two indications, a first part is delivered, and the rest is lost (`order`). While a link is up, the
-/// messages that left its queue since the last indication were delivered, and at most 7 more (`arrived`). The premise is that
-/// T200 does not expire in state 5 while SABME or its UA is on a wire.
+/// For every loss and across establishments, each message is delivered at most once and in order. A side can lose only the
+/// last messages that it submits before an indication (`order`). While a link is up, no message since the last indication
+/// is lost: those that left the queue were delivered, and of the others at most the unacknowledged ones (`arrived`). A step
+/// begins with a frame, a turn or neither, and layer 3 submits any messages in it. The premise is that T200 does not expire
+/// in state 5 while SABME or its UA is on a wire.
 pub fn in_order_or_told()
-    ensures order { (events : List links.Event) (p : links.Pair) → IsStart p → IsTimely events p → epochs.IsInOrderOrTold (epochs.run events (epochs.begin p)) }
-    ensures arrived { (events : List links.Event) (p : links.Pair) → IsStart p → IsTimely events p → epochs.HasArrivedBothWays (epochs.run events (epochs.begin p)) }
+    ensures order { epochs.Always epochs.IsInOrderOrTold }
+    ensures arrived { epochs.Always epochs.HasArrivedBothWays }
 {}
