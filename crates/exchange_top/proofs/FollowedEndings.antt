@@ -11,7 +11,7 @@ use Rattle.lone_exchange.specs.At.{Carrying}
 use Rattle.exchange_top.specs.Following.{AreAnswered, FollowsTo, HasReturned, IsAnswered, IsEngineOf, course, dues_of, follow_parties, setting_said, world_said}
 use Rattle.exchange_top.specs.Handling.{HasHandled, IsEngineAfter, engine_returned, handler_dues}
 use Rattle.exchange_top.specs.Outcomes.{HandsOut}
-use Rattle.line_follower.specs.Following.{At_end, At_line, Dues, HasFollowed, IsDue, IsRefused, IsSettled}
+use Rattle.line_follower.specs.Following.{At_end, At_line, Dues, HasFollowed, IsDue, IsRefused, IsSettled, with_end}
 use Rattle.line_follower.specs.declared.following.Following.{Following}
 use Rattle.line_follower.specs.declared.following.Following.TheVariants as ended
 
@@ -44,6 +44,26 @@ module _ (first other : Dues) (too : IsToo first other) where
   followed_too ended.ReadFailed heard said due = due_too ended.ReadFailed heard said due
   followed_too ended.WriteFailed heard said due = (due.0, due.1, due_too due.0 heard (said ++ due.1) due.2)
   followed_too ended.OutOfMemory heard said due = due_too ended.OutOfMemory heard said due
+
+-- an input that has ended has still ended after a write
+pub end_too : (before after : Type 0) (due : Dues) → (before → after) → IsToo (with_end before due) (with_end after due)
+end_too before after due step = record {
+  answers = λ ls said has. has;
+  refuses = λ ls said has. has;
+  strands = λ ls said has. has;
+  ends = λ ls said has. (step has.0, has.1);
+  refuses_end = λ ls said has. (step has.0, has.1);
+}
+
+-- the same at the end of an input
+pub with_end_too : (over : Type 0) (first other : Dues) → IsToo first other → IsToo (with_end over first) (with_end over other)
+with_end_too over first other too = record {
+  answers = too.answers;
+  refuses = too.refuses;
+  strands = too.strands;
+  ends = λ ls said has. (has.0, too.ends ls said has.1);
+  refuses_end = λ ls said has. (has.0, too.refuses_end ls said has.1);
+}
 
 -- ---- a handler of a trace
 
@@ -78,20 +98,22 @@ module _ {M P E : Type 0} (stands : M → List CallRecord → Type 0) (text : M 
         (sym a.is) (a.after.at.sized, a.after.at.carried);
   }
 
-  returned : (ending : Following) (heard said : List ℕ) → HasFollowed ending mine heard said
+  returned : (over : Type 0) (ending : Following) (heard said : List ℕ) → HasFollowed ending (with_end over mine) heard said
       → HasReturned (follow_parties plays slots moves sizes carries (engine_returned ending (option_map (λ (x : LoneExchange P E). x.engine) exchange)) stands text old old_spare on spare) ending heard
-  returned ended.Completed heard said due = engine_after _ due.engine
-  returned ended.Refused heard said due = refl
-  returned ended.ReadFailed heard said due = refl
-  returned ended.WriteFailed heard said due = refl
-  returned ended.OutOfMemory heard said due = refl
+  returned over ended.Completed heard said due = engine_after _ due.1.engine
+  returned over ended.Refused heard said due = refl
+  returned over ended.ReadFailed heard said due = refl
+  returned over ended.WriteFailed heard said due = refl
+  returned over ended.OutOfMemory heard said due = refl
 
-  pub follows_to : (stood : List ℕ → List ℕ → Type 0) (ending : Following) (heard said : List ℕ) → stood heard said → HasFollowed ending mine heard said
-      → FollowsTo (follow_parties plays slots moves sizes carries (engine_returned ending (option_map (λ (x : LoneExchange P E). x.engine) exchange)) stands text old old_spare on spare) stood ending
-  follows_to stood ending heard said stands_so due = record {
+  pub follows_to : (stood : List ℕ → List ℕ → Type 0) (over : Type 0) (ending : Following) (heard said : List ℕ) → stood heard said
+      → HasFollowed ending (with_end over mine) heard said
+      → FollowsTo (follow_parties plays slots moves sizes carries (engine_returned ending (option_map (λ (x : LoneExchange P E). x.engine) exchange)) stands text old old_spare on spare) stood over ending
+  follows_to stood over ending heard said stands_so due = record {
     heard = heard;
     said = said;
     stood = stands_so;
-    due = followed_too mine (dues_of (course plays slots moves stands text old old_spare on spare)) handler_too ending heard said due;
-    engine = returned ending heard said due;
+    due = followed_too (with_end over mine) (with_end over (dues_of (course plays slots moves stands text old old_spare on spare)))
+        (with_end_too over mine (dues_of (course plays slots moves stands text old old_spare on spare)) handler_too) ending heard said due;
+    engine = returned over ending heard said due;
   }

@@ -16,6 +16,7 @@ returns-in_err-handle_line-clause-stopped g c =
     let room = c.requires.room in
     if_err_is _ c.from_residual.result c.in_err-handle_line.field-0.0 (search rules)
     (λ old old_spare heard u. stopped_next (g.W.Wire.stands c.loop-line.wire) (g.W.Wire.stands c.handle_line.new.wire)
+    (g.W.Wire.ended c.handle_line.new.wire)
     _
     _
     c.in_err-handle_line.field-0.0 heard c.loop-line.rest.now c.in-Some.line.now c.in-Some.others.now c.loop-line.text.items c.handle_line.new.text.items

@@ -13,6 +13,7 @@ returns-clause-stopped g c =
     let some : c.args.rest.now ≢ [] = search rules in
     IfErr-weaker c.handle_line.result _ _
     (λ why step old old_spare heard u. stopped_next (g.W.Wire.stands c.args.wire.now) (g.W.Wire.stands c.handle_line.new.wire)
+    (g.W.Wire.ended c.handle_line.new.wire)
     _
     _
     why heard c.args.rest.now c.args.rest.now [] c.args.text.now.items c.handle_line.new.text.items c.args.handler.now.lines u
