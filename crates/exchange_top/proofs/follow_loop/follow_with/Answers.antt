@@ -1,7 +1,7 @@
 use Rattle.std.proofs.Common.{◌++◌, ◌∙◌, refl, sym}
 use Rattle.line_follower.specs.declared.following.Following.TheVariants as ended
+use Rattle.line_follower.proofs.Endings.{end_too, followed_too}
 use Rattle.line_follower.proofs.Steps.{cut_due, cut_text, reads_same, writes_same}
-use Rattle.exchange_top.proofs.FollowedEndings.{end_too, followed_too}
 use Rattle.exchange_top.proofs.follow_loop.follow_with.Goals as goal
 
 pub returns-in-WriteFailed-clause-followed : goal.returns-in-WriteFailed-clause-followed
