@@ -6,7 +6,7 @@ use Rattle.std.specs.declared.dyn_box.DynBox.{DynBox}
 use Rattle.std.specs.declared.vec.Vec.{Vec}
 use Rattle.exchange_events.specs.declared.record.CallRecord.{CallRecord}
 use Rattle.frame_engine.specs.declared.carrier.Carrier.{Ghosts as CarrierKind}
-use Rattle.line_follower.specs.Following.{CountsReads, CountsWrites, Dues, HasFollowed}
+use Rattle.line_follower.specs.Following.{CountsReads, CountsWrites, Dues, HasFollowed, with_end}
 use Rattle.line_follower.specs.Progress.{HasStopped, IsUnderway, OwesText}
 use Rattle.line_follower.specs.declared.following.Following.{Following}
 use Rattle.line_wire.specs.declared.wire.Wire.{Ghosts as WireKind}
@@ -45,7 +45,8 @@ module _ {V : Type 0} {F : V → Type 0} {E : Type 0} (m : (v : V) → MeterKind
 -- The call ended with this status, with the facts for its ending. Statuses 3 and 4 occur only after an error was counted,
 -- and no other status hides one.
 abbrev pub FollowEnds : {W : Type 0} → WireKind W → (before after : W) → FollowParties → ℕ → Type 0
-FollowEnds k before after x status = (ending : Following) × (status ≡ followed_status ending) × FollowsTo x (k.stands after) ending
+FollowEnds k before after x status = (ending : Following) × (status ≡ followed_status ending)
+    × FollowsTo x (k.stands after) (k.ended after) ending
     × CountsReads ending (k.read_faults before) (k.read_faults after) × CountsWrites ending (k.write_faults before) (k.write_faults after)
 
 -- ---- one event
@@ -197,10 +198,10 @@ module _ {V : Type 0} {F : V → Type 0} {P E R : Type 0} (m : (v : V) → Meter
   GoesToEnd before after x y rest t u = (old old_spare : List (DynBox V Global F)) (heard : List ℕ) → IsUnderFrom before old old_spare x heard rest t
       → OwesFrom after old old_spare y heard (lines_of heard) u
 
-  -- the call ends
-  abbrev pub EndsIn : Following → (before after : List ℕ → List ℕ → Type 0) (x y : TraceFollower P E R V F) (rest : List ℕ) → (t u : Vec ℕ Global) → Type 0
-  EndsIn why before after x y rest t u = (old old_spare : List (DynBox V Global F)) (heard : List ℕ) → IsUnderFrom before old old_spare x heard rest t
-      → (said : List ℕ) × after heard said × HasFollowed why (dues_from old old_spare y) heard (said ++ u.items)
+  -- the call ends; it processes the end of the input only if the input has ended
+  abbrev pub EndsIn : Following → (before after : List ℕ → List ℕ → Type 0) (ended : Type 0) (x y : TraceFollower P E R V F) (rest : List ℕ) → (t u : Vec ℕ Global) → Type 0
+  EndsIn why before after ended x y rest t u = (old old_spare : List (DynBox V Global F)) (heard : List ℕ) → IsUnderFrom before old old_spare x heard rest t
+      → (said : List ℕ) × after heard said × HasFollowed why (with_end ended (dues_from old old_spare y)) heard (said ++ u.items)
 
   -- ---- the call
 
@@ -209,10 +210,11 @@ module _ {V : Type 0} {F : V → Type 0} {P E R : Type 0} (m : (v : V) → Meter
   IsUnread x = (dues_from x.metering.on.items x.metering.spare.items x).answers [] []
 
   -- the call ended for this cause, and the text is still to be written
-  abbrev pub EndsWith : Following → (after : List ℕ → List ℕ → Type 0) (x y : TraceFollower P E R V F) → Vec ℕ Global → Type 0
-  EndsWith why after x y t = (heard : List ℕ) × (said : List ℕ) × after heard said
-      × HasFollowed why (dues_from x.metering.on.items x.metering.spare.items y) heard (said ++ t.items)
+  abbrev pub EndsWith : Following → (after : List ℕ → List ℕ → Type 0) (ended : Type 0) (x y : TraceFollower P E R V F) → Vec ℕ Global → Type 0
+  EndsWith why after ended x y t = (heard : List ℕ) × (said : List ℕ) × after heard said
+      × HasFollowed why (with_end ended (dues_from x.metering.on.items x.metering.spare.items y)) heard (said ++ t.items)
 
   -- the call ended for this cause
-  abbrev pub Ends : Following → (after : List ℕ → List ℕ → Type 0) (x y : TraceFollower P E R V F) → Type 0
-  Ends why after x y = (heard : List ℕ) × (said : List ℕ) × after heard said × HasFollowed why (dues_from x.metering.on.items x.metering.spare.items y) heard said
+  abbrev pub Ends : Following → (after : List ℕ → List ℕ → Type 0) (ended : Type 0) (x y : TraceFollower P E R V F) → Type 0
+  Ends why after ended x y = (heard : List ℕ) × (said : List ℕ) × after heard said
+      × HasFollowed why (with_end ended (dues_from x.metering.on.items x.metering.spare.items y)) heard said

@@ -22,7 +22,7 @@ use Rattle.trace_text.specs.TraceLines.{line_limits, says}
 use Rattle.trace_text.specs.TraceTimers.{timers_by}
 use Rattle.trace_text.specs.TraceWords.{lines}
 use Rattle.run_verifier.specs.Verdicts.{IsValid}
-use Rattle.line_follower.specs.Following.{Dues, HasFollowed, IsSettled}
+use Rattle.line_follower.specs.Following.{Dues, HasFollowed, IsSettled, with_end}
 use Rattle.line_follower.specs.declared.following.Following.{Following}
 use Rattle.line_follower.specs.declared.following.Following.TheVariants as followed
 use Rattle.call_processor.specs.Frames.{Carrying}
@@ -237,10 +237,11 @@ HasReturned x followed.ReadFailed heard = x.no_engine
 HasReturned x followed.WriteFailed heard = x.no_engine
 HasReturned x followed.OutOfMemory heard = x.no_engine
 
--- the octets that were read and written, by the ending; the definition `HasFollowed` has a case for each ending
-pub record FollowsTo (x : FollowParties) (stands : List ℕ → List ℕ → Type 0) (ending : Following) : Type 0 where
+-- The octets that were read and written, by the ending. The definition `HasFollowed` has a case for each ending. The end
+-- of the input was processed only if the input has ended.
+pub record FollowsTo (x : FollowParties) (stands : List ℕ → List ℕ → Type 0) (ended : Type 0) (ending : Following) : Type 0 where
   pub heard : List ℕ
   pub said : List ℕ
   pub stood : stands heard said
-  pub due : HasFollowed ending (dues_of x.course) heard said
+  pub due : HasFollowed ending (with_end ended (dues_of x.course)) heard said
   pub engine : HasReturned x ending heard

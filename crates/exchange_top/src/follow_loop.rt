@@ -79,6 +79,7 @@ fn handle_line<W: Wire, P: Fabric, C: Carrier, R: Threads + Sync>(
     ensures writes { IfErr result (λ why. CountsWrites why (W.write_faults wire.old) (W.write_faults wire.new)) }
     ensures reads { W.read_faults wire.new ≡ W.read_faults wire.old }
     ensures no_read { IfErr result (λ why. CountsReads why 0 0) }
+    ensures end { W.ended wire.old → W.ended wire.new }
 {
     handle_next(handler, line, text)?;
     if text.len() < FULL_TEXT {
@@ -116,7 +117,8 @@ fn handle_lines<W: Wire, P: Fabric, C: Carrier, R: Threads + Sync>(
     ensures steady { OnOk result (W.write_faults wire.new ≡ W.write_faults wire.old) }
 
     ensures stopped { IfErr result (λ why. EndsIn ⟦<dyn Meter as Meter>⟧ C.Carrier P.Fabric.own
-        why (W.stands wire.old) (W.stands wire.new) handler.old handler.new bytes.now text.old text.new) }
+        why (W.stands wire.old) (W.stands wire.new) (W.ended wire.new) handler.old handler.new
+        bytes.now text.old text.new) }
     ensures writes { IfErr result (λ why. CountsWrites why (W.write_faults wire.old) (W.write_faults wire.new)) }
     ensures reads { W.read_faults wire.new ≡ W.read_faults wire.old }
     ensures no_read { IfErr result (λ why. CountsReads why 0 0) }
@@ -158,10 +160,12 @@ fn handle_rest<W: Wire, P: Fabric, C: Carrier, R: Threads + Sync>(
     ensures steady { OnOk result (W.write_faults wire.new ≡ W.write_faults wire.old) }
 
     ensures stopped { IfErr result (λ why. EndsIn ⟦<dyn Meter as Meter>⟧ C.Carrier P.Fabric.own
-        why (W.stands wire.old) (W.stands wire.new) handler.old handler.new rest.now text.old text.new) }
+        why (W.stands wire.old) (W.stands wire.new) (W.ended wire.new) handler.old handler.new
+        rest.now text.old text.new) }
     ensures writes { IfErr result (λ why. CountsWrites why (W.write_faults wire.old) (W.write_faults wire.new)) }
     ensures reads { W.read_faults wire.new ≡ W.read_faults wire.old }
     ensures no_read { IfErr result (λ why. CountsReads why 0 0) }
+    ensures end { W.ended wire.old → W.ended wire.new }
 {
     if rest.is_empty() {
         return Ok(());
@@ -181,9 +185,11 @@ fn handle_end<W: Wire, P: Fabric, C: Carrier, R: Threads + Sync>(
         (W.stands wire.old) handler.old rest.now text.old }
     requires partial { HasNoFeed rest.now }
     requires room { length rest.now ≤ 131072 }
+    requires end { W.ended wire.old }
 
     ensures ended { EndsIn ⟦<dyn Meter as Meter>⟧ C.Carrier P.Fabric.own
-        result (W.stands wire.old) (W.stands wire.new) handler.old handler.new rest.now text.old text.new }
+        result (W.stands wire.old) (W.stands wire.new) (W.ended wire.new) handler.old handler.new
+        rest.now text.old text.new }
     ensures writes { CountsWrites result (W.write_faults wire.old) (W.write_faults wire.new) }
     ensures reads { W.read_faults wire.new ≡ W.read_faults wire.old }
     ensures no_read { CountsReads result 0 0 }
@@ -214,7 +220,7 @@ fn follow_to_end<W: Wire, P: Fabric, C: Carrier, R: Threads + Sync>(
         handler.old.metering.on.items handler.old.metering.spare.items W.relies }
 
     ensures ended { EndsWith ⟦<dyn Meter as Meter>⟧ C.Carrier P.Fabric.own
-        result (W.stands wire.new) handler.old handler.new text.new }
+        result (W.stands wire.new) (W.ended wire.new) handler.old handler.new text.new }
     ensures unheard { result ≡ ended.ReadFailed → text.new.items ≡ [] }
     ensures reads { CountsReads result (W.read_faults wire.old) (W.read_faults wire.new) }
     ensures writes { CountsWrites result (W.write_faults wire.old) (W.write_faults wire.new) }
@@ -258,7 +264,7 @@ fn follow_with<W: Wire, P: Fabric, C: Carrier, R: Threads + Sync>(
         handler.old.metering.on.items handler.old.metering.spare.items W.relies }
 
     ensures followed { Ends ⟦<dyn Meter as Meter>⟧ C.Carrier P.Fabric.own
-        result (W.stands wire.new) handler.old handler.new }
+        result (W.stands wire.new) (W.ended wire.new) handler.old handler.new }
     ensures reads { CountsReads result (W.read_faults wire.old) (W.read_faults wire.new) }
     ensures writes { CountsWrites result (W.write_faults wire.old) (W.write_faults wire.new) }
 {
@@ -289,7 +295,7 @@ pub fn follow_lines<W: Wire, P: Fabric, C: Carrier, R: Threads + Sync>(
         handler.old.metering.on.items handler.old.metering.spare.items W.relies }
 
     ensures followed { Ends ⟦<dyn Meter as Meter>⟧ C.Carrier P.Fabric.own
-        result (W.stands wire.new) handler.old handler.new }
+        result (W.stands wire.new) (W.ended wire.new) handler.old handler.new }
     ensures reads { CountsReads result (W.read_faults wire.old) (W.read_faults wire.new) }
     ensures writes { CountsWrites result (W.write_faults wire.old) (W.write_faults wire.new) }
 {

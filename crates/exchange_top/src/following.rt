@@ -84,7 +84,8 @@ fn follow_on<W: Wire, P: Fabric, C: Carrier, R: Threads + Sync>(
     requires fresh { W.stands wire.old [] [] }
     requires promise { ReliesBy ⟦<dyn Meter as Meter>⟧ C.Carrier P.slots meters.old.items spare.old.items W.relies }
     ensures ends { FollowsTo (parties_by ⟦<dyn Meter as Meter>⟧ C.Carrier P.slots P.moves result.engine
-        meters.old.items spare.old.items meters.new.items spare.new.items) (W.stands wire.new) result.ending }
+        meters.old.items spare.old.items meters.new.items spare.new.items)
+        (W.stands wire.new) (W.ended wire.new) result.ending }
     ensures reads { CountsReads result.ending (W.read_faults wire.old) (W.read_faults wire.new) }
     ensures writes { CountsWrites result.ending (W.write_faults wire.old) (W.write_faults wire.new) }
 {

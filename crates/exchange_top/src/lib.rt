@@ -22,9 +22,9 @@
 //! two, because the arguments and the input decide the ending, unless a read, a write or an allocation fails (`due`).
 //!
 //! [`follow`] processes the lines of a trace when they arrive. Before each read it has written exactly the text of the
-//! lines read so far (`promise`), and its clause `ends` has a case for each ending (`FollowsTo`). A followed trace has
-//! the report of a run in file order ([`followed_traces_are_runs`]), and each trace with short lines is followed
-//! ([`traces_are_followed`]).
+//! lines read so far (`promise`), and its clause `ends` has a case for each ending (`FollowsTo`). It processes the end
+//! of the input only if the wire has ended (`with_end`). A followed trace has the report of a run in file order
+//! ([`followed_traces_are_runs`]), and each trace with short lines is followed ([`traces_are_followed`]).
 //!
 //! Statuses 3 and 4 occur only after an error was counted (`HasReadFailed`, `HasWriteFailed`), and no other status
 //! hides one (`reads`, `writes`). With status 4 a prefix of the text was written. With status 5 it is a prefix that

@@ -26,7 +26,7 @@ use std::sync::Wait;
 use std::thread::Threads;
 
 /// The error that interrupted a run (defined by this project).
-#[derive(Clone, Copy, Debug)]
+#[derive(Clone, Copy)]
 pub enum RunError {
     /// An allocation failed.
     Memory,

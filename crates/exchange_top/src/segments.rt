@@ -38,7 +38,7 @@ const PIECE: usize = 65_536;
 
 /// The values that pass from one segment to the next: the machine and the buffer pool. `T` is the type of the workers'
 /// seats, and `L` states the listing.
-#[derive(Debug, Drop)]
+#[derive(Drop)]
 pub struct SegmentResources<T, C, L> {
     /// The machine, which has carried the frames so far.
     pub machine: Box<Machine<C>>,

@@ -3,7 +3,7 @@ use Rattle.std.proofs.Common.{◌≡◌, ◌≢◌, ◌⊎◌, ℕ, ◌+◌, ◌
 use Rattle.std.proofs.lemmas.List.{take-append-drop}
 use Rattle.std.proofs.Math.Seq.{drop-append_seam}
 use Rattle.trace_text.specs.TraceWords.{AreEnded, lines}
-use Rattle.line_follower.specs.Following.{AreFirst, At_line, CountsReads, CountsWrites, Due, Dues, HasFollowed, HasNoFeed, IsDue, IsSettled}
+use Rattle.line_follower.specs.Following.{AreFirst, At_line, CountsReads, CountsWrites, Due, Dues, HasFollowed, HasNoFeed, IsDue, IsSettled, with_end}
 use Rattle.line_follower.specs.Progress.{HasStopped, OwesText, IsUnderway}
 use Rattle.line_follower.specs.declared.following.Following.{Following}
 use Rattle.line_follower.specs.declared.following.Following.TheVariants as ended
@@ -11,14 +11,14 @@ use Rattle.std.specs.Prelude.{IfErr, OnErr, OnOk, Ok, Err}
 use Rattle.std.specs.declared.result.Result.{Result}
 use Rattle.trace_text.proofs.LineLemmas.{ended_both, fed_line, lines_behind, unfed_line}
 
--- a call that ends at a line, of an input of which it has the lines before it
-pub stopped_at : (why : Following) (due : Dues) (heard : List ℕ) (done : List (List ℕ)) (line full : List ℕ) → AreFirst heard (done ++ line ∷ [])
-    → HasStopped why due done line full → HasFollowed why due heard full
-stopped_at ended.Completed due heard done line full after stopped = absurd stopped
-stopped_at ended.Refused due heard done line full after stopped = At_line (done ++ line ∷ []) after stopped
-stopped_at ended.ReadFailed due heard done line full after stopped = absurd stopped
-stopped_at ended.WriteFailed due heard done line full after (unsaid, answers) = (ended.WriteFailed, unsaid, (done ++ line ∷ [], after, answers))
-stopped_at ended.OutOfMemory due heard done line full after stopped = (done ++ line ∷ [], after, stopped)
+-- a call that ends at a line, of an input of which it has the lines before it; the end of the input plays no part
+pub stopped_at : (over : Type 0) (why : Following) (due : Dues) (heard : List ℕ) (done : List (List ℕ)) (line full : List ℕ) → AreFirst heard (done ++ line ∷ [])
+    → HasStopped why due done line full → HasFollowed why (with_end over due) heard full
+stopped_at over ended.Completed due heard done line full after stopped = absurd stopped
+stopped_at over ended.Refused due heard done line full after stopped = At_line (done ++ line ∷ []) after stopped
+stopped_at over ended.ReadFailed due heard done line full after stopped = absurd stopped
+stopped_at over ended.WriteFailed due heard done line full after (unsaid, answers) = (ended.WriteFailed, unsaid, (done ++ line ∷ [], after, answers))
+stopped_at over ended.OutOfMemory due heard done line full after stopped = (done ++ line ∷ [], after, stopped)
 
 -- a line of some octets, with its line feed or at their end
 pub record HasLine (rest line others : List ℕ) : Type 0 where
@@ -68,8 +68,9 @@ module _ (heard whole rest line others : List ℕ) (parts : heard ≡ whole ++ r
     few = let e = ap length next.parts in omega (arith, e, length-append next.piece others, few);
   }
 
-  pub stopped_line : length rest ≤ 131072 → (why : Following) (due : Dues) (full : List ℕ) → HasStopped why due (lines whole) line full → HasFollowed why due heard full
-  stopped_line few why due full = stopped_at why due heard (lines whole) line full (after_line few)
+  pub stopped_line : length rest ≤ 131072 → (over : Type 0) (why : Following) (due : Dues) (full : List ℕ) → HasStopped why due (lines whole) line full
+      → HasFollowed why (with_end over due) heard full
+  stopped_line few over why due full = stopped_at over why due heard (lines whole) line full (after_line few)
 
 -- one line with its line feed was processed
 pub underway_more : (old now : List ℕ → List ℕ → Type 0) (before after : Due) (heard rest line others text more : List ℕ) (count next : ℕ)
@@ -88,13 +89,13 @@ underway_more old now before after heard rest line others text more count next u
     }
 
 -- the call ends at the next line
-pub stopped_next : (old now : List ℕ → List ℕ → Type 0) (before : Due) (due : Dues) (why : Following) (heard rest line others text more : List ℕ) (count : ℕ)
+pub stopped_next : (old now : List ℕ → List ℕ → Type 0) (over : Type 0) (before : Due) (due : Dues) (why : Following) (heard rest line others text more : List ℕ) (count : ℕ)
     → IsUnderway old before heard rest text count → HasLine rest line others → length rest ≤ 131072
     → ((done : List (List ℕ)) → OwesText old before heard done text count → (said : List ℕ) × now heard said × HasStopped why due done line (said ++ more))
-    → (said : List ℕ) × now heard said × HasFollowed why due heard (said ++ more)
-stopped_next old now before due why heard rest line others text more count u has few step =
+    → (said : List ℕ) × now heard said × HasFollowed why (with_end over due) heard (said ++ more)
+stopped_next old now over before due why heard rest line others text more count u has few step =
     let (said, stood, stopped) = step (lines u.whole) u.answered in
-    (said, stood, stopped_line heard u.whole rest line others u.parts u.ended has few why due (said ++ more) stopped)
+    (said, stood, stopped_line heard u.whole rest line others u.parts u.ended has few over why due (said ++ more) stopped)
 
 -- the octets after the last line feed were processed as a line
 pub answered_all : (old now : List ℕ → List ℕ → Type 0) (before after : Due) (heard rest text more : List ℕ) (count next : ℕ)

@@ -20,16 +20,9 @@ pub record Dues : Type 1 where
   pub ends : Due
   pub refuses_end : Due
 
--- the relations of a handler, from its state before the first line and its state now
-abbrev pub dues : {H : Type 0} → (H → H → Due) → (H → H → Due) → (H → H → Due) → (H → H → Due) → (H → H → Due)
-    → H → H → Dues
-dues answers refuses strands ends refuses_end first now = record {
-  answers = answers first now;
-  refuses = refuses first now;
-  strands = strands first now;
-  ends = ends first now;
-  refuses_end = refuses_end first now;
-}
+-- the same relations for a handler that processes the end of the input only if the input has ended
+abbrev pub with_end : Type 0 → Dues → Dues
+with_end ended due = record due { ends = λ ls said. ended × due.ends ls said; refuses_end = λ ls said. ended × due.refuses_end ls said }
 
 -- ---- before each read
 

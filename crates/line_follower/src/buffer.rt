@@ -26,6 +26,7 @@ pub fn write_all<W: Wire>(wire: &mut W, bytes: &[u8]) -> Result<(), Failed>
         → W.stands wire.new heard (said ++ bytes.now)) }
     ensures steady { OnOk result (W.write_faults wire.new ≡ W.write_faults wire.old) }
     ensures reads { W.read_faults wire.new ≡ W.read_faults wire.old }
+    ensures end { W.ended wire.old → W.ended wire.new }
 
     ensures front { OnErr result ((heard said : List ℕ) → W.stands wire.old heard said
         → (front : List ℕ) × (back : List ℕ) × (bytes.now ≡ front ++ back)
@@ -50,6 +51,7 @@ pub fn flush<W: Wire>(wire: &mut W, text: &mut Vec<u8>) -> Result<(), Failed>
         → W.stands wire.new heard (said ++ text.old.items)) }
     ensures steady { OnOk result (W.write_faults wire.new ≡ W.write_faults wire.old) }
     ensures reads { W.read_faults wire.new ≡ W.read_faults wire.old }
+    ensures end { W.ended wire.old → W.ended wire.new }
 
     ensures front { OnErr result ((heard said : List ℕ) → W.stands wire.old heard said
         → (front : List ℕ) × (back : List ℕ) × (text.old.items ≡ front ++ back)
@@ -61,7 +63,8 @@ pub fn flush<W: Wire>(wire: &mut W, text: &mut Vec<u8>) -> Result<(), Failed>
     written
 }
 
-/// Reads after the first `held` octets of the buffer. Returns the number of octets read, 0 at the end of the input.
+/// Reads after the first `held` octets of the buffer. Returns the number of octets read, which is 0 only if the input
+/// has ended.
 ///
 /// # Errors
 ///
@@ -75,6 +78,7 @@ pub fn read_after<W: Wire>(wire: &mut W, buffer: &mut [u8], held: usize) -> Resu
     ensures before { IfOk result (λ n. take held buffer.new ≡ take held buffer.old) }
     ensures heard { IfOk result (λ n. (heard said : List ℕ) → W.stands wire.old heard said
         → W.stands wire.new (heard ++ take n (drop held buffer.new)) said) }
+    ensures end { IfOk result (λ n. n ≡ 0 → W.ended wire.new) }
     ensures steady { OnOk result (W.read_faults wire.new ≡ W.read_faults wire.old) }
 
     ensures kept { OnErr result ((heard said : List ℕ) → W.stands wire.old heard said

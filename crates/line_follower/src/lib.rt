@@ -3,7 +3,8 @@
 //!
 //! - [`write_all`] and [`flush`] write all of the given octets (`whole`). If a write fails, they have written a prefix
 //!   (`front`), and the error is counted (`cause`).
-//! - [`read_after`] requires that everything that the other side relies on has been written (`settled`).
+//! - [`read_after`] requires that everything that the other side relies on has been written (`settled`). It returns 0
+//!   only if the input has ended (`end`).
 //! - The definition `HasFollowed` of `specs/Following.antt` has a case for each ending ([`Following`]).
 #![tactic(auto)]
 

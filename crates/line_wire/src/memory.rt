@@ -91,6 +91,8 @@ impl Wire for MemWire {
 
     ghost relies = { λ _ _. ⊤ };
 
+    ghost ended = { λ w. w.source.left ≡ [] };
+
     ghost read_faults = { λ w. w.source.faults };
 
     ghost write_faults = { λ w. w.sink.faults };
@@ -104,6 +106,7 @@ impl Wire for MemWire {
             ≡ record self.old { source = after_read self.old.source n; notes = noted self.old }) }
         ensures heard { IfOk result (λ n. (heard said : List ℕ) → IsTaped self.old heard said
             → IsTaped self.new (heard ++ take n buf.new) said) }
+        ensures end { IfOk result (λ n. n ≡ 0 → self.new.source.left ≡ []) }
         ensures failed { OnErr result (self.new
             ≡ record self.old { source = after_failed_read self.old.source; notes = noted self.old }) }
         ensures untouched { OnErr result (buf.new ≡ buf.old) }

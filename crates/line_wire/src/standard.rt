@@ -1,6 +1,6 @@
 //! A wire over a source and a sink. No clause states the octets that were read and written.
 ghost use Rattle.std.specs.Prelude.{◌≡◌, ◌<◌, ◌≤◌, ℕ, List, length, take, ⊤, IfOk, OnOk, OnErr};
-ghost use Rattle.std.specs.Io.KnownBytes.{Appends, Consumes, Keeps};
+ghost use Rattle.std.specs.Io.KnownBytes.{Appends, Consumes, IsAtEnd, Keeps};
 ghost use Rattle.ex_io.specs.Ends.{Rose};
 
 use crate::wire::Wire;
@@ -30,6 +30,8 @@ impl<S: Source, K: Sink> Wire for StdWire<S, K> {
 
     ghost relies = { λ _ _. ⊤ };
 
+    ghost ended = { λ w. IsAtEnd (S.left w.source) };
+
     ghost read_faults = { λ w. S.faults w.source };
 
     ghost write_faults = { λ w. K.faults w.sink };
@@ -39,6 +41,7 @@ impl<S: Source, K: Sink> Wire for StdWire<S, K> {
         ensures size { length buf.new ≡ length buf.old }
         ensures bound { IfOk result (λ n. n ≤ length buf.old) }
         ensures next { IfOk result (λ n. Consumes (S.left self.old.source) (S.left self.new.source) (take n buf.new)) }
+        ensures end { IfOk result (λ n. n ≡ 0 → IsAtEnd (S.left self.new.source)) }
         ensures steady { OnOk result (S.faults self.new.source ≡ S.faults self.old.source) }
         ensures kept { OnErr result (Keeps (S.left self.old.source) (S.left self.new.source)) }
         ensures cause { OnErr result (Rose (S.faults self.old.source) (S.faults self.new.source)) }

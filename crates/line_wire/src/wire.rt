@@ -15,14 +15,17 @@ pub trait Wire {
     /// The fact that the other side relies on at each read, about the octets read and written until then.
     ghost relies: { List ℕ → List ℕ → Type 0 };
 
+    /// The input has ended: no more octets come from the other side.
+    ghost ended: { Self → Type 0 };
+
     /// The number of failed reads.
     ghost read_faults: { Self → ℕ };
 
     /// The number of failed writes.
     ghost write_faults: { Self → ℕ };
 
-    /// Copies the next octets to the start of `buf` and returns their number, which is 0 at the end of the input. It
-    /// may wait for them, so everything that the other side relies on must have been written (`settled`).
+    /// Copies the next octets to the start of `buf` and returns their number. The number is 0 only if the input has
+    /// ended. It may wait for octets, so everything that the other side relies on must have been written (`settled`).
     ///
     /// # Errors
     ///
@@ -35,6 +38,7 @@ pub trait Wire {
         ensures bound { IfOk result (λ n. n ≤ length buf.old) }
         ensures heard { IfOk result (λ n. (heard said : List ℕ) → stands self.old heard said
             → stands self.new (heard ++ take n buf.new) said) }
+        ensures end { IfOk result (λ n. n ≡ 0 → ended self.new) }
         ensures steady { OnOk result (read_faults self.new ≡ read_faults self.old) }
 
         ensures kept { OnErr result ((heard said : List ℕ) → stands self.old heard said → stands self.new heard said) }
@@ -55,5 +59,6 @@ pub trait Wire {
 
         ensures kept { OnErr result ((heard said : List ℕ) → stands self.old heard said → stands self.new heard said) }
         ensures cause { OnErr result (Rose (write_faults self.old) (write_faults self.new)) }
-        ensures reads { read_faults self.new ≡ read_faults self.old };
+        ensures reads { read_faults self.new ≡ read_faults self.old }
+        ensures end { ended self.old → ended self.new };
 }

@@ -254,6 +254,13 @@ impl Heading {
         self.sizes.is_some() && matches!(line, [b's', b'y', b'n', b'c'])
     }
 
+    // Returns whether a line is `change` in the common form, after the header.
+    fn is_change(&self, line: &[u8]) -> bool
+        ensures { IsTrue result → reads self.now line.now ≡ Ok Said.Change }
+    {
+        self.sizes.is_some() && matches!(line, [b'c', b'h', b'a', b'n', b'g', b'e'])
+    }
+
     // Reads a line, without the last checks.
     fn reads(&self, alloc: Global, line: &[u8]) -> Result<Said, LineError>
         ensures reads { Gives result (reads self.now line.now) }
@@ -317,6 +324,9 @@ impl Heading {
         }
         if let Some(event) = self.plain_event(alloc, line)? {
             return self.take(limits, Said::Happens(event));
+        }
+        if self.is_change(line) {
+            return self.take(limits, Said::Change);
         }
         self.read_any_line(alloc, limits, line)
     }

@@ -1,5 +1,6 @@
 use Rattle.std.proofs.Common.{rules, ◌≢◌, []}
 use Rattle.std.proofs.lemmas.Result.{IfErr-weaker}
+use Rattle.exchange_top.specs.Handling.{handler_dues}
 use Rattle.line_follower.proofs.Steps.{answered_all, has_unfed, ok_weaker, stopped_next}
 use Rattle.exchange_top.proofs.follow_loop.handle_rest.Goals as goal
 
@@ -13,8 +14,9 @@ returns-clause-stopped g c =
     let some : c.args.rest.now ≢ [] = search rules in
     IfErr-weaker c.handle_line.result _ _
     (λ why step old old_spare heard u. stopped_next (g.W.Wire.stands c.args.wire.now) (g.W.Wire.stands c.handle_line.new.wire)
+    (g.W.Wire.ended c.handle_line.new.wire)
     _
-    _
+    (handler_dues (λ m. (goal.Meter-dyn g (m.vtable, m.value)).stands m.value) (λ m. (goal.Meter-dyn g (m.vtable, m.value)).text m.value) g.C.Carrier.carries g.C.Carrier.next g.C.Carrier.sizes g.C.Carrier.plays g.P.Fabric.slots g.P.Fabric.moves old old_spare c.handle_line.new.handler.metering.on.items c.handle_line.new.handler.metering.spare.items c.handle_line.new.handler.heading c.handle_line.new.handler.lines c.handle_line.new.handler.exchange)
     why heard c.args.rest.now c.args.rest.now [] c.args.text.now.items c.handle_line.new.text.items c.args.handler.now.lines u
     (has_unfed c.args.rest.now some c.requires.partial) c.requires.room (step old old_spare heard))
     c.handle_line.ensures.stopped

@@ -16,6 +16,7 @@ loop-done-preserved g c =
           rw (take-add done c.in_ok-done.field-0 all, ← append_assoc) (more heard _ (inv.told heard said stood));
       steady = c.in_ok-done.ensures.steady ∙ inv.steady;
       reads = c.in_ok-done.ensures.reads ∙ inv.reads;
+      end = λ was. c.in_ok-done.ensures.end (inv.end was);
     }
 
 pub returns-in_err-done-clause-front : goal.returns-in_err-done-clause-front

@@ -7,6 +7,7 @@ invariant-loop-done g l = record {
   told : (heard said : List ℕ) → g.W.Wire.stands l.fn.wire heard said → g.W.Wire.stands l.wire heard (said ++ take l.done l.bytes);
   steady : g.W.Wire.write_faults l.wire ≡ g.W.Wire.write_faults l.fn.wire;
   reads : g.W.Wire.read_faults l.wire ≡ g.W.Wire.read_faults l.fn.wire;
+  end : g.W.Wire.ended l.fn.wire → g.W.Wire.ended l.wire;
 }
 
 abbrev pub decreases-loop-done : goal.decreases-loop-done

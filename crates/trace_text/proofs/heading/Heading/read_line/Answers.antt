@@ -14,3 +14,8 @@ returns-in-Some-clause-read c =
     let read : reads c.args.self.now c.args.line.now ≡ Ok (Said.Happens c.in-Some.event) = search rules in
     line_read c.args.limits c.args.self.now _ c.args.line.now _ c.take-in-Some.result read tt
     c.take-in-Some.ensures.taken c.take-in-Some.ensures.happens c.take-in-Some.ensures.joins
+
+pub returns-then-is_change-clause-read : goal.returns-then-is_change-clause-read
+returns-then-is_change-clause-read c =
+    line_read c.args.limits c.args.self.now _ c.args.line.now _ c.take-then-is_change.result (c.is_change.ensures c.if-is_change.true) tt
+    c.take-then-is_change.ensures.taken c.take-then-is_change.ensures.happens c.take-then-is_change.ensures.joins
