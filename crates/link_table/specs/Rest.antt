@@ -1,5 +1,5 @@
 -- The frames that a link still owes its peer in a step, and the bounds of a step. Source: this project.
-use Rattle.std.specs.Prelude.{◌≡◌, ◌≢◌, ◌⊎◌, ℕ, ◌+◌, ◌-◌, ◌≤◌, ◌&&◌, not, min, false, List, length, Option, Some, None, if◌then◌else◌}
+use Rattle.std.specs.Prelude.{◌≡◌, ◌≢◌, ◌⊎◌, ℕ, ◌+◌, ◌-◌, ◌≤◌, ◌&&◌, not, min, Bool, true, false, List, length, Option, Some, None, if◌then◌else◌}
 use Rattle.link_procedures.specs.Links.{DataLink, SendQueue, is_established}
 use Rattle.link_procedures.specs.AnyPeer.{IsLink}
 use Rattle.link_table.specs.Tables.{Table, IsLinkOf, link_of}

@@ -101,11 +101,7 @@ fn new_links(alloc: Global, linked: &[bool], at: u32) -> Result<Vec<Option<Link>
 {
     let mut links = Vec::with_capacity(alloc, linked.len())?;
     for has_one in linked {
-        links.push(if *has_one {
-            Some(Link::new(at))
-        } else {
-            None
-        })?;
+        links.push(if *has_one { Some(Link::new(at)) } else { None })?;
     }
     Ok(links)
 }

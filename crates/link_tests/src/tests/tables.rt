@@ -16,7 +16,7 @@ enum Act {
     Turn,
 }
 
-// What call control is told.
+// The notice to call control.
 #[derive(Clone, Copy, Debug, PartialEq, Eq)]
 enum Told {
     Nothing,
@@ -26,7 +26,7 @@ enum Told {
     NoLink,
 }
 
-// The frame of the exchange, the act, what call control is told, and the frames sent, each with its line.
+// The frame of the exchange, the act, the notice, and the frames sent, each with its line.
 type Row = (u32, Act, Told, &'static [(u8, &'static [u8])]);
 
 const CALL: &[u8] = b"\x02\x01\x7F";
@@ -69,7 +69,12 @@ static ROWS: [Row; 16] = [
         Told::Nothing,
         &[(0, b"\x02\x01\x02\x02m")],
     ),
-    (16_032, Act::Turn, Told::Nothing, &[(0, b"\x02\x01\x01\x03")]),
+    (
+        16_032,
+        Act::Turn,
+        Told::Nothing,
+        &[(0, b"\x02\x01\x01\x03")],
+    ),
     (16_033, Act::Turn, Told::Nothing, &[]),
     (16_035, Act::Turn, Told::Nothing, &[(3, CALL)]),
 ];
@@ -187,7 +192,11 @@ fn is_full_step(lines: &[u8]) -> bool {
         return false;
     }
     for (at, line) in lines.iter().enumerate() {
-        let wanted = if at == 0 || at > 64 { 0 } else { 1 + (at - 1) % 31 };
+        let wanted = if at == 0 || at > 64 {
+            0
+        } else {
+            1 + (at - 1) % 31
+        };
         if usize::from(*line) != wanted {
             return false;
         }
@@ -209,7 +218,7 @@ struct Carried {
 
 type Wire = ArrayVec<Carried, 80>;
 
-// Puts the frames of a step on the wire. The other exchange receives the frames of a network as those of a user.
+// Puts the frames of a step on the wire. The other exchange receives them as frames of a user.
 fn send(table: &LinkTable, wire: &mut Wire) {
     for (line, frame) in table.lines().iter().zip(table.frames().iter()) {
         let mut octets = ArrayVec::new();
