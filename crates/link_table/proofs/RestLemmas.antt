@@ -1,5 +1,5 @@
 -- The frames that a link owes in a step, and a link at rest.
-use Rattle.std.proofs.Common.{◌≡◌, ℕ, zero, suc, ◌+◌, ◌-◌, ◌<◌, ◌≤◌, Bool, true, false, List, [], ◌∷◌, ◌++◌, length, refl, ap, ◌∙◌, subst, arith, if◌then◌else◌, ◌&&◌}
+use Rattle.std.proofs.Common.{◌≡◌, ℕ, zero, suc, ◌+◌, ◌-◌, ◌≤◌, Bool, true, false, List, [], ◌∷◌, ◌++◌, length, refl, ap, ◌∙◌, subst, arith, if◌then◌else◌, ◌&&◌}
 use Rattle.std.specs.Prelude.{not, nat_lt, nat_le, min, ◌==◌, ◌||◌}
 use Rattle.std.proofs.lemmas.Bool.{ltb-false}
 use Rattle.std.proofs.lemmas.List.{length_push}
@@ -11,8 +11,8 @@ use Rattle.link_procedures.specs.declared.state.State.TheVariants as state
 use Rattle.link_procedures.specs.declared.state.Timers.{Timers}
 use Rattle.link_procedures.specs.Links.{DataLink, SendQueue, Step, step, initial, may_send, is_established, is_multiple_frame, is_awaiting, is_recovering, is_up}
 use Rattle.link_procedures.specs.Sending.{command, response, receive_ready, sends, acknowledges, acknowledging, enquires, one_more_sent, is_free, after_frame, next_frame, sends_next, sends_waiting, flushes, acknowledges_pending, finished}
-use Rattle.link_procedures.specs.Establishment.{Outcome, establishes, overflows, queued, submitted, lost, released, releases}
-use Rattle.link_procedures.specs.Timing.{is_due, enquires_at, calls_or_releases, calls_again, on_expiry, first_retries, turned}
+use Rattle.link_procedures.specs.Establishment.{Outcome, establishes, overflows, queued, submitted, lost, released}
+use Rattle.link_procedures.specs.Timing.{is_due, enquires_at, calls_or_releases, on_expiry, first_retries, turned}
 use Rattle.link_procedures.proofs.AnyPeerLemmas.{may_send_is, free_is}
 use Rattle.link_table.specs.Rest.{in_window, sendable, IsAtRest}
 

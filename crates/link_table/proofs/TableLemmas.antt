@@ -1,6 +1,6 @@
 -- The invariant of a table, after the step of one link.
 use Rattle.std.proofs.Common.{◌≡◌, ◌≢◌, ◌⊎◌, ℕ, zero, suc, ◌+◌, ◌-◌, ◌<◌, ◌≤◌, Bool, true, false, List, [], ◌∷◌, ◌++◌, length, replicate, map, refl, sym, ap, ◌∙◌, subst, inl, inr, arith, Some, None, get_or-set_same, get_or-set_other}
-use Rattle.std.specs.Prelude.{Option, slice_index_or, slice_set, is_some}
+use Rattle.std.specs.Prelude.{Option, slice_index_or, is_some}
 use Rattle.std.proofs.lemmas.Bool.{cases_eq}
 use Rattle.std.proofs.lemmas.List.{length-append, length-replicate}
 use Rattle.link_frames.specs.declared.frame.Frame.{Frame}

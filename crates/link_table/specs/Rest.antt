@@ -1,5 +1,5 @@
 -- The frames that a link still owes its peer in a step, and the bounds of a step. Source: this project.
-use Rattle.std.specs.Prelude.{◌≡◌, ◌≢◌, ◌⊎◌, ℕ, ◌+◌, ◌-◌, ◌≤◌, ◌&&◌, not, min, Bool, true, false, List, length, Option, Some, None, if◌then◌else◌}
+use Rattle.std.specs.Prelude.{◌≡◌, ◌≢◌, ◌⊎◌, ℕ, ◌+◌, ◌-◌, ◌≤◌, ◌&&◌, not, min, false, List, length, Option, Some, None, if◌then◌else◌}
 use Rattle.link_procedures.specs.Links.{DataLink, SendQueue, is_established}
 use Rattle.link_procedures.specs.AnyPeer.{IsLink}
 use Rattle.link_table.specs.Tables.{Table, IsLinkOf, link_of}
@@ -17,8 +17,8 @@ pub record IsAtRest (l : DataLink) : Type 0 where
   pub quiet : sendable l ≡ 0
   pub acknowledged : l.pending ≡ false
 
--- the line that receives has a link. The step has at most two frames, and one for each message submitted; or at most eight and one for each message, and the link
--- has sent all that it may
+-- the line that receives has a link. At most two frames are sent, and one for each message submitted. Or at most eight are, and one for each message,
+-- and the link has sent all that it may
 abbrev pub IsWithin : Option DataLink → Table → Type 0
 IsWithin None t = ⊥
 IsWithin (Some l) t = (length t.frames ≤ 2 + t.messages) ⊎ ((sendable l ≡ 0) × (length t.frames ≤ 8 + t.messages))

@@ -1,5 +1,5 @@
 -- The data links of the lines of an exchange. Source: this project.
-use Rattle.std.specs.Prelude.{◌≡◌, ℕ, Bool, true, false, is_some, IsSome, List, [], map, Option, Some, None, slice_index_or, slice_set, if◌then◌else◌}
+use Rattle.std.specs.Prelude.{◌≡◌, ℕ, Bool, false, is_some, IsSome, List, [], map, Option, Some, None, slice_index_or, slice_set, if◌then◌else◌}
 use Rattle.link_procedures.specs.Links.{DataLink, initial, is_up}
 
 -- the link of each line that has one; the line whose received frame is not acknowledged yet; the number of messages submitted in the step; and the

@@ -1,4 +1,4 @@
-use Rattle.std.proofs.Common.{◌≡◌, ◌+◌, ◌≤◌, length, arith}
+use Rattle.std.proofs.Common.{arith}
 use Rattle.link_table.proofs.RestLemmas.{finished_rest, rest_finished, submitted_rest, submitted_submits, turned_rest}
 use Rattle.link_table.proofs.laws.law_of_rest.Goals as goal
 

@@ -1,5 +1,5 @@
-use Rattle.std.proofs.Common.{◌≡◌, ap, sym, ◌∙◌}
-use Rattle.link_table.specs.Tables.{Table, has_link}
+use Rattle.std.proofs.Common.{ap, sym, ◌∙◌}
+use Rattle.link_table.specs.Tables.{has_link}
 use Rattle.link_table.proofs.TableLemmas.{linked, finished_table}
 use Rattle.link_table.proofs.table.LinkTable.finish.Goals as goal
 

@@ -1,4 +1,4 @@
-use Rattle.std.proofs.Common.{◌≡◌, ◌≤◌, ◌+◌, ap, ◌∙◌, length, arith}
+use Rattle.std.proofs.Common.{ap, length, arith}
 use Rattle.link_table.specs.Tables.{Table}
 use Rattle.link_table.proofs.TableLemmas.{bounded_few}
 use Rattle.link_table.proofs.table.LinkTable.frames.Goals as goal

@@ -1,4 +1,3 @@
-use Rattle.std.proofs.Common.{◌≡◌}
 use Rattle.link_table.proofs.TableLemmas.{new_is_table}
 use Rattle.link_table.proofs.table.LinkTable.new.Goals as goal
 

@@ -1,4 +1,4 @@
-use Rattle.std.proofs.Common.{◌≡◌, ◌≤◌, ◌<◌, ◌+◌, ap, sym, ◌∙◌, subst, length, arith}
+use Rattle.std.proofs.Common.{◌<◌, ap, sym, ◌∙◌, subst, arith}
 use Rattle.link_table.specs.Tables.{Table, has_link}
 use Rattle.link_table.proofs.TableLemmas.{linked, room_for, submitted_table}
 use Rattle.link_table.proofs.table.LinkTable.submit.Goals as goal

@@ -1,4 +1,4 @@
-use Rattle.std.proofs.Common.{◌≡◌, ◌%◌, ap, sym, ◌∙◌}
+use Rattle.std.proofs.Common.{◌%◌, ap, sym, ◌∙◌}
 use Rattle.link_table.specs.Tables.{Table, has_link}
 use Rattle.link_table.proofs.TableLemmas.{linked, turned_table}
 use Rattle.link_table.proofs.table.LinkTable.turn.Goals as goal
