@@ -1,5 +1,5 @@
 //! The table of links.
-ghost use Rattle.std.specs.Prelude.{◌≡◌, ◌==◌, ◌+◌, ◌≤◌, length, IfOk};
+ghost use Rattle.std.specs.Prelude.{◌≡◌, ◌==◌, ◌+◌, ◌≤◌, length, IfOk, is_some};
 ghost use Rattle.link_table.specs.Tables as spec;
 ghost use Rattle.link_table.specs.Steps.{marked};
 ghost use Rattle.link_table.specs.Rest.{IsTable};
@@ -75,6 +75,20 @@ impl LinkTable {
             Some(Some(link)) => link.is_up(),
             _ => false,
         }
+    }
+
+    /// Returns whether a line received a frame, and the step has not ended.
+    pub fn is_receiving(&self) -> bool
+        ensures { result ≡ is_some self.now.receiving }
+    {
+        self.receiving.is_some()
+    }
+
+    /// Returns the number of messages submitted in the step.
+    pub fn messages(&self) -> u8
+        ensures { result ≡ self.now.messages }
+    {
+        self.messages
     }
 
     /// Returns the frames sent in the step, in the order of transmission.
