@@ -105,6 +105,15 @@ fn is_told(told: &Result<Option<Notice<'_>>, NoLinkError>, wanted: Told) -> bool
     }
 }
 
+fn is_changed(change: Option<Change>, wanted: Told) -> bool {
+    match (change, wanted) {
+        (None, Told::Nothing) => true,
+        (Some(Change::Up), Told::Up) => true,
+        (Some(Change::Down), Told::Down) => true,
+        _ => false,
+    }
+}
+
 // Submits a message. Returns whether the line has a link.
 fn submit(table: &mut LinkTable, line: u8, message: &[u8], at: u32) -> bool {
     table.messages() < 64 && message.len() <= 112 && table.submit(line, message, at).is_ok()
@@ -125,7 +134,7 @@ fn holds(table: &mut LinkTable, row: &Row) -> bool {
             table.begin();
             submit(table, *first, b"m", *at) && submit(table, *second, b"m", *at)
         }
-        Act::Turn => is_told(&Ok(table.turn(&USUAL, *at).map(Notice::Link)), *told),
+        Act::Turn => is_changed(table.turn(&USUAL, *at), *told),
     };
     is_right && is_sent(table, sent)
 }
