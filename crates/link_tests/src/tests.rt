@@ -4,4 +4,3 @@ mod hostile;
 mod schedules;
 mod sequences;
 mod table;
-mod tables;
