@@ -69,9 +69,13 @@ on_digits s w h m = with_pending s w h m (pending_at w.legs h.slot)
 
 -- ---- calls that cannot continue
 
--- the number is routed to lines, and none of them has an idle slot; or to a room, and every port is taken
+-- the data link of a line is down, or it has no idle slot
+abbrev pub IsUnavailable : World → ℕ → Type 0
+IsUnavailable w line = (is_down w.legs line ≡ true) ⊎ (lowest_idle w line ≡ None)
+
+-- the number is routed to lines, and none of them is available; or to a room, and every port is taken
 abbrev pub WantsSlot : Setting → World → List ℕ → Type 0
-WantsSlot s w dialled = (lines : List ℕ) × (lines_of (target_dialled s.plan dialled) ≡ Some lines) × All (λ line. lowest_idle w line ≡ None) lines
+WantsSlot s w dialled = (lines : List ℕ) × (lines_of (target_dialled s.plan dialled) ≡ Some lines) × All (IsUnavailable w) lines
 
 abbrev pub WantsPort : Setting → World → List ℕ → Type 0
 WantsPort s w dialled = (room : ℕ) × (target_dialled s.plan dialled ≡ Room room) × (is_full s.dimensions w ≡ true)

@@ -8,6 +8,7 @@ pub mod Course
 pub mod Acts
 pub mod CallRecords
 pub mod Restarts
+pub mod LinkChanges
 pub mod Setup
 pub mod Digits
 pub mod ActCourse

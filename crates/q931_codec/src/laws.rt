@@ -50,6 +50,8 @@ pub fn law_of_cause_values()
     ensures unallocated { UNALLOCATED_NUMBER ≡ cause.unallocated_number }
     ensures normal { NORMAL_CALL_CLEARING ≡ cause.normal_call_clearing }
     ensures busy { USER_BUSY ≡ cause.user_busy }
+    ensures out_of_order { DESTINATION_OUT_OF_ORDER ≡ cause.destination_out_of_order }
+    ensures unspecified { NORMAL_UNSPECIFIED ≡ cause.normal_unspecified }
     ensures format { INVALID_NUMBER_FORMAT ≡ cause.invalid_number_format }
     ensures enquiry { RESPONSE_TO_STATUS_ENQUIRY ≡ cause.response_to_status_enquiry }
     ensures no_channel { NO_CHANNEL_AVAILABLE ≡ cause.no_channel_available }
