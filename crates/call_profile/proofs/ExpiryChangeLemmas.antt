@@ -52,6 +52,7 @@ module _ (d : Dimensions) (z : Slot) (in_z : IsExternal d.external z) where
   Spares (op.Wait x leg p) = Apart x
   Spares (op.Expect x leg message) = Apart x
   Spares (op.Repeat h octets) = Apart h.slot
+  Spares (op.Await x leg) = Apart x
   Spares (op.Remove x) = Apart x
   Spares (op.Send line message) = Unit {0}
 
@@ -68,6 +69,7 @@ module _ (d : Dimensions) (z : Slot) (in_z : IsExternal d.external z) where
   spared m (op.Wait x leg p) may = entry_else d.external m.world.legs x z (Some (begun m.world leg)) may.0 in_z may.1
   spared m (op.Expect x leg message) may = entry_else d.external m.world.legs x z (Some (begun m.world leg)) may.0 in_z may.1
   spared m (op.Repeat h octets) may = entry_else d.external m.world.legs h.slot z (Some (retransmitted_from m.world.holding.next h.leg)) may.0 in_z may.1
+  spared m (op.Await x leg) may = entry_else d.external m.world.legs x z (Some (retransmitted_from m.world.holding.next leg)) may.0 in_z may.1
   spared m (op.Remove x) may = entry_else d.external m.world.legs x z None may.0 in_z may.1
   spared m (op.Send line message) may = refl
 
@@ -103,6 +105,7 @@ module _ (d : Dimensions) (z : Slot) (in_z : IsExternal d.external z) where
     expiry_spares expiry.SetupOver away = (tt, (apart, (tt, peer_cleared no_user_responding (peer_of legs h.leg.peer) away)))
     expiry_spares expiry.Proceeding away = both_cleared no_user_responding away
     expiry_spares expiry.Alerting away = both_cleared no_answer_from_user away
+    expiry_spares expiry.Outage away = (tt, (apart, peer_cleared destination_out_of_order (peer_of legs h.leg.peer) away))
     expiry_spares expiry.Disconnect away = (apart, tt)
     expiry_spares expiry.ReleaseAgain away = again (kept_at legs h.slot)
     expiry_spares expiry.ReleaseOver away = (tt, (apart, tt))

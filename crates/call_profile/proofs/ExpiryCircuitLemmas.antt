@@ -59,6 +59,7 @@ module _ (Free : Slot → Type 0) where
   Clears (op.Wait x leg p) = Unit {0}
   Clears (op.Expect x leg message) = Unit {0}
   Clears (op.Repeat h octets) = Unit {0}
+  Clears (op.Await x leg) = Unit {0}
   Clears (op.Remove x) = Unit {0}
   Clears (op.Send line message) = Unit {0}
 
@@ -207,6 +208,7 @@ module _ (d : Dimensions) (talks : List Circuit) (layout : Layout) where
   talks_performed m (op.Wait x leg p) silent same = same
   talks_performed m (op.Expect x leg message) silent same = same
   talks_performed m (op.Repeat h octets) silent same = same
+  talks_performed m (op.Await x leg) silent same = same
   talks_performed m (op.Remove x) silent same = same
   talks_performed m (op.Send line message) silent same = same
 
@@ -259,6 +261,7 @@ module _ (d : Dimensions) (ports : Ports) where
   ports_performed m (op.Wait x leg p) free same = same
   ports_performed m (op.Expect x leg message) free same = same
   ports_performed m (op.Repeat h octets) free same = same
+  ports_performed m (op.Await x leg) free same = same
   ports_performed m (op.Remove x) free same = same
   ports_performed m (op.Send line message) free same = same
 

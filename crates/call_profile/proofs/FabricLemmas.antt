@@ -24,7 +24,7 @@ use Rattle.call_profile.specs.Fabrics.{with_slots, without_paths, without_moves,
 use Rattle.call_profile.specs.IdleSlots.{idle, is_nailed}
 use Rattle.call_profile.specs.Legs.{Legs}
 use Rattle.call_profile.specs.Operations.{Operation, Clear, Pair, Seat, Sound, Put, Wait, Expect, Repeat, Remove, Send, Making, making_at, making_after, making_after_all, moves_for, moves_of_seat}
-use Rattle.call_profile.specs.Restarts.{MessageOutcome, outcome_then, outcome_at_slot, restart_slot, outcome_below, outcome_of_restart}
+use Rattle.call_profile.specs.Restarts.{MessageOutcome, outcome_then, outcome_at_slot, restart_slot, outcome_below, outcome_of_restart, restart_rule}
 use Rattle.call_profile.specs.Setup.{course_of_setup}
 use Rattle.call_profile.specs.Step.{reply, next, may_nail, may_seat, run, world_after_all}
 use Rattle.call_profile.specs.World.{World, is_full, nail_reply, seat_reply, obey, pass, start}
@@ -91,6 +91,7 @@ module _ (s : Setting) (slots : ℕ) where
     sends = rw same.sends refl;
     moved = same.moved;
   }
+  same_performed a b (Await x leg) same = record { world = ap (λ (v : World). (making_after s.dimensions (making_at v) (Await x leg)).world) same.world; sends = same.sends; moved = same.moved }
   same_performed a b (Remove x) same = record { world = ap (λ (v : World). (making_after s.dimensions (making_at v) (Remove x)).world) same.world; sends = same.sends; moved = same.moved }
   same_performed a b (Send line message) same = record { world = same.world; sends = rw same.sends refl; moved = same.moved }
 
@@ -133,22 +134,22 @@ module _ (s : Setting) (slots : ℕ) where
         let same = same_performed_all (making_at other) (making_at w) os begun_alike in
         record { making = same; recorded = same_records other w (making_after_all t.dimensions (making_at other) os).world (making_after_all s.dimensions (making_at w) os).world cause refl same.world }
 
-    slot_alike : (r : Restart) (x : Slot) (a b : MessageOutcome) → DoneAlike a b → DoneAlike (outcome_at_slot t.dimensions t.tones r x a) (outcome_at_slot s.dimensions s.tones r x b)
+    slot_alike : (r : Restart) (x : Slot) (a b : MessageOutcome) → DoneAlike a b → DoneAlike (outcome_at_slot t.dimensions (restart_rule t.tones r) x a) (outcome_at_slot s.dimensions (restart_rule s.tones r) x b)
     slot_alike r x a b alike =
         then_alike temporary_failure a b (restart_slot s.tones r a.making.world.legs x) (restart_slot s.tones r b.making.world.legs x)
         (ap (λ (legs : Legs). restart_slot s.tones r legs x) (same_legs a.making b.making alike.making)) alike
 
-    below_alike : (r : Restart) (line place : ℕ) → DoneAlike (outcome_below t.dimensions t.tones r line other place) (outcome_below s.dimensions s.tones r line w place)
-    below_alike r line zero = alike_at _ _ _ _ (below_none t.dimensions t.tones r line other) (below_none s.dimensions s.tones r line w) (record { making = begun_alike; recorded = refl })
+    below_alike : (r : Restart) (line place : ℕ) → DoneAlike (outcome_below t.dimensions (restart_rule t.tones r) line other place) (outcome_below s.dimensions (restart_rule s.tones r) line w place)
+    below_alike r line zero = alike_at _ _ _ _ (below_none t.dimensions (restart_rule t.tones r) line other) (below_none s.dimensions (restart_rule s.tones r) line w) (record { making = begun_alike; recorded = refl })
     below_alike r line (suc place) =
-        alike_at _ _ _ _ (below_more t.dimensions t.tones r line other place) (below_more s.dimensions s.tones r line w place)
-        (slot_alike r (record { line = line; place = place }) (outcome_below t.dimensions t.tones r line other place) (outcome_below s.dimensions s.tones r line w place) (below_alike r line place))
+        alike_at _ _ _ _ (below_more t.dimensions (restart_rule t.tones r) line other place) (below_more s.dimensions (restart_rule s.tones r) line w place)
+        (slot_alike r (record { line = line; place = place }) (outcome_below t.dimensions (restart_rule t.tones r) line other place) (outcome_below s.dimensions (restart_rule s.tones r) line w place) (below_alike r line place))
 
     restarted_alike : (r : Restart) (line : ℕ) → DoneAlike (outcome_of_restart t.dimensions t.tones r line other) (outcome_of_restart s.dimensions s.tones r line w)
     restarted_alike r line =
         let alike = below_alike r line 30 in
         record {
-          making = same_performed (outcome_below t.dimensions t.tones r line other 30).making (outcome_below s.dimensions s.tones r line w 30).making (Send line (acknowledgement r)) alike.making;
+          making = same_performed (outcome_below t.dimensions (restart_rule t.tones r) line other 30).making (outcome_below s.dimensions (restart_rule s.tones r) line w 30).making (Send line (acknowledgement r)) alike.making;
           recorded = alike.recorded;
         }
 

@@ -69,6 +69,7 @@ module _ (d : Dimensions) (tones : Tones) (plan : List Number) (before : Legs) (
   Hushes (op.Wait x leg p) = is_calling (Some leg) ≡ false
   Hushes (op.Expect x leg message) = is_calling (Some leg) ≡ false
   Hushes (op.Repeat h octets) = is_calling (Some h.leg) ≡ false
+  Hushes (op.Await x leg) = is_calling (Some leg) ≡ false
   Hushes (op.Remove x) = Unit {0}
   Hushes (op.Send line message) = Unit {0}
 
@@ -103,6 +104,7 @@ module _ (d : Dimensions) (tones : Tones) (plan : List Number) (before : Legs) (
   performed m (op.Wait x leg p) may hushes so_far = entered m.world.legs x (Some (begun m.world leg)) may.0 hushes so_far
   performed m (op.Expect x leg message) may hushes so_far = entered m.world.legs x (Some (begun m.world leg)) may.0 hushes so_far
   performed m (op.Repeat h octets) may hushes so_far = entered m.world.legs h.slot (Some (retransmitted_from m.world.holding.next h.leg)) may.0 hushes so_far
+  performed m (op.Await x leg) may hushes so_far = entered m.world.legs x (Some (retransmitted_from m.world.holding.next leg)) may.0 hushes so_far
   performed m (op.Remove x) may hushes so_far = entered m.world.legs x None may refl so_far
   performed m (op.Send line message) may hushes so_far = so_far
 

@@ -28,7 +28,7 @@ use Rattle.call_profile.specs.Operations.{Operation, begun, Making, making_at, m
 use Rattle.call_profile.specs.Operations as op
 use Rattle.call_profile.specs.Permitted.{CanSeat}
 use Rattle.call_profile.proofs.Permitted.{CanPair, CanSound, IsPermitted, ArePermitted}
-use Rattle.call_profile.specs.Restarts.{MessageOutcome, restart_slot, outcome_below}
+use Rattle.call_profile.specs.Restarts.{MessageOutcome, restart_slot, outcome_below, restart_rule}
 use Rattle.exchange_events.specs.Sizes.{Setting, Dimensions}
 use Rattle.call_profile.specs.Setup.{course_of_setup}
 use Rattle.exchange_events.specs.Sound.{Fits, IsPlanned}
@@ -66,6 +66,7 @@ module _ (d : Dimensions) (tones : Tones) (plan : List Number) (P : World → Ty
   performed m (op.Wait x leg p) may holds = keeps.legs m.world (with_waiting m.world.legs x (begun m.world leg) p) holds
   performed m (op.Expect x leg message) may holds = keeps.legs m.world (with_kept m.world.legs x (begun m.world leg) (encoding message)) holds
   performed m (op.Repeat h octets) may holds = keeps.legs m.world (with_kept m.world.legs h.slot (retransmitted_from m.world.holding.next h.leg) octets) holds
+  performed m (op.Await x leg) may holds = keeps.legs m.world (with_leg m.world.legs x (retransmitted_from m.world.holding.next leg)) holds
   performed m (op.Remove x) may holds = keeps.legs m.world (without_leg m.world.legs x) holds
   performed m (op.Send line message) may holds = holds
 
@@ -82,10 +83,10 @@ module _ (s : Setting) (P : World → Type 0) (keeps : Keeps s.dimensions s.tone
   module _ (w : World) (line : ℕ) (octets : List ℕ) (planned : IsPlanned s) (fits : Fits s.dimensions.external (Message line octets)) (stands : CallsStand s w) (holds : P w) where
     -- each slot that is restarted keeps the legs consistent, so that the next one can be
     abbrev restarts : Restart → MessageOutcome
-    restarts r = outcome_below s.dimensions s.tones r line w 30
+    restarts r = outcome_below s.dimensions (restart_rule s.tones r) line w 30
 
     restarted : (r : Restart) → P (restarts r).making.world
-    restarted r = (each_below s.dimensions s.tones r line w (λ a. P a.making.world × Kept s.dimensions s.tones a.making.world) (holds, (stands.circuits, stands.legs)) (λ a place small k.
+    restarted r = (each_below s.dimensions (restart_rule s.tones r) line w (λ a. P a.making.world × Kept s.dimensions s.tones a.making.world) (holds, (stands.circuits, stands.legs)) (λ a place small k.
         let x : Slot = record { line = line; place = place } in (
           operated a.making (restart_slot s.tones r a.making.world.legs x) (slot_permitted s.dimensions s.tones r a.making x k.1 (fits.0, small) s.plan) k.0,
           slot_kept s.dimensions s.tones r a.making x k.1 (fits.0, small),

@@ -25,7 +25,7 @@ use Rattle.call_profile.specs.Legs.{Legs, waiting_from, retransmitted_from, leg_
 use Rattle.call_profile.specs.LegStanding.{CallsStand}
 use Rattle.call_profile.specs.Operations as op
 use Rattle.call_profile.specs.Operations.{Operation, Making, begun, with_legs, making_at, making_after, making_after_all}
-use Rattle.call_profile.specs.Restarts.{restart_slot}
+use Rattle.call_profile.specs.Restarts.{restart_slot, restart_rule}
 use Rattle.call_profile.specs.Setup.{course_of_setup}
 use Rattle.call_profile.specs.Step.{next, may_nail, may_seat}
 use Rattle.call_profile.specs.KeptMessages.{MayKeep, LegsWait}
@@ -78,7 +78,7 @@ module _ (d : Dimensions) (tones : Tones) (plan : List Number) where
 
   -- a slot gets another entry
   entered : (w : World) (x : Slot) → IsExternal d.external x → Stand w → (o : Option Leg) (p : Option Pending) (k : Option (List ℕ)) → MayWait plan o p → IfSome o (λ leg. leg.since ≤ w.holding.next) → MayKeep o k
-      → Stand (with_legs w (record { held = slice_set w.legs.held (number_of x) o; pending = slice_set w.legs.pending (number_of x) p; kept = slice_set w.legs.kept (number_of x) k }))
+      → Stand (with_legs w (record w.legs { held = slice_set w.legs.held (number_of x) o; pending = slice_set w.legs.pending (number_of x) p; kept = slice_set w.legs.kept (number_of x) k }))
   entered w x in_x stand o p k waits since keeps = (
     written_pend d.external plan w.legs x stand.0 in_x o p k waits,
     written_wait d.external w.holding.next w.legs x stand.1 in_x o p k since keeps,
@@ -98,6 +98,7 @@ module _ (d : Dimensions) (tones : Tones) (plan : List Number) where
       let keeps = kept_there d.external m.world.holding.next m.world.legs h.slot h.leg octets stand.1 may.0 may.1 may.2 in
       entered m.world h.slot may.0 stand (Some (retransmitted_from m.world.holding.next h.leg)) None (Some octets) (awaits_by keeps.message.kind h.leg.state keeps.awaited.state).1 (omega arith)
       (kept_anew m.world.holding.next h.leg octets keeps)
+  performed m (op.Await x leg) may stand = entered m.world x may.0 stand (Some (retransmitted_from m.world.holding.next leg)) None None may.2 (omega arith) may.3
   performed m (op.Remove x) may stand = entered m.world x may stand None None None tt tt tt
   performed m (op.Send line message) may stand = stand
 
@@ -119,7 +120,7 @@ module _ (s : Setting) (w : World) (line : ℕ) (octets : List ℕ) (planned : I
       performed_all s.dimensions s.tones s.plan (making_at w) (course_of s w h m (act_on h.leg.state m)).operations (act_may s w line octets planned fits stands h m is) before
   received (New_call m) is = performed_all s.dimensions s.tones s.plan (making_at w) (course_of_setup s w line m).operations (call_may s w line octets planned fits stands m is) before
   received (On_no_call m) is = performed_all s.dimensions s.tones s.plan (making_at w) (answer_back line (answer_without_call m)) (answer_may s w line octets planned fits stands m is) before
-  received (Restarts r) is = (each_below s.dimensions s.tones r line w (λ a. Stands a.making.world × Kept s.dimensions s.tones a.making.world) (before, (stands.circuits, stands.legs)) (λ a place small k.
+  received (Restarts r) is = (each_below s.dimensions (restart_rule s.tones r) line w (λ a. Stands a.making.world × Kept s.dimensions s.tones a.making.world) (before, (stands.circuits, stands.legs)) (λ a place small k.
       let x : Slot = record { line = line; place = place } in (
         performed_all s.dimensions s.tones s.plan a.making (restart_slot s.tones r a.making.world.legs x) (slot_permitted s.dimensions s.tones r a.making x k.1 (fits.0, small) s.plan) k.0,
         slot_kept s.dimensions s.tones r a.making x k.1 (fits.0, small),

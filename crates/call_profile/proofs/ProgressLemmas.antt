@@ -123,17 +123,17 @@ either_tells : (b : Bool) (p q : List Operation) → TellsOfTones p → TellsOfT
 either_tells true p q one other = one
 either_tells false p q one other = other
 
-restarted_peer_tells : (tones : Tones) (r : Restart) (line : ℕ) (o : Option HeldLeg) → TellsOfTones (with_peer o (restart_peer tones r line))
+restarted_peer_tells : (tones : Tones) (r : Restart) (line : ℕ) (o : Option HeldLeg) → TellsOfTones (with_peer o (restart_peer tones temporary_failure r line))
 restarted_peer_tells tones r line None = refl
 restarted_peer_tells tones r line (Some other) =
     either_tells (restarts_slot r line other.slot) (remove_leg other) (clear_with tones temporary_failure other) refl (cleared_tells tones temporary_failure other)
 
-restarted_leg_tells : (tones : Tones) (r : Restart) (legs : Legs) (o : Option HeldLeg) → TellsOfTones (restart_leg tones r legs o)
+restarted_leg_tells : (tones : Tones) (r : Restart) (legs : Legs) (o : Option HeldLeg) → TellsOfTones (restart_leg tones temporary_failure r legs o)
 restarted_leg_tells tones r legs None = refl
 restarted_leg_tells tones r legs (Some h) = restarted_peer_tells tones r h.slot.line (peer_of legs h.leg.peer)
 
 pub restart_tells : (tones : Tones) (r : Restart) (legs : Legs) (x : Slot) → TellsOfTones (restart_slot tones r legs x)
-restart_tells tones r legs x = either_tells (is_restarted r x.place) (restart_leg tones r legs (held_at legs x)) [] (restarted_leg_tells tones r legs (held_at legs x)) refl
+restart_tells tones r legs x = either_tells (is_restarted r x.place) (restart_leg tones temporary_failure r legs (held_at legs x)) [] (restarted_leg_tells tones r legs (held_at legs x)) refl
 
 -- ---- a message on no call
 

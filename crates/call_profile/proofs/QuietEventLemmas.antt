@@ -11,7 +11,7 @@ use Rattle.call_profile.specs.Calls.{Request, For_leg, New_call, On_no_call, Res
 use Rattle.call_profile.specs.IdleSlots.{is_nailed}
 use Rattle.call_profile.specs.Operations as op
 use Rattle.call_profile.specs.Operations.{Operation, Making, making_at, making_after, making_after_all}
-use Rattle.call_profile.specs.Restarts.{restart_slot}
+use Rattle.call_profile.specs.Restarts.{restart_slot, restart_rule}
 use Rattle.exchange_events.specs.Sizes.{Setting, Dimensions}
 use Rattle.call_profile.specs.Setup.{course_of_setup}
 use Rattle.call_profile.specs.Step.{next, may_nail, may_seat}
@@ -37,6 +37,7 @@ performed_same d m (op.Put x leg) = record { inputs = refl; held = refl; seated 
 performed_same d m (op.Wait x leg p) = record { inputs = refl; held = refl; seated = refl; next = refl }
 performed_same d m (op.Expect x leg message) = record { inputs = refl; held = refl; seated = refl; next = refl }
 performed_same d m (op.Repeat h octets) = record { inputs = refl; held = refl; seated = refl; next = refl }
+performed_same d m (op.Await x leg) = record { inputs = refl; held = refl; seated = refl; next = refl }
 performed_same d m (op.Remove x) = record { inputs = refl; held = refl; seated = refl; next = refl }
 performed_same d m (op.Send line message) = record { inputs = refl; held = refl; seated = refl; next = refl }
 
@@ -62,7 +63,7 @@ received_same s w line (For_leg h m) = performed_all_same s.dimensions (making_a
 received_same s w line (New_call m) = performed_all_same s.dimensions (making_at w) (course_of_setup s w line m).operations
 received_same s w line (On_no_call m) = performed_all_same s.dimensions (making_at w) (answer_back line (answer_without_call m))
 received_same s w line (Restarts r) =
-    each_below s.dimensions s.tones r line w (λ a. SameFrames w a.making.world) (record { inputs = refl; held = refl; seated = refl; next = refl })
+    each_below s.dimensions (restart_rule s.tones r) line w (λ a. SameFrames w a.making.world) (record { inputs = refl; held = refl; seated = refl; next = refl })
     (λ a place small same. then_same w a.making.world _ same (performed_all_same s.dimensions a.making (restart_slot s.tones r a.making.world.legs (record { line = line; place = place })))) 30 (omega arith)
 received_same s w line Unanswered = record { inputs = refl; held = refl; seated = refl; next = refl }
 

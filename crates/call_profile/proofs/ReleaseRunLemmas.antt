@@ -48,7 +48,7 @@ use Rattle.call_profile.specs.Operations.{Operation, Making, begun, making_at, m
 use Rattle.call_profile.specs.Permitted.{CanSeat}
 use Rattle.call_profile.specs.Peers.{PeerIsThere}
 use Rattle.call_profile.specs.ReleaseTones.{release_with, HearsTone, SoundsByRelease, ReleasesSound, EachReleaseSounds}
-use Rattle.call_profile.specs.Restarts.{restart_slot, restart_leg, restart_peer, restarts_slot}
+use Rattle.call_profile.specs.Restarts.{restart_slot, restart_leg, restart_peer, restarts_slot, restart_rule}
 use Rattle.call_profile.specs.Setup.{accept_at, await_digits, call, call_asked, caller_leg, caller_slot, called_slot, setup, refusal, course_of_setup, target_dialled, target_of}
 use Rattle.call_profile.specs.Step.{next, may_nail, may_seat}
 use Rattle.call_profile.specs.World.{World, start, pass, is_full}
@@ -135,14 +135,14 @@ module _ (d : Dimensions) (tones : Tones) (r : Restart) (m : Making) (x : Slot) 
     gone_sounds : Sounding d tones gone.world
     gone_sounds = removed_sounds d tones plan m before held within
 
-    peer_restarted : (o : Option HeldLeg) → PeerIsThere d.external held o → PeerUnreleased gone.world o → Sounding d tones (making_after_all d gone (with_peer o (restart_peer tones r x.line))).world
+    peer_restarted : (o : Option HeldLeg) → PeerIsThere d.external held o → PeerUnreleased gone.world o → Sounding d tones (making_after_all d gone (with_peer o (restart_peer tones temporary_failure r x.line))).world
     peer_restarted None there quiet = gone_sounds
     peer_restarted (Some other) there quiet = elim (true_or_false (restarts_slot r x.line other.slot)) [
       | inl too ↦ rw too (removed_sounds d tones plan gone gone_sounds other there.0.within)
       | inr not_so ↦ rw not_so (cleared_sounds d tones plan gone gone_sounds other temporary_failure there.0 (omega arith) quiet)
     ]
 
-    leg_restarted : Sounding d tones (making_after_all d m (restart_leg tones r m.world.legs (Some held))).world
+    leg_restarted : Sounding d tones (making_after_all d m (restart_leg tones temporary_failure r m.world.legs (Some held))).world
     leg_restarted =
         peer_restarted (peer_of m.world.legs leg.peer) (peer_there_too d.external tones m.world held kept.1 within at)
         (peer_quiet_still d tones plan m.world held kept.1 within at gone.world None refl)
@@ -265,7 +265,7 @@ module _ (s : Setting) (w : World) (stands : CallsStand s w) where
       (λ dials may. digits_sound s w now h m (unreleased_by w h.slot (Some h.leg) named.at (timed_elsewhere h.leg.state overlap_sending (eqb-true h.leg.state overlap_sending dials) (λ e. absurd cc))) within may)
   message line octets planned fits (New_call m) is = setup_sounds s w now line m (call_may s w line octets planned fits stands m is)
   message line octets planned fits (On_no_call m) is = answered line (answer_without_call m)
-  message line octets planned fits (Restarts r) is = (each_below s.dimensions s.tones r line w (λ a. Now a.making.world × Kept s.dimensions s.tones a.making.world) (now, (stands.circuits, stands.legs)) (λ a place small k.
+  message line octets planned fits (Restarts r) is = (each_below s.dimensions (restart_rule s.tones r) line w (λ a. Now a.making.world × Kept s.dimensions s.tones a.making.world) (now, (stands.circuits, stands.legs)) (λ a place small k.
       let x : Slot = record { line = line; place = place } in (
         slot_restarted s.dimensions s.tones r a.making x k.1 (fits.0, small) s.plan k.0,
         slot_kept s.dimensions s.tones r a.making x k.1 (fits.0, small),

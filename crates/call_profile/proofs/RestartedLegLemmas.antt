@@ -193,7 +193,7 @@ module _ (d : Dimensions) (tones : Tones) (r : Restart) (line : ℕ) (m : Making
         next = ap (λ (h : Holding). h.next) holding ∙ sounding_next cleared y tone;
       }
 
-    with_peer_done : (p : Peer) → leg.peer ≡ p → HasPeer d.external u.legs x leg p → Done (making_after_all d gone (with_peer (peer_of u.legs p) (restart_peer tones r line))).world
+    with_peer_done : (p : Peer) → leg.peer ≡ p → HasPeer d.external u.legs x leg p → Done (making_after_all d gone (with_peer (peer_of u.legs p) (restart_peer tones temporary_failure r line))).world
     with_peer_done peer.Alone is has = one_done (λ p same. let e : peer.Alone ≡ peer.Leg p = sym is ∙ same in cc)
     with_peer_done (peer.Leg y) is has =
         let other = has.1.0 in
@@ -206,11 +206,11 @@ module _ (d : Dimensions) (tones : Tones) (r : Restart) (line : ℕ) (m : Making
         ])
     with_peer_done (peer.Room room) is has = one_done (λ p same. let e : peer.Room room ≡ peer.Leg p = sym is ∙ same in cc)
 
-    leg_done : Done (making_after_all d m (restart_leg tones r u.legs (Some held))).world
-    leg_done = subst (λ n. Done (making_after_all d gone (with_peer (peer_of u.legs leg.peer) (restart_peer tones r n))).world) (sym on_line) (with_peer_done leg.peer refl (kept.1.each x leg in_x at).peer)
+    leg_done : Done (making_after_all d m (restart_leg tones temporary_failure r u.legs (Some held))).world
+    leg_done = subst (λ n. Done (making_after_all d gone (with_peer (peer_of u.legs leg.peer) (restart_peer tones temporary_failure r n))).world) (sym on_line) (with_peer_done leg.peer refl (kept.1.each x leg in_x at).peer)
 
   held_done : (o : Option Leg) → leg_at u.legs x ≡ o
-      → Done (making_after_all d m (restart_leg tones r u.legs (option_map (λ (leg : Leg). let h : HeldLeg = record { slot = x; leg = leg } in h) o))).world
+      → Done (making_after_all d m (restart_leg tones temporary_failure r u.legs (option_map (λ (leg : Leg). let h : HeldLeg = record { slot = x; leg = leg } in h) o))).world
   held_done None none = none_done none
   held_done (Some leg) at = leg_done leg at
 

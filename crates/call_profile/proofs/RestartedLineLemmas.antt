@@ -19,7 +19,7 @@ use Rattle.call_profile.specs.LegStanding.{HasPeer}
 use Rattle.call_profile.specs.Legs.{leg_at}
 use Rattle.call_profile.specs.Operations.{begun}
 use Rattle.call_profile.specs.Restarted.{IsRestart, left_with, left_by}
-use Rattle.call_profile.specs.Restarts.{MessageOutcome, restarts_slot, outcome_at_slot, outcome_below}
+use Rattle.call_profile.specs.Restarts.{MessageOutcome, restarts_slot, outcome_at_slot, outcome_below, restart_rule}
 use Rattle.exchange_events.specs.Sizes.{Setting}
 use Rattle.call_profile.specs.World.{World}
 use Rattle.call_profile.proofs.BesideLemmas.{same_or_apart}
@@ -257,28 +257,28 @@ module _ (s : Setting) (r : Restart) (line : ℕ) (w : World) (below : line < s.
     next = refl;
   }
 
-  pub step_below : (n : ℕ) → n < 30 → (a : MessageOutcome) → Below n a.making.world → Below (suc n) (outcome_at_slot s.dimensions s.tones r (record { line = line; place = n }) a).making.world
+  pub step_below : (n : ℕ) → n < 30 → (a : MessageOutcome) → Below n a.making.world → Below (suc n) (outcome_at_slot s.dimensions (restart_rule s.tones r) (record { line = line; place = n }) a).making.world
   step_below n small a so_far = elim (true_or_false (is_restarted r n)) [
     | inl restarted ↦
         let here : Slot = record { line = line; place = n } in
         one_more n small a.making.world so_far restarted
-        (outcome_at_slot s.dimensions s.tones r here a).making.world
+        (outcome_at_slot s.dimensions (restart_rule s.tones r) here a).making.world
         (slot_kept s.dimensions s.tones r a.making here so_far.kept (below, small))
         (slot_done s.dimensions s.tones r line a.making here refl so_far.kept (below, small) restarted)
     | inr not_so ↦ rw not_so (not_more n small a.making.world so_far not_so)
   ]
 
-  pub restarted_below : Kept s.dimensions s.tones w → (n : ℕ) → n ≤ 30 → Below n (outcome_below s.dimensions s.tones r line w n).making.world
-  restarted_below kept zero small = subst (λ (a : MessageOutcome). Below 0 a.making.world) (sym (below_none s.dimensions s.tones r line w)) (start_below kept)
+  pub restarted_below : Kept s.dimensions s.tones w → (n : ℕ) → n ≤ 30 → Below n (outcome_below s.dimensions (restart_rule s.tones r) line w n).making.world
+  restarted_below kept zero small = subst (λ (a : MessageOutcome). Below 0 a.making.world) (sym (below_none s.dimensions (restart_rule s.tones r) line w)) (start_below kept)
   restarted_below kept (suc n) small =
-      subst (λ (a : MessageOutcome). Below (suc n) a.making.world) (sym (below_more s.dimensions s.tones r line w n))
-      (step_below n (omega (arith, small)) (outcome_below s.dimensions s.tones r line w n) (restarted_below kept n (omega (arith, small))))
+      subst (λ (a : MessageOutcome). Below (suc n) a.making.world) (sym (below_more s.dimensions (restart_rule s.tones r) line w n))
+      (step_below n (omega (arith, small)) (outcome_below s.dimensions (restart_rule s.tones r) line w n) (restarted_below kept n (omega (arith, small))))
 
 -- ---- the whole line
 
 module _ (s : Setting) (w : World) (line : ℕ) (octets : List ℕ) (r : Restart) (is : IsRestart s w line octets r) where
   abbrev left : World
-  left = (outcome_below s.dimensions s.tones r line w 30).making.world
+  left = (outcome_below s.dimensions (restart_rule s.tones r) line w 30).making.world
 
   after_is : after_message s w line octets ≡ left
   after_is = ap (λ (q : Request). (outcome_for s w line q).making.world) is.restarts

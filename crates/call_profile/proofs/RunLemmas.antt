@@ -12,7 +12,7 @@ use Rattle.call_profile.specs.Calls.{Request, For_leg, New_call, On_no_call, Res
 use Rattle.call_profile.specs.IdleSlots.{is_nailed}
 use Rattle.call_profile.specs.Operations as op
 use Rattle.call_profile.specs.Operations.{Operation, Making, making_at, making_after, making_after_all}
-use Rattle.call_profile.specs.Restarts.{restart_slot}
+use Rattle.call_profile.specs.Restarts.{restart_slot, restart_rule}
 use Rattle.exchange_events.specs.Orders.{event_at}
 use Rattle.exchange_events.specs.Sizes.{Setting, Dimensions}
 use Rattle.call_profile.specs.Setup.{course_of_setup}
@@ -48,6 +48,7 @@ performed_next d m (op.Put x leg) = refl
 performed_next d m (op.Wait x leg p) = refl
 performed_next d m (op.Expect x leg message) = refl
 performed_next d m (op.Repeat h octets) = refl
+performed_next d m (op.Await x leg) = refl
 performed_next d m (op.Remove x) = refl
 performed_next d m (op.Send line message) = refl
 
@@ -60,7 +61,7 @@ received_next s w line (For_leg h m) = performed_all_next s.dimensions (making_a
 received_next s w line (New_call m) = performed_all_next s.dimensions (making_at w) (course_of_setup s w line m).operations
 received_next s w line (On_no_call m) = performed_all_next s.dimensions (making_at w) (answer_back line (answer_without_call m))
 received_next s w line (Restarts r) =
-    each_below s.dimensions s.tones r line w (λ a. a.making.world.holding.next ≡ w.holding.next) refl
+    each_below s.dimensions (restart_rule s.tones r) line w (λ a. a.making.world.holding.next ≡ w.holding.next) refl
     (λ a place small same. performed_all_next s.dimensions a.making (restart_slot s.tones r a.making.world.legs (record { line = line; place = place })) ∙ same) 30 (omega arith)
 received_next s w line Unanswered = refl
 

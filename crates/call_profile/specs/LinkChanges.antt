@@ -39,8 +39,8 @@ drop_leg tones legs (Some h) =
 abbrev pub drop_slot : Tones → Legs → Slot → List Operation
 drop_slot tones legs x = drop_leg tones legs (held_at legs x)
 
-abbrev pub dropping : Tones → SlotRule
-dropping tones = record { does = drop_slot tones; cause = destination_out_of_order }
+abbrev pub drop_rule : Tones → SlotRule
+drop_rule tones = record { does = drop_slot tones; cause = destination_out_of_order }
 
 -- ---- the data link is up (5.8.8, 5.8.9)
 
@@ -59,8 +59,8 @@ resume_leg tones (Some h) =
 abbrev pub resume_slot : Tones → Legs → Slot → List Operation
 resume_slot tones legs x = resume_leg tones (held_at legs x)
 
-abbrev pub resuming : Tones → SlotRule
-resuming tones = record { does = resume_slot tones; cause = temporary_failure }
+abbrev pub resume_rule : Tones → SlotRule
+resume_rule tones = record { does = resume_slot tones; cause = temporary_failure }
 
 -- ---- a change of the link
 
@@ -69,8 +69,8 @@ with_line w line down = with_legs w (with_link w.legs line down)
 
 -- the link of the line is down or up from now on, and each of its slots follows the rule, lowest first
 abbrev pub rule_of : Tones → Bool → SlotRule
-rule_of tones true = dropping tones
-rule_of tones false = resuming tones
+rule_of tones true = drop_rule tones
+rule_of tones false = resume_rule tones
 
 abbrev pub outcome_of_link : Dimensions → Tones → Bool → ℕ → World → MessageOutcome
 outcome_of_link d tones down line w = outcome_below d (rule_of tones down) line (with_line w line down) 30

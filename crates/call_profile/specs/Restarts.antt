@@ -60,11 +60,11 @@ unfoldable pub outcome_below : Dimensions → SlotRule → ℕ → World → ℕ
 outcome_below d rule line w zero = record { making = making_at w; recorded = [] }
 outcome_below d rule line w (suc place) = outcome_at_slot d rule (record { line = line; place = place }) (outcome_below d rule line w place)
 
-abbrev pub restarting : Tones → Restart → SlotRule
-restarting tones r = record { does = restart_slot tones r; cause = temporary_failure }
+abbrev pub restart_rule : Tones → Restart → SlotRule
+restart_rule tones r = record { does = restart_slot tones r; cause = temporary_failure }
 
 -- all places, and last the acknowledgement
 abbrev pub outcome_of_restart : Dimensions → Tones → Restart → ℕ → World → MessageOutcome
 outcome_of_restart d tones r line w =
-    let a = outcome_below d (restarting tones r) line w 30 in
+    let a = outcome_below d (restart_rule tones r) line w 30 in
     record a { making = making_after d a.making (Send line (acknowledgement r)) }
