@@ -7,7 +7,7 @@ use Rattle.q931_codec.specs.declared.kind.MessageKind.{MessageKind}
 use Rattle.q931_codec.specs.declared.kind.MessageKind.TheVariants as kind
 use Rattle.q931_codec.specs.declared.message.Message.{Message}
 use Rattle.q931_codec.specs.Outgoing.{OutgoingMessage, encoding}
-use Rattle.q931_codec.specs.Contents.{channel_in}
+use Rattle.q931_codec.specs.Contents.{call_state_in, channel_in}
 use Rattle.q931_codec.specs.Causes.{invalid_number_format, no_answer_from_user, no_user_responding, recovery_on_timer_expiry, temporary_failure}
 use Rattle.q931_codec.specs.Reading.{reading}
 use Rattle.q931_codec.proofs.EncodingFacts.{encoding_read}
@@ -15,13 +15,13 @@ use Rattle.q931_codec.proofs.Messages.{message_read}
 use Rattle.q931_codec.proofs.RowFacts.{fields_back}
 use Rattle.call_timers.specs.declared.expiry.Expiry.{Expiry}
 use Rattle.call_timers.specs.declared.expiry.Expiry.TheVariants as expiry
-use Rattle.q931_codec.specs.CallStates.{call_delivered}
+use Rattle.q931_codec.specs.CallStates.{call_delivered, null}
 use Rattle.call_states.specs.declared.act.Act.{Act}
 use Rattle.call_states.specs.declared.act.Act.TheVariants as act
 use Rattle.call_states.specs.declared.leg.HeldLeg.{HeldLeg}
 use Rattle.clearing_rules.specs.declared.scope.Restart.{Restart}
 use Rattle.clearing_rules.specs.Restarting.{is_restarted, global_call_reference}
-use Rattle.clearing_rules.specs.UnknownReference.{answer_to_type, answer_without_call}
+use Rattle.clearing_rules.specs.UnknownReference.{answer_to_status, answer_to_type, answer_without_call, no_such_call}
 use Rattle.number_plan.specs.declared.target.Found.{Found}
 use Rattle.number_plan.specs.declared.target.Found.TheVariants.{Line, Lines, Room, More, Nothing}
 use Rattle.tone_rules.specs.declared.tones.Tones.{Tones}
@@ -137,6 +137,14 @@ restart_tells tones r legs x = either_tells (is_restarted r x.place) (restart_le
 
 -- ---- a message on no call
 
+either_answer_tells : (line : ℕ) (b : Bool) (o : Option OutgoingMessage) → TellsOfTones (answer_back line o) → TellsOfTones (answer_back line (if b then None else o))
+either_answer_tells line true o other = refl
+either_answer_tells line false o other = other
+
+status_tells : (line : ℕ) (m : Message) (state : Option ℕ) → TellsOfTones (answer_back line (answer_to_status m state))
+status_tells line m None = refl
+status_tells line m (Some state) = either_answer_tells line (state == null) (Some (no_such_call m)) refl
+
 type_tells : (line : ℕ) (m : Message) (k : MessageKind) → TellsOfTones (answer_back line (answer_to_type m k))
 type_tells line m kind.CallProceeding = refl
 type_tells line m kind.Alerting = refl
@@ -150,17 +158,13 @@ type_tells line m kind.Setup = refl
 type_tells line m kind.Disconnect = refl
 type_tells line m kind.Release = refl
 type_tells line m kind.ReleaseComplete = refl
-type_tells line m kind.Status = refl
+type_tells line m kind.Status = status_tells line m (call_state_in m.elements)
 type_tells line m kind.StatusEnquiry = refl
 type_tells line m kind.SetupAcknowledge = refl
 type_tells line m kind.Restart = refl
 type_tells line m kind.RestartAcknowledge = refl
 type_tells line m kind.Information = refl
 type_tells line m (kind.Unknown octet) = refl
-
-either_answer_tells : (line : ℕ) (b : Bool) (o : Option OutgoingMessage) → TellsOfTones (answer_back line o) → TellsOfTones (answer_back line (if b then None else o))
-either_answer_tells line true o other = refl
-either_answer_tells line false o other = other
 
 pub answer_tells : (line : ℕ) (m : Message) → TellsOfTones (answer_back line (answer_without_call m))
 answer_tells line m = either_answer_tells line (m.reference == global_call_reference) (answer_to_type m m.kind) (type_tells line m m.kind)
