@@ -37,7 +37,7 @@ pub step_ruled : (d : Dimensions) (rule : SlotRule) (line : ℕ) (w : World) (pl
     → before ≡ (outcome_below d rule line w place).recorded
     → Makes d map legs sends moved (making_after_all d (outcome_below d rule line w place).making (rule.does (outcome_below d rule line w place).making.world.legs (record { line = line; place = place })))
     → records (outcome_below d rule line w place).making.world
-        (making_after_all d (outcome_below d rule line w place).making (rule.does (outcome_below d rule line w place).making.world.legs (record { line = line; place = place }))).world rule.cause ≡ more
+    (making_after_all d (outcome_below d rule line w place).making (rule.does (outcome_below d rule line w place).making.world.legs (record { line = line; place = place }))).world rule.cause ≡ more
     → told ≡ before ++ more
     → Makes d map legs sends moved (outcome_below d rule line w (place + 1)).making × (told ≡ (outcome_below d rule line w (place + 1)).recorded)
 step_ruled d rule line w place map legs sends moved before told more first makes recorded is =

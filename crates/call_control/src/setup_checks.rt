@@ -92,12 +92,11 @@ impl<P: PathMap> CallControl<P> {
         requires lines { list_all (line_exists self.now.map.external) lines.now ≡ true }
         ensures { result ≡ list_all (is_down self.now.legs) lines.now }
     {
-        for line in lines {
-            if !self.legs.is_down(*line) {
-                return false;
-            }
+        let mut all = true;
+        for tried in lines {
+            all &= self.legs.is_down(*tried);
         }
-        true
+        all
     }
 
     // Returns whether the data link of each called line is down.

@@ -53,11 +53,14 @@ module _ (d : Dimensions) (tones : Tones) (w : World) (line : ℕ) (down : Bool)
   leg_too x leg stands = record { state = stands.state; reference = stands.reference; cause = stands.cause; peer = peer_too x leg leg.peer stands.peer; hears = stands.hears }
 
   pub linked_kept : Kept d tones w → Kept d tones v
-  linked_kept kept = (kept.0, record {
-    count = kept.1.count;
-    each = λ x leg in_x at. leg_too x leg (kept.1.each x leg in_x at);
-    one = kept.1.one;
-  })
+  linked_kept kept = (
+    kept.0,
+    record {
+      count = kept.1.count;
+      each = λ x leg in_x at. leg_too x leg (kept.1.each x leg in_x at);
+      one = kept.1.one;
+    },
+  )
 
 -- ---- a leg
 
