@@ -1,5 +1,5 @@
 -- Every event keeps a number pending exactly where a leg is in overlap sending, and a message kept exactly where a leg waits for the answer.
-use Rattle.std.proofs.Common.{◌≡◌, ℕ, ◌*◌, inl, inr, Bool, true, false, List, [], ◌∷◌, Option, Some, None, refl, sym, ◌∙◌, subst, arith, length-set, if◌then◌else◌}
+use Rattle.std.proofs.Common.{◌≡◌, ℕ, ◌*◌, inl, inr, Bool, true, false, List, [], ◌∷◌, Option, Some, None, refl, sym, ◌∙◌, subst, arith, length-set, if◌then◌else◌, ◌<◌}
 use Rattle.std.specs.Prelude.{◌≤◌, IfSome, slice_set}
 use Rattle.std.proofs.lemmas.List.{length-replicate}
 use Rattle.circuit_model.specs.declared.channel.Slot.{Slot}

@@ -71,13 +71,13 @@ module _ (d : Dimensions) (tones : Tones) (r : Restart) (cause : ℕ) (small : c
 
   gone_kept : (y : Slot) (other : Leg) → IsExternal d.external y → leg_at m.world.legs y ≡ Some other → IsInCall leg.side x leg y other → Kept d tones (both_gone y other)
   gone_kept y other in_y at_y call =
-      let waits : World = (making_after_all d gone (clear_with tones cause (record { slot = y; leg = other }))).world in
-      let stands = both_kept d tones m.world x leg None cause small kept.0 kept.1 within at (inl refl) gone refl refl y other in_y at_y call in
+      let waits : World = (making_after_all d gone (clear_with tones temporary_failure (record { slot = y; leg = other }))).world in
+      let stands = both_kept d tones m.world x leg None temporary_failure (omega arith) kept.0 kept.1 within at (inl refl) gone refl refl y other in_y at_y call in
       let size : length gone.world.legs.held ≡ 30 * d.external = length-set m.world.legs.held (number_of x) None ∙ kept.1.count in
-      let there : leg_at waits.legs y ≡ Some (begun m.world (in_disconnect_indication cause other)) = entry_here d.external gone.world.legs y (Some (begun m.world (in_disconnect_indication cause other))) size in_y in (
+      let there : leg_at waits.legs y ≡ Some (begun m.world (in_disconnect_indication temporary_failure other)) = entry_here d.external gone.world.legs y (Some (begun m.world (in_disconnect_indication temporary_failure other))) size in_y in (
         stands.0,
-        alone_left d.external tones d.bridges waits (both_gone y other) y (begun m.world (in_disconnect_indication cause other)) None stands.0 stands.1 in_y there (inl refl)
-            (ap (λ (ls : Legs). ls.held) (sym (entry_twice gone.world.legs y (Some (begun m.world (in_disconnect_indication cause other))) None)))
+        alone_left d.external tones d.bridges waits (both_gone y other) y (begun m.world (in_disconnect_indication temporary_failure other)) None stands.0 stands.1 in_y there (inl refl)
+            (ap (λ (ls : Legs). ls.held) (sym (entry_twice gone.world.legs y (Some (begun m.world (in_disconnect_indication temporary_failure other))) None)))
             (sym (cleared_twice gone.world.holding y))
             (λ p is. cc),
       )

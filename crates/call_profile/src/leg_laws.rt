@@ -73,9 +73,9 @@ pub fn law_of_records()
         → RestartsNothing w line octets → length (answer_to s w line octets).records ≤ 1 }
 {}
 
-/// Let no leg's T309 expire in a frame. It has the record of a call if and only if a caller's leg leaves states 3, 4 and 10 in it. The timer of its
-/// called leg expired. The cause is 19 if the caller's leg was in state 4, since the called user is then alerted, and
-/// otherwise 18. The records come by the line of the called slot, lowest first.
+/// Let no leg's T309 expire in a frame. The frame has the record of a call if and only if a caller's leg leaves states 3,
+/// 4 and 10 in it. The timer of its called leg expired. The cause is 19 if the caller's leg was in state 4, since the
+/// called user is then alerted, and otherwise 18. The records come by the line of the called slot, lowest first.
 pub fn law_of_frame_records()
     ensures told { (s : Setting) (w : World) (input : Input) → CallsStand s w → NoneIsLost s.timers w.holding.next w.legs → (told : CallRecord)
         → Contains (outcome_of_frame s w input).recorded told → (h : HeldLeg) × IsFrameRecord s w input h told }
