@@ -17,7 +17,7 @@ use Rattle.call_profile.specs.LegStanding.{LegsStand}
 use Rattle.call_profile.specs.Legs.{Legs, leg_at}
 use Rattle.call_profile.specs.Operations.{making_after_all}
 use Rattle.call_profile.specs.Peers.{IsThere, PeerIsThere}
-use Rattle.call_profile.specs.Restarts.{restart_slot, outcome_at_slot, outcome_below, MessageOutcome}
+use Rattle.call_profile.specs.Restarts.{restart_slot, outcome_at_slot, outcome_below, MessageOutcome, restart_rule}
 use Rattle.call_control.specs.Standing.{Holds, Makes}
 use Rattle.exchange_events.specs.Sizes.{Dimensions}
 use Rattle.call_profile.specs.World.{World}
@@ -62,23 +62,23 @@ sizes_then a b c first second = record {
 -- no slot yet
 pub none_done : (d : Dimensions) (tones : Tones) (r : Restart) (line : ℕ) (w : World) (map : Connections) (legs : Legs) (sends : List Signal) (moved : Option (ℕ × ℕ)) (told : List CallRecord)
     → Holds d map legs w → sends ≡ [] → moved ≡ None → told ≡ []
-    → Makes d map legs sends moved (outcome_below d tones r line w 0).making × (told ≡ (outcome_below d tones r line w 0).recorded)
+    → Makes d map legs sends moved (outcome_below d (restart_rule tones r) line w 0).making × (told ≡ (outcome_below d (restart_rule tones r) line w 0).recorded)
 none_done d tones r line w map legs sends moved told holds no_sends no_moves no_told =
-    subst (λ (b : MessageOutcome). Makes d map legs sends moved b.making × (told ≡ b.recorded)) (sym (below_none d tones r line w)) (record { holds = holds; sent = no_sends; moves = no_moves }, no_told)
+    subst (λ (b : MessageOutcome). Makes d map legs sends moved b.making × (told ≡ b.recorded)) (sym (below_none d (restart_rule tones r) line w)) (record { holds = holds; sent = no_sends; moves = no_moves }, no_told)
 
 -- one slot more
 pub step_done : (d : Dimensions) (tones : Tones) (r : Restart) (line : ℕ) (w : World) (place : ℕ) (map : Connections) (legs : Legs) (sends : List Signal) (moved : Option (ℕ × ℕ)) (before told : List CallRecord)
     → line < d.external → Kept d tones w → place < 30
-    → before ≡ (outcome_below d tones r line w place).recorded
-    → Makes d map legs sends moved (making_after_all d (outcome_below d tones r line w place).making (restart_slot tones r (outcome_below d tones r line w place).making.world.legs (record { line = line; place = place })))
-    → told ≡ before ++ slot_records r (outcome_below d tones r line w place).making.world (record { line = line; place = place })
-    → Makes d map legs sends moved (outcome_below d tones r line w (place + 1)).making × (told ≡ (outcome_below d tones r line w (place + 1)).recorded)
+    → before ≡ (outcome_below d (restart_rule tones r) line w place).recorded
+    → Makes d map legs sends moved (making_after_all d (outcome_below d (restart_rule tones r) line w place).making (restart_slot tones r (outcome_below d (restart_rule tones r) line w place).making.world.legs (record { line = line; place = place })))
+    → told ≡ before ++ slot_records r (outcome_below d (restart_rule tones r) line w place).making.world (record { line = line; place = place })
+    → Makes d map legs sends moved (outcome_below d (restart_rule tones r) line w (place + 1)).making × (told ≡ (outcome_below d (restart_rule tones r) line w (place + 1)).recorded)
 step_done d tones r line w place map legs sends moved before told below kept small first makes more =
-    let a = outcome_below d tones r line w place in
+    let a = outcome_below d (restart_rule tones r) line w place in
     let x : Slot = record { line = line; place = place } in
     let still = below_kept d tones r line w below kept place (omega (arith, small)) in
     let is : told ≡ a.recorded ++ records a.making.world (making_after_all d a.making (restart_slot tones r a.making.world.legs x)).world temporary_failure =
     more ∙ ap (λ list. list ++ slot_records r a.making.world x) first ∙ ap (λ list. a.recorded ++ list) (sym (slot_told d tones r a.making x still (below, small))) in
     let one : place + 1 ≡ suc place = omega arith in
-    let next : outcome_below d tones r line w (place + 1) ≡ outcome_at_slot d tones r x a = ap (outcome_below d tones r line w) one ∙ below_more d tones r line w place in
+    let next : outcome_below d (restart_rule tones r) line w (place + 1) ≡ outcome_at_slot d (restart_rule tones r) x a = ap (outcome_below d (restart_rule tones r) line w) one ∙ below_more d (restart_rule tones r) line w place in
     subst (λ (b : MessageOutcome). Makes d map legs sends moved b.making × (told ≡ b.recorded)) (sym next) (makes, is)

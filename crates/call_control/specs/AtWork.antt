@@ -37,6 +37,10 @@ pub record IsInOrder (s : Setting) (map : Connections) (legs : Legs) (w : World)
   pub circuits : Valid s.dimensions.bridges w.holding
   pub stand : LegsStand s.dimensions.external s.tones w
 
+-- a statement holds for each setting with these tones, and each such exchange state
+abbrev pub EachLinked : Tones → Connections → Legs → (Setting → World → Type 0) → Type 0
+EachLinked tones map legs Says = (s : Setting) (w : World) → s.tones ≡ tones → IsInOrder s map legs w → Says s w
+
 -- a statement holds for each setting with these tones and timers, and each such exchange state
 abbrev pub EachInOrder : Tones → Timers → Connections → Legs → (Setting → World → Type 0) → Type 0
 EachInOrder tones timers map legs Says = (s : Setting) (w : World) → s.tones ≡ tones → s.timers ≡ timers → IsInOrder s map legs w → Says s w

@@ -8,7 +8,7 @@ use Rattle.number_plan.specs.declared.target.Found.{Found}
 use Rattle.number_plan.specs.declared.target.Found.TheVariants.{Line, Lines, Room, More, Nothing}
 use Rattle.q931_codec.specs.declared.message.Message.{Message}
 use Rattle.q931_codec.specs.Contents.{complete_in}
-use Rattle.q931_codec.specs.Causes.{invalid_number_format, no_channel_available, switching_equipment_congestion, unallocated_number}
+use Rattle.q931_codec.specs.Causes.{destination_out_of_order, invalid_number_format, no_channel_available, switching_equipment_congestion, unallocated_number}
 use Rattle.q931_codec.specs.Outgoing.{encoding}
 use Rattle.call_states.specs.declared.leg.Leg.{Leg}
 use Rattle.call_states.specs.declared.pending.Pending.{Pending}
@@ -16,12 +16,12 @@ use Rattle.exchange_events.specs.declared.signal.Signal.{Signal}
 use Rattle.circuit_map.specs.Connections.{Connections}
 use Rattle.call_control.specs.declared.setup_checks.CalledSide.{CalledSide}
 use Rattle.call_control.specs.declared.setup_checks.CalledSide.TheVariants as side
-use Rattle.call_profile.specs.IdleSlots.{idle, lowest_idle_beside, hunted}
+use Rattle.call_profile.specs.IdleSlots.{idle, lowest_called, hunted}
 use Rattle.call_profile.specs.Legs.{Legs, lowest_free_reference}
 use Rattle.call_profile.specs.Operations.{Operation}
 use Rattle.exchange_events.specs.Sizes.{Dimensions}
 use Rattle.exchange_events.specs.Sound.{line_exists}
-use Rattle.call_profile.specs.Setup.{Check, await_digits, call_line, call_proceeding, call_room, number_checks, called_checks}
+use Rattle.call_profile.specs.Setup.{Check, is_cut_off, await_digits, call_line, call_proceeding, call_room, number_checks, called_checks}
 use Rattle.call_profile.specs.Permitted.{CanSeat}
 use Rattle.call_control.specs.Standing.{Holds}
 use Rattle.call_profile.specs.World.{World, is_full}
@@ -45,8 +45,8 @@ at_slot None = Err no_channel_available
 
 -- the called side for a caller at a slot, by the target of its number, or the cause if there is none
 abbrev pub called_side : Dimensions → World → Slot → Found → Result CalledSide ℕ
-called_side d w x (Line line) = at_slot (lowest_idle_beside w x line)
-called_side d w x (Lines lines) = at_slot (hunted w x lines)
+called_side d w x (Line line) = if is_cut_off w (Line line) then Err destination_out_of_order else at_slot (lowest_called w x line)
+called_side d w x (Lines lines) = if is_cut_off w (Lines lines) then Err destination_out_of_order else at_slot (hunted w x lines)
 called_side d w x (Room room) = if is_full d w then Err switching_equipment_congestion else Ok (side.Room room)
 called_side d w x More = Ok side.More
 called_side d w x Nothing = Err unallocated_number

@@ -7,10 +7,10 @@ ghost use Rattle.q931_codec.specs.Outgoing.{outgoing_of};
 ghost use Rattle.call_states.specs.Acts.{is_among};
 ghost use Rattle.exchange_events.specs.Limits.{max_records, max_sends};
 ghost use Rattle.exchange_events.specs.Sizes.{Setting, Dimensions};
-ghost use Rattle.q931_codec.specs.Causes.{no_user_responding};
+ghost use Rattle.q931_codec.specs.Causes.{destination_out_of_order, no_user_responding};
 ghost use Rattle.call_profile.specs.Acts.{message_to, peer_of};
 ghost use Rattle.call_profile.specs.EndedCalls.{record_ended, record_of_expiry, expired_records};
-ghost use Rattle.call_profile.specs.Expiring.{timed_state, send_again, give_up, ask_for_release, setup_over, clear_both, on_expiry, outcome_of_lines};
+ghost use Rattle.call_profile.specs.Expiring.{timed_state, send_again, give_up, ask_for_release, setup_over, clear_both, outage_over, on_expiry, outcome_of_lines};
 ghost use Rattle.call_profile.specs.KeptMessages.{awaiting_answer};
 ghost use Rattle.call_profile.specs.Legs.{kept_at};
 ghost use Rattle.call_profile.specs.Peers.{IsThere, PeerIsThere};
@@ -28,7 +28,8 @@ use circuit_model::{CHANNELS_PER_LINE, Slot};
 use control_memory::PathMap;
 use exchange_events::{Outbox, Signal};
 use q931_codec::causes::{
-    INVALID_NUMBER_FORMAT, NO_ANSWER_FROM_USER, NO_USER_RESPONDING, RECOVERY_ON_TIMER_EXPIRY,
+    DESTINATION_OUT_OF_ORDER, INVALID_NUMBER_FORMAT, NO_ANSWER_FROM_USER, NO_USER_RESPONDING,
+    RECOVERY_ON_TIMER_EXPIRY,
 };
 use q931_codec::{MessageKind, Outgoing};
 use tone_rules::Tones;
@@ -117,6 +118,7 @@ impl<P: PathMap> CallControl<P> {
             Expiry::SetupOver => self.setup_over(out, tones, held, peer),
             Expiry::Proceeding => self.clear_both(out, tones, held, peer, NO_USER_RESPONDING),
             Expiry::Alerting => self.clear_both(out, tones, held, peer, NO_ANSWER_FROM_USER),
+            Expiry::Outage => self.outage_over(out, tones, held, peer),
             Expiry::Disconnect => self.ask_for_release(out, held),
             Expiry::ReleaseOver => self.remove_leg(held),
         }
@@ -162,6 +164,26 @@ impl<P: PathMap> CallControl<P> {
         let call = self.record_ended(held, peer, NO_USER_RESPONDING);
         self.give_up(out, held);
         self.clear_peer(out, tones, peer, NO_USER_RESPONDING);
+        record_also(&mut out.records, call);
+    }
+
+    // The data link of the leg's line did not come up again: removes the leg, and clears the other leg of its call.
+    fn outage_over(&mut self, out: &mut Outbox, tones: &Tones, held: HeldLeg, peer: Option<HeldLeg>)
+        requires there { IsThere self.old.map.external held }
+        requires count { length self.old.legs.held ≡ 30 * self.old.map.external }
+        requires peer { peer ≡ peer_of self.old.legs held.leg.peer }
+        requires peer_there { PeerIsThere self.old.map.external held peer }
+        requires room { (length out.old.sends + 1 < max_sends) × (length out.old.records < max_records) }
+        ensures makes { Performs (outage_over tones.now self.old.legs held) self.old.map self.old.legs out.old self.new.map self.new.legs out.new }
+        ensures records { (d : Dimensions) (w : World) → Holds d self.old.map self.old.legs w
+            → out.new.records ≡ out.old.records ++ cons_option (record_ended w held destination_out_of_order) [] }
+        ensures few { (length out.new.sends ≤ length out.old.sends + 2) × (length out.new.records ≤ length out.old.records + 1) }
+        ensures moved { out.new.moved ≡ out.old.moved }
+        ensures sizes { SameSizes self.old.map self.new.map }
+    {
+        let call = self.record_ended(held, peer, DESTINATION_OUT_OF_ORDER);
+        self.remove_leg(held);
+        self.clear_peer(out, tones, peer, DESTINATION_OUT_OF_ORDER);
         record_also(&mut out.records, call);
     }
 

@@ -6,6 +6,7 @@
 //! - `handle_message` sends the replies of the rules and replaces the exchange state by the next one (`makes`,
 //!   `records`), for any octets. It moves few paths (`few`), and does not allocate.
 //! - `handle_timers` processes the legs of a frame whose timers have expired (`makes`, `records`).
+//! - `link_down` and `link_up` process a failure and the establishment of a line's data link (`makes`, `records`).
 //! - [`preparse`] parses a message before its turn: the result depends only on the octets and the number plan
 //!   (`read`).
 #![tactic(auto)]
@@ -15,6 +16,7 @@ mod asked;
 mod digits;
 mod ended_calls;
 mod expiring;
+mod link_changes;
 mod messages;
 mod new_call;
 mod operations;

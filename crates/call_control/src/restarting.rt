@@ -1,15 +1,17 @@
 //! RESTART: removes the legs of the restarted slots.
-ghost use Rattle.std.specs.Prelude.{◌≡◌, ◌+◌, ◌*◌, ◌++◌, ◌<◌, ◌≤◌, [], None, IfSome, length};
+ghost use Rattle.std.specs.Prelude.{◌≡◌, ◌+◌, ◌*◌, ◌++◌, ◌<◌, ◌≤◌, [], None, Some, IfSome, length};
+ghost use Rattle.std.specs.List.{cons_option};
 ghost use Rattle.circuit_model.specs.Extent.{IsExternal};
 ghost use Rattle.circuit_map.specs.Connections.{SameSizes};
 ghost use Rattle.clearing_rules.specs.Restarting.{IsOnLine};
 ghost use Rattle.call_profile.specs.Acts.{with_peer};
 ghost use Rattle.call_control.specs.AtWork.{IsAtWork, EachWithTones};
-ghost use Rattle.call_profile.specs.EndedCalls.{slot_records};
+ghost use Rattle.call_profile.specs.EndedCalls.{record_ended, slot_records};
+ghost use Rattle.call_profile.specs.Legs.{leg_at};
 ghost use Rattle.call_profile.specs.LegStanding.{LegsStand};
 ghost use Rattle.exchange_events.specs.Limits.{max_records, max_sends};
 ghost use Rattle.call_profile.specs.Peers.{IsThere};
-ghost use Rattle.call_profile.specs.Restarts.{restart_peer, restart_slot, restarts_slot, outcome_of_restart};
+ghost use Rattle.call_profile.specs.Restarts.{restart_leg, restart_peer, restart_slot, restarts_slot, outcome_of_restart};
 ghost use Rattle.exchange_events.specs.Sizes.{Setting, Dimensions};
 ghost use Rattle.call_control.specs.Standing.{Holds, HasMade, Performs, PerformsBy};
 ghost use Rattle.call_profile.specs.World.{World};
@@ -77,14 +79,39 @@ impl<P: PathMap> CallControl<P> {
             return;
         };
         let held = HeldLeg { slot: x, leg };
-        let peer = self.peer_of(leg.peer);
-        let call = self.record_ended(held, peer, TEMPORARY_FAILURE);
-        record_also(records, call);
-        self.remove_leg(held);
-        self.restart_peer(out, tones, asked, x.line, peer);
+        self.restart_leg(out, tones, records, asked, held, TEMPORARY_FAILURE);
     }
 
-    // Removes the other leg of a call if its slot is restarted too, and clears it otherwise.
+    /// Removes the leg of a restarted slot, and the other leg of its call if its slot is restarted too. Otherwise clears
+    /// that with `cause`. Records the call.
+    pub(crate) fn restart_leg(
+        &mut self,
+        out: &mut Outbox,
+        tones: &Tones,
+        records: &mut Records,
+        asked: Restart,
+        held: HeldLeg,
+        cause: u8,
+    )
+        requires work { (d : Dimensions) × (w : World) × Holds d self.old.map self.old.legs w × LegsStand d.external tones.now w }
+        requires external { IsExternal self.old.map.external held.slot }
+        requires at { leg_at self.old.legs held.slot ≡ Some held.leg }
+        requires cause { cause < 128 }
+        requires room { (length out.old.sends < max_sends) × (length records.old < max_records) }
+        ensures makes { Performs (restart_leg tones.now cause asked self.old.legs (Some held)) self.old.map self.old.legs out.old self.new.map self.new.legs out.new }
+        ensures records { (d : Dimensions) (w : World) → Holds d self.old.map self.old.legs w → records.new ≡ records.old ++ cons_option (record_ended w held cause) [] }
+        ensures few { (length out.new.sends ≤ length out.old.sends + 1) × (length records.new ≤ length records.old + 1) }
+        ensures moved { out.new.moved ≡ out.old.moved }
+        ensures sizes { SameSizes self.old.map self.new.map }
+    {
+        let peer = self.peer_of(held.leg.peer);
+        let call = self.record_ended(held, peer, cause);
+        record_also(records, call);
+        self.remove_leg(held);
+        self.restart_peer(out, tones, asked, held.slot.line, peer, cause);
+    }
+
+    // Removes the other leg of a call if its slot is restarted too, and clears it with `cause` otherwise.
     fn restart_peer(
         &mut self,
         out: &mut Outbox,
@@ -92,11 +119,13 @@ impl<P: PathMap> CallControl<P> {
         asked: Restart,
         line: u8,
         peer: Option<HeldLeg>,
+        cause: u8,
     )
         requires there { IfSome peer (λ other. IsThere self.old.map.external other) }
         requires count { length self.old.legs.held ≡ 30 * self.old.map.external }
+        requires cause { cause < 128 }
         requires room { length out.old.sends < max_sends }
-        ensures makes { Performs (with_peer peer (restart_peer tones.now asked line)) self.old.map self.old.legs out.old self.new.map self.new.legs out.new }
+        ensures makes { Performs (with_peer peer (restart_peer tones.now cause asked line)) self.old.map self.old.legs out.old self.new.map self.new.legs out.new }
         ensures few { length out.new.sends ≤ length out.old.sends + 1 }
         ensures moved { out.new.moved ≡ out.old.moved }
         ensures sizes { SameSizes self.old.map self.new.map }
@@ -107,7 +136,7 @@ impl<P: PathMap> CallControl<P> {
         if restarts_slot(asked, line, other.slot) {
             self.remove_leg(other);
         } else {
-            self.clear_peer(out, tones, peer, TEMPORARY_FAILURE);
+            self.clear_peer(out, tones, peer, cause);
         }
     }
 }

@@ -1,10 +1,11 @@
 //! The checks of a SETUP: its elements, the slots of its call, and the cause of a refusal.
 ghost use Rattle.std.specs.Prelude.{◌≡◌, ◌<◌, true, false, Some, None, Ok, is_some, IfSome, IfOk, IfErr, OnOk};
-ghost use Rattle.call_profile.specs.Setup.{digits_in, lacks_number, slot_of, slot_asked, element_checks, number_checks, first_cause, caller_slot, is_taken, is_unknown, slot_checks, refusal, target_of};
+ghost use Rattle.call_profile.specs.Legs.{is_down};
+ghost use Rattle.call_profile.specs.Setup.{digits_in, lacks_number, slot_of, slot_asked, element_checks, is_cut_off, number_checks, first_cause, caller_slot, is_taken, is_unknown, slot_checks, refusal, target_of};
 ghost use Rattle.q931_codec.specs.Contents.{called_received, channel_in, complete_in};
 ghost use Rattle.circuit_model.specs.Extent.{IsExternal};
 ghost use Rattle.call_control.specs.Choices.{IsReached, IsWithin, at_slot, called_side, idle_beside};
-ghost use Rattle.call_profile.specs.IdleSlots.{lowest_idle, lowest_idle_beside, hunted};
+ghost use Rattle.call_profile.specs.IdleSlots.{lowest_idle, lowest_idle_beside, lowest_called, hunted};
 ghost use Rattle.exchange_events.specs.Sizes.{Setting, Dimensions};
 ghost use Rattle.exchange_events.specs.Sound.{line_exists};
 ghost use Rattle.std.specs.List.{list_all};
@@ -17,9 +18,9 @@ use circuit_model::{CHANNELS_PER_LINE, Slot, slot_of_channel};
 use control_memory::PathMap;
 use number_plan::Found;
 use q931_codec::causes::{
-    BEARER_CAPABILITY_NOT_IMPLEMENTED, INVALID_ELEMENT_CONTENTS, INVALID_NUMBER_FORMAT,
-    MANDATORY_ELEMENT_MISSING, NO_CHANNEL_AVAILABLE, REQUESTED_CHANNEL_NOT_AVAILABLE,
-    SWITCHING_EQUIPMENT_CONGESTION, UNALLOCATED_NUMBER,
+    BEARER_CAPABILITY_NOT_IMPLEMENTED, DESTINATION_OUT_OF_ORDER, INVALID_ELEMENT_CONTENTS,
+    INVALID_NUMBER_FORMAT, MANDATORY_ELEMENT_MISSING, NO_CHANNEL_AVAILABLE,
+    REQUESTED_CHANNEL_NOT_AVAILABLE, SWITCHING_EQUIPMENT_CONGESTION, UNALLOCATED_NUMBER,
 };
 use q931_codec::{BearerCapability, ChannelIdentification, Message, is_called_number};
 
@@ -74,14 +75,51 @@ impl<P: PathMap> CallControl<P> {
         None
     }
 
-    // Returns the lowest idle slot, other than this slot, of the first of these lines that has one.
+    // Returns the lowest idle slot of a called line, other than this slot. Returns `None` if its data link is down.
+    fn lowest_called(&self, beside: Slot, line: u8) -> Option<Slot>
+        requires external { line < self.now.map.external }
+        ensures slot { (d : Dimensions) (w : World) → Holds d self.now.map self.now.legs w → result ≡ lowest_called w beside line }
+        ensures external { IfSome result (IsExternal self.now.map.external) }
+    {
+        if self.legs.is_down(line) {
+            return None;
+        }
+        self.lowest_idle_beside(beside, line)
+    }
+
+    // Returns whether the data link of each of these lines is down.
+    fn are_down(&self, lines: &[u8]) -> bool
+        requires lines { list_all (line_exists self.now.map.external) lines.now ≡ true }
+        ensures { result ≡ list_all (is_down self.now.legs) lines.now }
+    {
+        let mut all = true;
+        for tried in lines {
+            all &= self.legs.is_down(*tried);
+        }
+        all
+    }
+
+    // Returns whether the data link of each called line is down.
+    fn is_cut_off(&self, target: &Found) -> bool
+        requires reached { IsReached self.now.map.external target.now }
+        ensures { (d : Dimensions) (w : World) → Holds d self.now.map self.now.legs w → result ≡ is_cut_off w target.now }
+    {
+        match target {
+            Found::Line(line) => self.legs.is_down(*line),
+            Found::Lines(lines) => self.are_down(lines.as_slice()),
+            Found::Room(_) | Found::More | Found::Nothing => false,
+        }
+    }
+
+    // Returns the lowest idle slot, other than this slot, of the first of these lines that has one. A line whose data link
+    // is down has none.
     fn hunted(&self, beside: Slot, lines: &[u8]) -> Option<Slot>
         requires lines { list_all (line_exists self.now.map.external) lines.now ≡ true }
         ensures slot { (d : Dimensions) (w : World) → Holds d self.now.map self.now.legs w → result ≡ hunted w beside lines.now }
         ensures external { IfSome result (IsExternal self.now.map.external) }
     {
         for line in lines {
-            let slot = self.lowest_idle_beside(beside, *line);
+            let slot = self.lowest_called(beside, *line);
             if slot.is_some() {
                 return slot;
             }
@@ -161,15 +199,18 @@ impl<P: PathMap> CallControl<P> {
         }
     }
 
-    /// Returns the called side for a caller at a slot, by the target of its number. Returns a cause if no called line has
-    /// another idle slot, or if no conference port is free.
+    /// Returns the called side for a caller at a slot, by the target of its number. Returns a cause if the data link of
+    /// each called line is down, if no called line has another idle slot, or if no conference port is free.
     pub(crate) fn called_side(&self, caller: Slot, target: Found) -> Result<CalledSide, u8>
         requires reached { IsReached self.now.map.external target }
         ensures side { (d : Dimensions) (w : World) → Holds d self.now.map self.now.legs w → result ≡ called_side d w caller target }
         ensures within { IfOk result (IsWithin self.now.map.external) }
     {
+        if self.is_cut_off(&target) {
+            return Err(DESTINATION_OUT_OF_ORDER);
+        }
         match &target {
-            Found::Line(line) => at_slot(self.lowest_idle_beside(caller, *line)),
+            Found::Line(line) => at_slot(self.lowest_called(caller, *line)),
             Found::Lines(lines) => at_slot(self.hunted(caller, lines.as_slice())),
             Found::Room(_) if self.map.is_full() => Err(SWITCHING_EQUIPMENT_CONGESTION),
             Found::Room(room) => Ok(CalledSide::Room(*room)),

@@ -36,6 +36,8 @@ pub fn processor_of(processors: u8, event: &Event) -> Option<u32>
         Event::Seat(slot, _) => slot.line,
         Event::Free(slot) => slot.line,
         Event::Message(line, _) => *line,
+        Event::LinkUp(line) => *line,
+        Event::LinkDown(line) => *line,
         Event::Frame(_) => return None,
     };
     Some(u32::from(line % processors))
@@ -75,5 +77,7 @@ pub(crate) fn input_of(trace: &Trace, event: u32) -> Option<&Input>
         Event::Seat(_, _) => None,
         Event::Free(_) => None,
         Event::Message(_, _) => None,
+        Event::LinkUp(_) => None,
+        Event::LinkDown(_) => None,
     }
 }

@@ -12,7 +12,7 @@ use Rattle.call_profile.specs.Legs.{Legs, leg_at, pending_at, kept_at}
 -- ---- one entry written
 
 abbrev pub written : Legs → Slot → Option Leg → Option Pending → Option (List ℕ) → Legs
-written legs x o p k = record { held = slice_set legs.held (number_of x) o; pending = slice_set legs.pending (number_of x) p; kept = slice_set legs.kept (number_of x) k }
+written legs x o p k = record legs { held = slice_set legs.held (number_of x) o; pending = slice_set legs.pending (number_of x) p; kept = slice_set legs.kept (number_of x) k }
 
 module _ (external : ℕ) (legs : Legs) (x : Slot) (in_x : IsExternal external x) (o : Option Leg) (p : Option Pending) (k : Option (List ℕ)) where
   pub leg_here : length legs.held ≡ 30 * external → leg_at (written legs x o p k) x ≡ o

@@ -1,7 +1,7 @@
 -- A frame's turn sends at most two messages for each line, and records at most one call.
 use Rattle.std.proofs.Common.{◌≡◌, ℕ, zero, suc, ◌+◌, ◌*◌, ◌≤◌, List, [], ◌∷◌, ◌++◌, length, Option, Some, None, sym, subst, arith, length-append}
 use Rattle.std.specs.List.{cons_option}
-use Rattle.q931_codec.specs.Causes.{no_answer_from_user, no_user_responding}
+use Rattle.q931_codec.specs.Causes.{no_answer_from_user, no_user_responding, destination_out_of_order}
 use Rattle.q931_codec.specs.Outgoing.{encoding}
 use Rattle.call_timers.specs.declared.expiry.Expiry.{Expiry}
 use Rattle.call_timers.specs.declared.expiry.Expiry.TheVariants as expiry
@@ -33,6 +33,7 @@ sent_by (op.Put x leg) = 0
 sent_by (op.Wait x leg p) = 0
 sent_by (op.Expect x leg message) = 1
 sent_by (op.Repeat h octets) = 1
+sent_by (op.Await x leg) = 0
 sent_by (op.Remove x) = 0
 sent_by (op.Send line message) = 1
 
@@ -55,6 +56,7 @@ performed d m (op.Put x leg) = none_more _
 performed d m (op.Wait x leg p) = none_more _
 performed d m (op.Expect x leg message) = one_more m.sends (record { line = x.line; octets = encoding message })
 performed d m (op.Repeat h octets) = one_more m.sends (record { line = h.slot.line; octets = octets })
+performed d m (op.Await x leg) = none_more _
 performed d m (op.Remove x) = none_more _
 performed d m (op.Send line message) = one_more m.sends (record { line = line; octets = encoding message })
 
@@ -85,6 +87,7 @@ expiry_sends tones legs h expiry.SetupAgain = again_sends h (kept_at legs h.slot
 expiry_sends tones legs h expiry.SetupOver = let peer = peer_sends tones no_user_responding (peer_of legs h.leg.peer) in omega (arith, peer)
 expiry_sends tones legs h expiry.Proceeding = let peer = peer_sends tones no_user_responding (peer_of legs h.leg.peer) in omega (arith, peer)
 expiry_sends tones legs h expiry.Alerting = let peer = peer_sends tones no_answer_from_user (peer_of legs h.leg.peer) in omega (arith, peer)
+expiry_sends tones legs h expiry.Outage = let peer = peer_sends tones destination_out_of_order (peer_of legs h.leg.peer) in omega (arith, peer)
 expiry_sends tones legs h expiry.Disconnect = omega arith
 expiry_sends tones legs h expiry.ReleaseAgain = again_sends h (kept_at legs h.slot)
 expiry_sends tones legs h expiry.ReleaseOver = omega arith

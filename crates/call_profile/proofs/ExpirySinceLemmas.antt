@@ -53,6 +53,9 @@ module _ (d : Dimensions) (tones : Tones) (plan : List Number) (before : Legs) (
   performed m (op.Repeat h octets) may fine =
       let again = retransmitted_from m.world.holding.next h.leg in
       (fine.0, length-set m.world.legs.held (number_of h.slot) (Some again) ∙ fine.1, entered m.world.legs h.slot (Some again) may.0 fine.1 fine.2 fine.0)
+  performed m (op.Await x leg) may fine =
+      let waits = retransmitted_from m.world.holding.next leg in
+      (fine.0, length-set m.world.legs.held (number_of x) (Some waits) ∙ fine.1, entered m.world.legs x (Some waits) may.0 fine.1 fine.2 fine.0)
   performed m (op.Remove x) may fine = (fine.0, length-set m.world.legs.held (number_of x) None ∙ fine.1, entered m.world.legs x None may fine.1 fine.2 tt)
   performed m (op.Send line message) may fine = fine
 

@@ -1,5 +1,5 @@
 -- What permitted operations keep holds in every world that events make.
-use Rattle.std.proofs.Common.{◌≡◌, ℕ, ◌*◌, ◌<◌, not, true, List, [], ◌∷◌, Option, refl, inl, inr, arith}
+use Rattle.std.proofs.Common.{◌≡◌, ℕ, ◌*◌, ◌<◌, not, true, List, [], ◌∷◌, Option, refl, inl, inr, arith, Bool, false}
 use Rattle.std.specs.Prelude.{All, count_by, is_none}
 use Rattle.std.proofs.lemmas.Grind.{common_steps}
 use Rattle.std.proofs.lemmas.List.Elements.{All-head, All-tail}
@@ -12,7 +12,7 @@ use Rattle.circuit_model.specs.Extent.{IsExternal}
 use Rattle.circuit_model.proofs.Slots.{true_or_false}
 use Rattle.tone_rules.specs.declared.tones.Tones.{Tones}
 use Rattle.exchange_events.specs.declared.trace.Event.{Event}
-use Rattle.exchange_events.specs.declared.trace.Event.TheVariants.{Nail, Seat as Seat_event, Free, Message, Frame as Frame_event}
+use Rattle.exchange_events.specs.declared.trace.Event.TheVariants.{Nail, Seat as Seat_event, Free, Message, Frame as Frame_event, LinkUp, LinkDown}
 use Rattle.call_states.specs.Acts.{act_on}
 use Rattle.clearing_rules.specs.declared.scope.Restart.{Restart}
 use Rattle.clearing_rules.specs.UnknownReference.{answer_without_call}
@@ -23,12 +23,12 @@ use Rattle.call_profile.specs.Expiring.{slot_looked_at, expire_slot}
 use Rattle.call_profile.specs.IdleSlots.{idle, is_nailed}
 use Rattle.call_profile.specs.LegStanding.{CallsStand}
 use Rattle.q931_codec.specs.Outgoing.{encoding}
-use Rattle.call_profile.specs.Legs.{Legs, leg_at, with_leg, retransmitted_from, with_waiting, with_kept, without_leg}
+use Rattle.call_profile.specs.Legs.{Legs, leg_at, with_leg, retransmitted_from, with_waiting, with_kept, without_leg, with_link}
 use Rattle.call_profile.specs.Operations.{Operation, begun, Making, making_at, making_after, making_after_all, with_tone}
 use Rattle.call_profile.specs.Operations as op
 use Rattle.call_profile.specs.Permitted.{CanSeat}
 use Rattle.call_profile.proofs.Permitted.{CanPair, CanSound, IsPermitted, ArePermitted}
-use Rattle.call_profile.specs.Restarts.{MessageOutcome, restart_slot, outcome_below}
+use Rattle.call_profile.specs.Restarts.{MessageOutcome, restart_slot, outcome_below, restart_rule}
 use Rattle.exchange_events.specs.Sizes.{Setting, Dimensions}
 use Rattle.call_profile.specs.Setup.{course_of_setup}
 use Rattle.exchange_events.specs.Sound.{Fits, IsPlanned}
@@ -41,6 +41,8 @@ use Rattle.call_profile.proofs.StandingLegLemmas.{happened_kept}
 use Rattle.call_profile.proofs.PermittedLemmas.{act_may, call_may, answer_may}
 use Rattle.call_profile.proofs.RestartedSlotLemmas.{each_below}
 use Rattle.call_profile.proofs.RestartLemmas.{slot_kept, slot_permitted}
+use Rattle.call_profile.specs.LinkChanges.{outcome_of_link, rule_of, with_line}
+use Rattle.call_profile.proofs.LinkLemmas.{linked_kept, rule_kept, rule_may}
 
 -- a seat that is allowed finds fewer members than ports
 room_left : (d : Dimensions) (w : World) → Valid d.bridges w.holding → not (is_full d w) ≡ true → count_by is_member w.holding.circuits < 30 * d.bridges
@@ -66,6 +68,7 @@ module _ (d : Dimensions) (tones : Tones) (plan : List Number) (P : World → Ty
   performed m (op.Wait x leg p) may holds = keeps.legs m.world (with_waiting m.world.legs x (begun m.world leg) p) holds
   performed m (op.Expect x leg message) may holds = keeps.legs m.world (with_kept m.world.legs x (begun m.world leg) (encoding message)) holds
   performed m (op.Repeat h octets) may holds = keeps.legs m.world (with_kept m.world.legs h.slot (retransmitted_from m.world.holding.next h.leg) octets) holds
+  performed m (op.Await x leg) may holds = keeps.legs m.world (with_leg m.world.legs x (retransmitted_from m.world.holding.next leg)) holds
   performed m (op.Remove x) may holds = keeps.legs m.world (without_leg m.world.legs x) holds
   performed m (op.Send line message) may holds = holds
 
@@ -82,10 +85,10 @@ module _ (s : Setting) (P : World → Type 0) (keeps : Keeps s.dimensions s.tone
   module _ (w : World) (line : ℕ) (octets : List ℕ) (planned : IsPlanned s) (fits : Fits s.dimensions.external (Message line octets)) (stands : CallsStand s w) (holds : P w) where
     -- each slot that is restarted keeps the legs consistent, so that the next one can be
     abbrev restarts : Restart → MessageOutcome
-    restarts r = outcome_below s.dimensions s.tones r line w 30
+    restarts r = outcome_below s.dimensions (restart_rule s.tones r) line w 30
 
     restarted : (r : Restart) → P (restarts r).making.world
-    restarted r = (each_below s.dimensions s.tones r line w (λ a. P a.making.world × Kept s.dimensions s.tones a.making.world) (holds, (stands.circuits, stands.legs)) (λ a place small k.
+    restarted r = (each_below s.dimensions (restart_rule s.tones r) line w (λ a. P a.making.world × Kept s.dimensions s.tones a.making.world) (holds, (stands.circuits, stands.legs)) (λ a place small k.
         let x : Slot = record { line = line; place = place } in (
           operated a.making (restart_slot s.tones r a.making.world.legs x) (slot_permitted s.dimensions s.tones r a.making x k.1 (fits.0, small) s.plan) k.0,
           slot_kept s.dimensions s.tones r a.making x k.1 (fits.0, small),
@@ -110,6 +113,17 @@ module _ (s : Setting) (P : World → Type 0) (keeps : Keeps s.dimensions s.tone
         slot_fine s f a.making x k.1 within,
       )) s.dimensions.external (omega arith)).0
 
+  -- ---- a change of a data link
+
+  linked : (w : World) (down : Bool) (line : ℕ) → line < s.dimensions.external → CallsStand s w → P w → P (outcome_of_link s.dimensions s.tones down line w).making.world
+  linked w down line below stands holds =
+      (each_below s.dimensions (rule_of s.tones down) line (with_line w line down) (λ a. P a.making.world × Kept s.dimensions s.tones a.making.world)
+      (keeps.legs w (with_link w.legs line down) holds, linked_kept s.dimensions s.tones w line down (stands.circuits, stands.legs)) (λ a place small k.
+      let x : Slot = record { line = line; place = place } in (
+        operated a.making ((rule_of s.tones down).does a.making.world.legs x) (rule_may s.dimensions s.tones a.making x k.1 (below, small) down s.plan) k.0,
+        rule_kept s.dimensions s.tones a.making x k.1 (below, small) down,
+      )) 30 (omega arith)).0
+
   -- ---- an event
 
   happened : (w : World) (e : Event) → IsPlanned s → Fits s.dimensions.external e → CallsStand s w → P w → P (next s w e)
@@ -133,6 +147,8 @@ module _ (s : Setting) (P : World → Type 0) (keeps : Keeps s.dimensions s.tone
     | inr not_now ↦ rw not_now holds
   ]
   happened w (Message line octets) planned fits stands holds = received w line octets planned fits stands holds (request_of w.legs line octets) refl
+  happened w (LinkUp line) planned fits stands holds = linked w false line fits stands holds
+  happened w (LinkDown line) planned fits stands holds = linked w true line fits stands holds
   happened w (Frame_event input) planned fits stands holds = turned w input stands holds
 
   -- ---- a run

@@ -12,6 +12,7 @@ pub mod ExpiryCircuitLemmas
 pub mod ExpiredRecordLemmas
 pub mod GivenToneLemmas
 pub mod RestartedSlotLemmas
+pub mod LinkLemmas
 pub mod RefusalLemmas
 pub mod FabricLemmas
 pub mod NamedLegLemmas
@@ -60,6 +61,7 @@ pub mod ReferenceLemmas
 pub mod ProgressLemmas
 pub mod RestartedLegLemmas
 pub mod RestartedLineLemmas
+pub mod DroppedLineLemmas
 pub mod RecordedCallLemmas
 pub mod RecordedMessageLemmas
 pub mod FrameRecordLemmas

@@ -1,5 +1,5 @@
 -- Every event keeps a number pending exactly where a leg is in overlap sending, and a message kept exactly where a leg waits for the answer.
-use Rattle.std.proofs.Common.{◌≡◌, ℕ, ◌*◌, inl, inr, Bool, true, false, List, [], ◌∷◌, Option, Some, None, refl, sym, ◌∙◌, subst, arith, length-set, if◌then◌else◌}
+use Rattle.std.proofs.Common.{◌≡◌, ℕ, ◌*◌, inl, inr, Bool, true, false, List, [], ◌∷◌, Option, Some, None, refl, sym, ◌∙◌, subst, arith, length-set, if◌then◌else◌, ◌<◌}
 use Rattle.std.specs.Prelude.{◌≤◌, IfSome, slice_set}
 use Rattle.std.proofs.lemmas.List.{length-replicate}
 use Rattle.circuit_model.specs.declared.channel.Slot.{Slot}
@@ -14,7 +14,7 @@ use Rattle.call_states.specs.declared.pending.Pending.{Pending}
 use Rattle.clearing_rules.specs.UnknownReference.{answer_without_call}
 use Rattle.tone_rules.specs.declared.tones.Tones.{Tones}
 use Rattle.exchange_events.specs.declared.trace.Event.{Event}
-use Rattle.exchange_events.specs.declared.trace.Event.TheVariants.{Nail, Seat, Free, Message, Frame}
+use Rattle.exchange_events.specs.declared.trace.Event.TheVariants.{Nail, Seat, Free, Message, Frame, LinkUp, LinkDown}
 use Rattle.exchange_events.specs.Sizes.{Setting, Dimensions}
 use Rattle.exchange_events.specs.Sound.{Fits, IsPlanned}
 use Rattle.call_profile.specs.ActCourse.{course_of}
@@ -25,7 +25,7 @@ use Rattle.call_profile.specs.Legs.{Legs, waiting_from, retransmitted_from, leg_
 use Rattle.call_profile.specs.LegStanding.{CallsStand}
 use Rattle.call_profile.specs.Operations as op
 use Rattle.call_profile.specs.Operations.{Operation, Making, begun, with_legs, making_at, making_after, making_after_all}
-use Rattle.call_profile.specs.Restarts.{restart_slot}
+use Rattle.call_profile.specs.Restarts.{restart_slot, restart_rule}
 use Rattle.call_profile.specs.Setup.{course_of_setup}
 use Rattle.call_profile.specs.Step.{next, may_nail, may_seat}
 use Rattle.call_profile.specs.KeptMessages.{MayKeep, LegsWait}
@@ -42,6 +42,8 @@ use Rattle.call_profile.proofs.Permitted.{IsPermitted, ArePermitted}
 use Rattle.call_profile.proofs.PermittedLemmas.{act_may, call_may, answer_may}
 use Rattle.call_profile.proofs.RestartLemmas.{slot_kept, slot_permitted}
 use Rattle.call_profile.proofs.RestartedSlotLemmas.{each_below}
+use Rattle.call_profile.specs.LinkChanges.{outcome_of_link, rule_of, with_line}
+use Rattle.call_profile.proofs.LinkLemmas.{linked_kept, rule_kept, rule_may}
 
 -- ---- one entry written
 
@@ -78,7 +80,7 @@ module _ (d : Dimensions) (tones : Tones) (plan : List Number) where
 
   -- a slot gets another entry
   entered : (w : World) (x : Slot) → IsExternal d.external x → Stand w → (o : Option Leg) (p : Option Pending) (k : Option (List ℕ)) → MayWait plan o p → IfSome o (λ leg. leg.since ≤ w.holding.next) → MayKeep o k
-      → Stand (with_legs w (record { held = slice_set w.legs.held (number_of x) o; pending = slice_set w.legs.pending (number_of x) p; kept = slice_set w.legs.kept (number_of x) k }))
+      → Stand (with_legs w (record w.legs { held = slice_set w.legs.held (number_of x) o; pending = slice_set w.legs.pending (number_of x) p; kept = slice_set w.legs.kept (number_of x) k }))
   entered w x in_x stand o p k waits since keeps = (
     written_pend d.external plan w.legs x stand.0 in_x o p k waits,
     written_wait d.external w.holding.next w.legs x stand.1 in_x o p k since keeps,
@@ -98,6 +100,7 @@ module _ (d : Dimensions) (tones : Tones) (plan : List Number) where
       let keeps = kept_there d.external m.world.holding.next m.world.legs h.slot h.leg octets stand.1 may.0 may.1 may.2 in
       entered m.world h.slot may.0 stand (Some (retransmitted_from m.world.holding.next h.leg)) None (Some octets) (awaits_by keeps.message.kind h.leg.state keeps.awaited.state).1 (omega arith)
       (kept_anew m.world.holding.next h.leg octets keeps)
+  performed m (op.Await x leg) may stand = entered m.world x may.0 stand (Some (retransmitted_from m.world.holding.next leg)) None None may.2 (omega arith) may.3
   performed m (op.Remove x) may stand = entered m.world x may stand None None None tt tt tt
   performed m (op.Send line message) may stand = stand
 
@@ -119,7 +122,7 @@ module _ (s : Setting) (w : World) (line : ℕ) (octets : List ℕ) (planned : I
       performed_all s.dimensions s.tones s.plan (making_at w) (course_of s w h m (act_on h.leg.state m)).operations (act_may s w line octets planned fits stands h m is) before
   received (New_call m) is = performed_all s.dimensions s.tones s.plan (making_at w) (course_of_setup s w line m).operations (call_may s w line octets planned fits stands m is) before
   received (On_no_call m) is = performed_all s.dimensions s.tones s.plan (making_at w) (answer_back line (answer_without_call m)) (answer_may s w line octets planned fits stands m is) before
-  received (Restarts r) is = (each_below s.dimensions s.tones r line w (λ a. Stands a.making.world × Kept s.dimensions s.tones a.making.world) (before, (stands.circuits, stands.legs)) (λ a place small k.
+  received (Restarts r) is = (each_below s.dimensions (restart_rule s.tones r) line w (λ a. Stands a.making.world × Kept s.dimensions s.tones a.making.world) (before, (stands.circuits, stands.legs)) (λ a place small k.
       let x : Slot = record { line = line; place = place } in (
         performed_all s.dimensions s.tones s.plan a.making (restart_slot s.tones r a.making.world.legs x) (slot_permitted s.dimensions s.tones r a.making x k.1 (fits.0, small) s.plan) k.0,
         slot_kept s.dimensions s.tones r a.making x k.1 (fits.0, small),
@@ -139,6 +142,23 @@ turn_stands s w input stands =
       slot_fine s f a.making x k.1 within,
     )) s.dimensions.external (omega arith)).0
 
+-- ---- a change of a data link
+
+linked_stand : (external : ℕ) (plan : List Number) (w : World) (line : ℕ) (down : Bool) → EntriesStand external plan w → EntriesStand external plan (with_line w line down)
+linked_stand external plan w line down stand = (
+  record { legs_count = stand.0.legs_count; count = stand.0.count; each = stand.0.each },
+  record { legs_count = stand.1.legs_count; count = stand.1.count; since = stand.1.since; each = stand.1.each },
+)
+
+link_stands : (s : Setting) (w : World) (down : Bool) (line : ℕ) → line < s.dimensions.external → CallsStand s w → EntriesStand s.dimensions.external s.plan (outcome_of_link s.dimensions s.tones down line w).making.world
+link_stands s w down line below stands =
+    (each_below s.dimensions (rule_of s.tones down) line (with_line w line down) (λ a. EntriesStand s.dimensions.external s.plan a.making.world × Kept s.dimensions s.tones a.making.world)
+    (linked_stand s.dimensions.external s.plan w line down (stands.numbers, stands.waits), linked_kept s.dimensions s.tones w line down (stands.circuits, stands.legs)) (λ a place small k.
+    let x : Slot = record { line = line; place = place } in (
+      performed_all s.dimensions s.tones s.plan a.making ((rule_of s.tones down).does a.making.world.legs x) (rule_may s.dimensions s.tones a.making x k.1 (below, small) down s.plan) k.0,
+      rule_kept s.dimensions s.tones a.making x k.1 (below, small) down,
+    )) 30 (omega arith)).0
+
 -- ---- an event
 
 either_stand : (external : ℕ) (plan : List Number) (b : Bool) (v w : World) → EntriesStand external plan v → EntriesStand external plan w → EntriesStand external plan (if b then v else w)
@@ -150,6 +170,8 @@ entries_stand s w (Nail x y) planned fits stands = either_stand s.dimensions.ext
 entries_stand s w (Seat x room) planned fits stands = either_stand s.dimensions.external s.plan (may_seat s.dimensions w x) _ w (stands.numbers, stands.waits) (stands.numbers, stands.waits)
 entries_stand s w (Free x) planned fits stands = either_stand s.dimensions.external s.plan (is_nailed w x) _ w (stands.numbers, stands.waits) (stands.numbers, stands.waits)
 entries_stand s w (Message line octets) planned fits stands = received s w line octets planned fits stands (request_of w.legs line octets) refl
+entries_stand s w (LinkUp line) planned fits stands = link_stands s w false line fits stands
+entries_stand s w (LinkDown line) planned fits stands = link_stands s w true line fits stands
 entries_stand s w (Frame input) planned fits stands = turn_stands s w input stands
 
 -- ---- before the first event

@@ -11,7 +11,7 @@ use Rattle.call_states.specs.Acts.{is_among}
 use Rattle.call_states.specs.Status.{FitsMessages}
 use Rattle.tone_rules.specs.declared.tones.Tones.{Tones}
 use Rattle.tone_rules.specs.Tables.{IsGiven}
-use Rattle.call_profile.specs.Operations.{Operation, Clear, Pair, Seat, Sound, Put, Wait, Expect, Repeat, Remove, Send, Making, making_after}
+use Rattle.call_profile.specs.Operations.{Operation, Clear, Pair, Seat, Sound, Put, Wait, Expect, Repeat, Await, Remove, Send, Making, making_after}
 use Rattle.exchange_events.specs.Sizes.{Dimensions}
 use Rattle.call_profile.specs.World.{World}
 use Rattle.call_profile.specs.KeptMessages.{IsAwaited, awaiting_answer}
@@ -42,6 +42,7 @@ IsPermitted d tones plan m (Put x leg) = IsExternal d.external x × FitsMessages
 IsPermitted d tones plan m (Wait x leg p) = IsExternal d.external x × FitsMessages leg × IsWaiting plan leg p
 IsPermitted d tones plan m (Expect x leg message) = IsExternal d.external x × FitsMessages leg × IsAwaited leg message
 IsPermitted d tones plan m (Repeat h octets) = IsExternal d.external h.slot × (leg_at m.world.legs h.slot ≡ Some h.leg) × (kept_at m.world.legs h.slot ≡ Some octets)
+IsPermitted d tones plan m (Await x leg) = IsExternal d.external x × FitsMessages leg × (leg.state ≢ overlap_sending) × (is_among awaiting_answer leg.state ≡ false)
 IsPermitted d tones plan m (Remove x) = IsExternal d.external x
 IsPermitted d tones plan m (Send line message) = (line < d.external) × IsWritable message
 

@@ -7,21 +7,21 @@ use Rattle.q931_codec.specs.declared.kind.MessageKind.{MessageKind}
 use Rattle.q931_codec.specs.declared.kind.MessageKind.TheVariants as kind
 use Rattle.q931_codec.specs.declared.message.Message.{Message}
 use Rattle.q931_codec.specs.Outgoing.{OutgoingMessage, encoding}
-use Rattle.q931_codec.specs.Contents.{channel_in}
-use Rattle.q931_codec.specs.Causes.{invalid_number_format, no_answer_from_user, no_user_responding, recovery_on_timer_expiry, temporary_failure}
+use Rattle.q931_codec.specs.Contents.{call_state_in, channel_in}
+use Rattle.q931_codec.specs.Causes.{invalid_number_format, no_answer_from_user, no_user_responding, recovery_on_timer_expiry, temporary_failure, destination_out_of_order}
 use Rattle.q931_codec.specs.Reading.{reading}
 use Rattle.q931_codec.proofs.EncodingFacts.{encoding_read}
 use Rattle.q931_codec.proofs.Messages.{message_read}
 use Rattle.q931_codec.proofs.RowFacts.{fields_back}
 use Rattle.call_timers.specs.declared.expiry.Expiry.{Expiry}
 use Rattle.call_timers.specs.declared.expiry.Expiry.TheVariants as expiry
-use Rattle.q931_codec.specs.CallStates.{call_delivered}
+use Rattle.q931_codec.specs.CallStates.{call_delivered, null}
 use Rattle.call_states.specs.declared.act.Act.{Act}
 use Rattle.call_states.specs.declared.act.Act.TheVariants as act
 use Rattle.call_states.specs.declared.leg.HeldLeg.{HeldLeg}
 use Rattle.clearing_rules.specs.declared.scope.Restart.{Restart}
 use Rattle.clearing_rules.specs.Restarting.{is_restarted, global_call_reference}
-use Rattle.clearing_rules.specs.UnknownReference.{answer_to_type, answer_without_call}
+use Rattle.clearing_rules.specs.UnknownReference.{answer_to_status, answer_to_type, answer_without_call, no_such_call}
 use Rattle.number_plan.specs.declared.target.Found.{Found}
 use Rattle.number_plan.specs.declared.target.Found.TheVariants.{Line, Lines, Room, More, Nothing}
 use Rattle.tone_rules.specs.declared.tones.Tones.{Tones}
@@ -123,19 +123,27 @@ either_tells : (b : Bool) (p q : List Operation) → TellsOfTones p → TellsOfT
 either_tells true p q one other = one
 either_tells false p q one other = other
 
-restarted_peer_tells : (tones : Tones) (r : Restart) (line : ℕ) (o : Option HeldLeg) → TellsOfTones (with_peer o (restart_peer tones r line))
-restarted_peer_tells tones r line None = refl
-restarted_peer_tells tones r line (Some other) =
-    either_tells (restarts_slot r line other.slot) (remove_leg other) (clear_with tones temporary_failure other) refl (cleared_tells tones temporary_failure other)
+restarted_peer_tells : (tones : Tones) (cause : ℕ) (r : Restart) (line : ℕ) (o : Option HeldLeg) → TellsOfTones (with_peer o (restart_peer tones cause r line))
+restarted_peer_tells tones cause r line None = refl
+restarted_peer_tells tones cause r line (Some other) =
+    either_tells (restarts_slot r line other.slot) (remove_leg other) (clear_with tones cause other) refl (cleared_tells tones cause other)
 
-restarted_leg_tells : (tones : Tones) (r : Restart) (legs : Legs) (o : Option HeldLeg) → TellsOfTones (restart_leg tones r legs o)
-restarted_leg_tells tones r legs None = refl
-restarted_leg_tells tones r legs (Some h) = restarted_peer_tells tones r h.slot.line (peer_of legs h.leg.peer)
+pub restarted_leg_tells : (tones : Tones) (cause : ℕ) (r : Restart) (legs : Legs) (o : Option HeldLeg) → TellsOfTones (restart_leg tones cause r legs o)
+restarted_leg_tells tones cause r legs None = refl
+restarted_leg_tells tones cause r legs (Some h) = restarted_peer_tells tones cause r h.slot.line (peer_of legs h.leg.peer)
 
 pub restart_tells : (tones : Tones) (r : Restart) (legs : Legs) (x : Slot) → TellsOfTones (restart_slot tones r legs x)
-restart_tells tones r legs x = either_tells (is_restarted r x.place) (restart_leg tones r legs (held_at legs x)) [] (restarted_leg_tells tones r legs (held_at legs x)) refl
+restart_tells tones r legs x = either_tells (is_restarted r x.place) (restart_leg tones temporary_failure r legs (held_at legs x)) [] (restarted_leg_tells tones temporary_failure r legs (held_at legs x)) refl
 
 -- ---- a message on no call
+
+either_answer_tells : (line : ℕ) (b : Bool) (o : Option OutgoingMessage) → TellsOfTones (answer_back line o) → TellsOfTones (answer_back line (if b then None else o))
+either_answer_tells line true o other = refl
+either_answer_tells line false o other = other
+
+status_tells : (line : ℕ) (m : Message) (state : Option ℕ) → TellsOfTones (answer_back line (answer_to_status m state))
+status_tells line m None = refl
+status_tells line m (Some state) = either_answer_tells line (state == null) (Some (no_such_call m)) refl
 
 type_tells : (line : ℕ) (m : Message) (k : MessageKind) → TellsOfTones (answer_back line (answer_to_type m k))
 type_tells line m kind.CallProceeding = refl
@@ -150,17 +158,13 @@ type_tells line m kind.Setup = refl
 type_tells line m kind.Disconnect = refl
 type_tells line m kind.Release = refl
 type_tells line m kind.ReleaseComplete = refl
-type_tells line m kind.Status = refl
+type_tells line m kind.Status = status_tells line m (call_state_in m.elements)
 type_tells line m kind.StatusEnquiry = refl
 type_tells line m kind.SetupAcknowledge = refl
 type_tells line m kind.Restart = refl
 type_tells line m kind.RestartAcknowledge = refl
 type_tells line m kind.Information = refl
 type_tells line m (kind.Unknown octet) = refl
-
-either_answer_tells : (line : ℕ) (b : Bool) (o : Option OutgoingMessage) → TellsOfTones (answer_back line o) → TellsOfTones (answer_back line (if b then None else o))
-either_answer_tells line true o other = refl
-either_answer_tells line false o other = other
 
 pub answer_tells : (line : ℕ) (m : Message) → TellsOfTones (answer_back line (answer_without_call m))
 answer_tells line m = either_answer_tells line (m.reference == global_call_reference) (answer_to_type m m.kind) (type_tells line m m.kind)
@@ -197,6 +201,7 @@ module _ (s : Setting) (w : World) (h : HeldLeg) (stands : CallsStand s w) (in_x
   expiry_tells expiry.SetupOver = peer_of_tells no_user_responding
   expiry_tells expiry.Proceeding = legs_tell no_user_responding
   expiry_tells expiry.Alerting = legs_tell no_answer_from_user
+  expiry_tells expiry.Outage = peer_of_tells destination_out_of_order
   expiry_tells expiry.Disconnect = refl
   expiry_tells expiry.ReleaseAgain = again_tells (kept_at w.legs h.slot) refl
   expiry_tells expiry.ReleaseOver = refl

@@ -32,7 +32,7 @@ use Rattle.call_profile.specs.LegStanding.{HasPeer, IsInCall, LegsStand}
 use Rattle.call_profile.specs.Legs.{leg_at, held_at}
 use Rattle.call_profile.specs.Recorded.{Arrive, ComeByPlace, RestartsNothing, first_restarted, restarted_place}
 use Rattle.call_profile.specs.Restarted.{IsRestart}
-use Rattle.call_profile.specs.Restarts.{MessageOutcome, outcome_at_slot, outcome_below, restarts_slot}
+use Rattle.call_profile.specs.Restarts.{MessageOutcome, outcome_at_slot, outcome_below, restarts_slot, restart_rule}
 use Rattle.call_profile.specs.World.{World}
 use Rattle.call_profile.proofs.ClearingLemmas.{Kept, held_there}
 use Rattle.call_profile.proofs.NamedLegLemmas.{received_stands}
@@ -189,7 +189,7 @@ as_list false one = refl
 module _ (s : Setting) (r : Restart) (line : ℕ) (w : World) (below : line < s.dimensions.external) (kept : Kept s.dimensions s.tones w) where
   module _ (n : ℕ) (small : n < 30) where
     abbrev so_far : MessageOutcome
-    so_far = outcome_below s.dimensions s.tones r line w n
+    so_far = outcome_below s.dimensions (restart_rule s.tones r) line w n
 
     abbrev u : World
     u = so_far.making.world
@@ -218,16 +218,16 @@ module _ (s : Setting) (r : Restart) (line : ℕ) (w : World) (below : line < s.
       | inr not_so ↦ let wrong : None ≡ Some c = rw not_so at e in absurd cc
     ]
 
-    pub one_further : ComeBelow r line n so_far.recorded → ComeBelow r line (suc n) (outcome_at_slot s.dimensions s.tones r x so_far).recorded
+    pub one_further : ComeBelow r line n so_far.recorded → ComeBelow r line (suc n) (outcome_at_slot s.dimensions (restart_rule s.tones r) x so_far).recorded
     one_further come =
         subst (λ (told : List CallRecord). ComeBelow r line (suc n) (so_far.recorded ++ told))
         (sym (slot_told s.dimensions s.tones r so_far.making x done.kept (below, small) ∙ one_recorded))
         (below_then r line n so_far.recorded come one_at place_of)
 
-  come_below : (n : ℕ) → n ≤ 30 → ComeBelow r line n (outcome_below s.dimensions s.tones r line w n).recorded
-  come_below zero small = subst (λ (a : MessageOutcome). ComeBelow r line 0 a.recorded) (sym (below_none s.dimensions s.tones r line w)) (none_below r line)
+  come_below : (n : ℕ) → n ≤ 30 → ComeBelow r line n (outcome_below s.dimensions (restart_rule s.tones r) line w n).recorded
+  come_below zero small = subst (λ (a : MessageOutcome). ComeBelow r line 0 a.recorded) (sym (below_none s.dimensions (restart_rule s.tones r) line w)) (none_below r line)
   come_below (suc n) small =
-      subst (λ (a : MessageOutcome). ComeBelow r line (suc n) a.recorded) (sym (below_more s.dimensions s.tones r line w n))
+      subst (λ (a : MessageOutcome). ComeBelow r line (suc n) a.recorded) (sym (below_more s.dimensions (restart_rule s.tones r) line w n))
       (one_further n (omega (arith, small)) (come_below n (omega (arith, small))))
 
 -- ---- the records of a message

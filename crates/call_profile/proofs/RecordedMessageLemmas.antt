@@ -24,7 +24,7 @@ use Rattle.call_profile.specs.Calls.{Request, For_leg, New_call, On_no_call, Res
 use Rattle.call_profile.specs.Legs.{leg_at, held_at}
 use Rattle.call_profile.specs.Operations.{making_after_all}
 use Rattle.call_profile.specs.Recorded.{Arrive, HasEnded, IsRecordOf, IsRecorded, cause_of_clearing}
-use Rattle.call_profile.specs.Restarts.{MessageOutcome, restarts_slot, restart_leg, outcome_at_slot, outcome_below}
+use Rattle.call_profile.specs.Restarts.{MessageOutcome, restarts_slot, restart_leg, outcome_at_slot, outcome_below, restart_rule}
 use Rattle.call_profile.specs.World.{World}
 use Rattle.call_profile.proofs.BesideLemmas.{same_or_apart}
 use Rattle.call_profile.proofs.ClearingLemmas.{Kept}
@@ -60,13 +60,13 @@ abbrev pub CallsOn : ℕ → World → World → Type 0
 CallsOn external w v = (x : Slot) (leg : Leg) → IsExternal external x → leg_at v.legs x ≡ Some leg → is_calling (Some leg) ≡ true
     → (leg_at w.legs x ≡ Some leg) × (heard_by v.holding.circuits x ≡ heard_by w.holding.circuits x)
 
-module _ (external : ℕ) (r : Restart) (line : ℕ) (u v : World) (x : Slot) (done : IsRestartedAt external r line u v x) where
+module _ (external : ℕ) (r : Restart) (line : ℕ) (u v : World) (x : Slot) (done : IsRestartedAt external r temporary_failure line u v x) where
   -- the leg at a slot calls no more, or all is as it was
   abbrev Became : Slot → Type 0
   Became z = (is_calling (leg_at v.legs z) ≡ false)
       ⊎ ((leg_at v.legs z ≡ leg_at u.legs z) × ((l : Leg) → leg_at u.legs z ≡ Some l → heard_by v.holding.circuits z ≡ heard_by u.holding.circuits z))
 
-  peer_silent : (z : Slot) (l : Leg) → is_calling (peer_after r line u.holding.next z l) ≡ false
+  peer_silent : (z : Slot) (l : Leg) → is_calling (peer_after r temporary_failure line u.holding.next z l) ≡ false
   peer_silent z l = elim (true_or_false (restarts_slot r line z)) [
     | inl too ↦ rw too refl
     | inr not_so ↦ rw not_so (disconnected_silent u.holding.next temporary_failure l)
@@ -154,8 +154,8 @@ module _ (s : Setting) (r : Restart) (line : ℕ) (w : World) (below : line < s.
     calls : CallsOn external w a.making.world
     recorded : AreOfEnded external w a.making.world temporary_failure a.recorded
 
-  first : So_far 0 (outcome_below s.dimensions s.tones r line w 0)
-  first = subst (So_far 0) (sym (below_none s.dimensions s.tones r line w)) (record {
+  first : So_far 0 (outcome_below s.dimensions (restart_rule s.tones r) line w 0)
+  first = subst (So_far 0) (sym (below_none s.dimensions (restart_rule s.tones r) line w)) (record {
     legs = start_below s r line w below kept;
     calls = λ x leg in_x at calls. (at, refl);
     recorded = record {
@@ -172,7 +172,7 @@ module _ (s : Setting) (r : Restart) (line : ℕ) (w : World) (below : line < s.
     u = a.making.world
 
     abbrev next_one : MessageOutcome
-    next_one = outcome_at_slot s.dimensions s.tones r here a
+    next_one = outcome_at_slot s.dimensions (restart_rule s.tones r) here a
 
     abbrev v : World
     v = next_one.making.world
@@ -195,16 +195,16 @@ module _ (s : Setting) (r : Restart) (line : ℕ) (w : World) (below : line < s.
           let done = slot_done s.dimensions s.tones r line a.making here refl so_far.legs.kept (below, small) restarted in
           step_by (stays_silent external r line u v here done) (calls_on external r line u v here done)
       | inr not_so ↦
-          let same : v ≡ u = ap (λ (b : Bool). (making_after_all s.dimensions a.making (if b then restart_leg s.tones r u.legs (held_at u.legs here) else [])).world) not_so in
+          let same : v ≡ u = ap (λ (b : Bool). (making_after_all s.dimensions a.making (if b then restart_leg s.tones temporary_failure r u.legs (held_at u.legs here) else [])).world) not_so in
           step_by
           (λ z in_z silent. ap (λ (q : World). is_calling (leg_at q.legs z)) same ∙ silent)
           (λ z l in_z at calls. (sym (ap (λ (q : World). leg_at q.legs z) same) ∙ at, ap (λ (q : World). heard_by q.holding.circuits z) same))
     ]
 
-  all_so_far : (n : ℕ) → n ≤ 30 → So_far n (outcome_below s.dimensions s.tones r line w n)
+  all_so_far : (n : ℕ) → n ≤ 30 → So_far n (outcome_below s.dimensions (restart_rule s.tones r) line w n)
   all_so_far zero small = first
   all_so_far (suc n) small =
-      subst (So_far (suc n)) (sym (below_more s.dimensions s.tones r line w n)) (step n (omega (arith, small)) (outcome_below s.dimensions s.tones r line w n) (all_so_far n (omega (arith, small))))
+      subst (So_far (suc n)) (sym (below_more s.dimensions (restart_rule s.tones r) line w n)) (step n (omega (arith, small)) (outcome_below s.dimensions (restart_rule s.tones r) line w n) (all_so_far n (omega (arith, small))))
 
   pub restart_recorded : AreOfEnded external w (outcome_for s w line (Restarts r)).making.world temporary_failure (outcome_for s w line (Restarts r)).recorded
   restart_recorded = (all_so_far 30 (omega arith)).recorded

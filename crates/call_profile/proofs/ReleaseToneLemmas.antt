@@ -123,6 +123,7 @@ IsHushed tones m (op.Put x leg) = Unit {0}
 IsHushed tones m (op.Wait x leg pending) = Unit {0}
 IsHushed tones m (op.Expect x leg message) = leg.state ≡ release_request → SoundsByRelease tones x (begun m.world leg) (encoding message) (heard_by m.world.holding.circuits x)
 IsHushed tones m (op.Repeat h octets) = Unit {0}
+IsHushed tones m (op.Await x leg) = Unit {0}
 IsHushed tones m (op.Remove x) = Unit {0}
 IsHushed tones m (op.Send line message) = Unit {0}
 
@@ -200,6 +201,9 @@ module _ (d : Dimensions) (tones : Tones) (plan : List Number) where
       let new = anew_sounds tones h.slot next h.leg octets (heard_by w.holding.circuits h.slot) old in
       subst (λ (l : Leg). SoundsByRelease tones h.slot l os (heard_by w.holding.circuits h.slot)) same
       (subst (λ (list : List ℕ). SoundsByRelease tones h.slot (retransmitted_from next h.leg) list (heard_by w.holding.circuits h.slot)) those new))
+  performed m (op.Await x leg) may quiet before =
+      let next : ℕ = m.world.holding.next in
+      entered m.world x (Some (retransmitted_from next leg)) None None may.0 before (other_state tones x (retransmitted_from next leg) None (heard_by m.world.holding.circuits x) (unkept_state leg.state may.3))
   performed m (op.Remove x) may quiet before = entered m.world x None None None may before (λ leg octets e is f. absurd cc)
   performed m (op.Send line message) may quiet before = before
 

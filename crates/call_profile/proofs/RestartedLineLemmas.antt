@@ -19,7 +19,7 @@ use Rattle.call_profile.specs.LegStanding.{HasPeer}
 use Rattle.call_profile.specs.Legs.{leg_at}
 use Rattle.call_profile.specs.Operations.{begun}
 use Rattle.call_profile.specs.Restarted.{IsRestart, left_with, left_by}
-use Rattle.call_profile.specs.Restarts.{MessageOutcome, restarts_slot, outcome_at_slot, outcome_below}
+use Rattle.call_profile.specs.Restarts.{MessageOutcome, restarts_slot, outcome_at_slot, outcome_below, restart_rule}
 use Rattle.exchange_events.specs.Sizes.{Setting}
 use Rattle.call_profile.specs.World.{World}
 use Rattle.call_profile.proofs.BesideLemmas.{same_or_apart}
@@ -52,7 +52,7 @@ pub record AreRestartedBelow (s : Setting) (r : Restart) (line : ℕ) (w : World
 
 -- ---- which slots were restarted, one place further on
 
-none_before : (b c : Bool) → c ≡ false → (b && c) ≡ false
+pub none_before : (b c : Bool) → c ≡ false → (b && c) ≡ false
 none_before true c e = e
 none_before false c e = refl
 
@@ -72,10 +72,10 @@ module _ (r : Restart) (line : ℕ) where
   abbrev at_place : ℕ → Slot
   at_place n = record { line = line; place = n }
 
-  lt_true : (a b : ℕ) → a < b → nat_lt a b ≡ true
+  pub lt_true : (a b : ℕ) → a < b → nat_lt a b ≡ true
   lt_true a b less = grind (arith, common_steps, less)
 
-  lt_false : (a b : ℕ) → b ≤ a → nat_lt a b ≡ false
+  pub lt_false : (a b : ℕ) → b ≤ a → nat_lt a b ≡ false
   lt_false a b more = grind (arith, common_steps, more)
 
   lt_is : (a b : ℕ) → nat_lt a b ≡ true → a < b
@@ -108,7 +108,7 @@ module _ (r : Restart) (line : ℕ) where
   ]
 
   -- and none but this one where it is
-  same_where_apart : (x : Slot) (n : ℕ) → (x ≡ at_place n → ⊥) → was_restarted r line (suc n) x ≡ was_restarted r line n x
+  pub same_where_apart : (x : Slot) (n : ℕ) → (x ≡ at_place n → ⊥) → was_restarted r line (suc n) x ≡ was_restarted r line n x
   same_where_apart x n apart = elim (true_or_false (restarts_slot r line x)) [
     | inl e ↦ elim (true_or_false (nat_lt x.place n)) [
       | inl less ↦ rw (e, less, lt_true x.place (suc n) (let l = lt_is x.place n less in omega (arith, l))) refl
@@ -177,7 +177,7 @@ module _ (s : Setting) (r : Restart) (line : ℕ) (w : World) (below : line < s.
     }
 
     -- it is
-    module _ (restarted : is_restarted r n ≡ true) (v : World) (kept : Kept s.dimensions s.tones v) (done : IsRestartedAt s.dimensions.external r line u v x) where
+    module _ (restarted : is_restarted r n ≡ true) (v : World) (kept : Kept s.dimensions s.tones v) (done : IsRestartedAt s.dimensions.external r temporary_failure line u v x) where
       x_is : restarts_slot r line x ≡ true
       x_is = rw restarted (grind (arith, common_steps))
 
@@ -207,7 +207,7 @@ module _ (s : Setting) (r : Restart) (line : ℕ) (w : World) (below : line < s.
           → leg_at v.legs z ≡ Some (left_below r line w (suc n) leg (peer.Leg x))
       cleared z leg in_z not_so at is =
           let here : was_restarted r line (suc n) x ≡ true = rw (x_is, lt_true r line n (suc n) (omega arith)) refl in
-          done.other_leg z leg in_z at is ∙ ap (λ next. peer_after r line next z leg) so_far.next ∙ rw (not_so, here) refl
+          done.other_leg z leg in_z at is ∙ ap (λ next. peer_after r temporary_failure line next z leg) so_far.next ∙ rw (not_so, here) refl
 
       more_others : (z : Slot) (leg : Leg) → IsExternal s.dimensions.external z → restarts_slot r line z ≡ false → leg_at w.legs z ≡ Some leg
           → leg_at v.legs z ≡ Some (left_below r line w (suc n) leg leg.peer)
@@ -257,28 +257,28 @@ module _ (s : Setting) (r : Restart) (line : ℕ) (w : World) (below : line < s.
     next = refl;
   }
 
-  pub step_below : (n : ℕ) → n < 30 → (a : MessageOutcome) → Below n a.making.world → Below (suc n) (outcome_at_slot s.dimensions s.tones r (record { line = line; place = n }) a).making.world
+  pub step_below : (n : ℕ) → n < 30 → (a : MessageOutcome) → Below n a.making.world → Below (suc n) (outcome_at_slot s.dimensions (restart_rule s.tones r) (record { line = line; place = n }) a).making.world
   step_below n small a so_far = elim (true_or_false (is_restarted r n)) [
     | inl restarted ↦
         let here : Slot = record { line = line; place = n } in
         one_more n small a.making.world so_far restarted
-        (outcome_at_slot s.dimensions s.tones r here a).making.world
+        (outcome_at_slot s.dimensions (restart_rule s.tones r) here a).making.world
         (slot_kept s.dimensions s.tones r a.making here so_far.kept (below, small))
         (slot_done s.dimensions s.tones r line a.making here refl so_far.kept (below, small) restarted)
     | inr not_so ↦ rw not_so (not_more n small a.making.world so_far not_so)
   ]
 
-  pub restarted_below : Kept s.dimensions s.tones w → (n : ℕ) → n ≤ 30 → Below n (outcome_below s.dimensions s.tones r line w n).making.world
-  restarted_below kept zero small = subst (λ (a : MessageOutcome). Below 0 a.making.world) (sym (below_none s.dimensions s.tones r line w)) (start_below kept)
+  pub restarted_below : Kept s.dimensions s.tones w → (n : ℕ) → n ≤ 30 → Below n (outcome_below s.dimensions (restart_rule s.tones r) line w n).making.world
+  restarted_below kept zero small = subst (λ (a : MessageOutcome). Below 0 a.making.world) (sym (below_none s.dimensions (restart_rule s.tones r) line w)) (start_below kept)
   restarted_below kept (suc n) small =
-      subst (λ (a : MessageOutcome). Below (suc n) a.making.world) (sym (below_more s.dimensions s.tones r line w n))
-      (step_below n (omega (arith, small)) (outcome_below s.dimensions s.tones r line w n) (restarted_below kept n (omega (arith, small))))
+      subst (λ (a : MessageOutcome). Below (suc n) a.making.world) (sym (below_more s.dimensions (restart_rule s.tones r) line w n))
+      (step_below n (omega (arith, small)) (outcome_below s.dimensions (restart_rule s.tones r) line w n) (restarted_below kept n (omega (arith, small))))
 
 -- ---- the whole line
 
 module _ (s : Setting) (w : World) (line : ℕ) (octets : List ℕ) (r : Restart) (is : IsRestart s w line octets r) where
   abbrev left : World
-  left = (outcome_below s.dimensions s.tones r line w 30).making.world
+  left = (outcome_below s.dimensions (restart_rule s.tones r) line w 30).making.world
 
   after_is : after_message s w line octets ≡ left
   after_is = ap (λ (q : Request). (outcome_for s w line q).making.world) is.restarts

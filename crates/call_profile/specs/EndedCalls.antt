@@ -1,9 +1,10 @@
 -- The record of the call of a leg that begins to be cleared. It is made before the act, because the circuit with the
 -- first frame of the conversation is removed by the act. Source: this project.
-use Rattle.std.specs.Prelude.{ℕ, List, [], Option, Some, None, option_and_then, if◌then◌else◌}
+use Rattle.std.specs.Prelude.{ℕ, ◌==◌, List, [], Option, Some, None, option_and_then, if◌then◌else◌}
 use Rattle.std.specs.List.{cons_option}
 use Rattle.circuit_model.specs.declared.channel.Slot.{Slot}
-use Rattle.q931_codec.specs.Causes.{no_answer_from_user, no_user_responding, temporary_failure}
+use Rattle.q931_codec.specs.CallStates.{active}
+use Rattle.q931_codec.specs.Causes.{destination_out_of_order, no_answer_from_user, no_user_responding, temporary_failure}
 use Rattle.call_timers.specs.declared.expiry.Expiry.{Expiry}
 use Rattle.call_timers.specs.declared.expiry.Expiry.TheVariants as expiry
 use Rattle.call_states.specs.Acts.{cause_of_act}
@@ -42,11 +43,19 @@ record_of_act w h a = option_and_then (record_ended w h) (cause_of_act a)
 abbrev pub slot_records : Restart → World → Slot → List CallRecord
 slot_records r w x = if is_restarted r x.place then cons_option (option_and_then (λ h. record_ended w h temporary_failure) (held_at w.legs x)) [] else []
 
+-- the record of the call that a data link's failure ends at a slot: T309 starts at a leg in active, and ends nothing
+abbrev pub dropped_record : World → HeldLeg → Option CallRecord
+dropped_record w h = if h.leg.state == active then None else record_ended w h destination_out_of_order
+
+abbrev pub dropped_records : World → Slot → List CallRecord
+dropped_records w x = cons_option (option_and_then (dropped_record w) (held_at w.legs x)) []
+
 -- the record of the call that an expiry ends
 abbrev pub record_of_expiry : World → HeldLeg → Expiry → Option CallRecord
 record_of_expiry w h expiry.SetupOver = record_ended w h no_user_responding
 record_of_expiry w h expiry.Proceeding = record_ended w h no_user_responding
 record_of_expiry w h expiry.Alerting = record_ended w h no_answer_from_user
+record_of_expiry w h expiry.Outage = record_ended w h destination_out_of_order
 record_of_expiry w h _ = None
 
 -- the records of the calls that expiries at a slot end in a frame

@@ -1,12 +1,12 @@
 -- The operations of a timer's expiry, and the turn of a frame: ITU-T Q.931 (05/98), 9.1, table 9-1, with 5.1.3 (T302),
--- 5.2.5.4 (T301, T303, T310) and 5.3 (T305, T308). The frame in which a leg is examined, and the clearing of the rest of its
+-- 5.2.5.4 (T301, T303, T310), 5.3 (T305, T308) and 5.8.9 (T309). The frame in which a leg is examined, and the clearing of the rest of its
 -- call, are this project's profile.
 use Rattle.std.specs.Prelude.{ℕ, zero, suc, ◌%◌, List, [], ◌∷◌, ◌++◌, Option, Some, None, option_and_then, option_map, unwrap_or}
 use Rattle.circuit_model.specs.declared.channel.Slot.{Slot}
 use Rattle.circuit_model.specs.FrameInput.{Input}
 use Rattle.q931_codec.specs.declared.kind.MessageKind.TheVariants as kind
-use Rattle.q931_codec.specs.CallStates.{overlap_sending, call_present, call_received, incoming_call_proceeding, disconnect_indication, release_request}
-use Rattle.q931_codec.specs.Causes.{invalid_number_format, no_answer_from_user, no_user_responding, recovery_on_timer_expiry}
+use Rattle.q931_codec.specs.CallStates.{overlap_sending, call_present, call_received, incoming_call_proceeding, active, disconnect_indication, release_request}
+use Rattle.q931_codec.specs.Causes.{destination_out_of_order, invalid_number_format, no_answer_from_user, no_user_responding, recovery_on_timer_expiry}
 use Rattle.q931_codec.specs.Outgoing.{OutgoingMessage}
 use Rattle.call_timers.specs.Expiries.{due}
 use Rattle.call_timers.specs.declared.expiry.Expiry.{Expiry}
@@ -56,12 +56,17 @@ setup_over tones legs h = give_up h ++ clear_peer tones legs h no_user_respondin
 abbrev pub clear_both : Tones → Legs → HeldLeg → ℕ → List Operation
 clear_both tones legs h cause = clear_with tones recovery_on_timer_expiry h ++ clear_peer tones legs h cause
 
+-- the data link of the leg's line did not come up again: the leg is removed, and the rest of its call is cleared
+abbrev pub outage_over : Tones → Legs → HeldLeg → List Operation
+outage_over tones legs h = remove_leg h ++ clear_peer tones legs h destination_out_of_order
+
 abbrev pub on_expiry : Tones → Legs → HeldLeg → Expiry → List Operation
 on_expiry tones legs h expiry.Digits = clear_with tones invalid_number_format h
 on_expiry tones legs h expiry.SetupAgain = send_again h (kept_at legs h.slot)
 on_expiry tones legs h expiry.SetupOver = setup_over tones legs h
 on_expiry tones legs h expiry.Proceeding = clear_both tones legs h no_user_responding
 on_expiry tones legs h expiry.Alerting = clear_both tones legs h no_answer_from_user
+on_expiry tones legs h expiry.Outage = outage_over tones legs h
 on_expiry tones legs h expiry.Disconnect = ask_for_release h
 on_expiry tones legs h expiry.ReleaseAgain = send_again h (kept_at legs h.slot)
 on_expiry tones legs h expiry.ReleaseOver = remove_leg h
@@ -73,13 +78,16 @@ timed_state expiry.SetupAgain = call_present
 timed_state expiry.SetupOver = call_present
 timed_state expiry.Proceeding = incoming_call_proceeding
 timed_state expiry.Alerting = call_received
+timed_state expiry.Outage = active
 timed_state expiry.Disconnect = disconnect_indication
 timed_state expiry.ReleaseAgain = release_request
 timed_state expiry.ReleaseOver = release_request
 
--- the cause of the record of the call that an expiry ends: the user was alerted, or did not respond
+-- the cause of the record of the call that an expiry ends: the user was alerted, or did not respond, or its data link
+-- is down
 abbrev pub cause_of_expiry : Expiry → ℕ
 cause_of_expiry expiry.Alerting = no_answer_from_user
+cause_of_expiry expiry.Outage = destination_out_of_order
 cause_of_expiry _ = no_user_responding
 
 -- ---- a leg, in a frame

@@ -11,14 +11,27 @@ use Rattle.call_states.specs.declared.leg.HeldLeg.{HeldLeg}
 use Rattle.call_states.specs.declared.pending.Pending.{Pending}
 
 -- for each external slot, by its number, the leg that holds it, the number that is pending there, and the octets of the
--- message that is stored there for retransmission
+-- message that is stored there for retransmission; and for each external line whether its data link is down
 pub record Legs : Type 0 where
   pub held : List (Option Leg)
   pub pending : List (Option Pending)
   pub kept : List (Option (List ℕ))
+  pub down : List Bool
 
 abbrev pub no_legs : ℕ → Legs
-no_legs external = record { held = replicate (30 * external) None; pending = replicate (30 * external) None; kept = replicate (30 * external) None }
+no_legs external = record {
+  held = replicate (30 * external) None;
+  pending = replicate (30 * external) None;
+  kept = replicate (30 * external) None;
+  down = replicate external false;
+}
+
+-- the data link of a line is down
+abbrev pub is_down : Legs → ℕ → Bool
+is_down legs line = slice_index_or legs.down line false
+
+abbrev pub with_link : Legs → ℕ → Bool → Legs
+with_link legs line down = record legs { down = slice_set legs.down line down }
 
 abbrev pub leg_at : Legs → Slot → Option Leg
 leg_at legs x = slice_index_or legs.held (number_of x) None
@@ -29,7 +42,8 @@ pending_at legs x = slice_index_or legs.pending (number_of x) None
 abbrev pub kept_at : Legs → Slot → Option (List ℕ)
 kept_at legs x = slice_index_or legs.kept (number_of x) None
 
--- a leg waits in its state from this frame on, after it gets its slot, and again after a retransmission
+-- a leg waits in its state from this frame on, after it gets its slot, and again after a retransmission; in active the
+-- flag of the latter states that T309 runs (5.8.9)
 abbrev pub waiting_from : ℕ → Leg → Leg
 waiting_from next leg = record leg { since = next; resent = false }
 
@@ -38,7 +52,7 @@ retransmitted_from next leg = record leg { since = next; resent = true }
 
 -- the slot is held by this leg, if there is one, with no pending number and no stored message
 abbrev pub with_entry : Legs → Slot → Option Leg → Legs
-with_entry legs x leg = record {
+with_entry legs x leg = record legs {
   held = slice_set legs.held (number_of x) leg;
   pending = slice_set legs.pending (number_of x) None;
   kept = slice_set legs.kept (number_of x) None;
@@ -52,7 +66,7 @@ without_leg legs x = with_entry legs x None
 
 -- the slot is held by this leg, whose number is pending
 abbrev pub with_waiting : Legs → Slot → Leg → Pending → Legs
-with_waiting legs x leg pending = record {
+with_waiting legs x leg pending = record legs {
   held = slice_set legs.held (number_of x) (Some leg);
   pending = slice_set legs.pending (number_of x) (Some pending);
   kept = slice_set legs.kept (number_of x) None;
@@ -60,7 +74,7 @@ with_waiting legs x leg pending = record {
 
 -- the slot is held by this leg, and the message with these octets is stored there
 abbrev pub with_kept : Legs → Slot → Leg → List ℕ → Legs
-with_kept legs x leg octets = record {
+with_kept legs x leg octets = record legs {
   held = slice_set legs.held (number_of x) (Some leg);
   pending = slice_set legs.pending (number_of x) None;
   kept = slice_set legs.kept (number_of x) (Some octets);

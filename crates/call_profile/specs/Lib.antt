@@ -8,6 +8,7 @@ pub mod Course
 pub mod Acts
 pub mod CallRecords
 pub mod Restarts
+pub mod LinkChanges
 pub mod Setup
 pub mod Digits
 pub mod ActCourse
@@ -28,11 +29,13 @@ pub mod Refused
 pub mod Progress
 pub mod References
 pub mod Restarted
+pub mod Dropped
 pub mod Recorded
 pub mod WorkedMessages
 pub mod WorkedOverlap
 pub mod WorkedDigits
 pub mod WorkedExpiries
+pub mod WorkedLinks
 pub mod ExpiryBounds
 pub mod ExpiryRecords
 pub mod CallsTold

@@ -33,6 +33,9 @@ pub data Operation : Type 0 where
   Expect : (x : Slot) (leg : Leg) (message : OutgoingMessage) → Operation
   -- the stored message of the leg is retransmitted to its user, and the wait of the leg restarts in the next frame
   Repeat : (h : HeldLeg) (octets : List ℕ) → Operation
+  -- the slot is held by this leg, with no pending number and no stored message, and waits from the next frame on for the
+  -- data link of its line
+  Await : (x : Slot) (leg : Leg) → Operation
   -- the slot is held by no leg, with no pending number and no stored message
   Remove : (x : Slot) → Operation
   -- a message goes to the user of a line
@@ -83,6 +86,7 @@ making_after d m (Repeat h octets) = record m {
   world = with_legs m.world (with_kept m.world.legs h.slot (retransmitted_from m.world.holding.next h.leg) octets);
   sends = m.sends ++ record { line = h.slot.line; octets = octets } ∷ [];
 }
+making_after d m (Await x leg) = record m { world = with_legs m.world (with_leg m.world.legs x (retransmitted_from m.world.holding.next leg)) }
 making_after d m (Remove x) = record m { world = with_legs m.world (without_leg m.world.legs x) }
 making_after d m (Send line message) = record m { sends = m.sends ++ record { line = line; octets = encoding message } ∷ [] }
 

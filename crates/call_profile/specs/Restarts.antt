@@ -22,17 +22,17 @@ abbrev pub restarts_slot : Restart → ℕ → Slot → Bool
 restarts_slot r line x = (x.line == line) && is_restarted r x.place
 
 -- the other leg of a call is removed too if its slot is also restarted, and its user is sent nothing; otherwise it is
--- cleared
-abbrev pub restart_peer : Tones → Restart → ℕ → HeldLeg → List Operation
-restart_peer tones r line other = if restarts_slot r line other.slot then remove_leg other else clear_with tones temporary_failure other
+-- cleared with a cause
+abbrev pub restart_peer : Tones → ℕ → Restart → ℕ → HeldLeg → List Operation
+restart_peer tones cause r line other = if restarts_slot r line other.slot then remove_leg other else clear_with tones cause other
 
 -- the leg that holds a restarted slot is removed
-abbrev pub restart_leg : Tones → Restart → Legs → Option HeldLeg → List Operation
-restart_leg tones r legs None = []
-restart_leg tones r legs (Some h) = remove_leg h ++ with_peer (peer_of legs h.leg.peer) (restart_peer tones r h.slot.line)
+abbrev pub restart_leg : Tones → ℕ → Restart → Legs → Option HeldLeg → List Operation
+restart_leg tones cause r legs None = []
+restart_leg tones cause r legs (Some h) = remove_leg h ++ with_peer (peer_of legs h.leg.peer) (restart_peer tones cause r h.slot.line)
 
 abbrev pub restart_slot : Tones → Restart → Legs → Slot → List Operation
-restart_slot tones r legs x = if is_restarted r x.place then restart_leg tones r legs (held_at legs x) else []
+restart_slot tones r legs x = if is_restarted r x.place then restart_leg tones temporary_failure r legs (held_at legs x) else []
 
 -- ---- the slots of the line, in sequence
 
@@ -47,16 +47,24 @@ outcome_then d cause a operations =
     let m = making_after_all d a.making operations in
     record { making = m; recorded = a.recorded ++ records a.making.world m.world cause }
 
-abbrev pub outcome_at_slot : Dimensions → Tones → Restart → Slot → MessageOutcome → MessageOutcome
-outcome_at_slot d tones r x a = outcome_then d temporary_failure a (restart_slot tones r a.making.world.legs x)
+-- the operations at a slot, by the legs, and the cause of the calls that they end
+pub record SlotRule : Type 0 where
+  pub does : Legs → Slot → List Operation
+  pub cause : ℕ
+
+abbrev pub outcome_at_slot : Dimensions → SlotRule → Slot → MessageOutcome → MessageOutcome
+outcome_at_slot d rule x a = outcome_then d rule.cause a (rule.does a.making.world.legs x)
 
 -- the places of the line below n, lowest first, each in the exchange state after those before it
-unfoldable pub outcome_below : Dimensions → Tones → Restart → ℕ → World → ℕ → MessageOutcome
-outcome_below d tones r line w zero = record { making = making_at w; recorded = [] }
-outcome_below d tones r line w (suc place) = outcome_at_slot d tones r (record { line = line; place = place }) (outcome_below d tones r line w place)
+unfoldable pub outcome_below : Dimensions → SlotRule → ℕ → World → ℕ → MessageOutcome
+outcome_below d rule line w zero = record { making = making_at w; recorded = [] }
+outcome_below d rule line w (suc place) = outcome_at_slot d rule (record { line = line; place = place }) (outcome_below d rule line w place)
+
+abbrev pub restart_rule : Tones → Restart → SlotRule
+restart_rule tones r = record { does = restart_slot tones r; cause = temporary_failure }
 
 -- all places, and last the acknowledgement
 abbrev pub outcome_of_restart : Dimensions → Tones → Restart → ℕ → World → MessageOutcome
 outcome_of_restart d tones r line w =
-    let a = outcome_below d tones r line w 30 in
+    let a = outcome_below d (restart_rule tones r) line w 30 in
     record a { making = making_after d a.making (Send line (acknowledgement r)) }

@@ -2,6 +2,7 @@
 -- and 5.2.
 use Rattle.std.specs.Prelude.{ℕ, ◌&&◌, Bool, true, false, List, [], ◌∷◌, ◌++◌, Option, Some, None, is_none, not, option_map, option_and_then, unwrap_or, if◌then◌else◌}
 use Rattle.std.specs.Option.{option_or}
+use Rattle.std.specs.List.{list_all}
 use Rattle.circuit_model.specs.declared.channel.Slot.{Slot}
 use Rattle.circuit_model.specs.Channels.{place_of, channel_at}
 use Rattle.q931_codec.specs.declared.bearer.BearerCapability.{BearerCapability}
@@ -11,7 +12,7 @@ use Rattle.q931_codec.specs.declared.contents.ChannelIdentification.TheVariants.
 use Rattle.q931_codec.specs.declared.kind.MessageKind.TheVariants as kind
 use Rattle.q931_codec.specs.declared.message.Message.{Message}
 use Rattle.q931_codec.specs.CallStates.{overlap_sending, outgoing_call_proceeding, call_present, active}
-use Rattle.q931_codec.specs.Causes.{unallocated_number, invalid_number_format, no_channel_available, switching_equipment_congestion, requested_channel_not_available, bearer_capability_not_implemented, mandatory_element_missing, invalid_element_contents}
+use Rattle.q931_codec.specs.Causes.{unallocated_number, destination_out_of_order, invalid_number_format, no_channel_available, switching_equipment_congestion, requested_channel_not_available, bearer_capability_not_implemented, mandatory_element_missing, invalid_element_contents}
 use Rattle.q931_codec.specs.Contents.{channel_in, bearer_in, bearer_of, is_called_number, called_received, called_in, complete_in, dialled_digits, calling_in, low_layer_in, high_layer_in}
 use Rattle.q931_codec.specs.Outgoing.{OutgoingMessage, bare}
 use Rattle.call_states.specs.declared.leg.Leg.{Leg}
@@ -25,8 +26,8 @@ use Rattle.number_plan.specs.declared.target.Found.TheVariants.{Line, Lines, Roo
 use Rattle.number_plan.specs.Plan.{found_for}
 use Rattle.call_profile.specs.Acts.{message_to}
 use Rattle.call_profile.specs.Course.{Course, only}
-use Rattle.call_profile.specs.IdleSlots.{idle, lowest_idle, lowest_idle_beside, hunted}
-use Rattle.call_profile.specs.Legs.{lowest_free_reference}
+use Rattle.call_profile.specs.IdleSlots.{idle, lowest_idle, lowest_called, hunted}
+use Rattle.call_profile.specs.Legs.{is_down, lowest_free_reference}
 use Rattle.call_profile.specs.Operations.{Operation, Seat, Put, Wait, Expect, Send}
 use Rattle.exchange_events.specs.Sizes.{Setting, Dimensions}
 use Rattle.call_profile.specs.World.{World, is_full}
@@ -80,9 +81,9 @@ abbrev pub caller_slot : World → ℕ → Option ChannelIdentification → Opti
 caller_slot w line channel = option_or (option_and_then (if_idle w) (slot_asked line channel)) (lowest_idle w line)
 
 -- the called slot is the lowest idle slot, other than the caller's, of the called line, or of the first called line
--- that has one
+-- that has one; a line whose data link is down has none
 abbrev pub called_slot : World → Slot → Found → Option Slot
-called_slot w caller (Line line) = lowest_idle_beside w caller line
+called_slot w caller (Line line) = lowest_called w caller line
 called_slot w caller (Lines lines) = hunted w caller lines
 called_slot w caller _ = None
 
@@ -139,9 +140,15 @@ abbrev pub is_taken : World → ℕ → Option ChannelIdentification → Bool
 is_taken w line (Some (Exclusive channel)) = is_none (option_and_then (if_idle w) (slot_of line channel))
 is_taken w line _ = false
 
--- the called line, or each of the called lines, has no idle slot other than the caller's
+-- the data link of the called line, or of each of the called lines, is down
+abbrev pub is_cut_off : World → Found → Bool
+is_cut_off w (Line line) = is_down w.legs line
+is_cut_off w (Lines lines) = list_all (is_down w.legs) lines
+is_cut_off w _ = false
+
+-- the called line, or each of the called lines, has no idle slot other than the caller's, or its data link is down
 abbrev pub is_line_full : World → Option Slot → Found → Bool
-is_line_full w caller (Line line) = is_none (option_and_then (λ x. lowest_idle_beside w x line) caller)
+is_line_full w caller (Line line) = is_none (option_and_then (λ x. lowest_called w x line) caller)
 is_line_full w caller (Lines lines) = is_none (option_and_then (λ x. hunted w x lines) caller)
 is_line_full w caller _ = false
 
@@ -150,10 +157,11 @@ abbrev pub is_room_full : Dimensions → World → Found → Bool
 is_room_full d w (Room room) = is_full d w
 is_room_full d w _ = false
 
--- whether there is a slot for the called side, or a port
+-- whether a called line's data link is up, and whether there is a slot for the called side, or a port
 abbrev pub called_checks : Dimensions → World → Option Slot → Found → List Check
 called_checks d w caller target =
-    (is_line_full w caller target, no_channel_available)
+    (is_cut_off w target, destination_out_of_order)
+    ∷ (is_line_full w caller target, no_channel_available)
     ∷ (is_room_full d w target, switching_equipment_congestion)
     ∷ []
 
@@ -165,7 +173,7 @@ slot_checks d w line channel target =
     ∷ (is_none caller, no_channel_available)
     ∷ called_checks d w caller target
 
--- the 12 checks in their order
+-- the 13 checks in their order
 abbrev pub checks : Setting → World → ℕ → Message → List Check
 checks s w line m = element_checks m ++ number_checks (target_of s m) (complete_in m.elements) ++ slot_checks s.dimensions w line (channel_in m.elements) (target_of s m)
 

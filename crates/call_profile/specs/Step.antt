@@ -1,10 +1,10 @@
 -- The exchange as a machine: the exchange state after each event, and the reply. Source: this project.
-use Rattle.std.specs.Prelude.{ℕ, ◌≤◌, ◌&&◌, not, Bool, List, [], ◌∷◌, filter_map, IfSome, if◌then◌else◌}
+use Rattle.std.specs.Prelude.{ℕ, ◌≤◌, ◌&&◌, not, Bool, true, false, None, List, [], ◌∷◌, filter_map, IfSome, if◌then◌else◌}
 use Rattle.circuit_model.specs.declared.channel.Slot.{Slot}
 use Rattle.circuit_model.specs.Holding.{Connect, Seat as Take_seat, Clear}
 use Rattle.circuit_model.specs.Ports.{port_of, ports_with}
 use Rattle.exchange_events.specs.declared.trace.Event.{Event}
-use Rattle.exchange_events.specs.declared.trace.Event.TheVariants.{Nail, Seat, Free, Message, Frame}
+use Rattle.exchange_events.specs.declared.trace.Event.TheVariants.{Nail, Seat, Free, Message, LinkUp, LinkDown, Frame}
 use Rattle.exchange_events.specs.declared.reply.Reply.{Reply}
 use Rattle.exchange_events.specs.declared.reply.Reply.TheVariants.{Granted, Busy, Seated, NoPort, Freed, NotNailed, Sent as Sent_reply, Frame as Frame_reply}
 use Rattle.exchange_events.specs.Orders.{event_at}
@@ -12,6 +12,7 @@ use Rattle.call_profile.specs.Calls.{MessageAnswer, after_message, answer_to}
 use Rattle.call_profile.specs.Expiring.{outcome_of_frame}
 use Rattle.call_profile.specs.IdleSlots.{idle, is_nailed}
 use Rattle.exchange_events.specs.Sizes.{Setting, Dimensions}
+use Rattle.call_profile.specs.LinkChanges.{outcome_of_link}
 use Rattle.call_profile.specs.Restarts.{MessageOutcome}
 use Rattle.call_profile.specs.World.{World, obey, is_full, nail_reply, seat_reply}
 
@@ -26,6 +27,10 @@ may_seat d w x = idle w x && not (is_full d w)
 abbrev pub message_reply : MessageAnswer → Reply
 message_reply a = Sent_reply a.sends a.moved a.records
 
+-- the reply to a change of a data link: the messages and records; nothing is connected
+abbrev pub link_reply : MessageOutcome → Reply
+link_reply a = Sent_reply a.making.sends None a.recorded
+
 -- the reply to a frame: its number, and the messages and records of its turn
 abbrev pub frame_reply : ℕ → MessageOutcome → Reply
 frame_reply number a = Frame_reply number a.making.sends a.recorded
@@ -39,6 +44,8 @@ reply s w (Seat x room) =
     else seat_reply s.dimensions w.layout x (port_of s.dimensions.external (ports_with x w.ports) x)
 reply s w (Free x) = if is_nailed w x then Freed else NotNailed
 reply s w (Message line octets) = message_reply (answer_to s w line octets)
+reply s w (LinkUp line) = link_reply (outcome_of_link s.dimensions s.tones false line w)
+reply s w (LinkDown line) = link_reply (outcome_of_link s.dimensions s.tones true line w)
 reply s w (Frame input) = frame_reply w.holding.next (outcome_of_frame s w input)
 
 -- the exchange state after an event; a refused event does not change it
@@ -47,6 +54,8 @@ next s w (Nail x y) = if may_nail w x y then obey s.dimensions w (Connect x y) e
 next s w (Seat x room) = if may_seat s.dimensions w x then obey s.dimensions w (Take_seat x room) else w
 next s w (Free x) = if is_nailed w x then obey s.dimensions w (Clear x) else w
 next s w (Message line octets) = after_message s w line octets
+next s w (LinkUp line) = (outcome_of_link s.dimensions s.tones false line w).making.world
+next s w (LinkDown line) = (outcome_of_link s.dimensions s.tones true line w).making.world
 next s w (Frame input) = (outcome_of_frame s w input).making.world
 
 -- a reply states that at most n paths moved, each way

@@ -50,7 +50,8 @@ pub struct Leg {
     pub cause: u8,
     /// The number of the first frame of its wait in its state.
     pub since: u32,
-    /// Whether the message that it got in this state was retransmitted.
+    /// Whether the message that it got in this state was retransmitted. In state 10, active, whether it waits for the data
+    /// link of its line: T309 runs (5.8.9).
     pub resent: bool,
 }
 

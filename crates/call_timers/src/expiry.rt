@@ -5,8 +5,8 @@ ghost use Rattle.call_timers.specs.Expiries.{due, expiry_in, frames_to};
 
 use crate::timers::Timers;
 use q931_codec::states::{
-    CALL_PRESENT, CALL_RECEIVED, DISCONNECT_INDICATION, INCOMING_CALL_PROCEEDING, OVERLAP_SENDING,
-    RELEASE_REQUEST,
+    ACTIVE, CALL_PRESENT, CALL_RECEIVED, DISCONNECT_INDICATION, INCOMING_CALL_PROCEEDING,
+    OVERLAP_SENDING, RELEASE_REQUEST,
 };
 
 /// The act of a timer's expiry (Q.931, 9.1, table 9-1).
@@ -22,6 +22,8 @@ pub enum Expiry {
     Proceeding,
     /// T301 in call received: the called user is alerted and does not answer.
     Alerting,
+    /// T309 in active: the data link of the leg's line did not come up again.
+    Outage,
     /// T305 in disconnect indication: the user is asked to release the call.
     Disconnect,
     /// T308 in release request, for the first time: the RELEASE is retransmitted.
@@ -31,9 +33,9 @@ pub enum Expiry {
 }
 
 /// Returns the expiry that is due in a frame at a leg in this call state (Q.931, 4.5.7). `since` is the first frame of
-/// its wait, and `resent` whether its SETUP or RELEASE was retransmitted. The result is `Some` if and only if the state
-/// has a timer that has expired in this frame or before it. The arguments are not a leg, so that timers are proved
-/// below the calls.
+/// its wait, and `resent` whether its SETUP or RELEASE was retransmitted, or in active whether T309 runs. The result is
+/// `Some` if and only if the state has a timer that has expired in this frame or before it. The arguments are not a leg,
+/// so that timers are proved below the calls.
 pub fn due(state: u8, resent: bool, since: u32, frame: u32, timers: &Timers) -> Option<Expiry>
     ensures { result ≡ due state resent since frame timers.now }
 {
@@ -69,6 +71,7 @@ fn expiry_in(state: u8, resent: bool) -> Option<Expiry>
         (CALL_PRESENT, true) => Some(Expiry::SetupOver),
         (INCOMING_CALL_PROCEEDING, _) => Some(Expiry::Proceeding),
         (CALL_RECEIVED, _) => Some(Expiry::Alerting),
+        (ACTIVE, true) => Some(Expiry::Outage),
         (DISCONNECT_INDICATION, _) => Some(Expiry::Disconnect),
         (RELEASE_REQUEST, false) => Some(Expiry::ReleaseAgain),
         (RELEASE_REQUEST, true) => Some(Expiry::ReleaseOver),
@@ -85,6 +88,7 @@ fn frames_to(timers: &Timers, expiry: Expiry) -> u32
         Expiry::SetupAgain | Expiry::SetupOver => timers.t303,
         Expiry::Proceeding => timers.t310,
         Expiry::Alerting => timers.t301,
+        Expiry::Outage => timers.t309,
         Expiry::Disconnect => timers.t305,
         Expiry::ReleaseAgain | Expiry::ReleaseOver => timers.t308,
     }

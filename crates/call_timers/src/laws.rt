@@ -13,6 +13,7 @@ pub fn worked_expiries()
     ensures setup_over { due call_present true 1000 33000 usual ≡ Some expiry.SetupOver }
     ensures proceeding { due incoming_call_proceeding false 1000 81000 usual ≡ Some expiry.Proceeding }
     ensures alerting { due call_received false 1000 1441000 usual ≡ Some expiry.Alerting }
+    ensures outage { due active true 1000 49000 usual ≡ Some expiry.Outage }
     ensures disconnect { due disconnect_indication false 1000 241000 usual ≡ Some expiry.Disconnect }
     ensures release { due release_request false 1000 33000 usual ≡ Some expiry.ReleaseAgain }
     ensures release_over { due release_request true 1000 33000 usual ≡ Some expiry.ReleaseOver }
@@ -25,6 +26,7 @@ pub fn worked_waits()
     ensures setup_over { due call_present true 1000 32999 usual ≡ None }
     ensures proceeding { due incoming_call_proceeding true 1000 80999 usual ≡ None }
     ensures alerting { due call_received true 1000 1440999 usual ≡ None }
+    ensures outage { due active true 1000 48999 usual ≡ None }
     ensures disconnect { due disconnect_indication true 1000 240999 usual ≡ None }
     ensures release { due release_request false 1000 32999 usual ≡ None }
     ensures release_over { due release_request true 1000 32999 usual ≡ None }
@@ -32,9 +34,9 @@ pub fn worked_waits()
     ensures never { due call_present false 4294967290 4294967295 usual ≡ None }
 {}
 
-/// In all other states of a leg nothing is ever due.
+/// In all other states of a leg nothing is ever due, nor in active unless T309 runs.
 pub fn law_of_untimed_states()
     ensures proceeding { (resent : Bool) (since f : ℕ) (t : Timers) → due outgoing_call_proceeding resent since f t ≡ None }
     ensures delivered { (resent : Bool) (since f : ℕ) (t : Timers) → due call_delivered resent since f t ≡ None }
-    ensures active { (resent : Bool) (since f : ℕ) (t : Timers) → due active resent since f t ≡ None }
+    ensures active { (since f : ℕ) (t : Timers) → due active false since f t ≡ None }
 {}

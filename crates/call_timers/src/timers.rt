@@ -17,12 +17,14 @@ pub struct Timers {
     pub t305: u32,
     /// T308: the time for a user to complete a RELEASE.
     pub t308: u32,
+    /// T309: the time for a data link that is down to come up again before its active calls are cleared.
+    pub t309: u32,
     /// T310: the time for a called user with complete information to alert or to answer.
     pub t310: u32,
 }
 
 impl Timers {
-    /// Returns the usual timers: 180 seconds, 15, 4, 30, 4 and 10, which are values of table 9-1, in frames.
+    /// Returns the usual timers: 180 seconds, 15, 4, 30, 4, 6 and 10, which are values of table 9-1, in frames.
     pub fn usual() -> Timers
         ensures { result ≡ usual }
     {
@@ -32,6 +34,7 @@ impl Timers {
             t303: 32_000,
             t305: 240_000,
             t308: 32_000,
+            t309: 48_000,
             t310: 80_000,
         }
     }

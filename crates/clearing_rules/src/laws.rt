@@ -33,7 +33,11 @@ pub fn worked_answers()
     ensures restart { answer_to_octets worked.restart_on_a_call ≡ Some worked.invalid_reference }
     ensures unknown { answer_to_octets worked.unknown_type ≡ Some worked.invalid_reference }
     ensures release_complete { answer_to_octets worked.release_complete ≡ None }
-    ensures status { answer_to_octets worked.status ≡ None }
+    ensures status { answer_to_octets worked.status ≡ Some worked.incompatible }
+    ensures status_from_called { answer_to_octets worked.status_from_called ≡ Some worked.incompatible_to_called }
+    ensures status_of_null { answer_to_octets worked.status_of_null ≡ None }
+    ensures status_without_state { answer_to_octets worked.status_without_state ≡ None }
+    ensures status_on_global { answer_to_octets worked.status_on_global ≡ None }
     ensures setup { answer_to_octets worked.setup_from_called ≡ None }
     ensures global { answer_to_octets worked.restart_interface ≡ None }
     ensures global_enquiry { answer_to_octets worked.enquiry_on_global ≡ None }

@@ -215,6 +215,14 @@ pub fn happen<P: PathMap>(
             );
             Response::Sent
         }
+        Event::LinkUp(line) => {
+            control.link_up(&mut context.out, tones, *line);
+            Response::Sent
+        }
+        Event::LinkDown(line) => {
+            control.link_down(&mut context.out, tones, *line);
+            Response::Sent
+        }
         Event::Frame(_) => {
             let number = frame(
                 control,

@@ -58,6 +58,8 @@ fn event_ahead(plan: &Plan, event: &Event) -> Option<PreparsedMessage>
         Event::Nail(_, _) => None,
         Event::Seat(_, _) => None,
         Event::Free(_) => None,
+        Event::LinkUp(_) => None,
+        Event::LinkDown(_) => None,
         Event::Frame(_) => None,
     }
 }

@@ -2,7 +2,7 @@
 use Rattle.std.specs.Prelude.{◌≡◌, ◌≢◌, ℕ, zero, suc, ◌%◌, ◌<◌, ◌≤◌, ◌⊎◌, List, length, take, nat_lt, count_by, slice_get, slice_index, All, AllPairs, Contains, EachIndex, Option, Some, None}
 use Rattle.std.specs.List.{range_with_len}
 use Rattle.exchange_events.specs.declared.trace.Event.{Event}
-use Rattle.exchange_events.specs.declared.trace.Event.TheVariants.{Nail, Seat, Free, Message, Frame}
+use Rattle.exchange_events.specs.declared.trace.Event.TheVariants.{Nail, Seat, Free, Message, LinkUp, LinkDown, Frame}
 use Rattle.exchange_events.specs.declared.trace.Trace.{Trace}
 
 -- the worker of an event: one of the call processors, or the frame worker
@@ -11,12 +11,14 @@ pub data Worker : Type 0 where
   Frame_worker : Worker
 
 -- the call processors share the lines in turn; a nail belongs to the line of its first slot, a seat and a free to the
--- line of their slot, a message to its user's line
+-- line of their slot, a message to its user's line, a data link's change to the line of the link
 abbrev pub worker_of : ℕ → Event → Worker
 worker_of processors (Nail x y) = Processor (x.line % processors)
 worker_of processors (Seat x room) = Processor (x.line % processors)
 worker_of processors (Free x) = Processor (x.line % processors)
 worker_of processors (Message line octets) = Processor (line % processors)
+worker_of processors (LinkUp line) = Processor (line % processors)
+worker_of processors (LinkDown line) = Processor (line % processors)
 worker_of processors (Frame input) = Frame_worker
 
 -- the segment of event number n, counted from 0: the number of segments that end before it

@@ -7,7 +7,7 @@ use Rattle.number_plan.specs.declared.target.Target.{Target}
 use Rattle.number_plan.specs.declared.target.Target.TheVariants as target
 use Rattle.number_plan.specs.Plan.{all_targets}
 use Rattle.exchange_events.specs.declared.trace.Event.{Event}
-use Rattle.exchange_events.specs.declared.trace.Event.TheVariants.{Nail, Seat, Free, Message, Frame}
+use Rattle.exchange_events.specs.declared.trace.Event.TheVariants.{Nail, Seat, Free, Message, LinkUp, LinkDown, Frame}
 use Rattle.exchange_events.specs.declared.trace.Trace.{Trace}
 use Rattle.exchange_events.specs.Limits.{max_changes, max_events}
 use Rattle.exchange_events.specs.Sizes.{Setting}
@@ -24,6 +24,8 @@ Fits external (Nail x y) = IsNail external x y
 Fits external (Seat x room) = IsExternal external x
 Fits external (Free x) = IsExternal external x
 Fits external (Message line octets) = (line < external) × All (λ octet. octet < 256) octets
+Fits external (LinkUp line) = line < external
+Fits external (LinkDown line) = line < external
 Fits external (Frame input) = length input ≡ external
 
 -- a line is one of n external lines

@@ -19,14 +19,14 @@ pub enum Reply {
     Freed,
     /// The slot has no nail and no seat, or the leg of a call holds it, and nothing has changed.
     NotNailed,
-    /// The effects of a message.
+    /// The effects of a message, or of a data link's change.
     Sent {
         /// The messages that were sent, in order.
         sends: Signals,
         /// The numbers of live paths that moved for the path there and for the one back, if the message made a
         /// connection or joined a room.
         moved: Option<(u32, u32)>,
-        /// The records of the calls that the message began to clear, in order.
+        /// The records of the calls that the event began to clear, in order.
         records: Records,
     },
     /// The boundary of a frame.

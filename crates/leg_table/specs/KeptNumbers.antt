@@ -1,6 +1,6 @@
 -- The pending numbers and the messages for retransmission in a table of legs: each slot has space for one of either,
 -- which counts by the state of the slot's leg. Source: this project.
-use Rattle.std.specs.Prelude.{ℕ, ◌==◌, List, [], ◌∷◌, Option, Some, None, if◌then◌else◌}
+use Rattle.std.specs.Prelude.{ℕ, ◌==◌, Bool, List, [], ◌∷◌, Option, Some, None, if◌then◌else◌}
 use Rattle.q931_codec.specs.CallStates.{overlap_sending}
 use Rattle.call_states.specs.Acts.{is_among}
 use Rattle.call_states.specs.declared.leg.Leg.{Leg}
@@ -39,5 +39,5 @@ counting_all legs notes = shown_all Pending counting legs notes
 abbrev pub keeping_all : List (Option Leg) → List SlotData → List (Option (List ℕ))
 keeping_all legs notes = shown_all (List ℕ) keeping legs notes
 
-abbrev pub legs_kept : List (Option Leg) → List SlotData → Legs
-legs_kept legs notes = record { held = legs; pending = counting_all legs notes; kept = keeping_all legs notes }
+abbrev pub legs_kept : List (Option Leg) → List SlotData → List Bool → Legs
+legs_kept legs notes down = record { held = legs; pending = counting_all legs notes; kept = keeping_all legs notes; down = down }

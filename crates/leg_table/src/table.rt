@@ -9,7 +9,7 @@ ghost use Rattle.call_profile.specs.KeptMessages.{awaiting_answer};
 ghost use Rattle.leg_table.specs.KeptNumbers.{counting_all, keeping_all};
 ghost use Rattle.leg_table.specs.DueBounds.{NoneDue};
 ghost use Rattle.leg_table.specs.LegKeys.{IsRowOf};
-ghost use Rattle.call_profile.specs.Legs.{no_legs, leg_at, pending_at, kept_at, with_leg, with_waiting, with_kept, without_leg, leg_named, held_at, lowest_free_reference};
+ghost use Rattle.call_profile.specs.Legs.{no_legs, leg_at, pending_at, kept_at, with_leg, with_link, with_waiting, with_kept, without_leg, is_down, leg_named, held_at, lowest_free_reference};
 ghost use Rattle.leg_table.specs.declared.notes.SlotData.TheVariants as A_datum;
 
 use crate::keyed_legs::KeyedLegs;
@@ -24,25 +24,28 @@ use std::alloc::{AllocError, Global};
 use std::marker::Model;
 
 /// The legs of all calls, by the slots that they hold. Contracts see for each external slot, by its number, the leg
-/// that holds it, the number that is pending there, and the message that is stored there.
+/// that holds it, the number that is pending there, and the message that is stored there. They also see for each external
+/// line whether its data link is down.
 #[derive(Debug, Drop)]
 pub struct LegTable {
     legs: KeyedLegs,
     // The data of each slot, whose space is reserved before the first event. It counts by the state of the slot's leg,
     // so a leg that leaves the state clears nothing.
     notes: Vec<SlotData>,
+    // For each line whether its data link is down.
+    down: Vec<bool>,
 }
 
 impl Model for LegTable {
-    ghost use Rattle.std.specs.Prelude.{◌≡◌, length};
+    ghost use Rattle.std.specs.Prelude.{◌≡◌, ◌*◌, length};
     ghost use Rattle.leg_table.specs.KeptNumbers.{legs_kept};
     ghost use Rattle.call_profile.specs.Legs.{Legs};
 
     ghost Value = { Legs };
 
-    ghost view = { λ t. legs_kept t.legs t.notes.items };
+    ghost view = { λ t. legs_kept t.legs t.notes.items t.down.items };
 
-    ghost invariant = { λ t. length t.notes.items ≡ length t.legs };
+    ghost invariant = { λ t. (length t.notes.items ≡ length t.legs) × (30 * length t.down.items ≡ length t.legs) };
 }
 
 impl LegTable {
@@ -52,6 +55,7 @@ impl LegTable {
     {
         let slots = usize::from(CHANNELS_PER_LINE) * usize::from(external);
         Ok(LegTable {
+            down: vec![in alloc; false; usize::from(external)]?,
             legs: KeyedLegs::new(alloc, external, timers)?,
             notes: vec![in alloc; SlotData::Number(Pending::default()); slots]?,
         })
@@ -78,6 +82,24 @@ impl LegTable {
         ensures { option_copied result ≡ kept_at self.now x }
     {
         message_at(&self.legs, &self.notes, x.to_index())
+    }
+
+    /// Returns whether the data link of a line is down.
+    pub fn is_down(&self, line: u8) -> bool
+        ensures { result ≡ is_down self.now line }
+    {
+        match self.down.get(usize::from(line)) {
+            Some(down) => *down,
+            None => false,
+        }
+    }
+
+    /// Stores whether the data link of a line is down.
+    pub fn set_link(&mut self, line: u8, down: bool)
+        requires line { 30 * line + 30 ≤ length self.old.held }
+        ensures { self.new ≡ with_link self.old line down }
+    {
+        self.down[usize::from(line)] = down;
     }
 
     /// Stores a leg at a slot, instead of any other. No number is pending there then, and no message stored.

@@ -100,6 +100,8 @@ impl<P: PathMap, C: Carrier> LoneExchange<P, C> {
             Event::Seat(_, _) => self.command(plan, tones, timers, event),
             Event::Free(_) => self.command(plan, tones, timers, event),
             Event::Message(_, _) => self.command(plan, tones, timers, event),
+            Event::LinkUp(_) => self.command(plan, tones, timers, event),
+            Event::LinkDown(_) => self.command(plan, tones, timers, event),
         }
     }
 

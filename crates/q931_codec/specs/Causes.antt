@@ -16,11 +16,17 @@ no_user_responding = 18
 abbrev pub no_answer_from_user : ℕ
 no_answer_from_user = 19
 
+abbrev pub destination_out_of_order : ℕ
+destination_out_of_order = 27
+
 abbrev pub invalid_number_format : ℕ
 invalid_number_format = 28
 
 abbrev pub response_to_status_enquiry : ℕ
 response_to_status_enquiry = 30
+
+abbrev pub normal_unspecified : ℕ
+normal_unspecified = 31
 
 abbrev pub no_channel_available : ℕ
 no_channel_available = 34

@@ -15,11 +15,17 @@ pub const NO_USER_RESPONDING: u8 = 18;
 /// No answer from user (user alerted).
 pub const NO_ANSWER_FROM_USER: u8 = 19;
 
+/// Destination out of order.
+pub const DESTINATION_OUT_OF_ORDER: u8 = 27;
+
 /// Invalid number format (address incomplete).
 pub const INVALID_NUMBER_FORMAT: u8 = 28;
 
 /// Response to STATUS ENQUIRY.
 pub const RESPONSE_TO_STATUS_ENQUIRY: u8 = 30;
+
+/// Normal, unspecified.
+pub const NORMAL_UNSPECIFIED: u8 = 31;
 
 /// No circuit or channel available.
 pub const NO_CHANNEL_AVAILABLE: u8 = 34;

@@ -9,11 +9,12 @@ ghost use Rattle.q931_codec.specs.Outgoing.{OutgoingMessage, IsWritable, message
 ghost use Rattle.q931_codec.specs.Fields.{HasFields};
 
 use crate::causes::{
-    BEARER_CAPABILITY_NOT_IMPLEMENTED, INVALID_CALL_REFERENCE, INVALID_ELEMENT_CONTENTS,
-    INVALID_NUMBER_FORMAT, MANDATORY_ELEMENT_MISSING, MESSAGE_NOT_COMPATIBLE_WITH_CALL_STATE,
-    MESSAGE_TYPE_NOT_IMPLEMENTED, NO_CHANNEL_AVAILABLE, NORMAL_CALL_CLEARING,
-    REQUESTED_CHANNEL_NOT_AVAILABLE, RESPONSE_TO_STATUS_ENQUIRY, SWITCHING_EQUIPMENT_CONGESTION,
-    TEMPORARY_FAILURE, UNALLOCATED_NUMBER, USER_BUSY,
+    BEARER_CAPABILITY_NOT_IMPLEMENTED, DESTINATION_OUT_OF_ORDER, INVALID_CALL_REFERENCE,
+    INVALID_ELEMENT_CONTENTS, INVALID_NUMBER_FORMAT, MANDATORY_ELEMENT_MISSING,
+    MESSAGE_NOT_COMPATIBLE_WITH_CALL_STATE, MESSAGE_TYPE_NOT_IMPLEMENTED, NO_CHANNEL_AVAILABLE,
+    NORMAL_CALL_CLEARING, NORMAL_UNSPECIFIED, REQUESTED_CHANNEL_NOT_AVAILABLE,
+    RESPONSE_TO_STATUS_ENQUIRY, SWITCHING_EQUIPMENT_CONGESTION, TEMPORARY_FAILURE,
+    UNALLOCATED_NUMBER, USER_BUSY,
 };
 use crate::restart_classes::{ALL_INTERFACES, INDICATED_CHANNELS, SINGLE_INTERFACE};
 use crate::states::{
@@ -50,6 +51,8 @@ pub fn law_of_cause_values()
     ensures unallocated { UNALLOCATED_NUMBER ≡ cause.unallocated_number }
     ensures normal { NORMAL_CALL_CLEARING ≡ cause.normal_call_clearing }
     ensures busy { USER_BUSY ≡ cause.user_busy }
+    ensures out_of_order { DESTINATION_OUT_OF_ORDER ≡ cause.destination_out_of_order }
+    ensures unspecified { NORMAL_UNSPECIFIED ≡ cause.normal_unspecified }
     ensures format { INVALID_NUMBER_FORMAT ≡ cause.invalid_number_format }
     ensures enquiry { RESPONSE_TO_STATUS_ENQUIRY ≡ cause.response_to_status_enquiry }
     ensures no_channel { NO_CHANNEL_AVAILABLE ≡ cause.no_channel_available }

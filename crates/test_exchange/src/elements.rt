@@ -90,6 +90,11 @@ impl<'a> Received<'a> {
         }
     }
 
+    /// Returns whether the message reports a call state other than null.
+    pub(crate) fn tells_call(&self) -> bool {
+        matches!(self.find(CALL_STATE), Some([state, ..]) if *state % 0x40 != 0)
+    }
+
     /// Returns whether the message reports that its sender is in the null state.
     pub(crate) fn tells_null(&self) -> bool {
         matches!(self.find(CALL_STATE), Some([state, ..]) if *state % 0x40 == 0)

@@ -117,6 +117,8 @@ fn is_same(one: &Event, other: &Event) -> bool {
         (Event::Message(line, a), Event::Message(number, b)) => {
             *line == *number && a.as_slice() == b.as_slice()
         }
+        (Event::LinkUp(a), Event::LinkUp(b)) => *a == *b,
+        (Event::LinkDown(a), Event::LinkDown(b)) => *a == *b,
         (Event::Frame(a), Event::Frame(b)) => a.as_slice() == b.as_slice(),
         _ => false,
     }

@@ -13,7 +13,7 @@ use Rattle.number_plan.specs.Plan.{is_listed, is_number, is_number_taken}
 use Rattle.tone_rules.specs.declared.tones.Tones.{Tones}
 use Rattle.tone_rules.specs.CallTones.{is_given}
 use Rattle.exchange_events.specs.declared.trace.Event.{Event}
-use Rattle.exchange_events.specs.declared.trace.Event.TheVariants.{Nail, Seat, Free, Message, Frame}
+use Rattle.exchange_events.specs.declared.trace.Event.TheVariants.{Nail, Seat, Free, Message, LinkUp, LinkDown, Frame}
 use Rattle.exchange_events.specs.Limits.{max_changes, max_events}
 use Rattle.trace_text.specs.declared.fault.Reason.{Reason}
 use Rattle.trace_text.specs.declared.fault.Reason.TheVariants as reason
@@ -91,6 +91,22 @@ message external others = do
   line ← ok_or (external_line external both.0) reason.Slot
   octets ← at_most max_message_len (octets_written both.1)
   Ok (Message line octets)
+
+-- an external line as the only field
+abbrev pub only_line : ℕ → List (List ℕ) → Result ℕ Reason
+only_line external (word ∷ []) = ok_or (external_line external word) reason.Slot
+only_line external others = Err reason.Word
+
+-- a data link that is up, or down: the external line whose link it is
+abbrev pub link_up : ℕ → List (List ℕ) → Result Event Reason
+link_up external others = do
+  line ← only_line external others
+  Ok (LinkUp line)
+
+abbrev pub link_down : ℕ → List (List ℕ) → Result Event Reason
+link_down external others = do
+  line ← only_line external others
+  Ok (LinkDown line)
 
 -- a line that is an event
 abbrev pub happens : Result Event Reason → Result Said Reason
@@ -190,6 +206,8 @@ kind_of word =
     else if bytes_eq word (codes "number") then kind.Number
     else if bytes_eq word (codes "tone") then kind.Tone
     else if bytes_eq word (codes "timer") then kind.Timer
+    else if bytes_eq word (codes "up") then kind.LinkUp
+    else if bytes_eq word (codes "down") then kind.LinkDown
     else if bytes_eq word (codes "change") then kind.Change
     else kind.Unknown
 
@@ -214,6 +232,8 @@ by_kind so_far external kind.Message others = happens (message external others)
 by_kind so_far external kind.Nail others = happens (nail external others)
 by_kind so_far external kind.Seat others = happens (seat external others)
 by_kind so_far external kind.Free others = happens (free external others)
+by_kind so_far external kind.LinkUp others = happens (link_up external others)
+by_kind so_far external kind.LinkDown others = happens (link_down external others)
 by_kind so_far external kind.Number others = before_events so_far (numbered (number external others))
 by_kind so_far external kind.Tone others = before_events so_far (toned (tone so_far.tones others))
 by_kind so_far external kind.Timer others = before_events so_far (timed (timer so_far.timers others))

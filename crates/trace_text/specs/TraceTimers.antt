@@ -6,7 +6,7 @@ use Rattle.call_timers.specs.Expiries.{usual}
 use Rattle.trace_text.specs.declared.timing.GivenTimer.{GivenTimer}
 use Rattle.trace_text.specs.declared.timing.GivenTimers.{GivenTimers}
 use Rattle.trace_text.specs.declared.timing.TimerName.{TimerName}
-use Rattle.trace_text.specs.declared.timing.TimerName.TheVariants.{T301, T302, T303, T305, T308, T310}
+use Rattle.trace_text.specs.declared.timing.TimerName.TheVariants.{T301, T302, T303, T305, T308, T309, T310}
 
 -- the timer with this name
 abbrev pub timer_named : List ℕ → Option TimerName
@@ -16,6 +16,7 @@ timer_named word =
     else if bytes_eq word (codes "T303") then Some T303
     else if bytes_eq word (codes "T305") then Some T305
     else if bytes_eq word (codes "T308") then Some T308
+    else if bytes_eq word (codes "T309") then Some T309
     else if bytes_eq word (codes "T310") then Some T310
     else None
 
@@ -25,7 +26,7 @@ if_some_frames frames = if frames == 0 then None else Some frames
 
 -- the timers without a line
 abbrev pub no_timers : GivenTimers
-no_timers = record { t301 = None; t302 = None; t303 = None; t305 = None; t308 = None; t310 = None }
+no_timers = record { t301 = None; t302 = None; t303 = None; t305 = None; t308 = None; t309 = None; t310 = None }
 
 -- the number of frames of a timer, if a line sets it
 abbrev pub frames_given : GivenTimers → TimerName → Option ℕ
@@ -34,6 +35,7 @@ frames_given given T302 = given.t302
 frames_given given T303 = given.t303
 frames_given given T305 = given.t305
 frames_given given T308 = given.t308
+frames_given given T309 = given.t309
 frames_given given T310 = given.t310
 
 -- the timers after one more line
@@ -43,6 +45,7 @@ with_frames given T302 frames = record given { t302 = Some frames }
 with_frames given T303 frames = record given { t303 = Some frames }
 with_frames given T305 frames = record given { t305 = Some frames }
 with_frames given T308 frames = record given { t308 = Some frames }
+with_frames given T309 frames = record given { t309 = Some frames }
 with_frames given T310 frames = record given { t310 = Some frames }
 
 abbrev pub with_timer : GivenTimers → GivenTimer → GivenTimers
@@ -56,5 +59,6 @@ timers_by given = record {
   t303 = unwrap_or given.t303 usual.t303;
   t305 = unwrap_or given.t305 usual.t305;
   t308 = unwrap_or given.t308 usual.t308;
+  t309 = unwrap_or given.t309 usual.t309;
   t310 = unwrap_or given.t310 usual.t310;
 }

@@ -7,7 +7,8 @@ use crate::fault::{LineError, Reason};
 use crate::fields::header_of;
 use crate::limits::Limits;
 use crate::line::{
-    alone, frame_of, free_of, kind_of, message_of, nail_of, number_of, seat_of, timer_of, tone_of,
+    alone, frame_of, free_of, kind_of, link_down_of, link_up_of, message_of, nail_of, number_of,
+    seat_of, timer_of, tone_of,
 };
 use crate::plain::{ends_word, plain_frame, plain_free, plain_message, plain_nail};
 use crate::said::{GivenTone, Kind, Said, Sizes};
@@ -222,6 +223,8 @@ impl Heading {
             Kind::Nail => Ok(Said::Happens(nail_of(external, line)?)),
             Kind::Seat => Ok(Said::Happens(seat_of(external, line)?)),
             Kind::Free => Ok(Said::Happens(free_of(external, line)?)),
+            Kind::LinkUp => Ok(Said::Happens(link_up_of(external, line)?)),
+            Kind::LinkDown => Ok(Said::Happens(link_down_of(external, line)?)),
             Kind::Number => Ok(self.number_line(external, line)?),
             Kind::Tone => Ok(self.tone_line(alloc, line)?),
             Kind::Timer => Ok(self.timer_line(line)?),

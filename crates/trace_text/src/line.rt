@@ -2,7 +2,7 @@
 ghost use Rattle.std.specs.Prelude.{◌≡◌, ◌<◌, ◌∷◌, [], IsTrue, length, MatchResult, IfOk, Ok, Err};
 ghost use Rattle.number_plan.specs.Plan.{is_number};
 ghost use Rattle.trace_text.specs.TraceWords.{words};
-ghost use Rattle.trace_text.specs.TraceLines.{with_part, with_line, with_lines, frame, message, nail, seat, free, target, number, tone, tone_named, timer, alone, kind_of, Gives};
+ghost use Rattle.trace_text.specs.TraceLines.{with_part, with_line, with_lines, frame, message, nail, seat, free, only_line, link_up, link_down, target, number, tone, tone_named, timer, alone, kind_of, Gives};
 ghost use Rattle.trace_text.specs.TraceTimers.{timer_named};
 
 use crate::cut::{
@@ -91,6 +91,31 @@ pub(crate) fn message_of(alloc: Global, external: u8, line: &[u8]) -> Result<Eve
     let line = line_of_word(external, line).ok_or(Reason::Slot)?;
     let octets = message_octets(alloc, digits)?;
     Ok(Event::Message(line, octets))
+}
+
+// Returns the line of the only field.
+fn only_line(external: u8, line: &[u8]) -> Result<u8, Reason>
+    ensures { result ≡ only_line external (words line.now) }
+{
+    let (word, rest) = first_word(line).ok_or(Reason::Word)?;
+    if first_word(rest).is_some() {
+        return Err(Reason::Word);
+    }
+    line_of_word(external, word).ok_or(Reason::Slot)
+}
+
+/// Returns the establishment of the data link of the field's line.
+pub(crate) fn link_up_of(external: u8, line: &[u8]) -> Result<Event, Reason>
+    ensures { result ≡ link_up external (words line.now) }
+{
+    Ok(Event::LinkUp(only_line(external, line)?))
+}
+
+/// Returns the failure of the data link of the field's line.
+pub(crate) fn link_down_of(external: u8, line: &[u8]) -> Result<Event, Reason>
+    ensures { result ≡ link_down external (words line.now) }
+{
+    Ok(Event::LinkDown(only_line(external, line)?))
 }
 
 // Appends the line of a field to a list.
@@ -191,6 +216,8 @@ fn timer_named(word: &[u8]) -> Option<TimerName>
         Some(TimerName::T305)
     } else if word == b"T308".as_slice() {
         Some(TimerName::T308)
+    } else if word == b"T309".as_slice() {
+        Some(TimerName::T309)
     } else if word == b"T310".as_slice() {
         Some(TimerName::T310)
     } else {
@@ -247,6 +274,10 @@ pub(crate) fn kind_of(word: &[u8]) -> Kind
         Kind::Tone
     } else if word == b"timer".as_slice() {
         Kind::Timer
+    } else if word == b"up".as_slice() {
+        Kind::LinkUp
+    } else if word == b"down".as_slice() {
+        Kind::LinkDown
     } else if word == b"change".as_slice() {
         Kind::Change
     } else {

@@ -33,6 +33,10 @@ pub enum Kind {
     Seat,
     /// The connection or seat of a slot is released.
     Free,
+    /// The data link of a line is up.
+    LinkUp,
+    /// The data link of a line is down.
+    LinkDown,
     /// A number routes to a line, a list of lines or a conference room.
     Number,
     /// The octets of a tone.

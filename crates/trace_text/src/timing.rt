@@ -17,6 +17,8 @@ pub enum TimerName {
     T305,
     /// The timer of the state release request.
     T308,
+    /// The timer of a data link that is down, in the state active.
+    T309,
     /// The timer of the state incoming call proceeding.
     T310,
 }
@@ -43,6 +45,8 @@ pub struct GivenTimers {
     pub t305: Option<u32>,
     /// The timer of release request.
     pub t308: Option<u32>,
+    /// The timer of a data link that is down.
+    pub t309: Option<u32>,
     /// The timer of incoming call proceeding.
     pub t310: Option<u32>,
 }
@@ -58,6 +62,7 @@ impl GivenTimers {
             t303: None,
             t305: None,
             t308: None,
+            t309: None,
             t310: None,
         }
     }
@@ -72,6 +77,7 @@ impl GivenTimers {
             TimerName::T303 => self.t303,
             TimerName::T305 => self.t305,
             TimerName::T308 => self.t308,
+            TimerName::T309 => self.t309,
             TimerName::T310 => self.t310,
         }
     }
@@ -87,6 +93,7 @@ impl GivenTimers {
             TimerName::T303 => self.t303 = frames,
             TimerName::T305 => self.t305 = frames,
             TimerName::T308 => self.t308 = frames,
+            TimerName::T309 => self.t309 = frames,
             TimerName::T310 => self.t310 = frames,
         }
     }
@@ -102,6 +109,7 @@ impl GivenTimers {
             t303: self.t303.unwrap_or(usual.t303),
             t305: self.t305.unwrap_or(usual.t305),
             t308: self.t308.unwrap_or(usual.t308),
+            t309: self.t309.unwrap_or(usual.t309),
             t310: self.t310.unwrap_or(usual.t310),
         }
     }

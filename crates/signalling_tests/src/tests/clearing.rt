@@ -11,7 +11,7 @@ const STATUS: MessageKind = MessageKind::Status;
 
 const COMPLETE: MessageKind = MessageKind::ReleaseComplete;
 
-const ANSWERS: [(&[u8], Option<Answer>); 12] = [
+const ANSWERS: [(&[u8], Option<Answer>); 14] = [
     (
         b"\x08\x02\x00\x01\x75",
         Some((true, 1, STATUS, Some(30), Some(0))),
@@ -37,7 +37,12 @@ const ANSWERS: [(&[u8], Option<Answer>); 12] = [
         Some((true, 0x1234, COMPLETE, Some(81), None)),
     ),
     (b"\x08\x02\x00\x01\x5A", None),
-    (b"\x08\x02\x80\x01\x7D\x14\x01\x0A", None),
+    (
+        b"\x08\x02\x80\x01\x7D\x14\x01\x0A",
+        Some((false, 1, COMPLETE, Some(101), None)),
+    ),
+    (b"\x08\x02\x80\x01\x7D\x14\x01\x00", None),
+    (b"\x08\x02\x80\x01\x7D\x08\x02\x80\x9F", None),
     (b"\x08\x02\x00\x01\x05", None),
     (b"\x08\x02\x80\x01\x05", None),
     // On the global call reference.

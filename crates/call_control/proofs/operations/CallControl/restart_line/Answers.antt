@@ -7,7 +7,7 @@ use Rattle.exchange_events.specs.declared.record.CallRecord.{CallRecord}
 use Rattle.exchange_events.specs.declared.signal.Signal.{Signal}
 use Rattle.call_profile.specs.LegStanding.{LegsStand}
 use Rattle.call_profile.specs.Operations.{making_after_all}
-use Rattle.call_profile.specs.Restarts.{restart_slot, outcome_below}
+use Rattle.call_profile.specs.Restarts.{restart_slot, outcome_below, restart_rule}
 use Rattle.call_control.specs.Standing.{Makes}
 use Rattle.exchange_events.specs.Sizes.{Dimensions}
 use Rattle.call_control.proofs.MakingLemmas.{makes_send}
@@ -33,9 +33,9 @@ restart_slot-requires-clause-work g c =
     let small : c.loop-place.place ≤ 30 = omega (arith, c.loop-place-test.true) in
     let below : c.args.line < s.dimensions.external = subst (λ (d : Dimensions). c.args.line < d.external) work.holds.sizes c.requires.line in (
       s.dimensions,
-      (outcome_below s.dimensions s.tones c.args.asked c.args.line w c.loop-place.place).making.world,
+      (outcome_below s.dimensions (restart_rule s.tones c.args.asked) c.args.line w c.loop-place.place).making.world,
       (c.loop-place.invariant.0 s w tones work).0.holds,
-      subst (λ (t : Tones). LegsStand s.dimensions.external t (outcome_below s.dimensions s.tones c.args.asked c.args.line w c.loop-place.place).making.world) tones
+      subst (λ (t : Tones). LegsStand s.dimensions.external t (outcome_below s.dimensions (restart_rule s.tones c.args.asked) c.args.line w c.loop-place.place).making.world) tones
           (below_kept s.dimensions s.tones c.args.asked c.args.line w below (work.stands.circuits, work.stands.legs) c.loop-place.place small).1,
     )
 
@@ -47,14 +47,14 @@ loop-place-preserved g c =
           let small : c.loop-place.place < 30 = omega (arith, c.loop-place-test.true) in
           let below : c.args.line < s.dimensions.external = subst (λ (d : Dimensions). c.args.line < d.external) work.holds.sizes c.requires.line in
           let first = so_far.0 s w tones work in
-          let so_far_made = (outcome_below s.dimensions s.tones c.args.asked c.args.line w c.loop-place.place).making in
+          let so_far_made = (outcome_below s.dimensions (restart_rule s.tones c.args.asked) c.args.line w c.loop-place.place).making in
           let after = c.restart_slot.new in
           let at : Slot = record { line = c.args.line; place = c.loop-place.place } in
           let makes = subst (λ (t : Tones). Makes s.dimensions after.self.map after.self.legs after.out.sends after.out.moved
           (making_after_all s.dimensions so_far_made (restart_slot t c.args.asked so_far_made.world.legs at))) (sym tones) (done.makes s.dimensions so_far_made first.0) in
           step_done s.dimensions s.tones c.args.asked c.args.line w c.loop-place.place _ _ _ _ c.loop-place.records _ below (work.stands.circuits, work.stands.legs) small first.1
           makes
-          (done.records s.dimensions (outcome_below s.dimensions s.tones c.args.asked c.args.line w c.loop-place.place).making.world first.0.holds),
+          (done.records s.dimensions (outcome_below s.dimensions (restart_rule s.tones c.args.asked) c.args.line w c.loop-place.place).making.world first.0.holds),
       (let a = done.few.0 in let b = so_far.1 in omega (arith, a, b)),
       (let a = done.few.1 in let b = so_far.2 in omega (arith, a, b)),
       done.moved ∙ so_far.3,
@@ -68,7 +68,7 @@ pub returns-clause-makes : goal.returns-clause-makes
 returns-clause-makes g c s w tones work =
     let end : c.loop-place.place ≡ 30 = omega (arith, c.loop-place-test.false, c.loop-place.auto.place-end) in
     let made = subst (λ n. Makes s.dimensions c.loop-place.self.map c.loop-place.self.legs c.loop-place.out.sends c.loop-place.out.moved
-    (outcome_below s.dimensions s.tones c.args.asked c.args.line w n).making) end (c.loop-place.invariant.0 s w tones work).0 in
+    (outcome_below s.dimensions (restart_rule s.tones c.args.asked) c.args.line w n).making) end (c.loop-place.invariant.0 s w tones work).0 in
     makes_send s.dimensions c.loop-place.self.map c.loop-place.self.map c.loop-place.self.legs c.loop-place.self.legs c.loop-place.out.sends c.send.new.out.sends
-    c.loop-place.out.moved c.send.new.out.moved (outcome_below s.dimensions s.tones c.args.asked c.args.line w 30).making made c.args.line (outgoing_of c.restart_acknowledge.result) (acknowledgement c.args.asked)
+    c.loop-place.out.moved c.send.new.out.moved (outcome_below s.dimensions (restart_rule s.tones c.args.asked) c.args.line w 30).making made c.args.line (outgoing_of c.restart_acknowledge.result) (acknowledgement c.args.asked)
     c.restart_acknowledge.ensures c.send.ensures.sends c.send.ensures.moved
