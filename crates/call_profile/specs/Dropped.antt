@@ -16,7 +16,7 @@ use Rattle.call_profile.specs.Operations.{begun}
 use Rattle.call_profile.specs.World.{World}
 
 -- the line exists, in an exchange in which circuits and legs are consistent
-pub record CanFail (s : Setting) (w : World) (line : ℕ) : Type 0 where
+pub record HasLine (s : Setting) (w : World) (line : ℕ) : Type 0 where
   pub stands : CallsStand s w
   pub line_exists : line < s.dimensions.external
 
