@@ -21,11 +21,11 @@ use Rattle.call_profile.specs.LegStanding.{HasPeer, IsInCall, are_matched}
 use Rattle.call_profile.specs.Legs.{leg_at, retransmitted_from, waiting_from}
 use Rattle.call_profile.specs.LinkChanges.{whole_line, drop_leg, drop_slot, rule_of, with_line, outcome_of_link}
 use Rattle.call_profile.specs.Operations.{Operation, Making, Await, begun, making_after_all}
-use Rattle.call_profile.specs.Restarts.{MessageOutcome, outcome_at_slot, outcome_below, restarts_slot}
+use Rattle.call_profile.specs.Restarts.{MessageOutcome, outcome_below, restarts_slot}
 use Rattle.call_profile.specs.World.{World}
 use Rattle.call_profile.proofs.BesideLemmas.{entry_here, entry_else, same_or_apart}
 use Rattle.call_profile.proofs.ClearingLemmas.{Kept}
-use Rattle.call_profile.proofs.LinkLemmas.{at_held, drop_slot_kept, linked_kept}
+use Rattle.call_profile.proofs.LinkLemmas.{drop_slot_kept, linked_kept}
 use Rattle.call_profile.proofs.RestartedLegLemmas.{peer_after, leg_done}
 use Rattle.call_profile.proofs.RestartedLineLemmas.{was_restarted, same_where_apart, lt_true, lt_false, none_before, named_or_not}
 use Rattle.call_profile.proofs.RestartedSlotLemmas.{below_none, below_more}
