@@ -116,9 +116,8 @@ impl Yardstick {
             ReferenceEvent::Seat(x, room) => self.seat(*x, *room)?,
             ReferenceEvent::Free(x) => self.free(*x)?,
             // No trace of this reference model has a message or a change of a data link. Without a call they have no reply.
-            ReferenceEvent::Message(..)
-            | ReferenceEvent::LinkUp(_)
-            | ReferenceEvent::LinkDown(_) => self.report.push_str("message")?,
+            ReferenceEvent::Message(..) | ReferenceEvent::LinkUp(_) | ReferenceEvent::LinkDown(_) =>
+                self.report.push_str("message")?,
             ReferenceEvent::Frame(input) => self.frame(alloc, input.as_slice())?,
         }
         self.report.push_str("\n")
