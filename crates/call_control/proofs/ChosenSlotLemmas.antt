@@ -4,7 +4,7 @@ use Rattle.std.specs.Prelude.{find}
 use Rattle.std.specs.Option.{option_or}
 use Rattle.std.proofs.lemmas.List.{drop_more}
 use Rattle.circuit_model.specs.declared.channel.Slot.{Slot}
-use Rattle.call_profile.specs.IdleSlots.{lowest_idle_beside, hunted}
+use Rattle.call_profile.specs.IdleSlots.{lowest_called, hunted}
 use Rattle.call_profile.specs.Legs.{slots_of}
 use Rattle.call_profile.specs.World.{World}
 use Rattle.call_profile.proofs.LineLemmas.{slots_from, slots_all, slots_end, slots_more}
@@ -33,13 +33,13 @@ module _ (p : Slot → Bool) (line place : ℕ) (within : place < 30) where
 -- ---- the first line of a list that has an idle slot, line by line
 
 module _ (w : World) (x : Slot) (lines : List ℕ) (i : ℕ) (within : i < length lines) where
-  hunted_more : hunted w x (drop i lines) ≡ option_or (lowest_idle_beside w x (get_or lines i 0)) (hunted w x (drop (i + 1) lines))
+  hunted_more : hunted w x (drop i lines) ≡ option_or (lowest_called w x (get_or lines i 0)) (hunted w x (drop (i + 1) lines))
   hunted_more = ap (λ (ls : List ℕ). hunted w x ls) (drop_more lines i 0 within)
 
-  pub hunted_here : (o : Option Slot) → o ≡ lowest_idle_beside w x (get_or lines i 0) → is_some o ≡ true → o ≡ hunted w x (drop i lines)
+  pub hunted_here : (o : Option Slot) → o ≡ lowest_called w x (get_or lines i 0) → is_some o ≡ true → o ≡ hunted w x (drop i lines)
   hunted_here None is some = absurd cc
   hunted_here (Some y) is some = sym (hunted_more ∙ ap (λ o. option_or o (hunted w x (drop (i + 1) lines))) (sym is))
 
-  pub hunted_later : (o : Option Slot) → o ≡ lowest_idle_beside w x (get_or lines i 0) → is_some o ≡ false → hunted w x (drop i lines) ≡ hunted w x (drop (i + 1) lines)
+  pub hunted_later : (o : Option Slot) → o ≡ lowest_called w x (get_or lines i 0) → is_some o ≡ false → hunted w x (drop i lines) ≡ hunted w x (drop (i + 1) lines)
   hunted_later None is none = hunted_more ∙ ap (λ o. option_or o (hunted w x (drop (i + 1) lines))) (sym is)
   hunted_later (Some y) is none = absurd cc

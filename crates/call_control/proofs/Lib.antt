@@ -8,5 +8,6 @@ pub mod AtWorkLemmas
 pub mod ActMakingLemmas
 pub mod SetupMakingLemmas
 pub mod RestartMakingLemmas
+pub mod LinkMakingLemmas
 pub mod ExpireMakingLemmas
 pub mod DigitsMakingLemmas

@@ -5,7 +5,7 @@ use Rattle.std.proofs.lemmas.Bool.Decides.{nat_tests}
 use Rattle.circuit_model.specs.declared.channel.Slot.{Slot}
 use Rattle.q931_codec.specs.declared.contents.ChannelIdentification.{ChannelIdentification}
 use Rattle.q931_codec.specs.declared.message.Message.{Message}
-use Rattle.q931_codec.specs.Causes.{no_channel_available, switching_equipment_congestion}
+use Rattle.q931_codec.specs.Causes.{no_channel_available, switching_equipment_congestion, destination_out_of_order}
 use Rattle.q931_codec.specs.Contents.{channel_in, complete_in}
 use Rattle.number_plan.specs.declared.plan.Number.{Number}
 use Rattle.number_plan.specs.declared.target.Found.{Found}
@@ -16,9 +16,9 @@ use Rattle.number_plan.proofs.Meanings.{found_passes}
 use Rattle.call_control.specs.declared.setup_checks.CalledSide.{CalledSide}
 use Rattle.call_control.specs.declared.setup_checks.CalledSide.TheVariants as side
 use Rattle.call_control.specs.Choices.{IsReached, at_slot, called_side, dialled_checks}
-use Rattle.call_profile.specs.IdleSlots.{lowest_idle_beside, hunted}
+use Rattle.call_profile.specs.IdleSlots.{lowest_called, hunted}
 use Rattle.exchange_events.specs.Sizes.{Setting, Dimensions}
-use Rattle.call_profile.specs.Setup.{Check, first_cause, called_checks, target_of, caller_slot, is_taken, is_unknown, element_checks, number_checks, slot_checks, refusal}
+use Rattle.call_profile.specs.Setup.{Check, first_cause, called_checks, target_of, caller_slot, is_taken, is_unknown, element_checks, number_checks, slot_checks, refusal, is_cut_off}
 use Rattle.exchange_events.specs.Sound.{is_reached}
 use Rattle.call_profile.specs.World.{World, is_full}
 
@@ -51,6 +51,20 @@ line_passes : (o : Option Slot) (called : CalledSide) → at_slot o ≡ Ok calle
 line_passes None called e = absurd cc
 line_passes (Some y) called e = refl
 
+-- where each called line's data link is down, that is the cause
+cut_refused : (cut : Bool) (o : Option Slot) (cause : ℕ) → (if cut then Err destination_out_of_order else at_slot o) ≡ Err cause
+    → first_cause ((cut, destination_out_of_order) ∷ (is_none o, no_channel_available) ∷ (false, switching_equipment_congestion) ∷ []) ≡ Some cause
+cut_refused true o cause e =
+    let r : Result CalledSide ℕ = Err destination_out_of_order in
+    let f : r ≡ Err cause = e in
+    let same : destination_out_of_order ≡ cause = cc in ap (λ n. Some n) same
+cut_refused false o cause e = line_refused o cause e
+
+cut_passes : (cut : Bool) (o : Option Slot) (called : CalledSide) → (if cut then Err destination_out_of_order else at_slot o) ≡ Ok called
+    → first_cause ((cut, destination_out_of_order) ∷ (is_none o, no_channel_available) ∷ (false, switching_equipment_congestion) ∷ []) ≡ None
+cut_passes true o called e = absurd cc
+cut_passes false o called e = line_passes o called e
+
 room_refused : (full : Bool) (room cause : ℕ) → (if full then Err switching_equipment_congestion else Ok (side.Room room)) ≡ Err cause
     → first_cause ((false, no_channel_available) ∷ (full, switching_equipment_congestion) ∷ []) ≡ Some cause
 room_refused true room cause e =
@@ -65,15 +79,15 @@ room_passes true room called e = absurd cc
 room_passes false room called e = refl
 
 pub side_refused : (d : Dimensions) (w : World) (x : Slot) (t : Found) (cause : ℕ) → is_unknown t ≡ false → called_side d w x t ≡ Err cause → first_cause (called_checks d w (Some x) t) ≡ Some cause
-side_refused d w x (Line line) cause known e = line_refused (lowest_idle_beside w x line) cause e
-side_refused d w x (Lines lines) cause known e = line_refused (hunted w x lines) cause e
+side_refused d w x (Line line) cause known e = cut_refused (is_cut_off w (Line line)) (lowest_called w x line) cause e
+side_refused d w x (Lines lines) cause known e = cut_refused (is_cut_off w (Lines lines)) (hunted w x lines) cause e
 side_refused d w x (Room room) cause known e = room_refused (is_full d w) room cause e
 side_refused d w x More cause known e = absurd cc
 side_refused d w x Nothing cause known e = absurd cc
 
 pub side_passes : (d : Dimensions) (w : World) (x : Slot) (t : Found) (called : CalledSide) → called_side d w x t ≡ Ok called → first_cause (called_checks d w (Some x) t) ≡ None
-side_passes d w x (Line line) called e = line_passes (lowest_idle_beside w x line) called e
-side_passes d w x (Lines lines) called e = line_passes (hunted w x lines) called e
+side_passes d w x (Line line) called e = cut_passes (is_cut_off w (Line line)) (lowest_called w x line) called e
+side_passes d w x (Lines lines) called e = cut_passes (is_cut_off w (Lines lines)) (hunted w x lines) called e
 side_passes d w x (Room room) called e = room_passes (is_full d w) room called e
 side_passes d w x More called e = refl
 side_passes d w x Nothing called e = absurd cc

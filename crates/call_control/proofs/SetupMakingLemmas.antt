@@ -8,15 +8,15 @@ use Rattle.number_plan.specs.declared.plan.Number.{Number}
 use Rattle.number_plan.specs.declared.target.Found.{Found}
 use Rattle.number_plan.specs.declared.target.Found.TheVariants.{Line, Lines, Room, More, Nothing}
 use Rattle.number_plan.specs.Plan.{all_targets, found_for}
-use Rattle.q931_codec.specs.Causes.{switching_equipment_congestion}
+use Rattle.q931_codec.specs.Causes.{switching_equipment_congestion, destination_out_of_order}
 use Rattle.call_states.specs.declared.pending.Pending.{Pending}
 use Rattle.call_control.specs.declared.setup_checks.CalledSide.{CalledSide}
 use Rattle.call_control.specs.declared.setup_checks.CalledSide.TheVariants as side
 use Rattle.call_control.specs.Choices.{IsReached, accept_side, at_slot, called_side}
 use Rattle.call_profile.proofs.AcceptedSetupLemmas.{accepts_line}
 use Rattle.call_profile.proofs.SetupLemmas.{called_is}
-use Rattle.call_profile.specs.IdleSlots.{lowest_idle_beside, hunted}
-use Rattle.call_profile.specs.Setup.{accept, call, call_line}
+use Rattle.call_profile.specs.IdleSlots.{lowest_called, hunted}
+use Rattle.call_profile.specs.Setup.{accept, call, call_line, is_cut_off}
 use Rattle.call_control.proofs.RefusalCauseLemmas.{reaches}
 use Rattle.exchange_events.specs.declared.signal.Signal.{Signal}
 use Rattle.call_profile.specs.Legs.{Legs, lowest_free_reference}
@@ -69,7 +69,7 @@ on_ok r a P is known = subst (λ (q : Result _ ℕ). IfOk q P) is known
 -- ---- what a call does whose called side was chosen
 
 module _ (w : World) (first : Bool) (own : ℕ) (asked : Pending) (x : Slot) where
-  line_side : (line : ℕ) (o : Option Slot) (called : CalledSide) → lowest_idle_beside w x line ≡ o → at_slot o ≡ Ok called → accept first w own asked x (Line line) ≡ accept_side first w own asked x called
+  line_side : (line : ℕ) (o : Option Slot) (called : CalledSide) → lowest_called w x line ≡ o → at_slot o ≡ Ok called → accept first w own asked x (Line line) ≡ accept_side first w own asked x called
   line_side line None called chosen e = absurd cc
   line_side line (Some y) called chosen e =
       let f : at_slot (Some y) ≡ Ok called = e in
@@ -85,13 +85,17 @@ module _ (w : World) (first : Bool) (own : ℕ) (asked : Pending) (x : Slot) whe
       let same : side.Line y ≡ called = cc in
       subst (λ (c : CalledSide). accept first w own asked x (Lines lines) ≡ accept_side first w own asked x c) same (ap (λ o. call first w own asked x (Lines lines) o) chosen)
 
+  unless_cut : (cut : Bool) (r : Result CalledSide ℕ) (called : CalledSide) → (if cut then Err destination_out_of_order else r) ≡ Ok called → r ≡ Ok called
+  unless_cut true r called e = absurd cc
+  unless_cut false r called e = e
+
   room_side : (full : Bool) (room : ℕ) (called : CalledSide) → (if full then Err switching_equipment_congestion else Ok (side.Room room)) ≡ Ok called → side.Room room ≡ called
   room_side true room called e = absurd cc
   room_side false room called e = let f : Ok (side.Room room) ≡ Ok called = e in cc
 
   pub side_accepts : (d : Dimensions) (t : Found) (called : CalledSide) → called_side d w x t ≡ Ok called → accept first w own asked x t ≡ accept_side first w own asked x called
-  side_accepts d (Line line) called e = line_side line (lowest_idle_beside w x line) called refl e
-  side_accepts d (Lines lines) called e = hunted_side lines (hunted w x lines) called refl e
+  side_accepts d (Line line) called e = line_side line (lowest_called w x line) called refl (unless_cut (is_cut_off w (Line line)) (at_slot (lowest_called w x line)) called e)
+  side_accepts d (Lines lines) called e = hunted_side lines (hunted w x lines) called refl (unless_cut (is_cut_off w (Lines lines)) (at_slot (hunted w x lines)) called e)
   side_accepts d (Room room) called e = ap (accept_side first w own asked x) (room_side (is_full d w) room called e)
   side_accepts d More called e = let f : Ok side.More ≡ Ok called = e in let same : side.More ≡ called = cc in ap (accept_side first w own asked x) same
   side_accepts d Nothing called e = absurd cc
@@ -105,9 +109,13 @@ room_is : (full : Bool) (r room : ℕ) → (if full then Err switching_equipment
 room_is true r room e = absurd cc
 room_is false r room e = let f : Ok (side.Room r) ≡ Ok (side.Room room) = e in cc
 
+cut_no_room : (cut : Bool) (o : Option Slot) (room : ℕ) → (if cut then Err destination_out_of_order else at_slot o) ≡ Ok (side.Room room) → ⊥
+cut_no_room true o room e = cc
+cut_no_room false o room e = slot_no_room o room e
+
 pub leads_to_room : (d : Dimensions) (w : World) (x : Slot) (t : Found) (room : ℕ) → called_side d w x t ≡ Ok (side.Room room) → t ≡ Room room
-leads_to_room d w x (Line line) room e = absurd (slot_no_room (lowest_idle_beside w x line) room e)
-leads_to_room d w x (Lines lines) room e = absurd (slot_no_room (hunted w x lines) room e)
+leads_to_room d w x (Line line) room e = absurd (cut_no_room (is_cut_off w (Line line)) (lowest_called w x line) room e)
+leads_to_room d w x (Lines lines) room e = absurd (cut_no_room (is_cut_off w (Lines lines)) (hunted w x lines) room e)
 leads_to_room d w x (Room r) room e = ap (λ n. Room n) (room_is (is_full d w) r room e)
 leads_to_room d w x More room e = absurd cc
 leads_to_room d w x Nothing room e = absurd cc

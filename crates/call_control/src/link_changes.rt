@@ -89,7 +89,14 @@ impl<P: PathMap> CallControl<P> {
             return;
         }
         let whole_line = Restart::Interface(SINGLE_INTERFACE);
-        self.restart_leg(out, tones, records, whole_line, held, DESTINATION_OUT_OF_ORDER);
+        self.restart_leg(
+            out,
+            tones,
+            records,
+            whole_line,
+            held,
+            DESTINATION_OUT_OF_ORDER,
+        );
     }
 
     // Starts T309 for a leg in state 10, unless it runs.

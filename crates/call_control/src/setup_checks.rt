@@ -1,5 +1,5 @@
 //! The checks of a SETUP: its elements, the slots of its call, and the cause of a refusal.
-ghost use Rattle.std.specs.Prelude.{◌≡◌, ◌<◌, ◌*◌, length, true, false, Some, None, Ok, is_some, IfSome, IfOk, IfErr, OnOk};
+ghost use Rattle.std.specs.Prelude.{◌≡◌, ◌<◌, true, false, Some, None, Ok, is_some, IfSome, IfOk, IfErr, OnOk};
 ghost use Rattle.call_profile.specs.Legs.{is_down};
 ghost use Rattle.call_profile.specs.Setup.{digits_in, lacks_number, slot_of, slot_asked, element_checks, is_cut_off, number_checks, first_cause, caller_slot, is_taken, is_unknown, slot_checks, refusal, target_of};
 ghost use Rattle.q931_codec.specs.Contents.{called_received, channel_in, complete_in};
@@ -78,7 +78,6 @@ impl<P: PathMap> CallControl<P> {
     // Returns the lowest idle slot of a called line, other than this slot. Returns `None` if its data link is down.
     fn lowest_called(&self, beside: Slot, line: u8) -> Option<Slot>
         requires external { line < self.now.map.external }
-        requires count { length self.now.legs.held ≡ 30 * self.now.map.external }
         ensures slot { (d : Dimensions) (w : World) → Holds d self.now.map self.now.legs w → result ≡ lowest_called w beside line }
         ensures external { IfSome result (IsExternal self.now.map.external) }
     {
@@ -91,21 +90,18 @@ impl<P: PathMap> CallControl<P> {
     // Returns whether the data link of each of these lines is down.
     fn are_down(&self, lines: &[u8]) -> bool
         requires lines { list_all (line_exists self.now.map.external) lines.now ≡ true }
-        requires count { length self.now.legs.held ≡ 30 * self.now.map.external }
         ensures { result ≡ list_all (is_down self.now.legs) lines.now }
     {
-        for line in lines {
-            if !self.legs.is_down(*line) {
-                return false;
-            }
+        let mut all = true;
+        for tried in lines {
+            all &= self.legs.is_down(*tried);
         }
-        true
+        all
     }
 
     // Returns whether the data link of each called line is down.
     fn is_cut_off(&self, target: &Found) -> bool
         requires reached { IsReached self.now.map.external target.now }
-        requires count { length self.now.legs.held ≡ 30 * self.now.map.external }
         ensures { (d : Dimensions) (w : World) → Holds d self.now.map self.now.legs w → result ≡ is_cut_off w target.now }
     {
         match target {

@@ -3,7 +3,7 @@ use Rattle.std.proofs.Common.{rules, ◌≡◌, ℕ, true, Option, Some, None, r
 use Rattle.exchange_core.specs.declared.tool.Tool.{Tool}
 use Rattle.exchange_core.specs.declared.tool.Tool.TheVariants.{Nothing, Image}
 use Rattle.exchange_events.specs.declared.trace.Event.{Event}
-use Rattle.exchange_events.specs.declared.trace.Event.TheVariants.{Nail, Seat, Free, Message, Frame}
+use Rattle.exchange_events.specs.declared.trace.Event.TheVariants.{Nail, Seat, Free, Message, Frame, LinkUp, LinkDown}
 use Rattle.exchange_events.specs.declared.trace.Trace.{Trace}
 use Rattle.exchange_events.specs.Orders.{Processor, event_at, worker_of}
 use Rattle.exchange_core.specs.Boards.{Board, IsToolAt, setting_at}
@@ -18,6 +18,8 @@ none_asked d q p (Nail x y) its = search rules
 none_asked d q p (Seat x room) its = search rules
 none_asked d q p (Free x) its = search rules
 none_asked d q p (Message line octets) its = search rules
+none_asked d q p (LinkUp line) its = search rules
+none_asked d q p (LinkDown line) its = search rules
 
 -- and none other serves for it
 none_other : (d : Dimensions) (processors p : ℕ) (e : Event) (t : Tool) → is_worker (worker_of processors e) (Processor p) ≡ true → IsToolFor d e t → t ≡ Nothing
@@ -27,6 +29,8 @@ none_other d q p (Nail x y) (Image image) its serves = absurd serves
 none_other d q p (Seat x room) (Image image) its serves = absurd serves
 none_other d q p (Free x) (Image image) its serves = absurd serves
 none_other d q p (Message line octets) (Image image) its serves = absurd serves
+none_other d q p (LinkUp line) (Image image) its serves = absurd serves
+none_other d q p (LinkDown line) (Image image) its serves = absurd serves
 
 module _ (board : Board) (trace : Trace) (same : trace ≡ board.trace) (p n : ℕ) (its : is_its trace (Processor p) n ≡ true) where
   its_there : is_its board.trace (Processor p) n ≡ true

@@ -9,7 +9,7 @@ use Rattle.q931_codec.specs.declared.message.Message.{Message}
 use Rattle.q931_codec.specs.Contents.{channel_in}
 use Rattle.call_states.specs.declared.pending.Pending.{Pending}
 use Rattle.number_plan.specs.declared.target.Found.TheVariants.{Line, Room}
-use Rattle.call_profile.specs.IdleSlots.{lowest_idle_beside}
+use Rattle.call_profile.specs.IdleSlots.{lowest_called}
 use Rattle.call_profile.specs.LegStanding.{CallsStand}
 use Rattle.call_profile.specs.Legs.{Legs, leg_at, lowest_free_reference}
 use Rattle.call_profile.specs.Permitted.{CanSeat}
@@ -22,16 +22,16 @@ use Rattle.call_profile.proofs.SetupLemmas.{all_pass, all_from, caller_is}
 -- ---- the operations
 
 module _ (w : World) (first : Bool) (own : ℕ) (asked : Pending) (x : Slot) where
-  pub accepts_line : (line : ℕ) (y : Slot) → lowest_idle_beside w x line ≡ Some y → accept first w own asked x (Line line) ≡ call_line first own asked x y (lowest_free_reference w.legs line)
+  pub accepts_line : (line : ℕ) (y : Slot) → lowest_called w x line ≡ Some y → accept first w own asked x (Line line) ≡ call_line first own asked x y (lowest_free_reference w.legs line)
   accepts_line line y chosen = ap (λ o. call first w own asked x (Line line) o) chosen
 
-  pub accepts_full_line : (line : ℕ) → lowest_idle_beside w x line ≡ None → accept first w own asked x (Line line) ≡ []
+  pub accepts_full_line : (line : ℕ) → lowest_called w x line ≡ None → accept first w own asked x (Line line) ≡ []
   accepts_full_line line none = ap (λ o. call first w own asked x (Line line) o) none
 
 -- ---- a call to a room can be seated
 
 room_free : (s : Setting) (w : World) (line : ℕ) (m : Message) (room : ℕ) → refusal s w line m ≡ None → target_of s m ≡ Room room → is_full s.dimensions w ≡ false
-room_free s w line m room accepted is = sym (ap (is_room_full s.dimensions w) is) ∙ (all_from 11 (checks s w line m) (all_pass (checks s w line m) accepted)).0
+room_free s w line m room accepted is = sym (ap (is_room_full s.dimensions w) is) ∙ (all_from 12 (checks s w line m) (all_pass (checks s w line m) accepted)).0
 
 pub can_seat : (s : Setting) (w : World) (line : ℕ) (m : Message) (x : Slot) (room : ℕ) → CallsStand s w → IsExternal s.dimensions.external x → refusal s w line m ≡ None → caller_slot w line (channel_in m.elements) ≡ Some x
     → target_of s m ≡ Room room → CanSeat s.dimensions w x
@@ -61,4 +61,4 @@ small_cause ((fails, cause) ∷ cs) why small e = small_step fails cause cs why 
 
 pub refusal_small : (s : Setting) (w : World) (line : ℕ) (m : Message) (cause : ℕ) → refusal s w line m ≡ Some cause → cause < 128
 refusal_small s w line m cause e =
-    small_cause (checks s w line m) cause (omega arith, (omega arith, (omega arith, (omega arith, (omega arith, (omega arith, (omega arith, (omega arith, (omega arith, (omega arith, (omega arith, (omega arith, tt)))))))))))) e
+    small_cause (checks s w line m) cause (omega arith, (omega arith, (omega arith, (omega arith, (omega arith, (omega arith, (omega arith, (omega arith, (omega arith, (omega arith, (omega arith, (omega arith, (omega arith, tt))))))))))))) e

@@ -112,7 +112,7 @@ not_long : (n : ℕ) → nat_lt 21 n ≡ false → n ≤ 21
 not_long n e = grind (arith, nat_tests, e)
 
 pub digits_small : (s : Setting) (w : World) (x : Slot) (called : List ℕ) (m : Message) (cause : ℕ) → digits_refusal s w x called m ≡ Some cause → cause < 128
-digits_small s w x called m cause e = small_cause (digits_checks s w x called m) cause (omega arith, (omega arith, (omega arith, (omega arith, (omega arith, (omega arith, tt)))))) e
+digits_small s w x called m cause e = small_cause (digits_checks s w x called m) cause (omega arith, (omega arith, (omega arith, (omega arith, (omega arith, (omega arith, (omega arith, tt))))))) e
 
 module _ (s : Setting) (w : World) (x : Slot) (p : Pending) (m : Message) (planned : IsPlanned s) (passes : digits_refusal s w x p.called m ≡ None) where
   pub passed : AllByRecursion (λ (c : Check). c.0 ≡ false) (digits_checks s w x p.called m)
@@ -131,7 +131,7 @@ module _ (s : Setting) (w : World) (x : Slot) (p : Pending) (m : Message) (plann
   digits_reach = record {
     line = λ l is. reached s (called_with p.called m) l planned is;
     lines = λ ls are. all_reached s (called_with p.called m) ls planned are;
-    room = λ room is. sym (ap (is_room_full s.dimensions w) is) ∙ (all_from 5 (digits_checks s w x p.called m) passed).0;
+    room = λ room is. sym (ap (is_room_full s.dimensions w) is) ∙ (all_from 6 (digits_checks s w x p.called m) passed).0;
   }
 
 -- ---- what is done

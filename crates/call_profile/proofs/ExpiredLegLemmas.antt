@@ -1,5 +1,5 @@
 -- A leg whose user is sent something again, or is asked to release its call, keeps the legs consistent.
-use Rattle.std.proofs.Common.{◌≡◌, ℕ, inl, inr, length, Option, Some, None, refl, sym, ◌∙◌, ap, subst, arith, length-set}
+use Rattle.std.proofs.Common.{◌≡◌, ℕ, inl, inr, length, Option, Some, None, refl, sym, ◌∙◌, ap, subst, arith, length-set, Bool}
 use Rattle.std.proofs.lemmas.Grind.{common_steps}
 use Rattle.circuit_model.specs.declared.channel.Slot.{Slot}
 use Rattle.circuit_model.specs.declared.circuit.Circuit.{Circuit}
@@ -23,25 +23,29 @@ use Rattle.call_profile.proofs.HearingLemmas.{IsStrange}
 
 -- ---- a leg that waits anew, in the same state
 
-may_hear_anew : (tones : Tones) (next : ℕ) (leg : Leg) (o : Option Circuit) → MayHear tones leg o → MayHear tones (retransmitted_from next leg) o
-may_hear_anew tones next leg None may = may
-may_hear_anew tones next leg (Some (Tone kind to since)) may = may
-may_hear_anew tones next leg (Some (Pair from to since)) may = may
-may_hear_anew tones next leg (Some (Member room at since)) may = may
+-- the leg waits since this frame, with this flag
+abbrev pub anew_from : ℕ → Bool → Leg → Leg
+anew_from next again leg = record leg { since = next; resent = again }
+
+may_hear_anew : (tones : Tones) (next : ℕ) (again : Bool) (leg : Leg) (o : Option Circuit) → MayHear tones leg o → MayHear tones (anew_from next again leg) o
+may_hear_anew tones next again leg None may = may
+may_hear_anew tones next again leg (Some (Tone kind to since)) may = may
+may_hear_anew tones next again leg (Some (Pair from to since)) may = may
+may_hear_anew tones next again leg (Some (Member room at since)) may = may
 
 -- either leg of a call may wait anew
-this_anew : (next : ℕ) (side : Side) (x y : Slot) (leg other : Leg) → IsInCall side x leg y other → IsInCall side x (retransmitted_from next leg) y other
-this_anew next Caller x y leg other one = record { calls = one.calls; is_called = one.is_called; there = one.there; back = one.back; matched = one.matched }
-this_anew next Called x y leg other one = record { calls = one.calls; is_called = one.is_called; there = one.there; back = one.back; matched = one.matched }
+this_anew : (next : ℕ) (again : Bool) (side : Side) (x y : Slot) (leg other : Leg) → IsInCall side x leg y other → IsInCall side x (anew_from next again leg) y other
+this_anew next again Caller x y leg other one = record { calls = one.calls; is_called = one.is_called; there = one.there; back = one.back; matched = one.matched }
+this_anew next again Called x y leg other one = record { calls = one.calls; is_called = one.is_called; there = one.there; back = one.back; matched = one.matched }
 
-other_anew : (next : ℕ) (side : Side) (x y : Slot) (leg other : Leg) → IsInCall side x leg y other → IsInCall side x leg y (retransmitted_from next other)
-other_anew next Caller x y leg other one = record { calls = one.calls; is_called = one.is_called; there = one.there; back = one.back; matched = one.matched }
-other_anew next Called x y leg other one = record { calls = one.calls; is_called = one.is_called; there = one.there; back = one.back; matched = one.matched }
+other_anew : (next : ℕ) (again : Bool) (side : Side) (x y : Slot) (leg other : Leg) → IsInCall side x leg y other → IsInCall side x leg y (anew_from next again other)
+other_anew next again Caller x y leg other one = record { calls = one.calls; is_called = one.is_called; there = one.there; back = one.back; matched = one.matched }
+other_anew next again Called x y leg other one = record { calls = one.calls; is_called = one.is_called; there = one.there; back = one.back; matched = one.matched }
 
-module _ (external : ℕ) (tones : Tones) (w v : World) (x : Slot) (leg : Leg) (next : ℕ) (stand : LegsStand external tones w) (within : IsExternal external x) (at : leg_at w.legs x ≡ Some leg)
-    (legs : v.legs.held ≡ (with_entry w.legs x (Some (retransmitted_from next leg))).held) (holding : v.holding ≡ w.holding) where
+module _ (external : ℕ) (tones : Tones) (w v : World) (x : Slot) (leg : Leg) (next : ℕ) (again : Bool) (stand : LegsStand external tones w) (within : IsExternal external x) (at : leg_at w.legs x ≡ Some leg)
+    (legs : v.legs.held ≡ (with_entry w.legs x (Some (anew_from next again leg))).held) (holding : v.holding ≡ w.holding) where
   abbrev anew : Leg
-  anew = retransmitted_from next leg
+  anew = anew_from next again leg
 
   here : leg_at v.legs x ≡ Some anew
   here = ap (look x) legs ∙ entry_here external w.legs x (Some anew) stand.count within
@@ -56,14 +60,14 @@ module _ (external : ℕ) (tones : Tones) (w v : World) (x : Slot) (leg : Leg) (
     | inl is_x ↦
         let same : Some has.1.0 ≡ Some leg = sym has.1.1 ∙ ap (leg_at w.legs) is_x ∙ at in
         let other : has.1.0 ≡ leg = cc in
-        (has.0, (anew, ap (leg_at v.legs) is_x ∙ here, other_anew next l.side z y l leg (subst (λ (k : Leg). IsInCall l.side z l y k) other has.1.2)))
+        (has.0, (anew, ap (leg_at v.legs) is_x ∙ here, other_anew next again l.side z y l leg (subst (λ (k : Leg). IsInCall l.side z l y k) other has.1.2)))
     | inr apart ↦ (has.0, (has.1.0, else_where y has.0 apart ∙ has.1.1, has.1.2))
   ]
   peer_anew z l (peer.Room room) has = has
 
   peer_of_anew : (p : Peer) → HasPeer external v.legs x leg p → HasPeer external v.legs x anew p
   peer_of_anew peer.Alone has = has
-  peer_of_anew (peer.Leg y) has = (has.0, (has.1.0, has.1.1, this_anew next leg.side x y leg has.1.0 has.1.2))
+  peer_of_anew (peer.Leg y) has = (has.0, (has.1.0, has.1.1, this_anew next again leg.side x y leg has.1.0 has.1.2))
   peer_of_anew (peer.Room room) has = has
 
   hears_as_before : (z : Slot) (l : Leg) → MayHear tones l (heard_by w.holding.circuits z) → MayHear tones l (heard_by v.holding.circuits z)
@@ -77,7 +81,7 @@ module _ (external : ℕ) (tones : Tones) (w v : World) (x : Slot) (leg : Leg) (
         reference = old.reference;
         cause = old.cause;
         peer = peer_of_anew leg.peer (peer_anew x leg leg.peer old.peer);
-        hears = hears_as_before x anew (may_hear_anew tones next leg (heard_by w.holding.circuits x) old.hears);
+        hears = hears_as_before x anew (may_hear_anew tones next again leg (heard_by w.holding.circuits x) old.hears);
       }
 
   else_stands : (z : Slot) (l : Leg) → IsExternal external z → leg_at w.legs z ≡ Some l → LegStands external tones v z l

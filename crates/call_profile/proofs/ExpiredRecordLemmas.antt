@@ -4,7 +4,7 @@ use Rattle.std.specs.Prelude.{option_map, option_and_then, ◌&&◌}
 use Rattle.std.specs.List.{cons_option}
 use Rattle.circuit_model.specs.declared.channel.Slot.{Slot}
 use Rattle.circuit_model.specs.Extent.{IsExternal}
-use Rattle.q931_codec.specs.Causes.{invalid_number_format, no_answer_from_user, no_user_responding, recovery_on_timer_expiry}
+use Rattle.q931_codec.specs.Causes.{invalid_number_format, no_answer_from_user, no_user_responding, recovery_on_timer_expiry, destination_out_of_order}
 use Rattle.call_timers.specs.declared.expiry.Expiry.{Expiry}
 use Rattle.call_timers.specs.declared.expiry.Expiry.TheVariants as expiry
 use Rattle.call_states.specs.Acts.{is_among}
@@ -51,14 +51,14 @@ module _ (d : Dimensions) (tones : Tones) (m : Making) (x : Slot) (leg : Leg) (k
   Told cause os told = records w (making_after_all d m os).world cause ≡ told
 
   -- one entry is another, and calls if it called
-  quiet : (cause : ℕ) (v : World) (o : Option Leg) → v.legs.held ≡ (with_entry w.legs x o).held → (is_calling (Some leg) ≡ true → is_calling o ≡ true) → records w v cause ≡ []
+  pub quiet : (cause : ℕ) (v : World) (o : Option Leg) → v.legs.held ≡ (with_entry w.legs x o).held → (is_calling (Some leg) ≡ true → is_calling o ≡ true) → records w v cause ≡ []
   quiet cause v o legs goes = no_record_where_calling d.external w v cause kept.1.count (λ z in_z. elim (same_or_apart z x) [
     | inl same ↦ subst (GoesOn w.legs v.legs) (sym same) (λ calls.
         ap (λ os. is_calling (look x os)) legs ∙ ap is_calling (entry_here d.external w.legs x o kept.1.count within) ∙ goes (sym (ap is_calling at) ∙ calls))
     | inr apart ↦ same_goes_on w.legs v.legs z (ap (look z) legs ∙ entry_else d.external w.legs x z o within in_z apart)
   ])
 
-  never : (o : Option Leg) → is_among before_clearing leg.state ≡ false → is_calling (Some leg) ≡ true → is_calling o ≡ true
+  pub never : (o : Option Leg) → is_among before_clearing leg.state ≡ false → is_calling (Some leg) ≡ true → is_calling o ≡ true
   never o not_up calls = let none = no_caller leg not_up in let wrong : false ≡ true = sym none ∙ calls in cc
 
   again_told : (o : Option (List ℕ)) → Told no_user_responding (send_again h o) []
@@ -118,6 +118,7 @@ module _ (d : Dimensions) (tones : Tones) (m : Making) (x : Slot) (leg : Leg) (k
   expiry_told expiry.SetupOver state = over_told
   expiry_told expiry.Proceeding state = both_told no_user_responding (rw state refl)
   expiry_told expiry.Alerting state = both_told no_answer_from_user (rw state refl)
+  expiry_told expiry.Outage state = clearing_records d tones w x leg None destination_out_of_order kept.1 within at (inl refl) (making_after_all d m (remove_leg h)) refl
   expiry_told expiry.Disconnect state = quiet no_user_responding (making_after_all d m (ask_for_release h)).world (Some (begun w (in_release_request leg))) refl (never (Some (begun w (in_release_request leg))) (rw state refl))
   expiry_told expiry.ReleaseAgain state = again_told (kept_at w.legs x)
   expiry_told expiry.ReleaseOver state = quiet no_user_responding (making_after_all d m (remove_leg h)).world None refl (never None (rw state refl))

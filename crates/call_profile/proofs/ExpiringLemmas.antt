@@ -5,7 +5,7 @@ use Rattle.circuit_model.specs.declared.channel.Slot.{Slot}
 use Rattle.circuit_model.specs.Extent.{IsExternal}
 use Rattle.q931_codec.specs.declared.kind.MessageKind.TheVariants as kind
 use Rattle.q931_codec.specs.CallStates.{active}
-use Rattle.q931_codec.specs.Causes.{invalid_number_format, no_answer_from_user, no_user_responding, recovery_on_timer_expiry}
+use Rattle.q931_codec.specs.Causes.{invalid_number_format, no_answer_from_user, no_user_responding, recovery_on_timer_expiry, destination_out_of_order}
 use Rattle.q931_codec.specs.Outgoing.{IsWritable}
 use Rattle.call_timers.specs.declared.expiry.Expiry.{Expiry}
 use Rattle.call_timers.specs.declared.expiry.Expiry.TheVariants as expiry
@@ -20,7 +20,7 @@ use Rattle.number_plan.specs.declared.plan.Number.{Number}
 use Rattle.tone_rules.specs.declared.tones.Tones.{Tones}
 use Rattle.exchange_events.specs.Sizes.{Setting, Dimensions}
 use Rattle.call_profile.specs.Acts.{in_release_request, peer_of, with_peer, clear_with, remove_leg}
-use Rattle.call_profile.specs.Expiring.{timed_state, release_for, release_complete_for, send_again, give_up, ask_for_release, clear_peer, clear_both, on_expiry, due_of, if_due, expire_leg, expire_slot, slot_looked_at, outcome_on_line, outcome_of_lines}
+use Rattle.call_profile.specs.Expiring.{timed_state, release_for, release_complete_for, send_again, give_up, ask_for_release, clear_peer, clear_both, on_expiry, due_of, if_due, expire_leg, expire_slot, slot_looked_at, outcome_on_line, outcome_of_lines, outage_over}
 use Rattle.call_profile.specs.KeptMessages.{IsAwaited}
 use Rattle.call_profile.specs.LegStanding.{LegStands, HasPeer, alone}
 use Rattle.call_profile.specs.Legs.{Legs, leg_at, kept_at}
@@ -95,6 +95,7 @@ module _ (d : Dimensions) (tones : Tones) (m : Making) (x : Slot) (leg : Leg) (k
     expiry_may expiry.SetupOver = over_may
     expiry_may expiry.Proceeding = both_may no_user_responding (omega arith)
     expiry_may expiry.Alerting = both_may no_answer_from_user (omega arith)
+    expiry_may expiry.Outage = (within, (within, peer_permitted d tones plan (making_after_all d m (remove_leg h)) h destination_out_of_order (peer_of w.legs leg.peer) peer_too (omega arith)))
     expiry_may expiry.Disconnect = asked_may
     expiry_may expiry.ReleaseAgain = again_may (kept_at w.legs x) refl
     expiry_may expiry.ReleaseOver = (within, (within, tt))
@@ -115,10 +116,13 @@ module _ (d : Dimensions) (tones : Tones) (m : Making) (x : Slot) (leg : Leg) (k
 
   again_fine : (o : Option (List ℕ)) → Fine (send_again h o)
   again_fine None = kept
-  again_fine (Some octets) = (kept.0, waits_anew d.external tones w (making_after_all d m (send_again h (Some octets))).world x leg w.holding.next kept.1 within at refl refl)
+  again_fine (Some octets) = (kept.0, waits_anew d.external tones w (making_after_all d m (send_again h (Some octets))).world x leg w.holding.next true kept.1 within at refl refl)
 
   over_fine : Fine (give_up h ++ clear_peer tones w.legs h no_user_responding)
   over_fine = clearing_kept d tones w x leg None no_user_responding (omega arith) kept.0 kept.1 within at (inl refl) (making_after_all d m (give_up h)) refl refl
+
+  outage_fine : Fine (outage_over tones w.legs h)
+  outage_fine = clearing_kept d tones w x leg None destination_out_of_order (omega arith) kept.0 kept.1 within at (inl refl) (making_after_all d m (remove_leg h)) refl refl
 
   released_fine : leg.peer ≡ peer.Alone → Fine (remove_leg h)
   released_fine is = alone_kept d tones w x leg None no_user_responding (omega arith) kept.0 kept.1 within at (inl refl) (making_after_all d m (remove_leg h)) refl refl (no_leg is)
@@ -146,6 +150,7 @@ module _ (d : Dimensions) (tones : Tones) (m : Making) (x : Slot) (leg : Leg) (k
   expiry_fine expiry.SetupOver state = over_fine
   expiry_fine expiry.Proceeding state = both_by no_user_responding (omega arith) (λ up. let wrong = sym state ∙ up in absurd cc) leg.peer refl stands.peer
   expiry_fine expiry.Alerting state = both_by no_answer_from_user (omega arith) (λ up. let wrong = sym state ∙ up in absurd cc) leg.peer refl stands.peer
+  expiry_fine expiry.Outage state = outage_fine
   expiry_fine expiry.Disconnect state = asked_fine state (nobody (rw state refl))
   expiry_fine expiry.ReleaseAgain state = again_fine (kept_at w.legs x)
   expiry_fine expiry.ReleaseOver state = released_fine (nobody (rw state refl))

@@ -1,5 +1,5 @@
 -- Which legs a frame's turn changes: the timer of one runs out, or the timer of the other leg of its call.
-use Rattle.std.proofs.Common.{◌≡◌, ℕ, zero, suc, ◌<◌, ◌≤◌, ◌⊎◌, inl, inr, Bool, true, List, [], ◌∷◌, ◌++◌, Option, Some, None, refl, sym, ◌∙◌, ap, subst, arith}
+use Rattle.std.proofs.Common.{◌≡◌, ℕ, zero, suc, ◌<◌, ◌≤◌, ◌⊎◌, inl, inr, Bool, true, List, [], ◌∷◌, ◌++◌, Option, Some, None, refl, sym, ◌∙◌, ap, subst, arith, ◌≢◌}
 use Rattle.std.specs.Prelude.{◌+◌, ◌%◌, nat_le, IfSome, IsTrue, is_some, option_and_then}
 use Rattle.std.proofs.lemmas.Bool.Decides.{nat_tests}
 use Rattle.std.proofs.lemmas.Grind.{common_steps}
@@ -7,7 +7,7 @@ use Rattle.circuit_model.specs.declared.channel.Slot.{Slot}
 use Rattle.circuit_model.specs.Extent.{IsExternal}
 use Rattle.circuit_model.specs.FrameInput.{Input}
 use Rattle.circuit_model.proofs.Slots.{true_or_false}
-use Rattle.q931_codec.specs.Causes.{invalid_number_format, no_answer_from_user, no_user_responding, recovery_on_timer_expiry}
+use Rattle.q931_codec.specs.Causes.{invalid_number_format, no_answer_from_user, no_user_responding, recovery_on_timer_expiry, destination_out_of_order}
 use Rattle.call_timers.specs.Expiries.{expiry_in, frames_to, if_run_out, due}
 use Rattle.call_timers.specs.declared.expiry.Expiry.{Expiry}
 use Rattle.call_timers.specs.declared.expiry.Expiry.TheVariants as expiry
@@ -23,7 +23,7 @@ use Rattle.tone_rules.specs.declared.tones.Tones.{Tones}
 use Rattle.exchange_events.specs.Sizes.{Setting, Dimensions}
 use Rattle.call_profile.specs.Acts.{peer_of, with_peer, clear_with}
 use Rattle.call_profile.specs.Expiring.{timed_state, send_again, clear_peer, clear_both, on_expiry, due_of, expire_slot, slot_looked_at, outcome_of_lines}
-use Rattle.call_profile.specs.ExpiryBounds.{RunsOut, EitherRunsOut, NoneElseChanges, UntimedStay, without_timers}
+use Rattle.call_profile.specs.ExpiryBounds.{RunsOut, EitherRunsOut, NoneElseChanges, UntimedStay, without_timers, NoneIsLost}
 use Rattle.call_profile.specs.Legs.{Legs, retransmitted_from, leg_at, kept_at}
 use Rattle.call_profile.specs.LegStanding.{CallsStand, HasPeer, IsInCall, are_matched}
 use Rattle.call_profile.specs.Operations as op
@@ -199,29 +199,41 @@ changed_by s frame w kept later z in_z (suc line) few =
     subst (λ (b : MessageOutcome). Changed s frame w.holding.next w.legs later z in_z b.making.world.legs) (sym (lines_more s frame w line))
     (slot_changed s frame w.holding.next w.legs later z in_z a.making (lines_kept s frame w kept line fewer) x in_x refl (began_by s frame w kept x in_x line fewer) so_far)
 
+-- a leg that is due in its turn is as before the frame
+pub unchanged_due : (s : Setting) (frame : ℕ) (w : World) (kept : Kept s.dimensions s.tones w) (later : frame < w.holding.next) (lines : ℕ) → lines ≤ s.dimensions.external → (x : Slot) → IsExternal s.dimensions.external x
+    → (leg : Leg) (e : Expiry) → leg_at (outcome_of_lines s frame w lines).making.world.legs x ≡ Some leg → due_of s.timers frame leg ≡ Some e → leg_at w.legs x ≡ Some leg
+unchanged_due s frame w kept later lines few x in_x leg e at is = elim (began_by s frame w kept x in_x lines few) [
+  | inl stays ↦ sym stays ∙ at
+  | inr begins ↦
+      let since = subst (λ (o : Option Leg). IfSome o (λ l. l.since ≡ w.holding.next)) at begins in
+      let early = due_since leg.state leg.resent leg.since frame s.timers e is in
+      absurd (omega (arith, later, since, early))
+]
+
 pub none_else_changes : (s : Setting) (w : World) (input : Input) → CallsStand s w → NoneElseChanges s w input
 none_else_changes s w input stands x in_x =
     changed_by s w.holding.next (pass w input) (pass_kept s w stands.circuits stands.legs input) (omega arith) x in_x s.dimensions.external (omega arith)
 
 -- ---- legs without a timer, whose peers have none either
 
-timed_apart : (e : Expiry) → is_among without_timers (timed_state e) ≡ true → ⊥
-timed_apart expiry.Digits is = cc
-timed_apart expiry.SetupAgain is = cc
-timed_apart expiry.SetupOver is = cc
-timed_apart expiry.Proceeding is = cc
-timed_apart expiry.Alerting is = cc
-timed_apart expiry.Disconnect is = cc
-timed_apart expiry.ReleaseAgain is = cc
-timed_apart expiry.ReleaseOver is = cc
+timed_apart : (e : Expiry) → e ≢ expiry.Outage → is_among without_timers (timed_state e) ≡ true → ⊥
+timed_apart expiry.Digits calm is = cc
+timed_apart expiry.SetupAgain calm is = cc
+timed_apart expiry.SetupOver calm is = cc
+timed_apart expiry.Proceeding calm is = cc
+timed_apart expiry.Alerting calm is = cc
+timed_apart expiry.Outage calm is = calm refl
+timed_apart expiry.Disconnect calm is = cc
+timed_apart expiry.ReleaseAgain calm is = cc
+timed_apart expiry.ReleaseOver calm is = cc
 
-never_due : (timers : Timers) (frame : ℕ) (leg : Leg) (o : Option Expiry) → due_of timers frame leg ≡ o → is_some o ≡ true → is_among without_timers leg.state ≡ true → ⊥
-never_due timers frame leg None is some among = cc
-never_due timers frame leg (Some e) is some among =
-    timed_apart e (subst (λ (state : ℕ). is_among without_timers state ≡ true) (due_state leg.state leg.resent leg.since frame timers e is) among)
+never_due : (timers : Timers) (frame : ℕ) (leg : Leg) (o : Option Expiry) → due_of timers frame leg ≡ o → o ≢ Some expiry.Outage → is_some o ≡ true → is_among without_timers leg.state ≡ true → ⊥
+never_due timers frame leg None is calm some among = cc
+never_due timers frame leg (Some e) is calm some among =
+    timed_apart e (λ same. calm (ap (λ (f : Expiry). Some f) same)) (subst (λ (state : ℕ). is_among without_timers state ≡ true) (due_state leg.state leg.resent leg.since frame timers e is) among)
 
-runs_never : (timers : Timers) (frame : ℕ) (legs : Legs) (x : Slot) (leg : Leg) → RunsOut timers frame legs x leg → is_among without_timers leg.state ≡ true → ⊥
-runs_never timers frame legs x leg runs among = never_due timers frame leg (due_of timers frame leg) refl runs.due among
+runs_never : (timers : Timers) (frame : ℕ) (legs : Legs) (x : Slot) (leg : Leg) → NoneIsLost timers frame legs → RunsOut timers frame legs x leg → is_among without_timers leg.state ≡ true → ⊥
+runs_never timers frame legs x leg calm runs among = never_due timers frame leg (due_of timers frame leg) refl (calm x leg runs.at) runs.due among
 
 both_untimed : (t s : ℕ) → IsTrue (are_matched t s) → (is_among without_timers t ≡ true → is_among without_timers s ≡ true) × (is_among without_timers s ≡ true → is_among without_timers t ≡ true)
 both_untimed t s matched = (λ among. grind (arith, common_steps, among, matched), λ among. grind (arith, common_steps, among, matched))
@@ -230,13 +242,13 @@ other_untimed : (side : Side) (x y : Slot) (leg other : Leg) → IsInCall side x
 other_untimed Caller x y leg other call among = (both_untimed leg.state other.state call.matched).0 among
 other_untimed Called x y leg other call among = (both_untimed other.state leg.state call.matched).1 among
 
-module _ (s : Setting) (w : World) (stands : CallsStand s w) (x : Slot) (in_x : IsExternal s.dimensions.external x) (frame : ℕ) where
+module _ (s : Setting) (w : World) (stands : CallsStand s w) (x : Slot) (in_x : IsExternal s.dimensions.external x) (frame : ℕ) (calm : NoneIsLost s.timers frame w.legs) where
   peer_never : (leg : Leg) (y : Slot) (other : Leg) → leg_at w.legs x ≡ Some leg → leg.peer ≡ peer.Leg y → RunsOut s.timers frame w.legs y other → is_among without_timers leg.state ≡ true → ⊥
   peer_never leg y other at named runs among =
       let has = subst (HasPeer s.dimensions.external w.legs x leg) named (stands.legs.each x leg in_x at).peer in
       let e : Some has.1.0 ≡ Some other = sym has.1.1 ∙ runs.at in
       let same : has.1.0 ≡ other = cc in
-      runs_never s.timers frame w.legs y other runs (subst (λ (l : Leg). is_among without_timers l.state ≡ true) same (other_untimed leg.side x y leg has.1.0 has.1.2 among))
+      runs_never s.timers frame w.legs y other calm runs (subst (λ (l : Leg). is_among without_timers l.state ≡ true) same (other_untimed leg.side x y leg has.1.0 has.1.2 among))
 
   pub neither_runs_out : (leg : Leg) → leg_at w.legs x ≡ Some leg → is_among without_timers leg.state ≡ true → EitherRunsOut s.timers frame w.legs x → ⊥
   neither_runs_out leg at among out =
@@ -244,12 +256,12 @@ module _ (s : Setting) (w : World) (stands : CallsStand s w) (x : Slot) (in_x : 
       let same : out.0 ≡ leg = cc in
       let state = subst (λ (l : Leg). is_among without_timers l.state ≡ true) (sym same) among in
       elim out.2 [
-        | inl own ↦ runs_never s.timers frame w.legs x out.0 own state
+        | inl own ↦ runs_never s.timers frame w.legs x out.0 calm own state
         | inr other ↦ peer_never out.0 other.0 other.1 out.1 other.2 other.3 state
       ]
 
-pub untimed_stay : (s : Setting) (w : World) (input : Input) → CallsStand s w → UntimedStay s w input
-untimed_stay s w input stands x leg in_x at among = elim (none_else_changes s w input stands x in_x) [
+pub untimed_stay : (s : Setting) (w : World) (input : Input) → CallsStand s w → NoneIsLost s.timers w.holding.next w.legs → UntimedStay s w input
+untimed_stay s w input stands calm x leg in_x at among = elim (none_else_changes s w input stands x in_x) [
   | inl stays ↦ stays ∙ at
-  | inr out ↦ absurd (neither_runs_out s w stands x in_x w.holding.next leg at among out)
+  | inr out ↦ absurd (neither_runs_out s w stands x in_x w.holding.next calm leg at among out)
 ]

@@ -1,5 +1,5 @@
 -- A frame's turn leaves the connections, the seats, their paths and their ports as they were.
-use Rattle.std.proofs.Common.{◌≡◌, ◌≢◌, ℕ, inl, inr, Bool, true, false, not, suc, List, [], ◌∷◌, ◌++◌, Option, Some, None, refl, sym, ◌∙◌, ap, subst, arith}
+use Rattle.std.proofs.Common.{◌≡◌, ◌≢◌, ℕ, inl, inr, Bool, true, false, not, suc, List, [], ◌∷◌, ◌++◌, Option, Some, None, refl, sym, ◌∙◌, ap, subst, arith, zero, ◌<◌, ◌≤◌}
 use Rattle.std.specs.Prelude.{IfSome, IsTrue}
 use Rattle.std.specs.List.{filter}
 use Rattle.std.proofs.lemmas.Grind.{common_steps}
@@ -18,7 +18,7 @@ use Rattle.circuit_model.proofs.Validity.{heard_by-listener}
 use Rattle.control_memory.specs.Layout.{Layout}
 use Rattle.control_memory.specs.Shown.{partner, without_both}
 use Rattle.q931_codec.specs.CallStates.{active}
-use Rattle.q931_codec.specs.Causes.{invalid_number_format, no_answer_from_user, no_user_responding, recovery_on_timer_expiry}
+use Rattle.q931_codec.specs.Causes.{invalid_number_format, no_answer_from_user, no_user_responding, recovery_on_timer_expiry, destination_out_of_order}
 use Rattle.call_timers.specs.declared.expiry.Expiry.{Expiry}
 use Rattle.call_timers.specs.declared.expiry.Expiry.TheVariants as expiry
 use Rattle.call_states.specs.Acts.{is_among}
@@ -31,8 +31,8 @@ use Rattle.call_states.specs.declared.leg.Side.TheVariants.{Caller, Called}
 use Rattle.tone_rules.specs.declared.tones.Tones.{Tones}
 use Rattle.exchange_events.specs.Sizes.{Setting, Dimensions}
 use Rattle.call_profile.specs.Acts.{peer_of, with_peer, clear_with}
-use Rattle.call_profile.specs.Expiring.{timed_state, send_again, clear_peer, clear_both, on_expiry, expire_slot, slot_looked_at, outcome_of_lines}
-use Rattle.call_profile.specs.ExpiryBounds.{is_conversation, ConversationsStay, LayoutStays, PortsStay}
+use Rattle.call_profile.specs.Expiring.{timed_state, send_again, clear_peer, clear_both, on_expiry, expire_slot, slot_looked_at, outcome_of_lines, due_of}
+use Rattle.call_profile.specs.ExpiryBounds.{is_conversation, ConversationsStay, LayoutStays, PortsStay, NoneIsLost}
 use Rattle.call_profile.specs.IsMade.{IsMade}
 use Rattle.call_profile.specs.Legs.{Legs, leg_at, kept_at}
 use Rattle.call_profile.specs.LegStanding.{CallsStand, HasPeer, IsInCall, MayHear, are_matched}
@@ -42,10 +42,12 @@ use Rattle.call_profile.specs.World.{World, pass}
 use Rattle.call_profile.proofs.AnsweringLemmas.{ringing}
 use Rattle.call_profile.proofs.ClearingLemmas.{Kept, held_there}
 use Rattle.call_profile.proofs.CommandLemmas.{pass_kept}
-use Rattle.call_profile.proofs.ExpiringLemmas.{at_slot, each_line, place_within, slot_fine, slot_may}
+use Rattle.call_profile.proofs.ExpiringLemmas.{at_slot, each_line, place_within, slot_fine, slot_may, lines_none, lines_more, lines_kept}
 use Rattle.call_profile.proofs.ExpiryStateLemmas.{due_state}
 use Rattle.call_profile.proofs.FullPortLemmas.{made_matched}
 use Rattle.call_profile.proofs.HistoryLemmas.{made_pass, made_performed_all}
+use Rattle.call_profile.specs.Restarts.{MessageOutcome}
+use Rattle.call_profile.proofs.ExpiryChangeLemmas.{unchanged_due}
 
 -- ---- operations that clear some slots alone, and connect and seat none
 
@@ -87,15 +89,16 @@ module _ (Free : Slot → Type 0) where
     again None = tt
     again (Some octets) = (tt, tt)
 
-    expiry_clears : (e : Expiry) → (is_among ringing (timed_state e) ≡ true → IfSome (peer_of legs h.leg.peer) (λ k. Free k.slot)) → ClearsAll (on_expiry tones legs h e)
-    expiry_clears expiry.Digits other = cleared invalid_number_format h free
-    expiry_clears expiry.SetupAgain other = again (kept_at legs h.slot)
-    expiry_clears expiry.SetupOver other = (free, (tt, (tt, peer_cleared no_user_responding (peer_of legs h.leg.peer) (other refl))))
-    expiry_clears expiry.Proceeding other = both_cleared no_user_responding (other refl)
-    expiry_clears expiry.Alerting other = both_cleared no_answer_from_user (other refl)
-    expiry_clears expiry.Disconnect other = (tt, tt)
-    expiry_clears expiry.ReleaseAgain other = again (kept_at legs h.slot)
-    expiry_clears expiry.ReleaseOver other = (free, (tt, tt))
+    expiry_clears : (e : Expiry) → e ≢ expiry.Outage → (is_among ringing (timed_state e) ≡ true → IfSome (peer_of legs h.leg.peer) (λ k. Free k.slot)) → ClearsAll (on_expiry tones legs h e)
+    expiry_clears expiry.Digits calm other = cleared invalid_number_format h free
+    expiry_clears expiry.SetupAgain calm other = again (kept_at legs h.slot)
+    expiry_clears expiry.SetupOver calm other = (free, (tt, (tt, peer_cleared no_user_responding (peer_of legs h.leg.peer) (other refl))))
+    expiry_clears expiry.Proceeding calm other = both_cleared no_user_responding (other refl)
+    expiry_clears expiry.Alerting calm other = both_cleared no_answer_from_user (other refl)
+    expiry_clears expiry.Outage calm other = absurd (calm refl)
+    expiry_clears expiry.Disconnect calm other = (tt, tt)
+    expiry_clears expiry.ReleaseAgain calm other = again (kept_at legs h.slot)
+    expiry_clears expiry.ReleaseOver calm other = (free, (tt, tt))
 
 -- ---- neither leg of a call whose timer runs out talks
 
@@ -109,19 +112,21 @@ not_answered : (side : Side) (x y : Slot) (leg other : Leg) → is_among ringing
 not_answered Caller x y leg other among is call = never_caller leg.state other.state among call.matched
 not_answered Called x y leg other among is call = never_active leg.state other.state among is call.matched
 
-timed_quiet : (e : Expiry) → timed_state e ≢ active
-timed_quiet expiry.Digits is = cc
-timed_quiet expiry.SetupAgain is = cc
-timed_quiet expiry.SetupOver is = cc
-timed_quiet expiry.Proceeding is = cc
-timed_quiet expiry.Alerting is = cc
-timed_quiet expiry.Disconnect is = cc
-timed_quiet expiry.ReleaseAgain is = cc
-timed_quiet expiry.ReleaseOver is = cc
+timed_quiet : (e : Expiry) → e ≢ expiry.Outage → timed_state e ≢ active
+timed_quiet expiry.Digits calm is = cc
+timed_quiet expiry.SetupAgain calm is = cc
+timed_quiet expiry.SetupOver calm is = cc
+timed_quiet expiry.Proceeding calm is = cc
+timed_quiet expiry.Alerting calm is = cc
+timed_quiet expiry.Outage calm is = calm refl
+timed_quiet expiry.Disconnect calm is = cc
+timed_quiet expiry.ReleaseAgain calm is = cc
+timed_quiet expiry.ReleaseOver calm is = cc
 
 -- what is free wherever the leg doesn't talk is all that an expiry clears
 module _ (s : Setting) (frame : ℕ) (m : Making) (kept : Kept s.dimensions s.tones m.world) (x : Slot) (in_x : IsExternal s.dimensions.external x) (Free : Slot → Type 0)
-    (free : (y : Slot) (leg : Leg) → IsExternal s.dimensions.external y → leg_at m.world.legs y ≡ Some leg → leg.state ≢ active → Free y) where
+    (free : (y : Slot) (leg : Leg) → IsExternal s.dimensions.external y → leg_at m.world.legs y ≡ Some leg → leg.state ≢ active → Free y)
+    (calm : (leg : Leg) → leg_at m.world.legs x ≡ Some leg → due_of s.timers frame leg ≢ Some expiry.Outage) where
   peer_free : (leg : Leg) (p : Peer) → is_among ringing leg.state ≡ true → HasPeer s.dimensions.external m.world.legs x leg p → IfSome (peer_of m.world.legs p) (λ k. Free k.slot)
   peer_free leg peer.Alone among has = tt
   peer_free leg (peer.Leg y) among has =
@@ -131,7 +136,8 @@ module _ (s : Setting) (frame : ℕ) (m : Making) (kept : Kept s.dimensions s.to
   slot_clears : ClearsAll Free (expire_slot s frame m.world.legs x)
   slot_clears = at_slot s frame m.world.legs x (ClearsAll Free) tt (λ leg e at due.
       let state = due_state leg.state leg.resent leg.since frame s.timers e due in
-      expiry_clears Free s.tones m.world.legs (record { slot = x; leg = leg }) (free x leg in_x at (λ up. timed_quiet e (sym state ∙ up))) e
+      let other : e ≢ expiry.Outage = λ same. calm leg at (due ∙ ap (λ (f : Expiry). Some f) same) in
+      expiry_clears Free s.tones m.world.legs (record { slot = x; leg = leg }) (free x leg in_x at (λ up. timed_quiet e other (sym state ∙ up))) e other
       (λ among. peer_free leg leg.peer (subst (λ n. is_among ringing n ≡ true) (sym state) among) (kept.1.each x leg in_x at).peer))
 
 -- ---- what a slot hears whose leg doesn't talk
@@ -221,23 +227,35 @@ module _ (d : Dimensions) (talks : List Circuit) (layout : Layout) where
       ap (filter (names x)) (sym same.0) ∙ sym (filter_filter is_conversation (names x) w.holding.circuits)
       ∙ none_named w.holding.circuits x (kept.0.standing x) (quiet_circuit tones leg (heard_by w.holding.circuits x) quiet (kept.1.each x leg in_x at).hears)
 
-same_talks : (s : Setting) (frame : ℕ) (w : World) → Kept s.dimensions s.tones w → SameTalks s.dimensions (filter is_conversation w.holding.circuits) w.layout (outcome_of_lines s frame w s.dimensions.external).making.world
-same_talks s frame w kept =
-    let d = s.dimensions in
-    let talks = filter is_conversation w.holding.circuits in
-    (each_line s frame w (λ a. SameTalks d talks w.layout a.making.world × Kept d s.tones a.making.world) ((refl, refl), kept) (λ a line small k.
-    let x : Slot = slot_looked_at frame line in
-    let within = place_within d.external frame line small in (
-      talks_performed_all d talks w.layout a.making (expire_slot s frame a.making.world.legs x)
-          (slot_clears s frame a.making k.1 x within (Silent d talks w.layout) (silent_by d talks w.layout s.tones a.making.world k.1 k.0)) k.0,
-      slot_fine s frame a.making x k.1 within,
-    )) d.external (omega arith)).0
+module _ (s : Setting) (frame : ℕ) (w : World) (kept : Kept s.dimensions s.tones w) (later : frame < w.holding.next) (calm : NoneIsLost s.timers frame w.legs) where
+  -- no data link is lost in the turn of a line
+  calm_at : (line : ℕ) → line < s.dimensions.external → (leg : Leg) → leg_at (outcome_of_lines s frame w line).making.world.legs (slot_looked_at frame line) ≡ Some leg → due_of s.timers frame leg ≢ Some expiry.Outage
+  calm_at line small leg at is =
+      let x = slot_looked_at frame line in
+      calm x leg (unchanged_due s frame w kept later line (omega (arith, small)) x (place_within s.dimensions.external frame line small) leg expiry.Outage at is) is
 
-pub conversations_stay : (s : Setting) (w : World) (input : Input) → CallsStand s w → ConversationsStay s w input
-conversations_stay s w input stands = (same_talks s w.holding.next (pass w input) (pass_kept s w stands.circuits stands.legs input)).0
+  abbrev talks : List Circuit
+  talks = filter is_conversation w.holding.circuits
 
-pub layout_stays : (s : Setting) (w : World) (input : Input) → CallsStand s w → LayoutStays s w input
-layout_stays s w input stands = (same_talks s w.holding.next (pass w input) (pass_kept s w stands.circuits stands.legs input)).1
+  same_talks : (lines : ℕ) → lines ≤ s.dimensions.external → SameTalks s.dimensions talks w.layout (outcome_of_lines s frame w lines).making.world
+  same_talks zero few = subst (λ (a : MessageOutcome). SameTalks s.dimensions talks w.layout a.making.world) (sym (lines_none s frame w)) (refl, refl)
+  same_talks (suc line) few =
+      let d = s.dimensions in
+      let a = outcome_of_lines s frame w line in
+      let x : Slot = slot_looked_at frame line in
+      let small : line < d.external = omega (arith, few) in
+      let within = place_within d.external frame line small in
+      let k = lines_kept s frame w kept line (omega (arith, few)) in
+      let so_far = same_talks line (omega (arith, few)) in
+      subst (λ (b : MessageOutcome). SameTalks d talks w.layout b.making.world) (sym (lines_more s frame w line))
+      (talks_performed_all d talks w.layout a.making (expire_slot s frame a.making.world.legs x)
+      (slot_clears s frame a.making k x within (Silent d talks w.layout) (silent_by d talks w.layout s.tones a.making.world k so_far) (calm_at line small)) so_far)
+
+pub conversations_stay : (s : Setting) (w : World) (input : Input) → CallsStand s w → NoneIsLost s.timers w.holding.next w.legs → ConversationsStay s w input
+conversations_stay s w input stands calm = (same_talks s w.holding.next (pass w input) (pass_kept s w stands.circuits stands.legs input) (omega arith) calm s.dimensions.external (omega arith)).0
+
+pub layout_stays : (s : Setting) (w : World) (input : Input) → CallsStand s w → NoneIsLost s.timers w.holding.next w.legs → LayoutStays s w input
+layout_stays s w input stands calm = (same_talks s w.holding.next (pass w input) (pass_kept s w stands.circuits stands.legs input) (omega arith) calm s.dimensions.external (omega arith)).1
 
 -- ---- ports
 
@@ -278,17 +296,23 @@ module _ (d : Dimensions) (ports : Ports) where
       let wrong : true ≡ false = quiet_circuit tones leg (heard_by w.holding.circuits x) quiet (kept.1.each x leg in_x at).hears c heard in
       cc
 
-same_ports : (s : Setting) (frame : ℕ) (w : World) → IsMade s.dimensions s.tones w → Kept s.dimensions s.tones w → (outcome_of_lines s frame w s.dimensions.external).making.world.ports ≡ w.ports
-same_ports s frame w made kept =
-    let d = s.dimensions in
-    (each_line s frame w (λ a. (a.making.world.ports ≡ w.ports) × IsMade d s.tones a.making.world × Kept d s.tones a.making.world) (refl, made, kept) (λ a line small k.
-    let x : Slot = slot_looked_at frame line in
-    let within = place_within d.external frame line small in
-    let os = expire_slot s frame a.making.world.legs x in (
-      ports_performed_all d w.ports a.making os (slot_clears s frame a.making k.2 x within (Unowned d w.ports) (unowned_by d w.ports s.tones a.making.world k.1 k.2 k.0)) k.0,
-      made_performed_all d s.tones s.plan a.making os (slot_may s frame a.making x k.2 within s.plan) k.1,
-      slot_fine s frame a.making x k.2 within,
-    )) d.external (omega arith)).0
+module _ (s : Setting) (frame : ℕ) (w : World) (made : IsMade s.dimensions s.tones w) (kept : Kept s.dimensions s.tones w) (later : frame < w.holding.next) (calm : NoneIsLost s.timers frame w.legs) where
+  same_ports : (lines : ℕ) → lines ≤ s.dimensions.external → ((outcome_of_lines s frame w lines).making.world.ports ≡ w.ports) × IsMade s.dimensions s.tones (outcome_of_lines s frame w lines).making.world
+  same_ports zero few = subst (λ (a : MessageOutcome). (a.making.world.ports ≡ w.ports) × IsMade s.dimensions s.tones a.making.world) (sym (lines_none s frame w)) (refl, made)
+  same_ports (suc line) few =
+      let d = s.dimensions in
+      let a = outcome_of_lines s frame w line in
+      let x : Slot = slot_looked_at frame line in
+      let small : line < d.external = omega (arith, few) in
+      let within = place_within d.external frame line small in
+      let os = expire_slot s frame a.making.world.legs x in
+      let k = lines_kept s frame w kept line (omega (arith, few)) in
+      let so_far = same_ports line (omega (arith, few)) in
+      subst (λ (b : MessageOutcome). (b.making.world.ports ≡ w.ports) × IsMade d s.tones b.making.world) (sym (lines_more s frame w line)) (
+        ports_performed_all d w.ports a.making os (slot_clears s frame a.making k x within (Unowned d w.ports) (unowned_by d w.ports s.tones a.making.world so_far.1 k so_far.0) (calm_at s frame w kept later calm line small)) so_far.0,
+        made_performed_all d s.tones s.plan a.making os (slot_may s frame a.making x k within s.plan) so_far.1,
+      )
 
-pub ports_stay : (s : Setting) (w : World) (input : Input) → CallsStand s w → IsMade s.dimensions s.tones w → PortsStay s w input
-ports_stay s w input stands made = same_ports s w.holding.next (pass w input) (made_pass s.dimensions s.tones w made input) (pass_kept s w stands.circuits stands.legs input)
+pub ports_stay : (s : Setting) (w : World) (input : Input) → CallsStand s w → NoneIsLost s.timers w.holding.next w.legs → IsMade s.dimensions s.tones w → PortsStay s w input
+ports_stay s w input stands calm made =
+    (same_ports s w.holding.next (pass w input) (made_pass s.dimensions s.tones w made input) (pass_kept s w stands.circuits stands.legs input) (omega arith) calm s.dimensions.external (omega arith)).0

@@ -1,7 +1,7 @@
 -- A frame's turn sends at most two messages for each line, and records at most one call.
 use Rattle.std.proofs.Common.{◌≡◌, ℕ, zero, suc, ◌+◌, ◌*◌, ◌≤◌, List, [], ◌∷◌, ◌++◌, length, Option, Some, None, sym, subst, arith, length-append}
 use Rattle.std.specs.List.{cons_option}
-use Rattle.q931_codec.specs.Causes.{no_answer_from_user, no_user_responding}
+use Rattle.q931_codec.specs.Causes.{no_answer_from_user, no_user_responding, destination_out_of_order}
 use Rattle.q931_codec.specs.Outgoing.{encoding}
 use Rattle.call_timers.specs.declared.expiry.Expiry.{Expiry}
 use Rattle.call_timers.specs.declared.expiry.Expiry.TheVariants as expiry

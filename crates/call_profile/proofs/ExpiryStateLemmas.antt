@@ -4,7 +4,7 @@ use Rattle.std.specs.Prelude.{◌+◌, ◌==◌, nat_le, option_and_then}
 use Rattle.std.proofs.lemmas.Grind.{common_steps}
 use Rattle.circuit_model.specs.declared.channel.Slot.{Slot}
 use Rattle.circuit_model.proofs.Slots.{true_or_false}
-use Rattle.q931_codec.specs.CallStates.{overlap_sending, call_present, call_received, incoming_call_proceeding, disconnect_indication, release_request}
+use Rattle.q931_codec.specs.CallStates.{overlap_sending, call_present, call_received, incoming_call_proceeding, disconnect_indication, release_request, active}
 use Rattle.call_timers.specs.Expiries.{expiry_in, frames_to, if_run_out, due}
 use Rattle.call_timers.specs.declared.expiry.Expiry.{Expiry}
 use Rattle.call_timers.specs.declared.expiry.Expiry.TheVariants as expiry

@@ -12,7 +12,7 @@ use Rattle.clearing_rules.specs.declared.scope.Restart.{Restart}
 use Rattle.clearing_rules.specs.Restarting.{acknowledgement}
 use Rattle.clearing_rules.specs.UnknownReference.{answer_without_call}
 use Rattle.exchange_events.specs.declared.trace.Event.{Event}
-use Rattle.exchange_events.specs.declared.trace.Event.TheVariants.{Nail, Seat as Seat_event, Free, Message, Frame}
+use Rattle.exchange_events.specs.declared.trace.Event.TheVariants.{Nail, Seat as Seat_event, Free, Message, Frame, LinkUp, LinkDown}
 use Rattle.exchange_events.specs.declared.reply.Reply.TheVariants.{Busy, NoPort, Sent as Sent_reply, Frame as Frame_reply}
 use Rattle.exchange_events.specs.Sizes.{Setting, Dimensions}
 use Rattle.call_profile.specs.ActCourse.{course_of}
@@ -23,13 +23,14 @@ use Rattle.call_profile.specs.Expiring.{cause_at, expire_slot, slot_looked_at, o
 use Rattle.call_profile.specs.Fabrics.{with_slots, without_paths, without_moves, replies_of_run, world_of_run}
 use Rattle.call_profile.specs.IdleSlots.{idle, is_nailed}
 use Rattle.call_profile.specs.Legs.{Legs}
-use Rattle.call_profile.specs.Operations.{Operation, Clear, Pair, Seat, Sound, Put, Wait, Expect, Repeat, Remove, Send, Making, making_at, making_after, making_after_all, moves_for, moves_of_seat}
-use Rattle.call_profile.specs.Restarts.{MessageOutcome, outcome_then, outcome_at_slot, restart_slot, outcome_below, outcome_of_restart, restart_rule}
+use Rattle.call_profile.specs.Operations.{Operation, Clear, Pair, Seat, Sound, Put, Wait, Expect, Repeat, Remove, Send, Making, making_at, making_after, making_after_all, moves_for, moves_of_seat, Await}
+use Rattle.call_profile.specs.Restarts.{MessageOutcome, outcome_then, outcome_at_slot, restart_slot, outcome_below, outcome_of_restart, restart_rule, SlotRule}
 use Rattle.call_profile.specs.Setup.{course_of_setup}
-use Rattle.call_profile.specs.Step.{reply, next, may_nail, may_seat, run, world_after_all}
+use Rattle.call_profile.specs.Step.{reply, next, may_nail, may_seat, run, world_after_all, link_reply}
 use Rattle.call_profile.specs.World.{World, is_full, nail_reply, seat_reply, obey, pass, start}
 use Rattle.call_profile.proofs.ExpiringLemmas.{lines_none, lines_more}
 use Rattle.call_profile.proofs.RestartedSlotLemmas.{below_none, below_more}
+use Rattle.call_profile.specs.LinkChanges.{outcome_of_link, rule_of, with_line}
 
 -- two worlds in the making that differ in nothing but paths
 pub record SameButPaths (a b : Making) : Type 0 where
@@ -134,20 +135,20 @@ module _ (s : Setting) (slots : ℕ) where
         let same = same_performed_all (making_at other) (making_at w) os begun_alike in
         record { making = same; recorded = same_records other w (making_after_all t.dimensions (making_at other) os).world (making_after_all s.dimensions (making_at w) os).world cause refl same.world }
 
-    slot_alike : (r : Restart) (x : Slot) (a b : MessageOutcome) → DoneAlike a b → DoneAlike (outcome_at_slot t.dimensions (restart_rule t.tones r) x a) (outcome_at_slot s.dimensions (restart_rule s.tones r) x b)
-    slot_alike r x a b alike =
-        then_alike temporary_failure a b (restart_slot s.tones r a.making.world.legs x) (restart_slot s.tones r b.making.world.legs x)
-        (ap (λ (legs : Legs). restart_slot s.tones r legs x) (same_legs a.making b.making alike.making)) alike
+    slot_alike : (rule : SlotRule) (x : Slot) (a b : MessageOutcome) → DoneAlike a b → DoneAlike (outcome_at_slot t.dimensions rule x a) (outcome_at_slot s.dimensions rule x b)
+    slot_alike rule x a b alike =
+        then_alike rule.cause a b (rule.does a.making.world.legs x) (rule.does b.making.world.legs x)
+        (ap (λ (legs : Legs). rule.does legs x) (same_legs a.making b.making alike.making)) alike
 
-    below_alike : (r : Restart) (line place : ℕ) → DoneAlike (outcome_below t.dimensions (restart_rule t.tones r) line other place) (outcome_below s.dimensions (restart_rule s.tones r) line w place)
-    below_alike r line zero = alike_at _ _ _ _ (below_none t.dimensions (restart_rule t.tones r) line other) (below_none s.dimensions (restart_rule s.tones r) line w) (record { making = begun_alike; recorded = refl })
-    below_alike r line (suc place) =
-        alike_at _ _ _ _ (below_more t.dimensions (restart_rule t.tones r) line other place) (below_more s.dimensions (restart_rule s.tones r) line w place)
-        (slot_alike r (record { line = line; place = place }) (outcome_below t.dimensions (restart_rule t.tones r) line other place) (outcome_below s.dimensions (restart_rule s.tones r) line w place) (below_alike r line place))
+    pub below_alike : (rule : SlotRule) (line place : ℕ) → DoneAlike (outcome_below t.dimensions rule line other place) (outcome_below s.dimensions rule line w place)
+    below_alike rule line zero = alike_at _ _ _ _ (below_none t.dimensions rule line other) (below_none s.dimensions rule line w) (record { making = begun_alike; recorded = refl })
+    below_alike rule line (suc place) =
+        alike_at _ _ _ _ (below_more t.dimensions rule line other place) (below_more s.dimensions rule line w place)
+        (slot_alike rule (record { line = line; place = place }) (outcome_below t.dimensions rule line other place) (outcome_below s.dimensions rule line w place) (below_alike rule line place))
 
     restarted_alike : (r : Restart) (line : ℕ) → DoneAlike (outcome_of_restart t.dimensions t.tones r line other) (outcome_of_restart s.dimensions s.tones r line w)
     restarted_alike r line =
-        let alike = below_alike r line 30 in
+        let alike = below_alike (restart_rule s.tones r) line 30 in
         record {
           making = same_performed (outcome_below t.dimensions (restart_rule t.tones r) line other 30).making (outcome_below s.dimensions (restart_rule s.tones r) line w 30).making (Send line (acknowledgement r)) alike.making;
           recorded = alike.recorded;
@@ -182,6 +183,11 @@ module _ (s : Setting) (slots : ℕ) where
   pub frame_alike : (w : World) (layout : Layout) (input : Input) → DoneAlike (outcome_of_frame t (with_layout w layout) input) (outcome_of_frame s w input)
   frame_alike w layout input = lines_alike (pass w input) layout w.holding.next s.dimensions.external
 
+  -- ---- a change of a data link
+
+  link_alike : (w : World) (layout : Layout) (down : Bool) (line : ℕ) → DoneAlike (outcome_of_link t.dimensions t.tones down line (with_layout w layout)) (outcome_of_link s.dimensions s.tones down line w)
+  link_alike w layout down line = below_alike (with_line w line down) layout (rule_of s.tones down) line 30
+
   -- ---- an event
 
   either_alike : (b : Bool) (u v w : World) (layout : Layout) → without_paths u ≡ without_paths v → without_paths (if b then u else with_layout w layout) ≡ without_paths (if b then v else w)
@@ -193,6 +199,8 @@ module _ (s : Setting) (slots : ℕ) where
   next_alike w layout (Seat_event x room) = either_alike (may_seat s.dimensions w x) (obey t.dimensions (with_layout w layout) (Take_seat x room)) (obey s.dimensions w (Take_seat x room)) w layout refl
   next_alike w layout (Free x) = either_alike (is_nailed w x) (obey t.dimensions (with_layout w layout) (Clear_slot x)) (obey s.dimensions w (Clear_slot x)) w layout refl
   next_alike w layout (Message line octets) = (done_alike w layout line octets).making.world
+  next_alike w layout (LinkUp line) = (link_alike w layout false line).making.world
+  next_alike w layout (LinkDown line) = (link_alike w layout true line).making.world
   next_alike w layout (Frame input) = (frame_alike w layout input).making.world
 
   nailed_alike : (b : Bool) (p q : Layout) (x y : Slot) → without_moves (if b then nail_reply t.dimensions p x y else Busy) ≡ without_moves (if b then nail_reply s.dimensions q x y else Busy)
@@ -212,11 +220,16 @@ module _ (s : Setting) (slots : ℕ) where
   sent_alike : (a b : MessageOutcome) → DoneAlike a b → without_moves (Sent_reply a.making.sends a.making.moves a.recorded) ≡ without_moves (Sent_reply b.making.sends b.making.moves b.recorded)
   sent_alike a b alike = λ i. Sent_reply (alike.making.sends i) (none_told a.making.moves b.making.moves alike.making.moved i) (alike.recorded i)
 
+  changed_alike : (a b : MessageOutcome) → DoneAlike a b → without_moves (link_reply a) ≡ without_moves (link_reply b)
+  changed_alike a b alike = λ i. Sent_reply (alike.making.sends i) None (alike.recorded i)
+
   pub reply_alike : (w : World) (layout : Layout) (e : Event) → without_moves (reply t (with_layout w layout) e) ≡ without_moves (reply s w e)
   reply_alike w layout (Nail x y) = nailed_alike (may_nail w x y) layout w.layout x y
   reply_alike w layout (Seat_event x room) = seated_alike (idle w x) (is_full s.dimensions w) layout w.layout x (port_of s.dimensions.external (ports_with x w.ports) x)
   reply_alike w layout (Free x) = refl
   reply_alike w layout (Message line octets) = sent_alike (outcome_of_octets t (with_layout w layout) line octets) (outcome_of_octets s w line octets) (done_alike w layout line octets)
+  reply_alike w layout (LinkUp line) = changed_alike (outcome_of_link t.dimensions t.tones false line (with_layout w layout)) (outcome_of_link s.dimensions s.tones false line w) (link_alike w layout false line)
+  reply_alike w layout (LinkDown line) = changed_alike (outcome_of_link t.dimensions t.tones true line (with_layout w layout)) (outcome_of_link s.dimensions s.tones true line w) (link_alike w layout true line)
   reply_alike w layout (Frame input) =
       let alike = frame_alike w layout input in
       λ i. Frame_reply w.holding.next (alike.making.sends i) (alike.recorded i)

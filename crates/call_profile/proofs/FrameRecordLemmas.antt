@@ -1,5 +1,5 @@
 -- A frame has a record for each call that ends in it, and no other, and they come by line.
-use Rattle.std.proofs.Common.{◌≡◌, ℕ, zero, suc, ◌*◌, ◌<◌, ◌≤◌, true, false, ◌⊎◌, inl, inr, List, [], ◌∷◌, ◌++◌, length, Option, Some, None, refl, sym, ◌∙◌, ap, subst, arith, append-nil, length-set}
+use Rattle.std.proofs.Common.{◌≡◌, ℕ, zero, suc, ◌*◌, ◌<◌, ◌≤◌, true, false, ◌⊎◌, inl, inr, List, [], ◌∷◌, ◌++◌, length, Option, Some, None, refl, sym, ◌∙◌, ap, subst, arith, append-nil, length-set, ◌≢◌}
 use Rattle.std.specs.Prelude.{All, Contains, IsTrue, is_some, option_map, option_and_then, ◌==◌}
 use Rattle.std.specs.List.{cons_option}
 use Rattle.std.proofs.lemmas.Grind.{common_steps}
@@ -12,7 +12,7 @@ use Rattle.circuit_model.proofs.Slots.{true_or_false}
 use Rattle.control_memory.specs.Layout.{number_of}
 use Rattle.number_plan.specs.declared.plan.Number.{Number}
 use Rattle.q931_codec.specs.CallStates.{active}
-use Rattle.q931_codec.specs.Causes.{invalid_number_format, no_answer_from_user, no_user_responding, recovery_on_timer_expiry}
+use Rattle.q931_codec.specs.Causes.{invalid_number_format, no_answer_from_user, no_user_responding, recovery_on_timer_expiry, destination_out_of_order}
 use Rattle.call_timers.specs.declared.expiry.Expiry.{Expiry}
 use Rattle.call_timers.specs.declared.expiry.Expiry.TheVariants as expiry
 use Rattle.call_states.specs.Acts.{is_among}
@@ -31,7 +31,7 @@ use Rattle.call_profile.specs.Acts.{in_disconnect_indication, in_release_request
 use Rattle.call_profile.specs.CallRecords.{before_clearing, is_calling, party_of, record_of, records}
 use Rattle.call_profile.specs.EndedCalls.{caller_in, record_calling, record_of_expiry}
 use Rattle.call_profile.specs.Expiring.{timed_state, send_again, clear_peer, clear_both, on_expiry, cause_of_expiry, cause_if_due, cause_at, due_of, expire_slot, slot_looked_at, outcome_on_line, outcome_of_lines, outcome_of_frame}
-use Rattle.call_profile.specs.ExpiryBounds.{RunsOut, EitherRunsOut, without_timers}
+use Rattle.call_profile.specs.ExpiryBounds.{RunsOut, EitherRunsOut, without_timers, NoneIsLost}
 use Rattle.call_profile.specs.ExpiryRecords.{cause_of_silence, IsFrameRecord, IsInFrame, IsLineBefore, ComeByLine}
 use Rattle.call_profile.specs.LegStanding.{CallsStand, HasPeer, IsInCall, are_matched}
 use Rattle.call_profile.specs.Legs.{Legs, leg_at, held_at, kept_at, with_entry, retransmitted_from}
@@ -45,7 +45,7 @@ use Rattle.call_profile.proofs.ClearingLemmas.{Kept, held_there}
 use Rattle.call_profile.proofs.CommandLemmas.{pass_kept}
 use Rattle.call_profile.proofs.ExpiredRecordLemmas.{no_caller, slot_told}
 use Rattle.call_profile.proofs.ExpiringLemmas.{at_slot, lines_kept, lines_none, lines_more, place_within, slot_may}
-use Rattle.call_profile.proofs.ExpiryChangeLemmas.{Changed, changed_by, neither_runs_out, none_else_changes}
+use Rattle.call_profile.proofs.ExpiryChangeLemmas.{Changed, changed_by, neither_runs_out, none_else_changes, unchanged_due}
 use Rattle.call_profile.proofs.ExpirySinceLemmas.{next_by}
 use Rattle.call_profile.proofs.ExpiryStateLemmas.{due_state}
 use Rattle.call_profile.proofs.Permitted.{IsPermitted, ArePermitted}
@@ -132,61 +132,65 @@ module _ (d : Dimensions) (tones : Tones) (plan : List Number) (before : Legs) (
   again_hush h None silent = tt
   again_hush h (Some octets) silent = (silent, tt)
 
-  timed_silent : (e : Expiry) → is_among before_clearing (timed_state e) ≡ false
-  timed_silent expiry.Digits = refl
-  timed_silent expiry.SetupAgain = refl
-  timed_silent expiry.SetupOver = refl
-  timed_silent expiry.Proceeding = refl
-  timed_silent expiry.Alerting = refl
-  timed_silent expiry.Disconnect = refl
-  timed_silent expiry.ReleaseAgain = refl
-  timed_silent expiry.ReleaseOver = refl
+  timed_silent : (e : Expiry) → e ≢ expiry.Outage → is_among before_clearing (timed_state e) ≡ false
+  timed_silent expiry.Digits calm = refl
+  timed_silent expiry.SetupAgain calm = refl
+  timed_silent expiry.SetupOver calm = refl
+  timed_silent expiry.Proceeding calm = refl
+  timed_silent expiry.Alerting calm = refl
+  timed_silent expiry.Outage calm = absurd (calm refl)
+  timed_silent expiry.Disconnect calm = refl
+  timed_silent expiry.ReleaseAgain calm = refl
+  timed_silent expiry.ReleaseOver calm = refl
 
-  expiry_hush : (legs : Legs) (h : HeldLeg) (e : Expiry) → is_calling (Some h.leg) ≡ false → HushesAll (on_expiry tones legs h e)
-  expiry_hush legs h expiry.Digits silent = cleared_hush invalid_number_format h
-  expiry_hush legs h expiry.SetupAgain silent = again_hush h (kept_at legs h.slot) silent
-  expiry_hush legs h expiry.SetupOver silent = (tt, (tt, (tt, peer_hush no_user_responding (peer_of legs h.leg.peer))))
-  expiry_hush legs h expiry.Proceeding silent = legs_hush no_user_responding legs h
-  expiry_hush legs h expiry.Alerting silent = legs_hush no_answer_from_user legs h
-  expiry_hush legs h expiry.Disconnect silent = (no_caller (in_release_request h.leg) refl, tt)
-  expiry_hush legs h expiry.ReleaseAgain silent = again_hush h (kept_at legs h.slot) silent
-  expiry_hush legs h expiry.ReleaseOver silent = (tt, (tt, tt))
+  expiry_hush : (legs : Legs) (h : HeldLeg) (e : Expiry) → e ≢ expiry.Outage → is_calling (Some h.leg) ≡ false → HushesAll (on_expiry tones legs h e)
+  expiry_hush legs h expiry.Digits calm silent = cleared_hush invalid_number_format h
+  expiry_hush legs h expiry.SetupAgain calm silent = again_hush h (kept_at legs h.slot) silent
+  expiry_hush legs h expiry.SetupOver calm silent = (tt, (tt, (tt, peer_hush no_user_responding (peer_of legs h.leg.peer))))
+  expiry_hush legs h expiry.Proceeding calm silent = legs_hush no_user_responding legs h
+  expiry_hush legs h expiry.Alerting calm silent = legs_hush no_answer_from_user legs h
+  expiry_hush legs h expiry.Outage calm silent = absurd (calm refl)
+  expiry_hush legs h expiry.Disconnect calm silent = (no_caller (in_release_request h.leg) refl, tt)
+  expiry_hush legs h expiry.ReleaseAgain calm silent = again_hush h (kept_at legs h.slot) silent
+  expiry_hush legs h expiry.ReleaseOver calm silent = (tt, (tt, tt))
 
--- a leg whose timer runs out calls nobody
-due_silent : (s : Setting) (frame : ℕ) (leg : Leg) (o : Option Expiry) → due_of s.timers frame leg ≡ o → (e : Expiry) → o ≡ Some e → is_calling (Some leg) ≡ false
-due_silent s frame leg o is e found =
+-- a leg whose timer runs out, other than T309, calls nobody
+due_silent : (s : Setting) (frame : ℕ) (leg : Leg) (o : Option Expiry) → due_of s.timers frame leg ≡ o → (e : Expiry) → e ≢ expiry.Outage → o ≡ Some e → is_calling (Some leg) ≡ false
+due_silent s frame leg o is e calm found =
     let state = due_state leg.state leg.resent leg.since frame s.timers e (is ∙ found) in
-    no_caller leg (ap (is_among before_clearing) state ∙ each e)
+    no_caller leg (ap (is_among before_clearing) state ∙ each e calm)
   where
-    each : (e : Expiry) → is_among before_clearing (timed_state e) ≡ false
-    each expiry.Digits = refl
-    each expiry.SetupAgain = refl
-    each expiry.SetupOver = refl
-    each expiry.Proceeding = refl
-    each expiry.Alerting = refl
-    each expiry.Disconnect = refl
-    each expiry.ReleaseAgain = refl
-    each expiry.ReleaseOver = refl
+    each : (e : Expiry) → e ≢ expiry.Outage → is_among before_clearing (timed_state e) ≡ false
+    each expiry.Digits calm = refl
+    each expiry.SetupAgain calm = refl
+    each expiry.SetupOver calm = refl
+    each expiry.Proceeding calm = refl
+    each expiry.Alerting calm = refl
+    each expiry.Outage calm = absurd (calm refl)
+    each expiry.Disconnect calm = refl
+    each expiry.ReleaseAgain calm = refl
+    each expiry.ReleaseOver calm = refl
 
 -- ---- the record of a line
 
 -- a caller in call delivered has a called user who is alerted, and one in outgoing call proceeding has not
-silence : (e : Expiry) (caller : Leg) → IsTrue (are_matched caller.state (timed_state e)) → cause_of_expiry e ≡ cause_of_silence caller
-silence expiry.Digits caller matched = absurd (grind (arith, common_steps, matched))
-silence expiry.SetupAgain caller matched = grind (arith, common_steps, matched)
-silence expiry.SetupOver caller matched = grind (arith, common_steps, matched)
-silence expiry.Proceeding caller matched = grind (arith, common_steps, matched)
-silence expiry.Alerting caller matched = grind (arith, common_steps, matched)
-silence expiry.Disconnect caller matched = absurd (grind (arith, common_steps, matched))
-silence expiry.ReleaseAgain caller matched = absurd (grind (arith, common_steps, matched))
-silence expiry.ReleaseOver caller matched = absurd (grind (arith, common_steps, matched))
+silence : (e : Expiry) (caller : Leg) → e ≢ expiry.Outage → IsTrue (are_matched caller.state (timed_state e)) → cause_of_expiry e ≡ cause_of_silence caller
+silence expiry.Digits caller calm matched = absurd (grind (arith, common_steps, matched))
+silence expiry.SetupAgain caller calm matched = grind (arith, common_steps, matched)
+silence expiry.SetupOver caller calm matched = grind (arith, common_steps, matched)
+silence expiry.Proceeding caller calm matched = grind (arith, common_steps, matched)
+silence expiry.Alerting caller calm matched = grind (arith, common_steps, matched)
+silence expiry.Outage caller calm matched = absurd (calm refl)
+silence expiry.Disconnect caller calm matched = absurd (grind (arith, common_steps, matched))
+silence expiry.ReleaseAgain caller calm matched = absurd (grind (arith, common_steps, matched))
+silence expiry.ReleaseOver caller calm matched = absurd (grind (arith, common_steps, matched))
 
 -- a record is of a call to the slot that is looked at, with the cause that the caller's state gives
 record IsToldOf (u : World) (x : Slot) (cause : ℕ) (c : CallRecord) : Type 0 where
   called : c.called ≡ party.Line x
   caller : (y : Slot) × (other : Leg) × (leg_at u.legs y ≡ Some other) × (c.caller ≡ y) × (cause ≡ cause_of_silence other)
 
-module _ (external : ℕ) (tones : Tones) (u : World) (x : Slot) (leg : Leg) (c : CallRecord) (f : Expiry) (state : leg.state ≡ timed_state f) where
+module _ (external : ℕ) (tones : Tones) (u : World) (x : Slot) (leg : Leg) (c : CallRecord) (f : Expiry) (calm : f ≢ expiry.Outage) (state : leg.state ≡ timed_state f) where
   abbrev held : HeldLeg
   held = record { slot = x; leg = leg }
 
@@ -204,7 +208,7 @@ module _ (external : ℕ) (tones : Tones) (u : World) (x : Slot) (leg : Leg) (c 
       let both : Some (party.Line x) ≡ Some c.called = sym (ap party_of call.there) ∙ who.1 in
       record {
         called = cc;
-        caller = (y, other, has.1.1, who.0, silence f other (subst (λ (n : ℕ). IsTrue (are_matched other.state n)) state call.matched));
+        caller = (y, other, has.1.1, who.0, silence f other calm (subst (λ (n : ℕ). IsTrue (are_matched other.state n)) state call.matched));
       }
   of_called (peer.Room room) is has side e = absurd (cc e)
 
@@ -216,27 +220,30 @@ module _ (external : ℕ) (tones : Tones) (u : World) (x : Slot) (leg : Leg) (c 
   of_side Caller is silent has e = of_caller silent e
   of_side Called is silent has e = of_called leg.peer refl has is e
 
-of_expiry : (external : ℕ) (tones : Tones) (u : World) (x : Slot) (leg : Leg) (c : CallRecord) (e : Expiry) → leg.state ≡ timed_state e → is_calling (Some leg) ≡ false → HasPeer external u.legs x leg leg.peer
+of_expiry : (external : ℕ) (tones : Tones) (u : World) (x : Slot) (leg : Leg) (c : CallRecord) (e : Expiry) → e ≢ expiry.Outage → leg.state ≡ timed_state e → is_calling (Some leg) ≡ false → HasPeer external u.legs x leg leg.peer
     → record_of_expiry u (record { slot = x; leg = leg }) e ≡ Some c → IsToldOf u x (cause_of_expiry e) c
-of_expiry external tones u x leg c expiry.Digits state silent has is = absurd (cc is)
-of_expiry external tones u x leg c expiry.SetupAgain state silent has is = absurd (cc is)
-of_expiry external tones u x leg c expiry.SetupOver state silent has is = of_side external tones u x leg c expiry.SetupOver state leg.side refl silent has is
-of_expiry external tones u x leg c expiry.Proceeding state silent has is = of_side external tones u x leg c expiry.Proceeding state leg.side refl silent has is
-of_expiry external tones u x leg c expiry.Alerting state silent has is = of_side external tones u x leg c expiry.Alerting state leg.side refl silent has is
-of_expiry external tones u x leg c expiry.Disconnect state silent has is = absurd (cc is)
-of_expiry external tones u x leg c expiry.ReleaseAgain state silent has is = absurd (cc is)
-of_expiry external tones u x leg c expiry.ReleaseOver state silent has is = absurd (cc is)
+of_expiry external tones u x leg c expiry.Digits calm state silent has is = absurd (cc is)
+of_expiry external tones u x leg c expiry.SetupAgain calm state silent has is = absurd (cc is)
+of_expiry external tones u x leg c expiry.SetupOver calm state silent has is = of_side external tones u x leg c expiry.SetupOver calm state leg.side refl silent has is
+of_expiry external tones u x leg c expiry.Proceeding calm state silent has is = of_side external tones u x leg c expiry.Proceeding calm state leg.side refl silent has is
+of_expiry external tones u x leg c expiry.Alerting calm state silent has is = of_side external tones u x leg c expiry.Alerting calm state leg.side refl silent has is
+of_expiry external tones u x leg c expiry.Outage calm state silent has is = absurd (calm refl)
+of_expiry external tones u x leg c expiry.Disconnect calm state silent has is = absurd (cc is)
+of_expiry external tones u x leg c expiry.ReleaseAgain calm state silent has is = absurd (cc is)
+of_expiry external tones u x leg c expiry.ReleaseOver calm state silent has is = absurd (cc is)
 
 -- what is recorded at a slot that is looked at
 abbrev one_at : Setting → ℕ → World → Slot → Option CallRecord
 one_at s frame u x = option_and_then (λ h. option_and_then (record_of_expiry u h) (due_of s.timers frame h.leg)) (held_at u.legs x)
 
-module _ (s : Setting) (frame : ℕ) (u : World) (kept : Kept s.dimensions s.tones u) (x : Slot) (in_x : IsExternal s.dimensions.external x) (c : CallRecord) where
+module _ (s : Setting) (frame : ℕ) (u : World) (kept : Kept s.dimensions s.tones u) (x : Slot) (in_x : IsExternal s.dimensions.external x)
+    (calm : (leg : Leg) → leg_at u.legs x ≡ Some leg → due_of s.timers frame leg ≢ Some expiry.Outage) (c : CallRecord) where
   of_due : (leg : Leg) (o : Option Expiry) → leg_at u.legs x ≡ Some leg → due_of s.timers frame leg ≡ o
       → option_and_then (record_of_expiry u (record { slot = x; leg = leg })) o ≡ Some c → IsToldOf u x (cause_if_due o) c
   of_due leg None at is e = absurd (cc e)
   of_due leg (Some f) at is e =
-      of_expiry s.dimensions.external s.tones u x leg c f (due_state leg.state leg.resent leg.since frame s.timers f is) (due_silent s frame leg (Some f) is f refl) (kept.1.each x leg in_x at).peer e
+      let other : f ≢ expiry.Outage = λ same. calm leg at (is ∙ ap (λ (g : Expiry). Some g) same) in
+      of_expiry s.dimensions.external s.tones u x leg c f other (due_state leg.state leg.resent leg.since frame s.timers f is) (due_silent s frame leg (Some f) is f other refl) (kept.1.each x leg in_x at).peer e
 
   of_leg : (o : Option Leg) → leg_at u.legs x ≡ o
       → option_and_then (λ (h : HeldLeg). option_and_then (record_of_expiry u h) (due_of s.timers frame h.leg)) (option_map (λ (leg : Leg). let h : HeldLeg = record { slot = x; leg = leg } in h) o) ≡ Some c
@@ -319,7 +326,8 @@ silence_of h = cause_of_silence h.leg
 -- ---- line by line
 
 module _ (s : Setting) (frame : ℕ) (w : World) (kept : Kept s.dimensions s.tones w) (later : frame < w.holding.next)
-    (untimed : (x : Slot) (leg : Leg) → IsExternal s.dimensions.external x → leg_at w.legs x ≡ Some leg → is_among without_timers leg.state ≡ true → EitherRunsOut s.timers frame w.legs x → ⊥) where
+    (untimed : (x : Slot) (leg : Leg) → IsExternal s.dimensions.external x → leg_at w.legs x ≡ Some leg → is_among without_timers leg.state ≡ true → EitherRunsOut s.timers frame w.legs x → ⊥)
+    (calm : NoneIsLost s.timers frame w.legs) where
   abbrev external : ℕ
   external = s.dimensions.external
 
@@ -364,12 +372,17 @@ module _ (s : Setting) (frame : ℕ) (w : World) (kept : Kept s.dimensions s.ton
     now_kept : Kept s.dimensions s.tones u
     now_kept = lines_kept s frame w kept n fewer
 
+    calm_here : (leg : Leg) → leg_at u.legs x ≡ Some leg → due_of s.timers frame leg ≢ Some expiry.Outage
+    calm_here leg at is = calm x leg (unchanged_due s frame w kept later n fewer x in_x leg expiry.Outage at is) is
+
     became : (z : Slot) (in_z : IsExternal external z) → Became s.dimensions s.tones s.plan u.legs z in_z v.legs
     became z in_z = (performed_all s.dimensions s.tones s.plan u.legs z in_z a.making os (slot_may s frame a.making x now_kept in_x s.plan) hushes (now_kept.1.count, inl refl)).1
       where
         hushes : HushesAll s.dimensions s.tones s.plan u.legs z in_z os
         hushes = at_slot s frame u.legs x (HushesAll s.dimensions s.tones s.plan u.legs z in_z) tt
-            (λ leg e at is. expiry_hush s.dimensions s.tones s.plan u.legs z in_z u.legs (record { slot = x; leg = leg }) e (due_silent s frame leg (Some e) is e refl))
+            (λ leg e at is.
+            let other : e ≢ expiry.Outage = λ same. calm_here leg at (is ∙ ap (λ (f : Expiry). Some f) same) in
+            expiry_hush s.dimensions s.tones s.plan u.legs z in_z u.legs (record { slot = x; leg = leg }) e other (due_silent s frame leg (Some e) is e other refl))
 
     silent : (z : Slot) → IsExternal external z → is_calling (leg_at u.legs z) ≡ false → is_calling (leg_at v.legs z) ≡ false
     silent z in_z quiet = elim (became z in_z) [
@@ -418,7 +431,7 @@ module _ (s : Setting) (frame : ℕ) (w : World) (kept : Kept s.dimensions s.ton
         let found = calling_record external u cause_here h (now_kept.1.each h.slot h.leg ended.within ended.at).peer ended.calls in
         let c = found.0 in
         let inside = subst (λ (told : List CallRecord). Contains told c) told_here (ended_here.recorded h c ended found.1) in
-        let told = told_of s frame u now_kept x in_x c (only_one (one_at s frame u x) c inside) in
+        let told = told_of s frame u now_kept x in_x calm_here c (only_one (one_at s frame u x) c inside) in
         let caller = told.caller in
         let other : Leg = caller.1 in
         let who = record_parties u cause_here h c found.1 in
@@ -440,7 +453,7 @@ module _ (s : Setting) (frame : ℕ) (w : World) (kept : Kept s.dimensions s.ton
       legs = λ z leg in_z at calls. so_far.legs z leg in_z (calls_still z leg in_z at calls) calls;
       recorded = both_of_ended external w u v silence_of so_far.legs same_record silent a.recorded (records u v cause_here) so_far.recorded ended_silent;
       order = subst (λ (told : List CallRecord). ComeBelow (suc n) (a.recorded ++ told)) (sym told_here)
-          (then_below n a.recorded so_far.order x refl (one_at s frame u x) (λ c e. (told_of s frame u now_kept x in_x c e).called));
+          (then_below n a.recorded so_far.order x refl (one_at s frame u x) (λ c e. (told_of s frame u now_kept x in_x calm_here c e).called));
     }
 
   all_so_far : (n : ℕ) → n ≤ external → So_far n (outcome_of_lines s frame w n)
@@ -449,7 +462,7 @@ module _ (s : Setting) (frame : ℕ) (w : World) (kept : Kept s.dimensions s.ton
 
 -- ---- a frame
 
-module _ (s : Setting) (w : World) (input : Input) (stands : CallsStand s w) where
+module _ (s : Setting) (w : World) (input : Input) (stands : CallsStand s w) (calm : NoneIsLost s.timers w.holding.next w.legs) where
   abbrev passed : World
   passed = pass w input
 
@@ -457,14 +470,15 @@ module _ (s : Setting) (w : World) (input : Input) (stands : CallsStand s w) whe
   afterwards = (outcome_of_frame s w input).making.world
 
   whole : So_far s w.holding.next passed (pass_kept s w stands.circuits stands.legs input) (omega arith)
-      (λ x leg in_x at among out. neither_runs_out s w stands x in_x w.holding.next leg at among out) s.dimensions.external (outcome_of_frame s w input)
+      (λ x leg in_x at among out. neither_runs_out s w stands x in_x w.holding.next calm leg at among out) calm s.dimensions.external (outcome_of_frame s w input)
   whole = all_so_far s w.holding.next passed (pass_kept s w stands.circuits stands.legs input) (omega arith)
-      (λ x leg in_x at among out. neither_runs_out s w stands x in_x w.holding.next leg at among out) s.dimensions.external (omega arith)
+      (λ x leg in_x at among out. neither_runs_out s w stands x in_x w.holding.next calm leg at among out) calm s.dimensions.external (omega arith)
 
-  -- a leg that calls has no timer
-  calls_untimed : (leg : Leg) (o : Option Expiry) → due_of s.timers w.holding.next leg ≡ o → is_calling (Some leg) ≡ true → o ≡ None
-  calls_untimed leg None is calls = refl
-  calls_untimed leg (Some e) is calls = let wrong : false ≡ true = sym (due_silent s w.holding.next leg (Some e) is e refl) ∙ calls in absurd cc
+  -- a leg that calls has no timer but T309
+  calls_untimed : (leg : Leg) (o : Option Expiry) → due_of s.timers w.holding.next leg ≡ o → o ≢ Some expiry.Outage → is_calling (Some leg) ≡ true → o ≡ None
+  calls_untimed leg None is other calls = refl
+  calls_untimed leg (Some e) is other calls =
+      let wrong : false ≡ true = sym (due_silent s w.holding.next leg (Some e) is e (λ same. other (ap (λ (f : Expiry). Some f) same)) refl) ∙ calls in absurd cc
 
   -- the timer that ran out is the one of the called leg
   module _ (h : HeldLeg) (c : CallRecord) (ended : HasEnded s.dimensions.external w afterwards h) (is : record_of passed (silence_of h) h ≡ Some c) where
@@ -477,7 +491,7 @@ module _ (s : Setting) (w : World) (input : Input) (stands : CallsStand s w) whe
         let same : leg ≡ h.leg = cc in
         elim which [
           | inl own ↦
-              let none = calls_untimed leg (due_of s.timers w.holding.next leg) refl (subst (λ (l : Leg). is_calling (Some l) ≡ true) (sym same) ended.calls) in
+              let none = calls_untimed leg (due_of s.timers w.holding.next leg) refl (calm h.slot leg at) (subst (λ (l : Leg). is_calling (Some l) ≡ true) (sym same) ended.calls) in
               let some = own.due in
               absurd (let wrong : false ≡ true = sym (ap is_some none) ∙ some in cc)
           | inr other ↦

@@ -1,5 +1,5 @@
 -- Line hunting: which slot is found, and when none is.
-use Rattle.std.proofs.Common.{◌≡◌, ℕ, Bool, List, [], ◌∷◌, ◌++◌, Option, Some, None, refl, sym, ◌∙◌, ap, subst, arith}
+use Rattle.std.proofs.Common.{◌≡◌, ℕ, Bool, List, [], ◌∷◌, ◌++◌, Option, Some, None, refl, sym, ◌∙◌, ap, subst, arith, true, false, ◌&&◌}
 use Rattle.std.specs.Prelude.{All, Contains, is_none}
 use Rattle.std.specs.Option.{option_or}
 use Rattle.std.proofs.lemmas.List.Elements.{All-nil, All-cons, All-head, All-tail, Contains-append_right, Contains-get_or}
@@ -8,11 +8,12 @@ use Rattle.number_plan.specs.declared.target.Found.TheVariants.{Line, Lines}
 use Rattle.call_states.specs.declared.pending.Pending.{Pending}
 use Rattle.exchange_events.specs.Sizes.{Dimensions}
 use Rattle.call_profile.specs.Hunting.{IsFull, IsFirstIdle, IsIdleOnOne}
-use Rattle.call_profile.specs.IdleSlots.{lowest_idle_beside, hunted}
-use Rattle.call_profile.specs.Legs.{lowest_free_reference}
+use Rattle.call_profile.specs.IdleSlots.{lowest_called, hunted}
+use Rattle.call_profile.specs.Legs.{lowest_free_reference, is_down}
 use Rattle.call_profile.specs.Setup.{accept, call, call_line, called_checks}
 use Rattle.call_profile.specs.World.{World}
 use Rattle.call_profile.proofs.SetupLemmas.{called_is, hunted_on}
+use Rattle.q931_codec.specs.Causes.{destination_out_of_order, no_channel_available, switching_equipment_congestion}
 
 -- the same slot, if one is found
 some_is : (y z : Slot) → Some z ≡ Some y → z ≡ y
@@ -21,7 +22,7 @@ some_is y z e = cc
 module _ (w : World) (x : Slot) where
   -- ---- the slot that is found
 
-  first_step : (line : ℕ) (lines : List ℕ) (y : Slot) (o : Option Slot) → lowest_idle_beside w x line ≡ o → (hunted w x lines ≡ Some y → IsFirstIdle w x lines y) → option_or o (hunted w x lines) ≡ Some y
+  first_step : (line : ℕ) (lines : List ℕ) (y : Slot) (o : Option Slot) → lowest_called w x line ≡ o → (hunted w x lines ≡ Some y → IsFirstIdle w x lines y) → option_or o (hunted w x lines) ≡ Some y
       → IsFirstIdle w x (line ∷ lines) y
   first_step line lines y None full later e =
       let rest = later e in
@@ -33,21 +34,21 @@ module _ (w : World) (x : Slot) where
         lowest = rest.lowest;
       }
   first_step line lines y (Some z) chosen later e =
-      let here : lowest_idle_beside w x line ≡ Some y = chosen ∙ e in
+      let here : lowest_called w x line ≡ Some y = chosen ∙ e in
       let on : y.line ≡ line = (called_is w x line y here).2.0 in
       record {
         before = [];
         after = lines;
         listed = ap (λ n. n ∷ lines) (sym on);
         full = All-nil (IsFull w x);
-        lowest = subst (λ n. lowest_idle_beside w x n ≡ Some y) (sym on) here;
+        lowest = subst (λ n. lowest_called w x n ≡ Some y) (sym on) here;
       }
 
   pub first_idle : (lines : List ℕ) (y : Slot) → hunted w x lines ≡ Some y → IsFirstIdle w x lines y
   first_idle [] y e = absurd cc
-  first_idle (line ∷ lines) y e = first_step line lines y (lowest_idle_beside w x line) refl (first_idle lines y) e
+  first_idle (line ∷ lines) y e = first_step line lines y (lowest_called w x line) refl (first_idle lines y) e
 
-  found_behind : (before after : List ℕ) (y : Slot) → All (IsFull w x) before → lowest_idle_beside w x y.line ≡ Some y → hunted w x (before ++ y.line ∷ after) ≡ Some y
+  found_behind : (before after : List ℕ) (y : Slot) → All (IsFull w x) before → lowest_called w x y.line ≡ Some y → hunted w x (before ++ y.line ∷ after) ≡ Some y
   found_behind [] after y full lowest = ap (λ o. option_or o (hunted w x after)) lowest
   found_behind (line ∷ before) after y full lowest =
       ap (λ o. option_or o (hunted w x (before ++ y.line ∷ after))) (All-head (IsFull w x) line before full) ∙ found_behind before after y (All-tail (IsFull w x) line before full) lowest
@@ -57,13 +58,13 @@ module _ (w : World) (x : Slot) where
 
   -- ---- all lines are full
 
-  none_step : (line : ℕ) (lines : List ℕ) (o : Option Slot) → lowest_idle_beside w x line ≡ o → (hunted w x lines ≡ None → All (IsFull w x) lines) → option_or o (hunted w x lines) ≡ None → All (IsFull w x) (line ∷ lines)
+  none_step : (line : ℕ) (lines : List ℕ) (o : Option Slot) → lowest_called w x line ≡ o → (hunted w x lines ≡ None → All (IsFull w x) lines) → option_or o (hunted w x lines) ≡ None → All (IsFull w x) (line ∷ lines)
   none_step line lines None full later e = All-cons (IsFull w x) line lines full (later e)
   none_step line lines (Some z) chosen later e = absurd cc
 
   pub all_full : (lines : List ℕ) → hunted w x lines ≡ None → All (IsFull w x) lines
   all_full [] e = All-nil (IsFull w x)
-  all_full (line ∷ lines) e = none_step line lines (lowest_idle_beside w x line) refl (all_full lines) e
+  all_full (line ∷ lines) e = none_step line lines (lowest_called w x line) refl (all_full lines) e
 
   pub none_found : (lines : List ℕ) → All (IsFull w x) lines → hunted w x lines ≡ None
   none_found [] full = refl
@@ -87,15 +88,19 @@ module _ (w : World) (x : Slot) where
   or_none None = refl
   or_none (Some y) = refl
 
-  one_checked : (d : Dimensions) (line : ℕ) (full : Bool) → is_none (hunted w x (line ∷ [])) ≡ full → full ≡ is_none (lowest_idle_beside w x line) → called_checks d w (Some x) (Lines (line ∷ [])) ≡ called_checks d w (Some x) (Line line)
-  one_checked d line full is same = rw (is ∙ same) refl
+  and_true : (b : Bool) → (b && true) ≡ b
+  and_true true = refl
+  and_true false = refl
+
+  one_checked : (d : Dimensions) (line : ℕ) (full : Bool) → is_none (hunted w x (line ∷ [])) ≡ full → full ≡ is_none (lowest_called w x line) → called_checks d w (Some x) (Lines (line ∷ [])) ≡ called_checks d w (Some x) (Line line)
+  one_checked d line full is same = λ i. (and_true (is_down w.legs line) i, destination_out_of_order) ∷ ((is ∙ same) i, no_channel_available) ∷ (false, switching_equipment_congestion) ∷ []
 
   pub one_is_full : (d : Dimensions) (line : ℕ) → called_checks d w (Some x) (Lines (line ∷ [])) ≡ called_checks d w (Some x) (Line line)
-  one_is_full d line = one_checked d line (is_none (lowest_idle_beside w x line)) (ap is_none (or_none (lowest_idle_beside w x line))) refl
+  one_is_full d line = one_checked d line (is_none (lowest_called w x line)) (ap is_none (or_none (lowest_called w x line))) refl
 
-  one_call : (first : Bool) (own : ℕ) (asked : Pending) (line : ℕ) (o : Option Slot) → lowest_idle_beside w x line ≡ o → call first w own asked x (Lines (line ∷ [])) (option_or o None) ≡ call first w own asked x (Line line) o
+  one_call : (first : Bool) (own : ℕ) (asked : Pending) (line : ℕ) (o : Option Slot) → lowest_called w x line ≡ o → call first w own asked x (Lines (line ∷ [])) (option_or o None) ≡ call first w own asked x (Line line) o
   one_call first own asked line None chosen = refl
   one_call first own asked line (Some y) chosen = ap (λ n. call_line first own asked x y (lowest_free_reference w.legs n)) (called_is w x line y chosen).2.0
 
   pub one_accepted : (first : Bool) (own : ℕ) (asked : Pending) (line : ℕ) → accept first w own asked x (Lines (line ∷ [])) ≡ accept first w own asked x (Line line)
-  one_accepted first own asked line = one_call first own asked line (lowest_idle_beside w x line) refl
+  one_accepted first own asked line = one_call first own asked line (lowest_called w x line) refl

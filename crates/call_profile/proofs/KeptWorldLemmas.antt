@@ -1,5 +1,5 @@
 -- What permitted operations keep holds in every world that events make.
-use Rattle.std.proofs.Common.{◌≡◌, ℕ, ◌*◌, ◌<◌, not, true, List, [], ◌∷◌, Option, refl, inl, inr, arith}
+use Rattle.std.proofs.Common.{◌≡◌, ℕ, ◌*◌, ◌<◌, not, true, List, [], ◌∷◌, Option, refl, inl, inr, arith, Bool, false}
 use Rattle.std.specs.Prelude.{All, count_by, is_none}
 use Rattle.std.proofs.lemmas.Grind.{common_steps}
 use Rattle.std.proofs.lemmas.List.Elements.{All-head, All-tail}
@@ -12,7 +12,7 @@ use Rattle.circuit_model.specs.Extent.{IsExternal}
 use Rattle.circuit_model.proofs.Slots.{true_or_false}
 use Rattle.tone_rules.specs.declared.tones.Tones.{Tones}
 use Rattle.exchange_events.specs.declared.trace.Event.{Event}
-use Rattle.exchange_events.specs.declared.trace.Event.TheVariants.{Nail, Seat as Seat_event, Free, Message, Frame as Frame_event}
+use Rattle.exchange_events.specs.declared.trace.Event.TheVariants.{Nail, Seat as Seat_event, Free, Message, Frame as Frame_event, LinkUp, LinkDown}
 use Rattle.call_states.specs.Acts.{act_on}
 use Rattle.clearing_rules.specs.declared.scope.Restart.{Restart}
 use Rattle.clearing_rules.specs.UnknownReference.{answer_without_call}
@@ -23,7 +23,7 @@ use Rattle.call_profile.specs.Expiring.{slot_looked_at, expire_slot}
 use Rattle.call_profile.specs.IdleSlots.{idle, is_nailed}
 use Rattle.call_profile.specs.LegStanding.{CallsStand}
 use Rattle.q931_codec.specs.Outgoing.{encoding}
-use Rattle.call_profile.specs.Legs.{Legs, leg_at, with_leg, retransmitted_from, with_waiting, with_kept, without_leg}
+use Rattle.call_profile.specs.Legs.{Legs, leg_at, with_leg, retransmitted_from, with_waiting, with_kept, without_leg, with_link}
 use Rattle.call_profile.specs.Operations.{Operation, begun, Making, making_at, making_after, making_after_all, with_tone}
 use Rattle.call_profile.specs.Operations as op
 use Rattle.call_profile.specs.Permitted.{CanSeat}
@@ -41,6 +41,8 @@ use Rattle.call_profile.proofs.StandingLegLemmas.{happened_kept}
 use Rattle.call_profile.proofs.PermittedLemmas.{act_may, call_may, answer_may}
 use Rattle.call_profile.proofs.RestartedSlotLemmas.{each_below}
 use Rattle.call_profile.proofs.RestartLemmas.{slot_kept, slot_permitted}
+use Rattle.call_profile.specs.LinkChanges.{outcome_of_link, rule_of, with_line}
+use Rattle.call_profile.proofs.LinkLemmas.{linked_kept, rule_kept, rule_may}
 
 -- a seat that is allowed finds fewer members than ports
 room_left : (d : Dimensions) (w : World) → Valid d.bridges w.holding → not (is_full d w) ≡ true → count_by is_member w.holding.circuits < 30 * d.bridges
@@ -111,6 +113,17 @@ module _ (s : Setting) (P : World → Type 0) (keeps : Keeps s.dimensions s.tone
         slot_fine s f a.making x k.1 within,
       )) s.dimensions.external (omega arith)).0
 
+  -- ---- a change of a data link
+
+  linked : (w : World) (down : Bool) (line : ℕ) → line < s.dimensions.external → CallsStand s w → P w → P (outcome_of_link s.dimensions s.tones down line w).making.world
+  linked w down line below stands holds =
+      (each_below s.dimensions (rule_of s.tones down) line (with_line w line down) (λ a. P a.making.world × Kept s.dimensions s.tones a.making.world)
+      (keeps.legs w (with_link w.legs line down) holds, linked_kept s.dimensions s.tones w line down (stands.circuits, stands.legs)) (λ a place small k.
+      let x : Slot = record { line = line; place = place } in (
+        operated a.making ((rule_of s.tones down).does a.making.world.legs x) (rule_may s.dimensions s.tones a.making x k.1 (below, small) down s.plan) k.0,
+        rule_kept s.dimensions s.tones a.making x k.1 (below, small) down,
+      )) 30 (omega arith)).0
+
   -- ---- an event
 
   happened : (w : World) (e : Event) → IsPlanned s → Fits s.dimensions.external e → CallsStand s w → P w → P (next s w e)
@@ -134,6 +147,8 @@ module _ (s : Setting) (P : World → Type 0) (keeps : Keeps s.dimensions s.tone
     | inr not_now ↦ rw not_now holds
   ]
   happened w (Message line octets) planned fits stands holds = received w line octets planned fits stands holds (request_of w.legs line octets) refl
+  happened w (LinkUp line) planned fits stands holds = linked w false line fits stands holds
+  happened w (LinkDown line) planned fits stands holds = linked w true line fits stands holds
   happened w (Frame_event input) planned fits stands holds = turned w input stands holds
 
   -- ---- a run

@@ -12,6 +12,7 @@ pub mod ExpiryCircuitLemmas
 pub mod ExpiredRecordLemmas
 pub mod GivenToneLemmas
 pub mod RestartedSlotLemmas
+pub mod LinkLemmas
 pub mod RefusalLemmas
 pub mod FabricLemmas
 pub mod NamedLegLemmas

@@ -1,5 +1,5 @@
 -- Every event keeps a number pending exactly where a leg is in overlap sending, and a message kept exactly where a leg waits for the answer.
-use Rattle.std.proofs.Common.{◌≡◌, ℕ, ◌*◌, inl, inr, Bool, true, false, List, [], ◌∷◌, Option, Some, None, refl, sym, ◌∙◌, subst, arith, length-set, if◌then◌else◌}
+use Rattle.std.proofs.Common.{◌≡◌, ℕ, ◌*◌, inl, inr, Bool, true, false, List, [], ◌∷◌, Option, Some, None, refl, sym, ◌∙◌, subst, arith, length-set, if◌then◌else◌, ◌<◌}
 use Rattle.std.specs.Prelude.{◌≤◌, IfSome, slice_set}
 use Rattle.std.proofs.lemmas.List.{length-replicate}
 use Rattle.circuit_model.specs.declared.channel.Slot.{Slot}
@@ -14,7 +14,7 @@ use Rattle.call_states.specs.declared.pending.Pending.{Pending}
 use Rattle.clearing_rules.specs.UnknownReference.{answer_without_call}
 use Rattle.tone_rules.specs.declared.tones.Tones.{Tones}
 use Rattle.exchange_events.specs.declared.trace.Event.{Event}
-use Rattle.exchange_events.specs.declared.trace.Event.TheVariants.{Nail, Seat, Free, Message, Frame}
+use Rattle.exchange_events.specs.declared.trace.Event.TheVariants.{Nail, Seat, Free, Message, Frame, LinkUp, LinkDown}
 use Rattle.exchange_events.specs.Sizes.{Setting, Dimensions}
 use Rattle.exchange_events.specs.Sound.{Fits, IsPlanned}
 use Rattle.call_profile.specs.ActCourse.{course_of}
@@ -42,6 +42,8 @@ use Rattle.call_profile.proofs.Permitted.{IsPermitted, ArePermitted}
 use Rattle.call_profile.proofs.PermittedLemmas.{act_may, call_may, answer_may}
 use Rattle.call_profile.proofs.RestartLemmas.{slot_kept, slot_permitted}
 use Rattle.call_profile.proofs.RestartedSlotLemmas.{each_below}
+use Rattle.call_profile.specs.LinkChanges.{outcome_of_link, rule_of, with_line}
+use Rattle.call_profile.proofs.LinkLemmas.{linked_kept, rule_kept, rule_may}
 
 -- ---- one entry written
 
@@ -140,6 +142,23 @@ turn_stands s w input stands =
       slot_fine s f a.making x k.1 within,
     )) s.dimensions.external (omega arith)).0
 
+-- ---- a change of a data link
+
+linked_stand : (external : ℕ) (plan : List Number) (w : World) (line : ℕ) (down : Bool) → EntriesStand external plan w → EntriesStand external plan (with_line w line down)
+linked_stand external plan w line down stand = (
+  record { legs_count = stand.0.legs_count; count = stand.0.count; each = stand.0.each },
+  record { legs_count = stand.1.legs_count; count = stand.1.count; since = stand.1.since; each = stand.1.each },
+)
+
+link_stands : (s : Setting) (w : World) (down : Bool) (line : ℕ) → line < s.dimensions.external → CallsStand s w → EntriesStand s.dimensions.external s.plan (outcome_of_link s.dimensions s.tones down line w).making.world
+link_stands s w down line below stands =
+    (each_below s.dimensions (rule_of s.tones down) line (with_line w line down) (λ a. EntriesStand s.dimensions.external s.plan a.making.world × Kept s.dimensions s.tones a.making.world)
+    (linked_stand s.dimensions.external s.plan w line down (stands.numbers, stands.waits), linked_kept s.dimensions s.tones w line down (stands.circuits, stands.legs)) (λ a place small k.
+    let x : Slot = record { line = line; place = place } in (
+      performed_all s.dimensions s.tones s.plan a.making ((rule_of s.tones down).does a.making.world.legs x) (rule_may s.dimensions s.tones a.making x k.1 (below, small) down s.plan) k.0,
+      rule_kept s.dimensions s.tones a.making x k.1 (below, small) down,
+    )) 30 (omega arith)).0
+
 -- ---- an event
 
 either_stand : (external : ℕ) (plan : List Number) (b : Bool) (v w : World) → EntriesStand external plan v → EntriesStand external plan w → EntriesStand external plan (if b then v else w)
@@ -151,6 +170,8 @@ entries_stand s w (Nail x y) planned fits stands = either_stand s.dimensions.ext
 entries_stand s w (Seat x room) planned fits stands = either_stand s.dimensions.external s.plan (may_seat s.dimensions w x) _ w (stands.numbers, stands.waits) (stands.numbers, stands.waits)
 entries_stand s w (Free x) planned fits stands = either_stand s.dimensions.external s.plan (is_nailed w x) _ w (stands.numbers, stands.waits) (stands.numbers, stands.waits)
 entries_stand s w (Message line octets) planned fits stands = received s w line octets planned fits stands (request_of w.legs line octets) refl
+entries_stand s w (LinkUp line) planned fits stands = link_stands s w false line fits stands
+entries_stand s w (LinkDown line) planned fits stands = link_stands s w true line fits stands
 entries_stand s w (Frame input) planned fits stands = turn_stands s w input stands
 
 -- ---- before the first event

@@ -8,7 +8,7 @@ use Rattle.q931_codec.specs.declared.kind.MessageKind.TheVariants as kind
 use Rattle.q931_codec.specs.declared.message.Message.{Message}
 use Rattle.q931_codec.specs.Outgoing.{OutgoingMessage, encoding}
 use Rattle.q931_codec.specs.Contents.{call_state_in, channel_in}
-use Rattle.q931_codec.specs.Causes.{invalid_number_format, no_answer_from_user, no_user_responding, recovery_on_timer_expiry, temporary_failure}
+use Rattle.q931_codec.specs.Causes.{invalid_number_format, no_answer_from_user, no_user_responding, recovery_on_timer_expiry, temporary_failure, destination_out_of_order}
 use Rattle.q931_codec.specs.Reading.{reading}
 use Rattle.q931_codec.proofs.EncodingFacts.{encoding_read}
 use Rattle.q931_codec.proofs.Messages.{message_read}
@@ -123,17 +123,17 @@ either_tells : (b : Bool) (p q : List Operation) → TellsOfTones p → TellsOfT
 either_tells true p q one other = one
 either_tells false p q one other = other
 
-restarted_peer_tells : (tones : Tones) (r : Restart) (line : ℕ) (o : Option HeldLeg) → TellsOfTones (with_peer o (restart_peer tones temporary_failure r line))
-restarted_peer_tells tones r line None = refl
-restarted_peer_tells tones r line (Some other) =
-    either_tells (restarts_slot r line other.slot) (remove_leg other) (clear_with tones temporary_failure other) refl (cleared_tells tones temporary_failure other)
+restarted_peer_tells : (tones : Tones) (cause : ℕ) (r : Restart) (line : ℕ) (o : Option HeldLeg) → TellsOfTones (with_peer o (restart_peer tones cause r line))
+restarted_peer_tells tones cause r line None = refl
+restarted_peer_tells tones cause r line (Some other) =
+    either_tells (restarts_slot r line other.slot) (remove_leg other) (clear_with tones cause other) refl (cleared_tells tones cause other)
 
-restarted_leg_tells : (tones : Tones) (r : Restart) (legs : Legs) (o : Option HeldLeg) → TellsOfTones (restart_leg tones temporary_failure r legs o)
-restarted_leg_tells tones r legs None = refl
-restarted_leg_tells tones r legs (Some h) = restarted_peer_tells tones r h.slot.line (peer_of legs h.leg.peer)
+pub restarted_leg_tells : (tones : Tones) (cause : ℕ) (r : Restart) (legs : Legs) (o : Option HeldLeg) → TellsOfTones (restart_leg tones cause r legs o)
+restarted_leg_tells tones cause r legs None = refl
+restarted_leg_tells tones cause r legs (Some h) = restarted_peer_tells tones cause r h.slot.line (peer_of legs h.leg.peer)
 
 pub restart_tells : (tones : Tones) (r : Restart) (legs : Legs) (x : Slot) → TellsOfTones (restart_slot tones r legs x)
-restart_tells tones r legs x = either_tells (is_restarted r x.place) (restart_leg tones temporary_failure r legs (held_at legs x)) [] (restarted_leg_tells tones r legs (held_at legs x)) refl
+restart_tells tones r legs x = either_tells (is_restarted r x.place) (restart_leg tones temporary_failure r legs (held_at legs x)) [] (restarted_leg_tells tones temporary_failure r legs (held_at legs x)) refl
 
 -- ---- a message on no call
 
@@ -201,6 +201,7 @@ module _ (s : Setting) (w : World) (h : HeldLeg) (stands : CallsStand s w) (in_x
   expiry_tells expiry.SetupOver = peer_of_tells no_user_responding
   expiry_tells expiry.Proceeding = legs_tell no_user_responding
   expiry_tells expiry.Alerting = legs_tell no_answer_from_user
+  expiry_tells expiry.Outage = peer_of_tells destination_out_of_order
   expiry_tells expiry.Disconnect = refl
   expiry_tells expiry.ReleaseAgain = again_tells (kept_at w.legs h.slot) refl
   expiry_tells expiry.ReleaseOver = refl

@@ -3,7 +3,7 @@ use Rattle.std.proofs.Common.{◌≡◌, ℕ, Bool, true, false, List, [], ◌�
 use Rattle.circuit_model.specs.FrameInput.{Input}
 use Rattle.circuit_model.specs.Holding.{Connect, Seat as Take_seat, Clear}
 use Rattle.exchange_events.specs.declared.trace.Event.{Event}
-use Rattle.exchange_events.specs.declared.trace.Event.TheVariants.{Nail, Seat, Free, Message, Frame}
+use Rattle.exchange_events.specs.declared.trace.Event.TheVariants.{Nail, Seat, Free, Message, Frame, LinkUp, LinkDown}
 use Rattle.call_states.specs.Acts.{act_on}
 use Rattle.clearing_rules.specs.UnknownReference.{answer_without_call}
 use Rattle.call_profile.specs.ActCourse.{course_of}
@@ -20,6 +20,7 @@ use Rattle.call_profile.specs.World.{World, obey, pass}
 use Rattle.call_profile.proofs.ExpiringLemmas.{each_line}
 use Rattle.call_profile.proofs.RestartedSlotLemmas.{each_below}
 use Rattle.call_profile.proofs.ToneLemmas.{sounding_next}
+use Rattle.call_profile.specs.LinkChanges.{outcome_of_link, rule_of, with_line}
 
 -- two worlds with the same frames behind them
 pub record SameFrames (w v : World) : Type 0 where
@@ -67,11 +68,18 @@ received_same s w line (Restarts r) =
     (λ a place small same. then_same w a.making.world _ same (performed_all_same s.dimensions a.making (restart_slot s.tones r a.making.world.legs (record { line = line; place = place })))) 30 (omega arith)
 received_same s w line Unanswered = record { inputs = refl; held = refl; seated = refl; next = refl }
 
+linked_same : (s : Setting) (w : World) (down : Bool) (line : ℕ) → SameFrames w (outcome_of_link s.dimensions s.tones down line w).making.world
+linked_same s w down line =
+    each_below s.dimensions (rule_of s.tones down) line (with_line w line down) (λ a. SameFrames w a.making.world) (record { inputs = refl; held = refl; seated = refl; next = refl })
+    (λ a place small same. then_same w a.making.world _ same (performed_all_same s.dimensions a.making ((rule_of s.tones down).does a.making.world.legs (record { line = line; place = place })))) 30 (omega arith)
+
 pub quiet : (s : Setting) (w : World) (e : Event) → ((input : Input) → ¬ (e ≡ Frame input)) → SameFrames w (next s w e)
 quiet s w (Nail x y) other = either_same (may_nail w x y) w (obey s.dimensions w (Connect x y)) (record { inputs = refl; held = refl; seated = refl; next = refl })
 quiet s w (Seat x room) other = either_same (may_seat s.dimensions w x) w (obey s.dimensions w (Take_seat x room)) (record { inputs = refl; held = refl; seated = refl; next = refl })
 quiet s w (Free x) other = either_same (is_nailed w x) w (obey s.dimensions w (Clear x)) (record { inputs = refl; held = refl; seated = refl; next = refl })
 quiet s w (Message line octets) other = received_same s w line (request_of w.legs line octets)
+quiet s w (LinkUp line) other = linked_same s w false line
+quiet s w (LinkDown line) other = linked_same s w true line
 quiet s w (Frame input) other = absurd (other input refl)
 
 -- what a frame does after its boundary leaves the frames as they are, this one among them

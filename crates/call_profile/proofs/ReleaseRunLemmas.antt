@@ -1,6 +1,6 @@
 -- What a slot hears in release request is decided by the RELEASE that is kept there, in every run.
-use Rattle.std.proofs.Common.{◌≡◌, ◌≢◌, ℕ, ◌*◌, ◌<◌, inl, inr, Bool, true, false, not, List, length, Option, Some, None, refl, sym, ◌∙◌, ap, subst, arith, eqb-true}
-use Rattle.std.specs.Prelude.{is_none, option_map, slice_set}
+use Rattle.std.proofs.Common.{◌≡◌, ◌≢◌, ℕ, ◌*◌, ◌<◌, inl, inr, Bool, true, false, not, List, length, Option, Some, None, refl, sym, ◌∙◌, ap, subst, arith, eqb-true, [], ◌∷◌, if◌then◌else◌}
+use Rattle.std.specs.Prelude.{is_none, option_map, slice_set, ◌==◌}
 use Rattle.std.proofs.lemmas.Grind.{common_steps}
 use Rattle.circuit_model.specs.declared.channel.Slot.{Slot}
 use Rattle.circuit_model.specs.declared.circuit.Circuit.{Circuit}
@@ -16,7 +16,7 @@ use Rattle.number_plan.specs.declared.plan.Number.{Number}
 use Rattle.number_plan.specs.declared.target.Found.{Found}
 use Rattle.number_plan.specs.declared.target.Found.TheVariants.{Line, Lines, Room, More, Nothing}
 use Rattle.q931_codec.specs.CallStates.{overlap_sending, active, disconnect_indication, release_request}
-use Rattle.q931_codec.specs.Causes.{invalid_number_format, no_answer_from_user, no_user_responding, recovery_on_timer_expiry, temporary_failure}
+use Rattle.q931_codec.specs.Causes.{invalid_number_format, no_answer_from_user, no_user_responding, recovery_on_timer_expiry, temporary_failure, destination_out_of_order}
 use Rattle.q931_codec.specs.Contents.{call_state_in, channel_in}
 use Rattle.q931_codec.specs.Outgoing.{OutgoingMessage, encoding}
 use Rattle.q931_codec.specs.declared.message.Message.{Message as Q931}
@@ -33,7 +33,7 @@ use Rattle.clearing_rules.specs.UnknownReference.{answer_without_call}
 use Rattle.tone_rules.specs.declared.tones.Tones.{Tones}
 use Rattle.tone_rules.specs.CallTones.{tone_given}
 use Rattle.exchange_events.specs.declared.trace.Event.{Event}
-use Rattle.exchange_events.specs.declared.trace.Event.TheVariants.{Nail, Seat, Free, Message, Frame}
+use Rattle.exchange_events.specs.declared.trace.Event.TheVariants.{Nail, Seat, Free, Message, Frame, LinkUp, LinkDown}
 use Rattle.exchange_events.specs.Sizes.{Setting, Dimensions}
 use Rattle.exchange_events.specs.Sound.{Fits, IsPlanned}
 use Rattle.call_profile.specs.Acts.{in_disconnect_indication, in_release_request, peer_of, with_peer, clear_with, remove_leg}
@@ -70,6 +70,8 @@ use Rattle.call_profile.proofs.ReleaseToneLemmas.{Sounding, Unreleased, AreHushe
 use Rattle.call_profile.proofs.RestartedSlotLemmas.{each_below}
 use Rattle.call_profile.proofs.RestartLemmas as restarting
 use Rattle.call_profile.proofs.RestartLemmas.{slot_kept}
+use Rattle.call_profile.specs.LinkChanges.{outcome_of_link, rule_of, with_line, whole_line, drop_leg, report_state, resume_leg}
+use Rattle.call_profile.proofs.LinkLemmas.{linked_kept, rule_kept, rule_may, started_may, reported_may, at_held}
 
 -- ---- a call is made, by a SETUP or for more digits
 
@@ -122,9 +124,12 @@ module _ (s : Setting) (w : World) (before : Sounding s.dimensions s.tones w) wh
     digits_sound : May (on_digits s w h m) → Sounding s.dimensions s.tones (making_after_all s.dimensions (making_at w) (on_digits s w h m)).world
     digits_sound may = performed_all s.dimensions s.tones s.plan (making_at w) (on_digits s w h m) may (pending_quiet (pending_at w.legs h.slot) may) before
 
--- ---- a slot is restarted
+timed_elsewhere : (state n : ℕ) → state ≡ n → n ≢ release_request → state ≢ release_request
+timed_elsewhere state n is apart same = apart (sym is ∙ same)
 
-module _ (d : Dimensions) (tones : Tones) (r : Restart) (m : Making) (x : Slot) (kept : Kept d tones m.world) (within : IsExternal d.external x) (plan : List Number) (before : Sounding d tones m.world) where
+-- ---- a slot is restarted, or its data link changes
+
+module _ (d : Dimensions) (tones : Tones) (r : Restart) (cause : ℕ) (small : cause < 128) (m : Making) (x : Slot) (kept : Kept d tones m.world) (within : IsExternal d.external x) (plan : List Number) (before : Sounding d tones m.world) where
   module _ (leg : Leg) (at : leg_at m.world.legs x ≡ Some leg) where
     abbrev held : HeldLeg
     held = record { slot = x; leg = leg }
@@ -135,20 +140,57 @@ module _ (d : Dimensions) (tones : Tones) (r : Restart) (m : Making) (x : Slot) 
     gone_sounds : Sounding d tones gone.world
     gone_sounds = removed_sounds d tones plan m before held within
 
-    peer_restarted : (o : Option HeldLeg) → PeerIsThere d.external held o → PeerUnreleased gone.world o → Sounding d tones (making_after_all d gone (with_peer o (restart_peer tones temporary_failure r x.line))).world
+    peer_restarted : (o : Option HeldLeg) → PeerIsThere d.external held o → PeerUnreleased gone.world o → Sounding d tones (making_after_all d gone (with_peer o (restart_peer tones cause r x.line))).world
     peer_restarted None there quiet = gone_sounds
     peer_restarted (Some other) there quiet = elim (true_or_false (restarts_slot r x.line other.slot)) [
       | inl too ↦ rw too (removed_sounds d tones plan gone gone_sounds other there.0.within)
-      | inr not_so ↦ rw not_so (cleared_sounds d tones plan gone gone_sounds other temporary_failure there.0 (omega arith) quiet)
+      | inr not_so ↦ rw not_so (cleared_sounds d tones plan gone gone_sounds other cause there.0 small quiet)
     ]
 
-    leg_restarted : Sounding d tones (making_after_all d m (restart_leg tones temporary_failure r m.world.legs (Some held))).world
+    leg_restarted : Sounding d tones (making_after_all d m (restart_leg tones cause r m.world.legs (Some held))).world
     leg_restarted =
         peer_restarted (peer_of m.world.legs leg.peer) (peer_there_too d.external tones m.world held kept.1 within at)
         (peer_quiet_still d tones plan m.world held kept.1 within at gone.world None refl)
 
-  slot_restarted : Sounding d tones (making_after_all d m (restart_slot tones r m.world.legs x)).world
-  slot_restarted = restarting.at_slot tones r m.world.legs x (λ os. Sounding d tones (making_after_all d m os).world) before leg_restarted
+module _ (d : Dimensions) (tones : Tones) (m : Making) (x : Slot) (kept : Kept d tones m.world) (within : IsExternal d.external x) (plan : List Number) (before : Sounding d tones m.world) where
+  slot_restarted : (r : Restart) → Sounding d tones (making_after_all d m (restart_slot tones r m.world.legs x)).world
+  slot_restarted r = restarting.at_slot tones r m.world.legs x (λ os. Sounding d tones (making_after_all d m os).world) before
+      (λ leg at. leg_restarted d tones r temporary_failure (omega arith) m x kept within plan before leg at)
+
+  module _ (leg : Leg) (at : leg_at m.world.legs x ≡ Some leg) where
+    abbrev k : HeldLeg
+    k = record { slot = x; leg = leg }
+
+    abbrev SoundsBy : List Operation → Type 0
+    SoundsBy os = Sounding d tones (making_after_all d m os).world
+
+    started_sounds : leg.state ≡ active → (runs : Bool) → SoundsBy (if runs then [] else op.Await x leg ∷ [])
+    started_sounds is true = before
+    started_sounds is false = performed_all d tones plan m (op.Await x leg ∷ []) (started_may d tones m x leg kept within at plan is false) (tt, tt) before
+
+    drop_sounds : SoundsBy (drop_leg tones m.world.legs (Some k))
+    drop_sounds = elim (true_or_false (leg.state == active)) [
+      | inl up ↦ rw up (started_sounds (eqb-true leg.state active up) leg.resent)
+      | inr not_up ↦ rw not_up (leg_restarted d tones whole_line destination_out_of_order (omega arith) m x kept within plan before leg at)
+    ]
+
+    digits_cleared : leg.state ≡ overlap_sending → SoundsBy (clear_with tones temporary_failure k)
+    digits_cleared dials =
+        cleared_sounds d tones plan m before k temporary_failure (is_there d.external tones m.world k kept.1 within at) (omega arith)
+        (unreleased_by m.world x (Some leg) at (timed_elsewhere leg.state overlap_sending dials (λ e. absurd cc)))
+
+    resume_sounds : SoundsBy (resume_leg tones (Some k))
+    resume_sounds = elim (true_or_false (leg.state == active)) [
+      | inl up ↦ rw up (performed_all d tones plan m (report_state k) (reported_may d tones m x leg kept within at plan (eqb-true leg.state active up)) (tt, (tt, tt)) before)
+      | inr not_up ↦ elim (true_or_false (leg.state == overlap_sending)) [
+        | inl dials ↦ rw (not_up, dials) (digits_cleared (eqb-true leg.state overlap_sending dials))
+        | inr other ↦ rw (not_up, other) before
+      ]
+    ]
+
+  rule_sounds : (down : Bool) → Sounding d tones (making_after_all d m ((rule_of tones down).does m.world.legs x)).world
+  rule_sounds true = at_held m.world.legs x (drop_leg tones m.world.legs) (λ os. Sounding d tones (making_after_all d m os).world) before drop_sounds
+  rule_sounds false = at_held m.world.legs x (resume_leg tones) (λ os. Sounding d tones (making_after_all d m os).world) before resume_sounds
 
 -- ---- a leg whose timer has run out
 
@@ -168,9 +210,6 @@ heard_before tones circuits x leg (Some (Tone kind to since)) at is may =
     ]
 heard_before tones circuits x leg (Some (Pair from to since)) at is may = let talks = may.0 in absurd (grind (arith, common_steps, is, talks))
 heard_before tones circuits x leg (Some (Member room to since)) at is may = let talks = may.0 in absurd (grind (arith, common_steps, is, talks))
-
-timed_elsewhere : (state n : ℕ) → state ≡ n → n ≢ release_request → state ≢ release_request
-timed_elsewhere state n is apart same = apart (sym is ∙ same)
 
 module _ (s : Setting) (frame : ℕ) (m : Making) (x : Slot) (kept : Kept s.dimensions s.tones m.world) (within : IsExternal s.dimensions.external x) (before : Sounding s.dimensions s.tones m.world) where
   abbrev d : Dimensions
@@ -216,6 +255,7 @@ module _ (s : Setting) (frame : ℕ) (m : Making) (x : Slot) (kept : Kept s.dime
     expired expiry.SetupOver state may = then_cleared no_user_responding (omega arith) None (give_up h) refl (removed_sounds d s.tones s.plan m before h within)
     expired expiry.Proceeding state may = both_cleared no_user_responding (omega arith) _ state (λ e. absurd cc)
     expired expiry.Alerting state may = both_cleared no_answer_from_user (omega arith) _ state (λ e. absurd cc)
+    expired expiry.Outage state may = then_cleared destination_out_of_order (omega arith) None (remove_leg h) refl (removed_sounds d s.tones s.plan m before h within)
     expired expiry.Disconnect state may = by (ask_for_release h) may ((λ is. asked_release state), tt)
     expired expiry.ReleaseAgain state may = again_sounds (kept_at m.world.legs x) may
     expired expiry.ReleaseOver state may = removed_sounds d s.tones s.plan m before h within
@@ -267,7 +307,7 @@ module _ (s : Setting) (w : World) (stands : CallsStand s w) where
   message line octets planned fits (On_no_call m) is = answered line (answer_without_call m)
   message line octets planned fits (Restarts r) is = (each_below s.dimensions (restart_rule s.tones r) line w (λ a. Now a.making.world × Kept s.dimensions s.tones a.making.world) (now, (stands.circuits, stands.legs)) (λ a place small k.
       let x : Slot = record { line = line; place = place } in (
-        slot_restarted s.dimensions s.tones r a.making x k.1 (fits.0, small) s.plan k.0,
+        slot_restarted s.dimensions s.tones a.making x k.1 (fits.0, small) s.plan k.0 r,
         slot_kept s.dimensions s.tones r a.making x k.1 (fits.0, small),
       )) 30 (omega arith)).0
   message line octets planned fits Unanswered is = now
@@ -282,6 +322,15 @@ module _ (s : Setting) (w : World) (stands : CallsStand s w) where
       let x : Slot = slot_looked_at f line in
       let within = place_within s.dimensions.external f line small in
       (slot_expired s f a.making x k.1 within k.0, slot_fine s f a.making x k.1 within)) s.dimensions.external (omega arith)).0
+
+  linked : (down : Bool) (line : ℕ) → line < s.dimensions.external → Now (outcome_of_link s.dimensions s.tones down line w).making.world
+  linked down line below =
+      (each_below s.dimensions (rule_of s.tones down) line (with_line w line down) (λ a. Now a.making.world × Kept s.dimensions s.tones a.making.world)
+      (record { valid = now.valid; held = now.held; kept = now.kept; sound = now.sound }, linked_kept s.dimensions s.tones w line down (stands.circuits, stands.legs)) (λ a place small k.
+      let x : Slot = record { line = line; place = place } in (
+        rule_sounds s.dimensions s.tones a.making x k.1 (below, small) s.plan k.0 down,
+        rule_kept s.dimensions s.tones a.making x k.1 (below, small) down,
+      )) 30 (omega arith)).0
 
   pub event_sounds : (e : Event) → IsPlanned s → Fits s.dimensions.external e → Now (next s w e)
   event_sounds (Nail x y) planned fits = elim (true_or_false (may_nail w x y)) [
@@ -299,6 +348,8 @@ module _ (s : Setting) (w : World) (stands : CallsStand s w) where
     | inr not_now ↦ rw not_now now
   ]
   event_sounds (Message line octets) planned fits = message line octets planned fits (request_of w.legs line octets) refl
+  event_sounds (LinkUp line) planned fits = linked false line fits
+  event_sounds (LinkDown line) planned fits = linked true line fits
   event_sounds (Frame input) planned fits = turned input
 
 -- ---- what holds of it in a world

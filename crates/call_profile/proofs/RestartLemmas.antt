@@ -58,7 +58,7 @@ cleared_twice h y = ap (λ (circuits : List Circuit). let cleared : Holding = re
 
 -- ---- a leg whose slot is restarted
 
-module _ (d : Dimensions) (tones : Tones) (r : Restart) (m : Making) (x : Slot) (leg : Leg) (kept : Kept d tones m.world) (within : IsExternal d.external x) (at : leg_at m.world.legs x ≡ Some leg) where
+module _ (d : Dimensions) (tones : Tones) (r : Restart) (cause : ℕ) (small : cause < 128) (m : Making) (x : Slot) (leg : Leg) (kept : Kept d tones m.world) (within : IsExternal d.external x) (at : leg_at m.world.legs x ≡ Some leg) where
   abbrev held : HeldLeg
   held = record { slot = x; leg = leg }
 
@@ -82,46 +82,46 @@ module _ (d : Dimensions) (tones : Tones) (r : Restart) (m : Making) (x : Slot) 
             (λ p is. cc),
       )
 
-  peer_kept : (p : Peer) → leg.peer ≡ p → HasPeer d.external m.world.legs x leg p → Kept d tones (making_after_all d gone (with_peer (peer_of m.world.legs p) (restart_peer tones temporary_failure r x.line))).world
-  peer_kept peer.Alone is has = alone_kept d tones m.world x leg None temporary_failure (omega arith) kept.0 kept.1 within at (inl refl) gone refl refl (λ p same. let e : peer.Alone ≡ peer.Leg p = sym is ∙ same in cc)
+  peer_kept : (p : Peer) → leg.peer ≡ p → HasPeer d.external m.world.legs x leg p → Kept d tones (making_after_all d gone (with_peer (peer_of m.world.legs p) (restart_peer tones cause r x.line))).world
+  peer_kept peer.Alone is has = alone_kept d tones m.world x leg None cause small kept.0 kept.1 within at (inl refl) gone refl refl (λ p same. let e : peer.Alone ≡ peer.Leg p = sym is ∙ same in cc)
   peer_kept (peer.Leg y) is has = rw (held_there m.world.legs y has.1.0 has.1.1) (elim (true_or_false (restarts_slot r x.line y)) [
     | inl too ↦ rw too (gone_kept y has.1.0 has.0 has.1.1 has.1.2)
-    | inr not_so ↦ rw not_so (both_kept d tones m.world x leg None temporary_failure (omega arith) kept.0 kept.1 within at (inl refl) gone refl refl y has.1.0 has.0 has.1.1 has.1.2)
+    | inr not_so ↦ rw not_so (both_kept d tones m.world x leg None cause small kept.0 kept.1 within at (inl refl) gone refl refl y has.1.0 has.0 has.1.1 has.1.2)
   ])
-  peer_kept (peer.Room room) is has = alone_kept d tones m.world x leg None temporary_failure (omega arith) kept.0 kept.1 within at (inl refl) gone refl refl (λ p same. let e : peer.Room room ≡ peer.Leg p = sym is ∙ same in cc)
+  peer_kept (peer.Room room) is has = alone_kept d tones m.world x leg None cause small kept.0 kept.1 within at (inl refl) gone refl refl (λ p same. let e : peer.Room room ≡ peer.Leg p = sym is ∙ same in cc)
 
-  pub leg_kept : Kept d tones (making_after_all d m (restart_leg tones temporary_failure r m.world.legs (Some held))).world
+  pub leg_kept : Kept d tones (making_after_all d m (restart_leg tones cause r m.world.legs (Some held))).world
   leg_kept = peer_kept leg.peer refl (kept.1.each x leg within at).peer
 
   -- its call is recorded, where its clearing hadn't begun
   told_by : (p : Peer) → leg.peer ≡ p → HasPeer d.external m.world.legs x leg p
-      → records m.world (making_after_all d gone (with_peer (peer_of m.world.legs p) (restart_peer tones temporary_failure r x.line))).world temporary_failure
-      ≡ cons_option (option_and_then (record_calling m.world temporary_failure) (caller_in leg.side held (peer_of m.world.legs p))) []
-  told_by peer.Alone is has = alone_records d tones m.world x leg None temporary_failure kept.1 within at (inl refl) gone refl leg.side refl
+      → records m.world (making_after_all d gone (with_peer (peer_of m.world.legs p) (restart_peer tones cause r x.line))).world cause
+      ≡ cons_option (option_and_then (record_calling m.world cause) (caller_in leg.side held (peer_of m.world.legs p))) []
+  told_by peer.Alone is has = alone_records d tones m.world x leg None cause kept.1 within at (inl refl) gone refl leg.side refl
   told_by (peer.Leg y) is has =
       let other = has.1.0 in
       let apart = peers_apart m.world.legs x y leg other at has.1.1 has.1.2 in
       rw (held_there m.world.legs y other has.1.1) (elim (true_or_false (restarts_slot r x.line y)) [
-        | inl too ↦ rw too (both_records d tones m.world x leg None temporary_failure kept.1 within at (inl refl) gone refl
+        | inl too ↦ rw too (both_records d tones m.world x leg None cause kept.1 within at (inl refl) gone refl
             (both_gone y other) y other None has.0 has.1.1 apart refl refl leg.side refl has.1.2)
-        | inr not_so ↦ rw not_so (both_records d tones m.world x leg None temporary_failure kept.1 within at (inl refl) gone refl
-            (making_after_all d gone (clear_with tones temporary_failure (record { slot = y; leg = other }))).world y other (Some (begun m.world (in_disconnect_indication temporary_failure other))) has.0 has.1.1 apart
-            (disconnected_silent m.world.holding.next temporary_failure other) refl leg.side refl has.1.2)
+        | inr not_so ↦ rw not_so (both_records d tones m.world x leg None cause kept.1 within at (inl refl) gone refl
+            (making_after_all d gone (clear_with tones cause (record { slot = y; leg = other }))).world y other (Some (begun m.world (in_disconnect_indication cause other))) has.0 has.1.1 apart
+            (disconnected_silent m.world.holding.next cause other) refl leg.side refl has.1.2)
       ])
-  told_by (peer.Room room) is has = alone_records d tones m.world x leg None temporary_failure kept.1 within at (inl refl) gone refl leg.side refl
+  told_by (peer.Room room) is has = alone_records d tones m.world x leg None cause kept.1 within at (inl refl) gone refl leg.side refl
 
-  pub leg_told : records m.world (making_after_all d m (restart_leg tones temporary_failure r m.world.legs (Some held))).world temporary_failure ≡ cons_option (record_ended m.world held temporary_failure) []
+  pub leg_told : records m.world (making_after_all d m (restart_leg tones cause r m.world.legs (Some held))).world cause ≡ cons_option (record_ended m.world held cause) []
   leg_told = told_by leg.peer refl (kept.1.each x leg within at).peer
 
   -- and each operation is permitted
-  permitted_by : (plan : List Number) (o : Option HeldLeg) → PeerIsThere d.external held o → ArePermitted d tones plan gone (with_peer o (restart_peer tones temporary_failure r x.line))
+  permitted_by : (plan : List Number) (o : Option HeldLeg) → PeerIsThere d.external held o → ArePermitted d tones plan gone (with_peer o (restart_peer tones cause r x.line))
   permitted_by plan None there = tt
   permitted_by plan (Some other) there = elim (true_or_false (restarts_slot r x.line other.slot)) [
     | inl too ↦ rw too (there.0.within, (there.0.within, tt))
-    | inr not_so ↦ rw not_so (clear_permitted d tones plan gone temporary_failure other there.0 (omega arith))
+    | inr not_so ↦ rw not_so (clear_permitted d tones plan gone cause other there.0 small)
   ]
 
-  pub leg_permitted : (plan : List Number) → ArePermitted d tones plan m (restart_leg tones temporary_failure r m.world.legs (Some held))
+  pub leg_permitted : (plan : List Number) → ArePermitted d tones plan m (restart_leg tones cause r m.world.legs (Some held))
   leg_permitted plan = (within, (within, permitted_by plan (peer_of m.world.legs leg.peer) (peer_there_too d.external tones m.world held kept.1 within at)))
 
 -- ---- a slot
@@ -141,16 +141,16 @@ module _ (tones : Tones) (r : Restart) (legs : Legs) (x : Slot) (P : List Operat
 
 module _ (d : Dimensions) (tones : Tones) (r : Restart) (m : Making) (x : Slot) (kept : Kept d tones m.world) (within : IsExternal d.external x) where
   pub slot_kept : Kept d tones (making_after_all d m (restart_slot tones r m.world.legs x)).world
-  slot_kept = at_slot tones r m.world.legs x (λ os. Kept d tones (making_after_all d m os).world) kept (λ leg at. leg_kept d tones r m x leg kept within at)
+  slot_kept = at_slot tones r m.world.legs x (λ os. Kept d tones (making_after_all d m os).world) kept (λ leg at. leg_kept d tones r temporary_failure (omega arith) m x leg kept within at)
 
   pub slot_permitted : (plan : List Number) → ArePermitted d tones plan m (restart_slot tones r m.world.legs x)
-  slot_permitted plan = at_slot tones r m.world.legs x (ArePermitted d tones plan m) tt (λ leg at. leg_permitted d tones r m x leg kept within at plan)
+  slot_permitted plan = at_slot tones r m.world.legs x (ArePermitted d tones plan m) tt (λ leg at. leg_permitted d tones r temporary_failure (omega arith) m x leg kept within at plan)
 
   told_of : (o : Option Leg) → leg_at m.world.legs x ≡ o
       → records m.world (making_after_all d m (restart_leg tones temporary_failure r m.world.legs (option_map (λ (leg : Leg). let h : HeldLeg = record { slot = x; leg = leg } in h) o))).world temporary_failure
       ≡ cons_option (option_and_then (λ h. record_ended m.world h temporary_failure) (option_map (λ (leg : Leg). let h : HeldLeg = record { slot = x; leg = leg } in h) o)) []
   told_of None at = no_records m.world temporary_failure
-  told_of (Some leg) at = leg_told d tones r m x leg kept within at
+  told_of (Some leg) at = leg_told d tones r temporary_failure (omega arith) m x leg kept within at
 
   pub slot_told : records m.world (making_after_all d m (restart_slot tones r m.world.legs x)).world temporary_failure ≡ slot_records r m.world x
   slot_told = elim (true_or_false (is_restarted r x.place)) [

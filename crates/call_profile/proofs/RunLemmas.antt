@@ -4,7 +4,7 @@ use Rattle.std.specs.List.{cons_option}
 use Rattle.std.proofs.lemmas.List.Elements.{filter_map-append}
 use Rattle.circuit_model.specs.FrameInput.{Input}
 use Rattle.exchange_events.specs.declared.trace.Event.{Event}
-use Rattle.exchange_events.specs.declared.trace.Event.TheVariants.{Nail, Seat, Free, Message, Frame}
+use Rattle.exchange_events.specs.declared.trace.Event.TheVariants.{Nail, Seat, Free, Message, Frame, LinkUp, LinkDown}
 use Rattle.call_states.specs.Acts.{act_on}
 use Rattle.clearing_rules.specs.UnknownReference.{answer_without_call}
 use Rattle.call_profile.specs.ActCourse.{course_of}
@@ -22,6 +22,7 @@ use Rattle.call_profile.specs.World.{World, pass}
 use Rattle.call_profile.proofs.ExpiringLemmas.{each_line}
 use Rattle.call_profile.proofs.RestartedSlotLemmas.{each_below}
 use Rattle.call_profile.proofs.ToneLemmas.{sounding_next}
+use Rattle.call_profile.specs.LinkChanges.{outcome_of_link, rule_of, with_line}
 
 -- ---- one event more
 
@@ -65,6 +66,11 @@ received_next s w line (Restarts r) =
     (λ a place small same. performed_all_next s.dimensions a.making (restart_slot s.tones r a.making.world.legs (record { line = line; place = place })) ∙ same) 30 (omega arith)
 received_next s w line Unanswered = refl
 
+link_next : (s : Setting) (w : World) (down : Bool) (line : ℕ) → (outcome_of_link s.dimensions s.tones down line w).making.world.holding.next ≡ w.holding.next
+link_next s w down line =
+    each_below s.dimensions (rule_of s.tones down) line (with_line w line down) (λ a. a.making.world.holding.next ≡ w.holding.next) refl
+    (λ a place small same. performed_all_next s.dimensions a.making ((rule_of s.tones down).does a.making.world.legs (record { line = line; place = place })) ∙ same) 30 (omega arith)
+
 turn_next : (s : Setting) (w : World) (input : Input) → (next s w (Frame input)).holding.next ≡ w.holding.next + 1
 turn_next s w input =
     let f : ℕ = w.holding.next in
@@ -80,6 +86,8 @@ next_next s w (Nail x y) = either_next (may_nail w x y) _ w refl
 next_next s w (Seat x room) = either_next (may_seat s.dimensions w x) _ w refl
 next_next s w (Free x) = either_next (is_nailed w x) _ w refl
 next_next s w (Message line octets) = let same = received_next s w line (request_of w.legs line octets) in omega (arith, same)
+next_next s w (LinkUp line) = let same = link_next s w false line in omega (arith, same)
+next_next s w (LinkDown line) = let same = link_next s w true line in omega (arith, same)
 next_next s w (Frame input) = let one = turn_next s w input in omega (arith, one)
 
 pub world_next : (s : Setting) (w : World) (es : List Event) → (world_after_all s w es).holding.next ≤ w.holding.next + length es

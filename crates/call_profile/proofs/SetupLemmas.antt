@@ -1,5 +1,5 @@
 -- Whatever a SETUP is answered, the legs are consistent afterwards.
-use Rattle.std.proofs.Common.{◌≡◌, ℕ, zero, suc, drop, ◌-◌, ◌^◌, ◌<◌, ◌≤◌, ◌⊎◌, inl, inr, Bool, true, false, ◌&&◌, ◌==◌, List, [], ◌∷◌, Option, Some, None, refl, sym, ◌∙◌, ap, subst, arith}
+use Rattle.std.proofs.Common.{◌≡◌, ℕ, zero, suc, drop, ◌-◌, ◌^◌, ◌<◌, ◌≤◌, ◌⊎◌, inl, inr, Bool, true, false, ◌&&◌, ◌==◌, List, [], ◌∷◌, Option, Some, None, refl, sym, ◌∙◌, ap, subst, arith, if◌then◌else◌}
 use Rattle.std.specs.Prelude.{Result, Ok, Err, is_none, not, option_map, option_and_then}
 use Rattle.std.specs.List.{AllByRecursion, list_all}
 use Rattle.std.specs.Option.{option_or}
@@ -21,10 +21,10 @@ use Rattle.number_plan.proofs.Meanings.{found_passes}
 use Rattle.call_states.specs.declared.leg.HeldLeg.{HeldLeg}
 use Rattle.clearing_rules.specs.declared.scope.Restart.{Restart}
 use Rattle.call_profile.specs.Calls.{New_call, On_no_call, on_global_reference, is_setup, making_by, request_read, with_leg_named, request_without_leg as unnamed}
-use Rattle.call_profile.specs.IdleSlots.{idle, lowest_idle, lowest_idle_beside, hunted}
+use Rattle.call_profile.specs.IdleSlots.{idle, lowest_idle, lowest_idle_beside, lowest_called, hunted}
 use Rattle.call_profile.specs.LegStanding.{LegsStand}
 use Rattle.exchange_events.specs.Sound.{IsPlanned, is_reached, line_exists}
-use Rattle.call_profile.specs.Legs.{Legs, leg_named, lowest_free_reference}
+use Rattle.call_profile.specs.Legs.{Legs, leg_named, lowest_free_reference, is_down}
 use Rattle.call_profile.specs.Operations.{making_at, making_after_all}
 use Rattle.exchange_events.specs.Sizes.{Setting}
 use Rattle.call_states.specs.declared.pending.Pending.{Pending}
@@ -109,19 +109,24 @@ caller_is w line channel x e = elim (either_of (option_and_then (if_idle w) (slo
 not_same : (x y : Slot) → not (same_slot x y) ≡ true → y ≡ x → ⊥
 not_same x y other same = let e : same_slot x y ≡ true = subst (λ (z : Slot). same_slot x z ≡ true) (sym same) (same_slot-refl x) in let f : not (same_slot x y) ≡ false = ap not e in cc
 
-pub called_is : (w : World) (x : Slot) (line : ℕ) (y : Slot) → lowest_idle_beside w x line ≡ Some y → (idle w y ≡ true) × (y ≡ x → ⊥) × IsOn line y
+-- a called line has an idle slot where its data link is up
+unless_down : (down : Bool) (o : Option Slot) (y : Slot) → (if down then None else o) ≡ Some y → o ≡ Some y
+unless_down true o y e = absurd cc
+unless_down false o y e = e
+
+pub called_is : (w : World) (x : Slot) (line : ℕ) (y : Slot) → lowest_called w x line ≡ Some y → (idle w y ≡ true) × (y ≡ x → ⊥) × IsOn line y
 called_is w x line y e =
-    let is = found_on (λ z. idle w z && not (same_slot x z)) line y e in
+    let is = found_on (λ z. idle w z && not (same_slot x z)) line y (unless_down (is_down w.legs line) (lowest_idle_beside w x line) y e) in
     let both = both_true (idle w y) (not (same_slot x y)) is.0 in
     (both.0, not_same x y both.1, is.1)
 
 -- ---- line hunting
 
 -- the slot that is found is the lowest idle slot of its line
-pub hunted_on : (w : World) (x : Slot) (lines : List ℕ) (y : Slot) → hunted w x lines ≡ Some y → lowest_idle_beside w x y.line ≡ Some y
+pub hunted_on : (w : World) (x : Slot) (lines : List ℕ) (y : Slot) → hunted w x lines ≡ Some y → lowest_called w x y.line ≡ Some y
 hunted_on w x [] y e = absurd cc
-hunted_on w x (line ∷ lines) y e = elim (either_of (lowest_idle_beside w x line) (hunted w x lines) y e) [
-  | inl here ↦ subst (λ n. lowest_idle_beside w x n ≡ Some y) (sym (called_is w x line y here).2.0) here
+hunted_on w x (line ∷ lines) y e = elim (either_of (lowest_called w x line) (hunted w x lines) y e) [
+  | inl here ↦ subst (λ n. lowest_called w x n ≡ Some y) (sym (called_is w x line y here).2.0) here
   | inr later ↦ hunted_on w x lines y later
 ]
 
@@ -130,7 +135,7 @@ pub hunted_passes : (test : ℕ → Bool) (w : World) (x : Slot) (lines : List �
 hunted_passes test w x [] y all e = absurd cc
 hunted_passes test w x (line ∷ lines) y all e =
     let both = both_true (test line) (list_all test lines) all in
-    elim (either_of (lowest_idle_beside w x line) (hunted w x lines) y e) [
+    elim (either_of (lowest_called w x line) (hunted w x lines) y e) [
       | inl here ↦ subst (λ n. test n ≡ true) (sym (called_is w x line y here).2.0) both.0
       | inr later ↦ hunted_passes test w x lines y both.1 later
     ]
@@ -141,7 +146,7 @@ none_of : (o : Option HeldLeg) → is_none o ≡ true → o ≡ None
 none_of None e = refl
 none_of (Some h) e = absurd cc
 
-pub offered : (s : Setting) (w : World) (x : Slot) (line : ℕ) (y : Slot) → line < s.dimensions.external → lowest_idle_beside w x line ≡ Some y → MayOffer s.dimensions w x y (lowest_free_reference w.legs line)
+pub offered : (s : Setting) (w : World) (x : Slot) (line : ℕ) (y : Slot) → line < s.dimensions.external → lowest_called w x line ≡ Some y → MayOffer s.dimensions w x y (lowest_free_reference w.legs line)
 offered s w x line y below e =
     let is = called_is w x line y e in
     let unused = new_unused w.legs line y is.2 (empty_slot w y is.0) in
@@ -208,7 +213,7 @@ module _ (s : Setting) (w : World) (line : ℕ) (m : Message) (new : IsNew s w l
       let can : CanReach s w (target_of s m) = record {
         line = λ l is_line. reached s (called_in m.elements) l new.planned is_line;
         lines = λ ls are_lines. all_reached s (called_in m.elements) ls new.planned are_lines;
-        room = λ room is_room. sym (ap (is_room_full s.dimensions w) is_room) ∙ (all_from 11 (checks s w line m) passed).0;
+        room = λ room is_room. sym (ap (is_room_full s.dimensions w) is_room) ∙ (all_from 12 (checks s w line m) passed).0;
       } in
       accepted_kept s w true m.reference (call_asked m) x may (target_of s m) can
 

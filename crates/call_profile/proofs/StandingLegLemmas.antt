@@ -1,5 +1,5 @@
 -- Every event keeps the legs consistent.
-use Rattle.std.proofs.Common.{◌≡◌, ℕ, suc, ◌*◌, ◌<◌, List, [], ◌∷◌, Option, Some, None, refl, sym, ◌∙◌, subst, arith}
+use Rattle.std.proofs.Common.{◌≡◌, ℕ, suc, ◌*◌, ◌<◌, List, [], ◌∷◌, Option, Some, None, refl, sym, ◌∙◌, subst, arith, Bool, true, false}
 use Rattle.std.specs.Prelude.{All}
 use Rattle.std.proofs.lemmas.List.{length-replicate}
 use Rattle.circuit_model.specs.declared.channel.Slot.{Slot}
@@ -12,7 +12,7 @@ use Rattle.clearing_rules.specs.UnknownReference.{answer_without_call}
 use Rattle.call_profile.specs.Calls.{Request, For_leg, New_call, On_no_call, Restarts, Unanswered, request_of, answer_back, outcome_for, making_by}
 use Rattle.call_profile.specs.Course.{only}
 use Rattle.exchange_events.specs.declared.trace.Event.{Event}
-use Rattle.exchange_events.specs.declared.trace.Event.TheVariants.{Nail, Seat, Free, Message, Frame}
+use Rattle.exchange_events.specs.declared.trace.Event.TheVariants.{Nail, Seat, Free, Message, Frame, LinkUp, LinkDown}
 use Rattle.exchange_events.specs.Sound.{Fits, IsPlanned}
 use Rattle.call_profile.specs.Step.{next, world_after_all}
 use Rattle.call_profile.specs.LegStanding.{CallsStand}
@@ -34,6 +34,9 @@ use Rattle.call_profile.proofs.EntryLemmas.{none_in}
 use Rattle.call_profile.proofs.ReleaseRunLemmas.{event_sounds, none_release}
 use Rattle.call_profile.proofs.ReleaseToneLemmas.{Sounding}
 use Rattle.call_profile.proofs.SetupLemmas.{setup_kept, new_from}
+use Rattle.call_profile.specs.LinkChanges.{outcome_of_link, rule_of, with_line}
+use Rattle.call_profile.proofs.LinkLemmas.{linked_kept, rule_kept}
+use Rattle.call_profile.proofs.RestartedSlotLemmas.{each_below}
 
 -- a message that is sent changes nothing else
 kept_without : (s : Setting) (w : World) (line : ℕ) (o : Option OutgoingMessage) → Kept s.dimensions s.tones w → Kept s.dimensions s.tones (making_by s w (only (answer_back line o))).world
@@ -62,6 +65,12 @@ turn_kept : (s : Setting) (w : World) (input : Input) → CallsStand s w → Kep
 turn_kept s w input stands =
     lines_kept s w.holding.next (pass w input) (pass_kept s w stands.circuits stands.legs input) s.dimensions.external (omega arith)
 
+-- the slots of a line whose data link changes
+pub link_kept : (s : Setting) (w : World) (down : Bool) (line : ℕ) → line < s.dimensions.external → CallsStand s w → Kept s.dimensions s.tones (outcome_of_link s.dimensions s.tones down line w).making.world
+link_kept s w down line below stands =
+    each_below s.dimensions (rule_of s.tones down) line (with_line w line down) (λ a. Kept s.dimensions s.tones a.making.world) (linked_kept s.dimensions s.tones w line down (stands.circuits, stands.legs))
+    (λ a place small k. rule_kept s.dimensions s.tones a.making (record { line = line; place = place }) k (below, small) down) 30 (omega arith)
+
 pub happened_kept : (s : Setting) (w : World) (e : Event) → IsPlanned s → Fits s.dimensions.external e → CallsStand s w → CallsStand s (next s w e)
 happened_kept s w (Nail x y) planned fits stands = kept_stands s (next s w (Nail x y)) (nail_kept s w stands.circuits stands.legs x y fits) (entries_stand s w (Nail x y) planned fits stands) (event_sounds s w stands (Nail x y) planned fits)
 happened_kept s w (Seat x room) planned fits stands = kept_stands s (next s w (Seat x room)) (seat_kept s w stands.circuits stands.legs x room fits) (entries_stand s w (Seat x room) planned fits stands) (event_sounds s w stands (Seat x room) planned fits)
@@ -69,6 +78,10 @@ happened_kept s w (Free x) planned fits stands = kept_stands s (next s w (Free x
 happened_kept s w (Message line octets) planned fits stands =
     kept_stands s (next s w (Message line octets)) (received_kept s w line octets planned fits stands (request_of w.legs line octets) refl)
     (entries_stand s w (Message line octets) planned fits stands) (event_sounds s w stands (Message line octets) planned fits)
+happened_kept s w (LinkUp line) planned fits stands =
+    kept_stands s (next s w (LinkUp line)) (link_kept s w false line fits stands) (entries_stand s w (LinkUp line) planned fits stands) (event_sounds s w stands (LinkUp line) planned fits)
+happened_kept s w (LinkDown line) planned fits stands =
+    kept_stands s (next s w (LinkDown line)) (link_kept s w true line fits stands) (entries_stand s w (LinkDown line) planned fits stands) (event_sounds s w stands (LinkDown line) planned fits)
 happened_kept s w (Frame input) planned fits stands = kept_stands s (next s w (Frame input)) (turn_kept s w input stands) (entries_stand s w (Frame input) planned fits stands) (event_sounds s w stands (Frame input) planned fits)
 
 -- ---- whole runs

@@ -1,6 +1,6 @@
 -- Further digits in overlap sending: the digits so far, the checks in their order, and the operations. Source: ITU-T
 -- Q.931 (05/98), 5.1.3; the order of the checks is this project's profile.
-use Rattle.std.specs.Prelude.{◌≡◌, ℕ, ◌||◌, Bool, true, false, List, [], ◌∷◌, ◌++◌, length, drop, nat_lt, is_none, All, Option, Some, None}
+use Rattle.std.specs.Prelude.{◌≡◌, ℕ, ◌||◌, Bool, true, false, List, [], ◌∷◌, ◌++◌, length, drop, nat_lt, is_none, All, Option, Some, None, ◌⊎◌}
 use Rattle.circuit_model.specs.declared.channel.Slot.{Slot}
 use Rattle.q931_codec.specs.declared.message.Message.{Message}
 use Rattle.q931_codec.specs.Causes.{invalid_number_format}
@@ -12,7 +12,7 @@ use Rattle.exchange_events.specs.Sizes.{Setting}
 use Rattle.call_profile.specs.Acts.{clear_with}
 use Rattle.call_profile.specs.Hunting.{lines_of}
 use Rattle.call_profile.specs.IdleSlots.{lowest_idle}
-use Rattle.call_profile.specs.Legs.{pending_at}
+use Rattle.call_profile.specs.Legs.{pending_at, is_down}
 use Rattle.call_profile.specs.Operations.{Operation}
 use Rattle.call_profile.specs.Setup.{Check, first_cause, number_checks, called_checks, target_dialled, accept}
 use Rattle.call_profile.specs.World.{World, is_full}

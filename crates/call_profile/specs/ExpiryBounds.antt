@@ -1,11 +1,12 @@
 -- The limits of a frame's turn, and the legs and circuits that it preserves. Source: this project.
-use Rattle.std.specs.Prelude.{◌≡◌, ℕ, ◌*◌, ◌≤◌, ◌%◌, Bool, true, false, List, [], ◌∷◌, length, ◌⊎◌, Some, is_some, IfSome}
+use Rattle.std.specs.Prelude.{◌≡◌, ℕ, ◌*◌, ◌≤◌, ◌%◌, Bool, true, false, List, [], ◌∷◌, length, ◌⊎◌, Some, is_some, IfSome, ◌≢◌}
 use Rattle.std.specs.List.{filter}
 use Rattle.circuit_model.specs.declared.channel.Slot.{Slot}
 use Rattle.circuit_model.specs.Extent.{IsExternal}
 use Rattle.circuit_model.specs.declared.circuit.Circuit.{Circuit}
 use Rattle.circuit_model.specs.declared.circuit.Circuit.TheVariants.{Pair, Member, Tone}
 use Rattle.q931_codec.specs.CallStates.{active}
+use Rattle.call_timers.specs.declared.expiry.Expiry.TheVariants as expiry
 use Rattle.call_timers.specs.declared.timers.Timers.{Timers}
 use Rattle.call_states.specs.Acts.{is_among}
 use Rattle.call_states.specs.declared.leg.Leg.{Leg}
@@ -46,7 +47,11 @@ NoneElseChanges s w input =
     → let after = (outcome_of_frame s w input).making.world.legs in
     (leg_at after x ≡ leg_at w.legs x) ⊎ EitherRunsOut s.timers w.holding.next w.legs x
 
--- the state in which neither a leg nor the other leg of its call has a timer
+-- the data link of no leg's line has been down too long: T309 of no leg expires in the frame
+abbrev pub NoneIsLost : Timers → ℕ → Legs → Type 0
+NoneIsLost timers frame legs = (x : Slot) (leg : Leg) → leg_at legs x ≡ Some leg → due_of timers frame leg ≢ Some expiry.Outage
+
+-- the state in which neither a leg nor the other leg of its call has a timer, unless a data link is down
 abbrev pub without_timers : List ℕ
 without_timers = active ∷ []
 

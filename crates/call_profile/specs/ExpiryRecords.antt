@@ -2,8 +2,8 @@
 use Rattle.std.specs.Prelude.{◌≡◌, ◌<◌, ◌==◌, ℕ, if◌then◌else◌, List, AllPairs, Contains, Some}
 use Rattle.circuit_model.specs.declared.channel.Slot.{Slot}
 use Rattle.circuit_model.specs.FrameInput.{Input}
-use Rattle.q931_codec.specs.CallStates.{call_delivered, active}
-use Rattle.q931_codec.specs.Causes.{destination_out_of_order, no_answer_from_user, no_user_responding}
+use Rattle.q931_codec.specs.CallStates.{call_delivered}
+use Rattle.q931_codec.specs.Causes.{no_answer_from_user, no_user_responding}
 use Rattle.call_states.specs.declared.leg.HeldLeg.{HeldLeg}
 use Rattle.call_states.specs.declared.leg.Leg.{Leg}
 use Rattle.exchange_events.specs.declared.record.CallRecord.{CallRecord}
@@ -16,12 +16,9 @@ use Rattle.call_profile.specs.Recorded.{HasEnded}
 use Rattle.call_profile.specs.World.{World, pass}
 
 -- the cause of the record, by the state of the caller's leg: no answer from user in call delivered, in which the called
--- user is alerted, destination out of order in active, in which a data link is down, and otherwise no user responding
+-- user is alerted, and otherwise no user responding
 abbrev pub cause_of_silence : Leg → ℕ
-cause_of_silence leg =
-    if leg.state == call_delivered then no_answer_from_user
-    else if leg.state == active then destination_out_of_order
-    else no_user_responding
+cause_of_silence leg = if leg.state == call_delivered then no_answer_from_user else no_user_responding
 
 -- the call of a caller's leg ended in the frame, in which the timer of its called leg expired, and this is its record
 pub record IsFrameRecord (s : Setting) (w : World) (input : Input) (h : HeldLeg) (told : CallRecord) : Type 0 where

@@ -34,6 +34,7 @@ pub mod WorkedMessages
 pub mod WorkedOverlap
 pub mod WorkedDigits
 pub mod WorkedExpiries
+pub mod WorkedLinks
 pub mod ExpiryBounds
 pub mod ExpiryRecords
 pub mod CallsTold

@@ -18,7 +18,7 @@ use Rattle.call_profile.specs.World.{World, start}
 abbrev pub hasty_lines : Setting
 hasty_lines = record two_lines {
   plan = record { digits = 0x31 ∷ 0x30 ∷ 0x31 ∷ []; target = target.Line 1 } ∷ record { digits = 0x31 ∷ 0x30 ∷ 0x32 ∷ []; target = target.Line 0 } ∷ [];
-  timers = record { t301 = 1; t302 = 1; t303 = 1; t305 = 1; t308 = 1; t310 = 1 };
+  timers = record { t301 = 1; t302 = 1; t303 = 1; t305 = 1; t308 = 1; t309 = 1; t310 = 1 };
 }
 
 -- the exchange state after these events, at the boundary of frame n, whatever frames were before it

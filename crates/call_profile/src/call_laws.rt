@@ -21,7 +21,7 @@ ghost use Rattle.q931_codec.specs.declared.message.Message.{Message};
 ghost use Rattle.exchange_events.specs.declared.trace.Event.{Event};
 ghost use Rattle.exchange_events.specs.declared.trace.Event.TheVariants as event;
 ghost use Rattle.circuit_model.specs.FrameInput.{Input};
-ghost use Rattle.call_profile.specs.ExpiryBounds.{SendsFew, RecordsFew, NoneElseChanges, UntimedStay, ConversationsStay, LayoutStays, PortsStay, EachStaysOrBegins};
+ghost use Rattle.call_profile.specs.ExpiryBounds.{SendsFew, RecordsFew, NoneElseChanges, NoneIsLost, UntimedStay, ConversationsStay, LayoutStays, PortsStay, EachStaysOrBegins};
 ghost use Rattle.call_profile.specs.Expiring.{outcome_of_frame};
 ghost use Rattle.call_profile.specs.Fabrics.{without_paths};
 ghost use Rattle.call_profile.specs.IsMade.{IsMade};
@@ -156,16 +156,20 @@ pub fn law_of_digits()
 
 /// The turn of a frame sends at most two messages for each external line, and records at most one call for each. The
 /// limit of 64 messages a step is therefore enough for 32 lines. A frame event changes or removes a leg only if the
-/// timer of that leg, or of its peer, expires in the frame. The wait of a changed leg restarts in the frame after. The
-/// legs of a call whose called user has answered are unchanged, and so is each connection, each membership, each path
-/// and each port.
+/// timer of that leg, or of its peer, expires in the frame. The wait of a changed leg restarts in the frame after. If no
+/// leg's T309 expires in the frame, the legs of a call whose called user has answered are unchanged, and so is each
+/// connection, each membership, each path and each port.
 pub fn law_of_expiries()
     ensures sends { (s : Setting) (w : World) (input : Input) → SendsFew s w input }
     ensures records { (s : Setting) (w : World) (input : Input) → CallsStand s w → RecordsFew s w input }
     ensures others { (s : Setting) (w : World) (input : Input) → CallsStand s w → NoneElseChanges s w input }
-    ensures untimed { (s : Setting) (w : World) (input : Input) → CallsStand s w → UntimedStay s w input }
-    ensures conversations { (s : Setting) (w : World) (input : Input) → CallsStand s w → ConversationsStay s w input }
-    ensures layout { (s : Setting) (w : World) (input : Input) → CallsStand s w → LayoutStays s w input }
-    ensures ports { (s : Setting) (w : World) (input : Input) → CallsStand s w → IsMade s.dimensions s.tones w → PortsStay s w input }
+    ensures untimed { (s : Setting) (w : World) (input : Input) → CallsStand s w → NoneIsLost s.timers w.holding.next w.legs
+        → UntimedStay s w input }
+    ensures conversations { (s : Setting) (w : World) (input : Input) → CallsStand s w → NoneIsLost s.timers w.holding.next w.legs
+        → ConversationsStay s w input }
+    ensures layout { (s : Setting) (w : World) (input : Input) → CallsStand s w → NoneIsLost s.timers w.holding.next w.legs
+        → LayoutStays s w input }
+    ensures ports { (s : Setting) (w : World) (input : Input) → CallsStand s w → NoneIsLost s.timers w.holding.next w.legs
+        → IsMade s.dimensions s.tones w → PortsStay s w input }
     ensures since { (s : Setting) (w : World) (input : Input) → CallsStand s w → EachStaysOrBegins s w input }
 {}

@@ -15,6 +15,7 @@ ghost use Rattle.exchange_events.specs.Sizes.{Setting};
 ghost use Rattle.call_profile.specs.ActCourse.{course_of};
 ghost use Rattle.call_profile.specs.Calls.{after_message, answer_back, answer_to};
 ghost use Rattle.call_profile.specs.Expiring.{on_expiry, outcome_of_frame};
+ghost use Rattle.call_profile.specs.ExpiryBounds.{NoneIsLost};
 ghost use Rattle.call_profile.specs.ExpiryRecords.{IsFrameRecord, IsInFrame, ComeByLine};
 ghost use Rattle.call_profile.specs.LegStanding.{CallsStand};
 ghost use Rattle.call_profile.specs.Legs.{Legs, leg_at, lowest_free_reference};
@@ -72,13 +73,14 @@ pub fn law_of_records()
         → RestartsNothing w line octets → length (answer_to s w line octets).records ≤ 1 }
 {}
 
-/// A frame has the record of a call if and only if a caller's leg leaves states 3, 4 and 10 in it. The timer of its
-/// called leg expired. The cause is 19 if the caller's leg was in state 4, since the called user is then alerted, and
-/// otherwise 18. The records come by the line of the called slot, lowest first.
+/// Let no leg's T309 expire in a frame. The frame has the record of a call if and only if a caller's leg leaves states 3,
+/// 4 and 10 in it. The timer of its called leg expired. The cause is 19 if the caller's leg was in state 4, since the
+/// called user is then alerted, and otherwise 18. The records come by the line of the called slot, lowest first.
 pub fn law_of_frame_records()
-    ensures told { (s : Setting) (w : World) (input : Input) → CallsStand s w → (told : CallRecord)
+    ensures told { (s : Setting) (w : World) (input : Input) → CallsStand s w → NoneIsLost s.timers w.holding.next w.legs → (told : CallRecord)
         → Contains (outcome_of_frame s w input).recorded told → (h : HeldLeg) × IsFrameRecord s w input h told }
-    ensures ended { (s : Setting) (w : World) (input : Input) → CallsStand s w → (h : HeldLeg)
+    ensures ended { (s : Setting) (w : World) (input : Input) → CallsStand s w → NoneIsLost s.timers w.holding.next w.legs → (h : HeldLeg)
         → HasEnded s.dimensions.external w (outcome_of_frame s w input).making.world h → IsInFrame s w input h }
-    ensures order { (s : Setting) (w : World) (input : Input) → CallsStand s w → ComeByLine (outcome_of_frame s w input).recorded }
+    ensures order { (s : Setting) (w : World) (input : Input) → CallsStand s w → NoneIsLost s.timers w.holding.next w.legs
+        → ComeByLine (outcome_of_frame s w input).recorded }
 {}

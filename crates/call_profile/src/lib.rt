@@ -43,4 +43,4 @@ pub use leg_laws::{
 };
 pub use legs::{is_addressed_to, retransmitted_from, waiting_from};
 pub use records::{first_frame_of, is_calling, party_of};
-pub use worked::{worked_digits, worked_expiries, worked_messages, worked_overlap};
+pub use worked::{worked_digits, worked_expiries, worked_links, worked_messages, worked_overlap};

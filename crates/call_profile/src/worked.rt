@@ -1,10 +1,13 @@
 //! Worked messages.
-ghost use Rattle.std.specs.Prelude.{◌≡◌, None};
-ghost use Rattle.call_profile.specs.WorkedCalls.{two_lines, one_line, own_line, answers};
+ghost use Rattle.std.specs.Prelude.{◌≡◌, None, [], ◌∷◌};
+ghost use Rattle.call_profile.specs.WorkedCalls.{two_lines, one_line, own_line, answers, sends_reply};
 ghost use Rattle.call_profile.specs.WorkedMessages.{refused_by_element, refused_by_element_answered, unreadable_cause, unreadable_cause_answered, null_status_received, null_status_answered, release_collision, release_collision_answered, reference_given_again, reference_given_again_answered, compatibility, compatibility_answered};
 ghost use Rattle.call_profile.specs.WorkedDigits.{begun_later, ended_later, ended_later_answered, faulty_digits, faulty_digits_answered, in_other_states, in_other_states_answered, in_three_messages, in_three_messages_answered, line_full_later, line_full_later_answered, longest_numbers, longest_numbers_answered, no_port_later_answered, own_line_later, own_line_later_answered, passed_on_later, passed_on_later_answered, room_later, room_later_answered, two_digits, wrong_digit, wrong_digit_answered};
 ghost use Rattle.call_profile.specs.Legs.{no_legs};
-ghost use Rattle.call_profile.specs.WorkedExpiries.{turn_of, after_turn, world_in, in_frame, nothing_in, offered, setup_again, setup_over, proceeds, proceeding_over, both_proceed, both_over, alerted, alerting_over, alerted_again, answered_in_time, begun_on_both, digits_over, first_turn, second_turn, third_turn, released};
+ghost use Rattle.call_profile.specs.WorkedExpiries.{cleared_with, hasty_lines, turn_of, after_turn, world_in, in_frame, nothing_in, offered, setup_again, setup_over, proceeds, proceeding_over, both_proceed, both_over, alerted, alerting_over, alerted_again, answered_in_time, begun_on_both, digits_over, first_turn, second_turn, third_turn, released};
+ghost use Rattle.exchange_events.specs.declared.trace.Event.TheVariants.{LinkUp};
+ghost use Rattle.call_profile.specs.Step.{reply};
+ghost use Rattle.call_profile.specs.WorkedLinks.{down_while_alerted, alerted_dropped, call_to_down, refused_as_down, own_line_down, own_line_dropped, outage, outage_over, down_again, up_again, state_reported, reset_while_dialling};
 ghost use Rattle.call_profile.specs.WorkedOverlap.{dialled_in_part, dialled_in_part_answered, pending_after, first_digit, refused_at_once, refused_at_once_answered, no_numbers, dials_nothing, dials_nothing_answered, given_up, given_up_answered};
 
 /// The definitions of the operations for messages, evaluated on more messages.
@@ -60,4 +63,16 @@ pub fn worked_expiries()
     ensures release_again { turn_of (in_frame 90 second_turn) ≡ released 90 }
     ensures gone { turn_of (in_frame 120 third_turn) ≡ nothing_in 120 }
     ensures empty { (after_turn (in_frame 120 third_turn)).legs ≡ no_legs 2 }
+{}
+
+/// The definitions, evaluated on calls on lines whose data links go down and come up.
+pub fn worked_links()
+    ensures alerted { down_while_alerted ≡ alerted_dropped }
+    ensures refused { call_to_down ≡ refused_as_down }
+    ensures own_line { answers own_line own_line_down ≡ own_line_dropped }
+    ensures outage { turn_of (world_in 30 outage) ≡ outage_over }
+    ensures again { down_again.legs ≡ (world_in 20 outage).legs }
+    ensures up { reply hasty_lines (world_in 20 outage) (LinkUp 1) ≡ state_reported }
+    ensures in_time { turn_of (in_frame 30 up_again) ≡ nothing_in 30 }
+    ensures reset { reset_while_dialling ≡ sends_reply (cleared_with 0 0xA9 ∷ []) }
 {}

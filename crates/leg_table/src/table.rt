@@ -86,10 +86,12 @@ impl LegTable {
 
     /// Returns whether the data link of a line is down.
     pub fn is_down(&self, line: u8) -> bool
-        requires line { 30 * line + 30 ≤ length self.now.held }
         ensures { result ≡ is_down self.now line }
     {
-        self.down[usize::from(line)]
+        match self.down.get(usize::from(line)) {
+            Some(down) => *down,
+            None => false,
+        }
     }
 
     /// Stores whether the data link of a line is down.

@@ -5,7 +5,7 @@ use Rattle.circuit_model.specs.FrameInput.{Input}
 use Rattle.circuit_model.specs.Ports.{port_of, ports_with}
 use Rattle.exchange_events.specs.declared.reply.Reply.{Reply}
 use Rattle.exchange_events.specs.declared.trace.Event.{Event}
-use Rattle.exchange_events.specs.declared.trace.Event.TheVariants.{Nail, Seat, Free, Message, Frame}
+use Rattle.exchange_events.specs.declared.trace.Event.TheVariants.{Nail, Seat, Free, Message, Frame, LinkUp, LinkDown}
 use Rattle.exchange_events.specs.Kept.{kept_of}
 use Rattle.exchange_events.specs.Sizes.{Setting}
 use Rattle.call_profile.specs.IdleSlots.{idle, is_nailed}
@@ -36,4 +36,6 @@ module _ (rows : List (List ℕ)) (n : ℕ) where
       (same_either sent (is_full s.dimensions w) _ _ refl (same_seated sent s w x (port_of s.dimensions.external (ports_with x w.ports) x)))
   same_line s w others Known frame (Free x) known = same_either (others (Free x)) (is_nailed w x) _ _ refl refl
   same_line s w others Known frame (Message line octets) known = refl
+  same_line s w others Known frame (LinkUp line) known = refl
+  same_line s w others Known frame (LinkDown line) known = refl
   same_line s w others Known frame (Frame input) known = frame input known

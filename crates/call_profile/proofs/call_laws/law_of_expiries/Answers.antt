@@ -18,16 +18,16 @@ pub returns-clause-others : goal.returns-clause-others
 returns-clause-others c s w input stands = none_else_changes s w input stands
 
 pub returns-clause-untimed : goal.returns-clause-untimed
-returns-clause-untimed c s w input stands = untimed_stay s w input stands
+returns-clause-untimed c s w input stands calm = untimed_stay s w input stands calm
 
 pub returns-clause-conversations : goal.returns-clause-conversations
-returns-clause-conversations c s w input stands = conversations_stay s w input stands
+returns-clause-conversations c s w input stands calm = conversations_stay s w input stands calm
 
 pub returns-clause-layout : goal.returns-clause-layout
-returns-clause-layout c s w input stands = layout_stays s w input stands
+returns-clause-layout c s w input stands calm = layout_stays s w input stands calm
 
 pub returns-clause-ports : goal.returns-clause-ports
-returns-clause-ports c s w input stands made = ports_stay s w input stands made
+returns-clause-ports c s w input stands calm made = ports_stay s w input stands calm made
 
 pub returns-clause-since : goal.returns-clause-since
 returns-clause-since c s w input stands x in_x =

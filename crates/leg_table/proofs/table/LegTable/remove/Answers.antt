@@ -5,5 +5,5 @@ use Rattle.leg_table.proofs.table.LegTable.remove.Goals as goal
 
 pub returns : goal.returns
 returns c =
-    ap (λ held. legs_kept held c.self.inside.notes.items) c.remove.ensures
-    ∙ kept_remove c.self.inside.legs c.self.inside.notes.items c.args.self.now c.self.view_is _ c.args.x refl
+    ap (λ held. legs_kept held c.self.inside.notes.items c.self.inside.down.items) c.remove.ensures
+    ∙ kept_remove c.self.inside.legs c.self.inside.notes.items c.self.inside.down.items c.args.self.now c.self.view_is _ c.args.x refl

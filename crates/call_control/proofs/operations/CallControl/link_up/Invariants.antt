@@ -1,0 +1,18 @@
+use Rattle.std.proofs.Common.{◌≡◌, ◌≤◌, [], false, None, length}
+use Rattle.circuit_map.specs.Connections.{SameSizes}
+use Rattle.call_control.specs.AtWork.{IsInOrder}
+use Rattle.call_profile.specs.LinkChanges.{rule_of, with_line}
+use Rattle.call_profile.specs.Restarts.{outcome_below}
+use Rattle.exchange_events.specs.Sizes.{Setting}
+use Rattle.call_control.specs.Standing.{Makes}
+use Rattle.call_profile.specs.World.{World}
+use Rattle.call_control.proofs.operations.CallControl.link_up.Given as goal
+
+abbrev pub invariant-loop-place : goal.invariant-loop-place
+invariant-loop-place g l =
+    ((s : Setting) (w : World) → s.tones ≡ l.tones → IsInOrder s l.fn.self.map l.fn.self.legs w
+    → Makes s.dimensions l.self.map l.self.legs l.out.sends l.out.moved (outcome_below s.dimensions (rule_of s.tones false) l.line (with_line w l.line false) l.place).making
+    × ([] ≡ (outcome_below s.dimensions (rule_of s.tones false) l.line (with_line w l.line false) l.place).recorded))
+    × (length l.out.sends ≤ l.place)
+    × (l.out.moved ≡ None)
+    × SameSizes l.fn.self.map l.self.map
