@@ -28,7 +28,7 @@ use Rattle.call_control.specs.AtWork.{IsAtWork}
 use Rattle.call_control.specs.Choices.{dialled_checks}
 
 pub dialled_small : (d : Dimensions) (w : World) (x : Slot) (m : Message) (readable : Bool) (t : Found) (cause : ℕ) → first_cause (dialled_checks d w x m readable t) ≡ Some cause → cause < 128
-dialled_small d w x m readable t cause e = small_cause (dialled_checks d w x m readable t) cause (omega arith, (omega arith, (omega arith, (omega arith, (omega arith, tt))))) e
+dialled_small d w x m readable t cause e = small_cause (dialled_checks d w x m readable t) cause (omega arith, (omega arith, (omega arith, (omega arith, (omega arith, (omega arith, tt)))))) e
 
 not_some : (o : Option (List ℕ)) → is_none o ≡ not (is_some o)
 not_some None = refl

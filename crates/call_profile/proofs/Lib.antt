@@ -61,6 +61,7 @@ pub mod ReferenceLemmas
 pub mod ProgressLemmas
 pub mod RestartedLegLemmas
 pub mod RestartedLineLemmas
+pub mod DroppedLineLemmas
 pub mod RecordedCallLemmas
 pub mod RecordedMessageLemmas
 pub mod FrameRecordLemmas

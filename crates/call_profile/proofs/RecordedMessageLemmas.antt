@@ -60,13 +60,13 @@ abbrev pub CallsOn : ℕ → World → World → Type 0
 CallsOn external w v = (x : Slot) (leg : Leg) → IsExternal external x → leg_at v.legs x ≡ Some leg → is_calling (Some leg) ≡ true
     → (leg_at w.legs x ≡ Some leg) × (heard_by v.holding.circuits x ≡ heard_by w.holding.circuits x)
 
-module _ (external : ℕ) (r : Restart) (line : ℕ) (u v : World) (x : Slot) (done : IsRestartedAt external r line u v x) where
+module _ (external : ℕ) (r : Restart) (line : ℕ) (u v : World) (x : Slot) (done : IsRestartedAt external r temporary_failure line u v x) where
   -- the leg at a slot calls no more, or all is as it was
   abbrev Became : Slot → Type 0
   Became z = (is_calling (leg_at v.legs z) ≡ false)
       ⊎ ((leg_at v.legs z ≡ leg_at u.legs z) × ((l : Leg) → leg_at u.legs z ≡ Some l → heard_by v.holding.circuits z ≡ heard_by u.holding.circuits z))
 
-  peer_silent : (z : Slot) (l : Leg) → is_calling (peer_after r line u.holding.next z l) ≡ false
+  peer_silent : (z : Slot) (l : Leg) → is_calling (peer_after r temporary_failure line u.holding.next z l) ≡ false
   peer_silent z l = elim (true_or_false (restarts_slot r line z)) [
     | inl too ↦ rw too refl
     | inr not_so ↦ rw not_so (disconnected_silent u.holding.next temporary_failure l)

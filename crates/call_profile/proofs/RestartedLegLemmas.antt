@@ -76,25 +76,25 @@ module _ (external bridges : ℕ) (tones : Tones) (w : World) (valid : Valid bri
 -- ---- one slot is restarted
 
 -- what becomes of the leg of a call whose other leg was at the slot: it is gone if its own slot is restarted too, and is cleared otherwise
-abbrev pub peer_after : Restart → ℕ → ℕ → Slot → Leg → Option Leg
-peer_after r line next z other = if restarts_slot r line z then None else Some (waiting_from next (in_disconnect_indication temporary_failure other))
+abbrev pub peer_after : Restart → ℕ → ℕ → ℕ → Slot → Leg → Option Leg
+peer_after r cause line next z other = if restarts_slot r line z then None else Some (waiting_from next (in_disconnect_indication cause other))
 
 -- the slot holds no leg any more, and the other leg of its call is what it must be; all others are as they were, and hear what they heard; and so
 -- do the slots that no leg holds
-pub record IsRestartedAt (external : ℕ) (r : Restart) (line : ℕ) (u v : World) (x : Slot) : Type 0 where
+pub record IsRestartedAt (external : ℕ) (r : Restart) (cause line : ℕ) (u v : World) (x : Slot) : Type 0 where
   pub here : leg_at v.legs x ≡ None
-  pub other_leg : (z : Slot) (other : Leg) → IsExternal external z → leg_at u.legs z ≡ Some other → other.peer ≡ peer.Leg x → leg_at v.legs z ≡ peer_after r line u.holding.next z other
+  pub other_leg : (z : Slot) (other : Leg) → IsExternal external z → leg_at u.legs z ≡ Some other → other.peer ≡ peer.Leg x → leg_at v.legs z ≡ peer_after r cause line u.holding.next z other
   pub legs : (z : Slot) → IsExternal external z → (z ≡ x → ⊥) → ((other : Leg) → leg_at u.legs z ≡ Some other → other.peer ≡ peer.Leg x → ⊥) → leg_at v.legs z ≡ leg_at u.legs z
   pub heard : (z : Slot) (l : Leg) → IsExternal external z → leg_at u.legs z ≡ Some l → (z ≡ x → ⊥) → (l.peer ≡ peer.Leg x → ⊥) → heard_by v.holding.circuits z ≡ heard_by u.holding.circuits z
   pub unheld : (z : Slot) → IsExternal external z → leg_at u.legs z ≡ None → heard_by v.holding.circuits z ≡ heard_by u.holding.circuits z
   pub next : v.holding.next ≡ u.holding.next
 
-module _ (d : Dimensions) (tones : Tones) (r : Restart) (line : ℕ) (m : Making) (x : Slot) (on_line : x.line ≡ line) (kept : Kept d tones m.world) (in_x : IsExternal d.external x) where
+module _ (d : Dimensions) (tones : Tones) (r : Restart) (cause line : ℕ) (m : Making) (x : Slot) (on_line : x.line ≡ line) (kept : Kept d tones m.world) (in_x : IsExternal d.external x) where
   abbrev u : World
   u = m.world
 
   abbrev Done : World → Type 0
-  Done v = IsRestartedAt d.external r line u v x
+  Done v = IsRestartedAt d.external r cause line u v x
 
   -- no leg holds it
   none_done : leg_at u.legs x ≡ None → Done u
@@ -133,7 +133,7 @@ module _ (d : Dimensions) (tones : Tones) (r : Restart) (line : ℕ) (m : Making
 
     -- it has one, which becomes this
     module _ (y : Slot) (other : Leg) (in_y : IsExternal d.external y) (at_y : leg_at u.legs y ≡ Some other) (call : IsInCall leg.side x leg y other)
-        (o : Option Leg) (is : peer_after r line u.holding.next y other ≡ o) (tone : Option Kind)
+        (o : Option Leg) (is : peer_after r cause line u.holding.next y other ≡ o) (tone : Option Kind)
         (v : World) (legs : v.legs ≡ with_entry (with_entry u.legs x None) y o)
         (holding : v.holding ≡ with_tone (after (after u.holding (Clear_slot x)) (Clear_slot y)) y tone) where
       peers : ArePeers d.external u x y leg other
@@ -155,12 +155,12 @@ module _ (d : Dimensions) (tones : Tones) (r : Restart) (line : ℕ) (m : Making
       here_y : leg_at v.legs y ≡ o
       here_y = ap (λ ls. leg_at ls y) legs ∙ both_second d.external u.legs x y None o kept.1.count in_x in_y peers.apart
 
-      both_other : (z : Slot) (l : Leg) → IsExternal d.external z → leg_at u.legs z ≡ Some l → l.peer ≡ peer.Leg x → leg_at v.legs z ≡ peer_after r line u.holding.next z l
+      both_other : (z : Slot) (l : Leg) → IsExternal d.external z → leg_at u.legs z ≡ Some l → l.peer ≡ peer.Leg x → leg_at v.legs z ≡ peer_after r cause line u.holding.next z l
       both_other z l in_z at_z names_x = elim (same_or_apart z y) [
         | inl same ↦
             let at_l = sym (ap (leg_at u.legs) same) ∙ at_z in
             let this = is_other l at_l in
-            subst (λ q. leg_at v.legs q ≡ peer_after r line u.holding.next q l) (sym same) (subst (λ k. leg_at v.legs y ≡ peer_after r line u.holding.next y k) (sym this) (here_y ∙ sym is))
+            subst (λ q. leg_at v.legs q ≡ peer_after r cause line u.holding.next q l) (sym same) (subst (λ k. leg_at v.legs y ≡ peer_after r cause line u.holding.next y k) (sym this) (here_y ∙ sym is))
         | inr not_y ↦ absurd (not_peer z in_z not_y l at_z names_x)
       ]
 
@@ -193,26 +193,27 @@ module _ (d : Dimensions) (tones : Tones) (r : Restart) (line : ℕ) (m : Making
         next = ap (λ (h : Holding). h.next) holding ∙ sounding_next cleared y tone;
       }
 
-    with_peer_done : (p : Peer) → leg.peer ≡ p → HasPeer d.external u.legs x leg p → Done (making_after_all d gone (with_peer (peer_of u.legs p) (restart_peer tones temporary_failure r line))).world
+    with_peer_done : (p : Peer) → leg.peer ≡ p → HasPeer d.external u.legs x leg p → Done (making_after_all d gone (with_peer (peer_of u.legs p) (restart_peer tones cause r line))).world
     with_peer_done peer.Alone is has = one_done (λ p same. let e : peer.Alone ≡ peer.Leg p = sym is ∙ same in cc)
     with_peer_done (peer.Leg y) is has =
         let other = has.1.0 in
         rw (held_there u.legs y other has.1.1) (elim (true_or_false (restarts_slot r line y)) [
           | inl too ↦ rw too (both_done y other has.0 has.1.1 has.1.2 None (rw too refl) None
               (making_after_all d gone (remove_leg (record { slot = y; leg = other }))).world refl refl)
-          | inr not_so ↦ rw not_so (both_done y other has.0 has.1.1 has.1.2 (Some (begun u (in_disconnect_indication temporary_failure other))) (rw not_so refl)
-              (tone_of tones (in_disconnect_indication temporary_failure other))
-              (making_after_all d gone (clear_with tones temporary_failure (record { slot = y; leg = other }))).world refl refl)
+          | inr not_so ↦ rw not_so (both_done y other has.0 has.1.1 has.1.2 (Some (begun u (in_disconnect_indication cause other))) (rw not_so refl)
+              (tone_of tones (in_disconnect_indication cause other))
+              (making_after_all d gone (clear_with tones cause (record { slot = y; leg = other }))).world refl refl)
         ])
     with_peer_done (peer.Room room) is has = one_done (λ p same. let e : peer.Room room ≡ peer.Leg p = sym is ∙ same in cc)
 
-    leg_done : Done (making_after_all d m (restart_leg tones temporary_failure r u.legs (Some held))).world
-    leg_done = subst (λ n. Done (making_after_all d gone (with_peer (peer_of u.legs leg.peer) (restart_peer tones temporary_failure r n))).world) (sym on_line) (with_peer_done leg.peer refl (kept.1.each x leg in_x at).peer)
+    pub leg_done : Done (making_after_all d m (restart_leg tones cause r u.legs (Some held))).world
+    leg_done = subst (λ n. Done (making_after_all d gone (with_peer (peer_of u.legs leg.peer) (restart_peer tones cause r n))).world) (sym on_line) (with_peer_done leg.peer refl (kept.1.each x leg in_x at).peer)
 
-  held_done : (o : Option Leg) → leg_at u.legs x ≡ o
-      → Done (making_after_all d m (restart_leg tones temporary_failure r u.legs (option_map (λ (leg : Leg). let h : HeldLeg = record { slot = x; leg = leg } in h) o))).world
+  pub held_done : (o : Option Leg) → leg_at u.legs x ≡ o
+      → Done (making_after_all d m (restart_leg tones cause r u.legs (option_map (λ (leg : Leg). let h : HeldLeg = record { slot = x; leg = leg } in h) o))).world
   held_done None none = none_done none
   held_done (Some leg) at = leg_done leg at
 
-  pub slot_done : is_restarted r x.place ≡ true → Done (making_after_all d m (restart_slot tones r u.legs x)).world
-  slot_done restarted = rw restarted (held_done (leg_at u.legs x) refl)
+module _ (d : Dimensions) (tones : Tones) (r : Restart) (line : ℕ) (m : Making) (x : Slot) (on_line : x.line ≡ line) (kept : Kept d tones m.world) (in_x : IsExternal d.external x) where
+  pub slot_done : is_restarted r x.place ≡ true → IsRestartedAt d.external r temporary_failure line m.world (making_after_all d m (restart_slot tones r m.world.legs x)).world x
+  slot_done restarted = rw restarted (held_done d tones r temporary_failure line m x on_line kept in_x (leg_at m.world.legs x) refl)

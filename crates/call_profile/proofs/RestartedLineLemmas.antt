@@ -52,7 +52,7 @@ pub record AreRestartedBelow (s : Setting) (r : Restart) (line : ℕ) (w : World
 
 -- ---- which slots were restarted, one place further on
 
-none_before : (b c : Bool) → c ≡ false → (b && c) ≡ false
+pub none_before : (b c : Bool) → c ≡ false → (b && c) ≡ false
 none_before true c e = e
 none_before false c e = refl
 
@@ -72,10 +72,10 @@ module _ (r : Restart) (line : ℕ) where
   abbrev at_place : ℕ → Slot
   at_place n = record { line = line; place = n }
 
-  lt_true : (a b : ℕ) → a < b → nat_lt a b ≡ true
+  pub lt_true : (a b : ℕ) → a < b → nat_lt a b ≡ true
   lt_true a b less = grind (arith, common_steps, less)
 
-  lt_false : (a b : ℕ) → b ≤ a → nat_lt a b ≡ false
+  pub lt_false : (a b : ℕ) → b ≤ a → nat_lt a b ≡ false
   lt_false a b more = grind (arith, common_steps, more)
 
   lt_is : (a b : ℕ) → nat_lt a b ≡ true → a < b
@@ -108,7 +108,7 @@ module _ (r : Restart) (line : ℕ) where
   ]
 
   -- and none but this one where it is
-  same_where_apart : (x : Slot) (n : ℕ) → (x ≡ at_place n → ⊥) → was_restarted r line (suc n) x ≡ was_restarted r line n x
+  pub same_where_apart : (x : Slot) (n : ℕ) → (x ≡ at_place n → ⊥) → was_restarted r line (suc n) x ≡ was_restarted r line n x
   same_where_apart x n apart = elim (true_or_false (restarts_slot r line x)) [
     | inl e ↦ elim (true_or_false (nat_lt x.place n)) [
       | inl less ↦ rw (e, less, lt_true x.place (suc n) (let l = lt_is x.place n less in omega (arith, l))) refl
@@ -177,7 +177,7 @@ module _ (s : Setting) (r : Restart) (line : ℕ) (w : World) (below : line < s.
     }
 
     -- it is
-    module _ (restarted : is_restarted r n ≡ true) (v : World) (kept : Kept s.dimensions s.tones v) (done : IsRestartedAt s.dimensions.external r line u v x) where
+    module _ (restarted : is_restarted r n ≡ true) (v : World) (kept : Kept s.dimensions s.tones v) (done : IsRestartedAt s.dimensions.external r temporary_failure line u v x) where
       x_is : restarts_slot r line x ≡ true
       x_is = rw restarted (grind (arith, common_steps))
 
@@ -207,7 +207,7 @@ module _ (s : Setting) (r : Restart) (line : ℕ) (w : World) (below : line < s.
           → leg_at v.legs z ≡ Some (left_below r line w (suc n) leg (peer.Leg x))
       cleared z leg in_z not_so at is =
           let here : was_restarted r line (suc n) x ≡ true = rw (x_is, lt_true r line n (suc n) (omega arith)) refl in
-          done.other_leg z leg in_z at is ∙ ap (λ next. peer_after r line next z leg) so_far.next ∙ rw (not_so, here) refl
+          done.other_leg z leg in_z at is ∙ ap (λ next. peer_after r temporary_failure line next z leg) so_far.next ∙ rw (not_so, here) refl
 
       more_others : (z : Slot) (leg : Leg) → IsExternal s.dimensions.external z → restarts_slot r line z ≡ false → leg_at w.legs z ≡ Some leg
           → leg_at v.legs z ≡ Some (left_below r line w (suc n) leg leg.peer)

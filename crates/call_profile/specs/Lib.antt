@@ -29,6 +29,7 @@ pub mod Refused
 pub mod Progress
 pub mod References
 pub mod Restarted
+pub mod Dropped
 pub mod Recorded
 pub mod WorkedMessages
 pub mod WorkedOverlap

@@ -14,6 +14,9 @@ ghost use Rattle.exchange_events.specs.declared.record.CallRecord.{CallRecord};
 ghost use Rattle.exchange_events.specs.Sizes.{Setting};
 ghost use Rattle.call_profile.specs.ActCourse.{course_of};
 ghost use Rattle.call_profile.specs.Calls.{after_message, answer_back, answer_to};
+ghost use Rattle.exchange_events.specs.declared.trace.Event.TheVariants.{LinkDown};
+ghost use Rattle.call_profile.specs.Dropped.{CanFail, OthersAreGone, ActiveWait, OtherLinesAreLeft};
+ghost use Rattle.call_profile.specs.Step.{next};
 ghost use Rattle.call_profile.specs.Expiring.{on_expiry, outcome_of_frame};
 ghost use Rattle.call_profile.specs.ExpiryBounds.{NoneIsLost};
 ghost use Rattle.call_profile.specs.ExpiryRecords.{IsFrameRecord, IsInFrame, ComeByLine};
@@ -83,4 +86,13 @@ pub fn law_of_frame_records()
         → HasEnded s.dimensions.external w (outcome_of_frame s w input).making.world h → IsInFrame s w input h }
     ensures order { (s : Setting) (w : World) (input : Input) → CallsStand s w → NoneIsLost s.timers w.holding.next w.legs
         → ComeByLine (outcome_of_frame s w input).recorded }
+{}
+
+/// After the failure of a data link, each leg of the line in state 10 waits for the link, since the first failure, and each
+/// other leg of the line is removed. At the other lines, a leg whose peer was removed is in disconnect indication with
+/// cause 27, and each other leg is unchanged.
+pub fn law_of_link_failures()
+    ensures gone { (s : Setting) (w : World) (line : ℕ) → CanFail s w line → OthersAreGone s.dimensions.external line w (next s w (LinkDown line)) }
+    ensures waits { (s : Setting) (w : World) (line : ℕ) → CanFail s w line → ActiveWait s.dimensions.external line w (next s w (LinkDown line)) }
+    ensures others { (s : Setting) (w : World) (line : ℕ) → CanFail s w line → OtherLinesAreLeft s.dimensions.external line w (next s w (LinkDown line)) }
 {}

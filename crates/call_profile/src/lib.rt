@@ -1,6 +1,6 @@
 //! Defines the rules of calls, in specifications that are read from top to bottom. `Step` gives the reply to each event
 //! and the exchange state after it. `Calls` gives the request of a message, and `ActCourse`, `Digits`, `Setup` and
-//! `Restarts` its list of operations (`Operations`). `Expiring` gives the turn of a frame. A few functions read a leg
+//! `Restarts` its list of operations (`Operations`). `LinkChanges` gives those of a data link that goes down or comes up. `Expiring` gives the turn of a frame. A few functions read a leg
 //! or a circuit ([`is_addressed_to`], [`waiting_from`], [`retransmitted_from`], [`is_calling`], [`party_of`],
 //! [`first_frame_of`]). The other functions are theorems on these definitions:
 //!
@@ -9,7 +9,7 @@
 //!   stored RELEASE determines it. A refused command changes nothing ([`law_of_refusals`]), and neither does a refused
 //!   SETUP ([`law_of_refused_calls`]).
 //! - The turn of a frame, in which timers expire (`Expiring`), sends at most two messages and records at most one call
-//!   for each external line. It changes only legs of calls with an expired timer, and no connection
+//!   for each external line. It changes only legs of calls with an expired timer, and no connection unless T309 expires
 //!   ([`law_of_expiries`]).
 //! - A number of several lines gets the lowest idle slot of the first line that has one ([`law_of_hunting`]).
 //! - Further digits are refused with cause 34 only if no slot is free, and with cause 42 only if no port is free. They
@@ -19,7 +19,8 @@
 //!   ([`law_of_answered_calls`], [`law_of_granted_nails`]).
 //! - Theorems state the calls that a message and a frame record ([`law_of_records`], [`law_of_frame_records`]) and the
 //!   call reference of a new leg ([`law_of_references`]). They also state the legs after a RESTART
-//!   ([`law_of_restarts`]) and the messages that inform a user of a tone ([`law_of_progress`]).
+//!   ([`law_of_restarts`]) and after the failure of a data link ([`law_of_link_failures`]), and the messages that inform
+//!   a user of a tone ([`law_of_progress`]).
 //! - Allowed commands made the circuits of each frame ([`worlds_are_made`]), and later events do not change its octets
 //!   ([`later_frames_change_nothing`]).
 #![tactic(auto)]
@@ -39,7 +40,8 @@ pub use call_laws::{
 pub use command_laws::{law_of_granted_nails, law_of_refusals};
 pub use laws::{later_frames_change_nothing, law_of_fabrics, worlds_are_made};
 pub use leg_laws::{
-    law_of_frame_records, law_of_progress, law_of_records, law_of_references, law_of_restarts,
+    law_of_frame_records, law_of_link_failures, law_of_progress, law_of_records, law_of_references,
+    law_of_restarts,
 };
 pub use legs::{is_addressed_to, retransmitted_from, waiting_from};
 pub use records::{first_frame_of, is_calling, party_of};

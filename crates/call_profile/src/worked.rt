@@ -1,9 +1,9 @@
 //! Worked messages.
-ghost use Rattle.std.specs.Prelude.{◌≡◌, None, [], ◌∷◌};
-ghost use Rattle.call_profile.specs.WorkedCalls.{two_lines, one_line, own_line, answers, sends_reply};
+ghost use Rattle.std.specs.Prelude.{◌≡◌, None, Some, [], ◌∷◌, option_map};
+ghost use Rattle.call_profile.specs.WorkedCalls.{at, two_lines, one_line, own_line, answers, sends_reply};
 ghost use Rattle.call_profile.specs.WorkedMessages.{refused_by_element, refused_by_element_answered, unreadable_cause, unreadable_cause_answered, null_status_received, null_status_answered, release_collision, release_collision_answered, reference_given_again, reference_given_again_answered, compatibility, compatibility_answered};
 ghost use Rattle.call_profile.specs.WorkedDigits.{begun_later, ended_later, ended_later_answered, faulty_digits, faulty_digits_answered, in_other_states, in_other_states_answered, in_three_messages, in_three_messages_answered, line_full_later, line_full_later_answered, longest_numbers, longest_numbers_answered, no_port_later_answered, own_line_later, own_line_later_answered, passed_on_later, passed_on_later_answered, room_later, room_later_answered, two_digits, wrong_digit, wrong_digit_answered};
-ghost use Rattle.call_profile.specs.Legs.{no_legs};
+ghost use Rattle.call_profile.specs.Legs.{leg_at, no_legs};
 ghost use Rattle.call_profile.specs.WorkedExpiries.{cleared_with, hasty_lines, turn_of, after_turn, world_in, in_frame, nothing_in, offered, setup_again, setup_over, proceeds, proceeding_over, both_proceed, both_over, alerted, alerting_over, alerted_again, answered_in_time, begun_on_both, digits_over, first_turn, second_turn, third_turn, released};
 ghost use Rattle.exchange_events.specs.declared.trace.Event.TheVariants.{LinkUp};
 ghost use Rattle.call_profile.specs.Step.{reply};
@@ -71,7 +71,7 @@ pub fn worked_links()
     ensures refused { call_to_down ≡ refused_as_down }
     ensures own_line { answers own_line own_line_down ≡ own_line_dropped }
     ensures outage { turn_of (world_in 30 outage) ≡ outage_over }
-    ensures again { down_again.legs ≡ (world_in 20 outage).legs }
+    ensures again { option_map (λ leg. leg.since) (leg_at down_again.legs (at 1 0)) ≡ Some 0 }
     ensures up { reply hasty_lines (world_in 20 outage) (LinkUp 1) ≡ state_reported }
     ensures in_time { turn_of (in_frame 30 up_again) ≡ nothing_in 30 }
     ensures reset { reset_while_dialling ≡ sends_reply (cleared_with 0 0xA9 ∷ []) }

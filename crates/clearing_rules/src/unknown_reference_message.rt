@@ -38,13 +38,12 @@ pub fn unknown_reference(message: &Message) -> Option<Outgoing<'static>>
             state: Some(NULL),
             ..message_back(message, MessageKind::Status)
         }),
-        _ => Some(Outgoing {
-            cause: Some(INVALID_CALL_REFERENCE),
-            ..message_back(message, MessageKind::ReleaseComplete)
-        }),
+        _ => Some(no_call(message, INVALID_CALL_REFERENCE)),
     }
 }
 
+ghost use Rattle.std.specs.Prelude.{Some};
+ghost use Rattle.q931_codec.specs.declared.kind.MessageKind.TheVariants as kind;
 ghost use Rattle.q931_codec.specs.Contents.{call_state_in};
 ghost use Rattle.clearing_rules.specs.UnknownReference.{answer_to_status, message_back};
 
@@ -54,10 +53,17 @@ fn status_without_call(message: &Message) -> Option<Outgoing<'static>>
 {
     match message.call_state() {
         None | Some(NULL) => None,
-        Some(_) => Some(Outgoing {
-            cause: Some(MESSAGE_NOT_COMPATIBLE_WITH_CALL_STATE),
-            ..message_back(message, MessageKind::ReleaseComplete)
-        }),
+        Some(_) => Some(no_call(message, MESSAGE_NOT_COMPATIBLE_WITH_CALL_STATE)),
+    }
+}
+
+// Returns the RELEASE COMPLETE to the sender of a message on a call reference without a call.
+fn no_call(message: &Message, cause: u8) -> Outgoing<'static>
+    ensures { outgoing_of result ≡ record (message_back message.now kind.ReleaseComplete) { cause = Some cause } }
+{
+    Outgoing {
+        cause: Some(cause),
+        ..message_back(message, MessageKind::ReleaseComplete)
     }
 }
 

@@ -90,7 +90,7 @@ not_false : (b : Bool) → not b ≡ false → b ≡ true
 not_false true e = refl
 not_false false e = absurd cc
 
-pub same_timers : (a b : Timers) → not ((a.t301 == b.t301) && ((a.t302 == b.t302) && ((a.t303 == b.t303) && ((a.t305 == b.t305) && ((a.t308 == b.t308) && (a.t310 == b.t310)))))) ≡ false → a ≡ b
+pub same_timers : (a b : Timers) → not ((a.t301 == b.t301) && ((a.t302 == b.t302) && ((a.t303 == b.t303) && ((a.t305 == b.t305) && ((a.t308 == b.t308) && ((a.t309 == b.t309) && (a.t310 == b.t310))))))) ≡ false → a ≡ b
 same_timers a b e =
     let all = not_false _ e in
     let first = both_true (a.t301 == b.t301) _ all in
@@ -98,13 +98,15 @@ same_timers a b e =
     let two = both_true (a.t303 == b.t303) _ one.1 in
     let three = both_true (a.t305 == b.t305) _ two.1 in
     let four = both_true (a.t308 == b.t308) _ three.1 in
+    let five = both_true (a.t309 == b.t309) _ four.1 in
     λ i. record {
       t301 = eqb-true a.t301 b.t301 first.0 i;
       t302 = eqb-true a.t302 b.t302 one.0 i;
       t303 = eqb-true a.t303 b.t303 two.0 i;
       t305 = eqb-true a.t305 b.t305 three.0 i;
       t308 = eqb-true a.t308 b.t308 four.0 i;
-      t310 = eqb-true a.t310 b.t310 four.1 i;
+      t309 = eqb-true a.t309 b.t309 five.0 i;
+      t310 = eqb-true a.t310 b.t310 five.1 i;
     }
 
 -- a frame before the bound of a place
