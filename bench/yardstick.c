@@ -1,4 +1,4 @@
-// The same job by hand: a trace of nails, seats, frees, messages and frames on standard input, its report
+// The same job by hand: a trace of nails, seats, frees, messages, data links and frames on standard input, its report
 // on standard output. It has the same tables as the proved exchange, so that it is a measure of the speed
 // of the proved program; nothing is proved of it. It is written to be fast: rows are worked through
 // whole, without a test for each octet, a frame costs what is connected and not what could be, and each leg
@@ -52,6 +52,8 @@ int main(int count, char **words) {
         case SEAT: seat(e->x, e->room); break;
         case FREE: free_slot(e->x); break;
         case SIGNAL: message(e->x.line, messages + e->first, e->length); break;
+        case UP: link_up(e->x.line); break;
+        case DOWN: link_down(e->x.line); break;
         case FRAME: expire(frame(e)); break;
         }
         put("\n");

@@ -71,6 +71,7 @@ class Endpoints:
     def __init__(self):
         self.legs = []
         self.silent = set()  # the lines whose endpoints send nothing
+        self.down = set()  # the lines whose data links are down
 
     def fall_silent(self, line):
         if line in self.silent:
@@ -82,11 +83,21 @@ class Endpoints:
             raise Refused(f"line {line} has not fallen silent")
         self.silent.remove(line)
 
+    def link_fails(self, line):
+        """Calls that are not active are gone, and nothing reaches the endpoint or comes from it."""
+        self.down.add(line)
+        self.legs = [leg for leg in self.legs if leg.line != line or leg.state == TALKS]
+
+    def link_is_up(self, line):
+        self.down.discard(line)
+
     def place(self, where):
         """The line and the channel, or None, that send something."""
         line, channel = where if isinstance(where, tuple) else (where, None)
         if line in self.silent:
             raise Refused(f"line {line} has fallen silent: line {line} recovers")
+        if line in self.down:
+            raise Refused(f"the data link of line {line} is down: the link of line {line} is up")
         return line, channel
 
     def find(self, where, states, what):
@@ -167,6 +178,8 @@ class Endpoints:
 
     def receive(self, line, octets):
         """What the endpoint on a line answers to a message of the exchange; None where it is nothing."""
+        if line in self.down:
+            return None
         message = read_message(octets)
         leg = self._named(line, message)
         if message.kind == SETUP and (leg is None or leg.state != IS_CALLED):

@@ -3,8 +3,9 @@
 What its messages say of a call: a SETUP that CALL PROCEEDING or SETUP ACKNOWLEDGE answers
 begins a leg on the caller's line, and the SETUP that goes out for it begins the other, at once or
 after INFORMATION with the rest of the number. A leg ends with RELEASE, RELEASE COMPLETE or a STATUS
-of the null state from its user, with RELEASE COMPLETE to it, by RESTART, or without a word, in the frame in
-which T308 runs out after RELEASE was sent to it twice. The two slots of a call are connected from CONNECT on until
+of the null state from its user, with RELEASE COMPLETE to it, by RESTART, or without a word: in the frame in
+which T308 runs out after RELEASE was sent to it twice, when the data link of its line fails and it is not active, and in
+the frame in which T309 runs out. The two slots of a call are connected from CONNECT on until
 its clearing begins.
 """
 
@@ -28,7 +29,7 @@ from q931 import (
     Message,
     read_message,
 )
-from reading import PLACES, Arrival, Frame, Free, Nail, Seat, Slot, place_of_channel
+from reading import PLACES, Arrival, Frame, Free, Link, Nail, Seat, Slot, place_of_channel
 
 
 @dataclass(frozen=True)
@@ -52,6 +53,11 @@ class Leg:
     dials: bool  # whether more digits are awaited
     releases: int = 0  # how often RELEASE was sent to it
     since: int = 0  # the next frame when it was sent last
+    outage: int | None = None  # the next frame when the data link of its line failed, while T309 runs
+
+    @property
+    def is_active(self):
+        return self.call.answered is not None and self.call.cleared is None
 
     def note(self, row):
         """Counts what is sent to it."""
@@ -108,6 +114,8 @@ class Run:
             self._frame(reply)
         elif isinstance(event, Arrival):
             self._message(event, reply)
+        elif isinstance(event, Link):
+            self._link(event, reply)
         elif isinstance(event, Nail) and reply.word == "granted":
             self._join(event.first, Use(partner=event.second))
         elif isinstance(event, Seat) and reply.word == "seated":
@@ -153,11 +161,16 @@ class Run:
                 self._leave(leg.slot)
 
     def _frame(self, reply):
-        """A frame ends the legs whose users were sent RELEASE twice and have waited, and sends what is due of others."""
+        """A frame ends the legs whose users were sent RELEASE twice and have waited, and those whose data link was down
+        too long, and sends what is due of others."""
         self.frames = reply.frame + 1
         for name, leg in list(self._legs.items()):
-            is_over = leg.releases == 2 and leg.since + self.timers["T308"] <= reply.frame
-            if is_over and place_of_channel(leg.slot.channel) == reply.frame % PLACES:
+            if place_of_channel(leg.slot.channel) != reply.frame % PLACES:
+                continue
+            if leg.is_active and leg.outage is not None and leg.outage + self.timers["T309"] <= reply.frame:
+                self._clear(leg.call, self.frames, 27)
+                self._end(name)
+            elif leg.releases == 2 and leg.since + self.timers["T308"] <= reply.frame:
                 self._end(name)
         for line, octets in reply.sent:
             message = sent_message(octets, reply.event)
@@ -259,6 +272,30 @@ class Run:
             self._end(name)
         if not calls:
             self._on_none(row, sent)
+
+    def _link(self, event, reply):
+        """A data link that fails ends the legs of its line, and those that are active wait. One that is up ends the wait,
+        and clears the callers that still dial."""
+        for line, octets in reply.sent:
+            message = sent_message(octets, reply.event)
+            leg = self._legs.get(key(line, message, 1))
+            row = Row(reply.event, self.frames, line, True, message, leg)
+            if leg is None:
+                self.on_no_call.append(row)
+                continue
+            leg.call.rows.append(row)
+            leg.note(row)
+            if message.kind == DISCONNECT:
+                self._clear(leg.call, self.frames, message.cause)
+                leg.dials = False
+        for name, leg in [item for item in self._legs.items() if item[0][0] == event.line]:
+            if event.is_up:
+                leg.outage = None
+            elif not leg.is_active:
+                self._clear(leg.call, self.frames, 27)
+                self._end(name)
+            elif leg.outage is None:
+                leg.outage = self.frames
 
     def _call_at(self, line, message):
         leg = self._legs.get(key(line, message, 1))

@@ -15,7 +15,7 @@ from fabric import end_of
 from following import Use
 from ladders import frames_text
 from q931 import message_text
-from reading import PLACES, Arrival, Frame, Free, Nail, Slot
+from reading import PLACES, Arrival, Frame, Free, Link, Nail, Slot
 
 COLUMN, WIDER = 18, 9  # the width of a column, and how much wider it is with twice the frames
 MOST_COLUMNS = 2000
@@ -238,6 +238,8 @@ def event_text(event, reply):
         said = [f"nail {event.first} to {event.second}: {reply.word}"]
     elif isinstance(event, Free):
         said = [f"free {event.slot}: {reply.word}"]
+    elif isinstance(event, Link):
+        said = [f"the data link of line {event.line} is {'up' if event.is_up else 'down'}"]
     elif isinstance(event, Frame):
         said = []
     else:

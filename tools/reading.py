@@ -26,7 +26,7 @@ FRAME_DIGITS = 2 * PLACES
 MOST_TONE_DIGITS = 16_000
 
 # The timers of calls, and how many frames each runs where a trace does not say.
-USUAL_TIMERS = {"T301": 1_440_000, "T302": 120_000, "T303": 32_000, "T305": 240_000, "T308": 32_000, "T310": 80_000}
+USUAL_TIMERS = {"T301": 1_440_000, "T302": 120_000, "T303": 32_000, "T305": 240_000, "T308": 32_000, "T309": 48_000, "T310": 80_000}
 
 
 class Fault(Exception):
@@ -79,6 +79,14 @@ class Arrival:
 
     line: int
     octets: bytes
+
+
+@dataclass(frozen=True)
+class Link:
+    """The data link of a line goes up or down."""
+
+    line: int
+    is_up: bool
 
 
 @dataclass(frozen=True)
@@ -160,6 +168,8 @@ class TraceReader:
             "seat": (self.seat, range(2, 3)),
             "free": (self.free, range(1, 2)),
             "M": (self.message, range(1, 3)),
+            "up": (self.up, range(1, 2)),
+            "down": (self.down, range(1, 2)),
             "F": (self.frame, range(0, MOST_BYTES)),
             "sync": (self.sync, range(0, 1)),
             "change": (self.change, range(0, 1)),
@@ -260,6 +270,12 @@ class TraceReader:
 
     def message(self, line, octets=""):
         return Arrival(self.line(line, 1), hexadecimal(octets, 0, MOST_MESSAGE_DIGITS, 2))
+
+    def up(self, line):
+        return Link(self.line(line, 1), is_up=True)
+
+    def down(self, line):
+        return Link(self.line(line, 1), is_up=False)
 
     def frame(self, *parts):
         octets = {}
@@ -402,6 +418,7 @@ WORDS_OF = {
     Seat: ("seated", "busy", "noport"),
     Free: ("freed", "notnailed"),
     Arrival: ("message",),
+    Link: ("message",),
     Frame: ("frame",),
 }
 

@@ -7,7 +7,8 @@ typedef enum {
 
 // A leg holds a slot of its line. The reference of a called leg was chosen here, a caller's by the
 // user; `other` is the slot of the other leg, where that is the peer. A leg has the cause with which it was cleared,
-// waits since a frame, and may have been sent its last message again.
+// waits since a frame, and may have been sent its last message again. An active one waits where `resent` is set: its data
+// link is down.
 typedef struct {
     uint8_t state, called;
     enum { ALONE, LEG, ROOM } peer;
@@ -32,7 +33,7 @@ static Leg *leg(Slot x) { return &legs[x.line][x.place]; }
 // One more than the timer of a state, 0 where it has none.
 static const uint8_t timer_in[RELEASE_REQUEST + 1] = {
     [OVERLAP_SENDING] = T302 + 1, [PRESENT] = T303 + 1, [INCOMING_PROCEEDING] = T310 + 1,
-    [RECEIVED] = T301 + 1, [DISCONNECT_INDICATION] = T305 + 1, [RELEASE_REQUEST] = T308 + 1,
+    [RECEIVED] = T301 + 1, [ACTIVE] = T309 + 1, [DISCONNECT_INDICATION] = T305 + 1, [RELEASE_REQUEST] = T308 + 1,
 };
 
 // No leg at this place of any line is due before this frame.
@@ -41,7 +42,7 @@ static uint32_t none_before[PLACES];
 // The frame in which a leg is due.
 static uint32_t due(const Leg *l) {
     unsigned timer = timer_in[l->state];
-    if (!timer) return NEVER;
+    if (!timer || (l->state == ACTIVE && !l->resent)) return NEVER;
     uint32_t end = l->since + timers[timer - 1];
     return end < l->since ? NEVER : end;
 }
@@ -52,6 +53,12 @@ static void wait(Slot x) {
     l->since = frame_number;
     uint32_t end = due(l);
     if (end < none_before[x.place]) none_before[x.place] = end;
+}
+
+// The leg waits for the second time in its state, or an active one for its data link.
+static void wait_again(Slot x) {
+    leg(x)->resent = 1;
+    wait(x);
 }
 
 static void enter(Slot x, State state) {
@@ -182,6 +189,8 @@ static void gone(Slot x, Cause cause) {
     clear_peer(l, cause);
 }
 
+static uint32_t down; // the lines whose data links are down
+
 // ---- SETUP
 
 // What a SETUP says, or INFORMATION: the first elements of the codes that count, by their order in the SETUP that goes
@@ -244,15 +253,18 @@ static Cause find_caller(unsigned line, Channel channel, Route *r) {
 static Cause find_called(Route *r) {
     if (r->to->found == MORE) return 0;
     if (r->to->found == TO_ROOM) return has_port() ? 0 : CONGESTION;
+    Cause cause = OUT_OF_ORDER;
     for (const uint8_t *next = listed[r->to->target];; next++) {
         unsigned line = *next & ~LAST_LINE;
         uint32_t idle = ALL_SLOTS & ~taken[line];
         if (line == r->caller.line) idle &= ~(1u << r->caller.place);
+        if (down >> line & 1) idle = 0;
+        else cause = NO_CHANNEL;
         if (idle) {
             r->called = (Slot){ line, __builtin_ctz(idle) };
             return 0;
         }
-        if (*next & LAST_LINE) return NO_CHANNEL;
+        if (*next & LAST_LINE) return cause;
     }
 }
 
@@ -403,6 +415,16 @@ static int is_done(Slot x, const Message *m) {
 
 // ---- Messages that name no leg
 
+// Removes a leg whose slot is among some of its line's. The other leg of its call is cleared, unless it is removed too.
+static void restart_leg(Slot x, uint32_t slots, Cause cause) {
+    Leg l = *leg(x);
+    end_call(x, cause);
+    remove_leg(x);
+    if (l.peer != LEG) return;
+    if (l.other.line != x.line || !(slots >> l.other.place & 1)) clear_leg(l.other, cause);
+    else leg(l.other)->peer = ALONE; // it is removed in its turn, and the call was noted
+}
+
 static void restart(unsigned line, const Message *m) {
     Element e = find(*m, RESTART_INDICATOR);
     uint8_t indicator = e.length ? e.at[0] : 0;
@@ -413,23 +435,23 @@ static void restart(unsigned line, const Message *m) {
         if (channel.kind != PREFERRED && channel.kind != EXCLUSIVE) return;
     }
     uint32_t slots = indicator == 0x80 ? 1u << channel.place : ALL_SLOTS;
-    for (uint32_t left = slots & held[line]; left; left &= left - 1) {
-        Slot x = { line, __builtin_ctz(left) };
-        Leg l = *leg(x);
-        end_call(x, TEMPORARY_FAILURE);
-        remove_leg(x);
-        if (l.peer != LEG) continue;
-        if (l.other.line != line || !(slots >> l.other.place & 1)) clear_leg(l.other, TEMPORARY_FAILURE);
-        else leg(l.other)->peer = ALONE; // it is removed in its turn, and the call was noted
-    }
+    for (uint32_t left = slots & held[line]; left; left &= left - 1)
+        restart_leg((Slot){ line, __builtin_ctz(left) }, slots, TEMPORARY_FAILURE);
     put_message(line, 1, 0, RESTART_ACKNOWLEDGE);
     if (indicator == 0x80) put_channel(channel.place);
     put_element(RESTART_INDICATOR, &indicator, 1);
 }
 
 static void answer_unknown(unsigned line, const Message *m) {
+    Element e;
     switch (m->type) {
-    case RELEASE_COMPLETE: case STATUS: break;
+    case RELEASE_COMPLETE: break;
+    case STATUS:
+        e = find(*m, CALL_STATE);
+        if (!e.length || (e.at[0] & 0x3F) == NULL_STATE) break;
+        put_message(line, !m->flag, m->reference, RELEASE_COMPLETE);
+        put_cause(WRONG_STATE);
+        break;
     case STATUS_ENQUIRY:
         put_message(line, !m->flag, m->reference, STATUS);
         put_cause(TO_ENQUIRY);
@@ -457,5 +479,29 @@ static void message(unsigned line, const uint8_t *octets, unsigned length) {
         answer_unknown(line, &m);
     } else if (!m.flag) {
         set_up(line, &m);
+    }
+}
+
+// ---- Data links
+
+static void link_down(unsigned line) {
+    put(" message");
+    down |= 1u << line;
+    for (uint32_t left = held[line]; left; left &= left - 1) {
+        Slot x = { line, __builtin_ctz(left) };
+        if (leg(x)->state != ACTIVE) restart_leg(x, ALL_SLOTS, OUT_OF_ORDER);
+        else if (!leg(x)->resent) wait_again(x);
+    }
+}
+
+static void link_up(unsigned line) {
+    put(" message");
+    down &= ~(1u << line);
+    for (uint32_t left = held[line]; left; left &= left - 1) {
+        Slot x = { line, __builtin_ctz(left) };
+        if (leg(x)->state == OVERLAP_SENDING) clear_leg(x, TEMPORARY_FAILURE);
+        if (leg(x)->state != ACTIVE) continue;
+        enter(x, ACTIVE);
+        put_status(x, UNSPECIFIED);
     }
 }

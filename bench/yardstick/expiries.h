@@ -1,8 +1,7 @@
 // What is done in the turn of a frame for the legs that have waited too long.
 
 static void send_again(Slot x) {
-    leg(x)->resent = 1;
-    wait(x);
+    wait_again(x);
     put_text((const char *)kept[x.line][x.place].text, kept[x.line][x.place].length);
 }
 
@@ -22,7 +21,7 @@ static void ask_for_release(Slot x) {
     keep(x, from);
 }
 
-static void clear_caller(Leg l, uint8_t cause) {
+static void clear_other(Leg l, uint8_t cause) {
     if (l.peer != LEG) return;
     put(" send");
     clear_leg(l.other, cause);
@@ -33,13 +32,19 @@ static void clear_both(Slot x, uint8_t cause) {
     Leg l = *leg(x);
     end_call(x, cause);
     clear_leg(x, TIMER_EXPIRY);
-    clear_caller(l, cause);
+    clear_other(l, cause);
 }
 
 static void run_out(Slot x) {
     Leg l = *leg(x);
     if (l.state == RELEASE_REQUEST && l.resent) {
         remove_leg(x);
+        return;
+    }
+    if (l.state == ACTIVE) {
+        end_call(x, OUT_OF_ORDER);
+        remove_leg(x);
+        clear_other(l, OUT_OF_ORDER);
         return;
     }
     put(" send");
@@ -52,7 +57,7 @@ static void run_out(Slot x) {
         if (l.resent) {
             end_call(x, NO_USER_RESPONDING);
             give_up(x);
-            clear_caller(l, NO_USER_RESPONDING);
+            clear_other(l, NO_USER_RESPONDING);
         } else {
             send_again(x);
         }

@@ -1,6 +1,6 @@
 // The reader of traces. It ends the program at the first line that fails.
 
-typedef enum { NAIL, SEAT, FREE, FRAME, SIGNAL } Kind;
+typedef enum { NAIL, SEAT, FREE, FRAME, SIGNAL, UP, DOWN } Kind;
 
 // A frame has a row for each external line from `first` on; a message has `length` octets from there on.
 typedef struct {
@@ -17,8 +17,8 @@ typedef enum { RINGBACK, BUSY } ToneKind;
 typedef struct { uint8_t octets[TONE]; unsigned length; } Tone; // no octets: it isn't given
 
 // How many frames a leg may wait in a state; a timer that isn't given has the usual value.
-enum { T301, T302, T303, T305, T308, T310, TIMERS };
-static uint32_t timers[TIMERS] = { 1440000, 120000, 32000, 240000, 32000, 80000 };
+enum { T301, T302, T303, T305, T308, T309, T310, TIMERS };
+static uint32_t timers[TIMERS] = { 1440000, 120000, 32000, 240000, 32000, 48000, 80000 };
 
 static Tone tones[2];
 static Event events[MOST_EVENTS];
@@ -218,7 +218,8 @@ static void read_timer(Word *words, size_t count) {
     static int given[TIMERS];
     if (event_count || count != 3) refuse("word");
     int timer = is(words[1], "T301") ? T301 : is(words[1], "T302") ? T302 : is(words[1], "T303") ? T303
-        : is(words[1], "T305") ? T305 : is(words[1], "T308") ? T308 : is(words[1], "T310") ? T310 : TIMERS;
+        : is(words[1], "T305") ? T305 : is(words[1], "T308") ? T308 : is(words[1], "T309") ? T309
+        : is(words[1], "T310") ? T310 : TIMERS;
     if (timer == TIMERS || given[timer]) refuse("word");
     given[timer] = 1;
     int frames = number(&words[2], 0);
@@ -270,6 +271,11 @@ static void read_message_line(Word *words, size_t count) {
     append_message(line, count == 3 ? read_hex(words[2], new_octets(), MESSAGE) : 0);
 }
 
+static void read_link(Kind kind, Word *words, size_t count) {
+    if (count != 2) refuse("word");
+    append((Event){ .kind = kind, .x.line = line_of(words[1]) });
+}
+
 static void read_words(Word *words, size_t count) {
     if (!external) {
         read_header(words, count);
@@ -289,6 +295,10 @@ static void read_words(Word *words, size_t count) {
         read_command(FREE, words, count);
     } else if (is(words[0], "M")) {
         read_message_line(words, count);
+    } else if (is(words[0], "up")) {
+        read_link(UP, words, count);
+    } else if (is(words[0], "down")) {
+        read_link(DOWN, words, count);
     } else if (is(words[0], "number")) {
         read_number(words, count);
     } else if (is(words[0], "tone")) {

@@ -124,7 +124,7 @@ impl Changing {
 
 // Returns whether a line of a script is an event.
 fn is_event(line: &str) -> bool {
-    ["nail ", "seat ", "free ", "M ", "F"]
+    ["nail ", "seat ", "free ", "M ", "up ", "down ", "F"]
         .iter()
         .any(|word| line.starts_with(*word))
 }

@@ -115,8 +115,9 @@ impl Yardstick {
             ReferenceEvent::Nail(x, y) => self.nail(*x, *y)?,
             ReferenceEvent::Seat(x, room) => self.seat(*x, *room)?,
             ReferenceEvent::Free(x) => self.free(*x)?,
-            // No trace of this reference model has a message. A message outside a call has no reply.
-            ReferenceEvent::Message(..) => self.report.push_str("message")?,
+            // No trace of this reference model has a message or a change of a data link. Without a call they have no reply.
+            ReferenceEvent::Message(..) | ReferenceEvent::LinkUp(_) | ReferenceEvent::LinkDown(_) =>
+                self.report.push_str("message")?,
             ReferenceEvent::Frame(input) => self.frame(alloc, input.as_slice())?,
         }
         self.report.push_str("\n")

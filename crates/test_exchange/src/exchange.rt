@@ -34,6 +34,8 @@ pub struct ReferenceExchange {
     // The messages that may be retransmitted.
     pub(crate) kept: Vec<Kept>,
     pub(crate) expired: Vec<ExpiredTimer>,
+    // The lines whose data links are down.
+    pub(crate) down: Vec<u8>,
     // The number of times that each of the two tones was connected to a slot.
     rung: u32,
     busy: u32,
@@ -81,6 +83,7 @@ impl ReferenceExchange {
             timers: ReferenceTimers::default(),
             kept: Vec::new(alloc),
             expired: Vec::new(alloc),
+            down: Vec::new(alloc),
             rung: 0,
             busy: 0,
         }

@@ -63,7 +63,7 @@ pub struct Leg {
     pub cause: u8,
     /// The first frame of its wait in its state, for further digits, or after a retransmission.
     pub since: u32,
-    /// Whether a message was retransmitted in this state.
+    /// Whether a message was retransmitted in this state, or in the active state whether the leg waits for its data link.
     pub resent: bool,
 }
 

@@ -14,6 +14,7 @@ mod channels;
 mod elements;
 mod exchange;
 mod legs;
+mod links;
 mod new_call;
 mod no_leg;
 mod numbers;

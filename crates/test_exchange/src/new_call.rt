@@ -158,30 +158,43 @@ impl ReferenceExchange {
         if self.is_idle(x) { Some(x) } else { None }
     }
 
-    // Returns the lowest idle slot of the called line, other than the caller's.
+    // Returns the lowest idle slot of the called line, other than the caller's. The line's data link must be up.
     fn called_slot(&self, line: u8, caller: Slot) -> Result<Slot, Refusal>
         ensures { IfOk result (λ x. x.place < 30) }
     {
+        if self.is_down(line) {
+            return Err(Refusal::LinkDown);
+        }
         self.lowest_idle(line, Some(caller))
             .ok_or(Refusal::CalledLineFull)
     }
 
-    // Returns the lowest idle slot, other than the caller's, of the first line that has one, and whether it is a line
-    // after a full one.
+    // Returns the lowest idle slot, other than the caller's, of the first line that has one and whose data link is up, and
+    // whether it is a line after a full one, or after one whose data link is down.
     fn hunt(&self, lines: &Hunted, caller: Slot) -> Result<(Slot, Course), Refusal>
         ensures { IfOk result (λ found. found.0.place < 30) }
     {
         let mut course = Course::Offered;
+        let mut are_down = true;
         for entry in lines {
             let Some(line) = *entry else {
                 break;
             };
+            if self.is_down(line) {
+                course = Course::OfferedBehindDown;
+                continue;
+            }
+            are_down = false;
             if let Some(x) = self.lowest_idle(line, Some(caller)) {
                 return Ok((x, course));
             }
             course = Course::OfferedBehindFull;
         }
-        Err(Refusal::AllLinesFull)
+        Err(if are_down {
+            Refusal::AllLinksDown
+        } else {
+            Refusal::AllLinesFull
+        })
     }
 
     // The caller is sent its channel, and is to send the rest of the number.

@@ -16,6 +16,10 @@ pub enum ReferenceEvent {
     Free(Slot),
     /// A message from the user of a line.
     Message(u8, Vec<u8>),
+    /// The data link of a line is up.
+    LinkUp(u8),
+    /// The data link of a line is down.
+    LinkDown(u8),
     /// A frame, with the octets of each line that is not idle.
     Frame(Vec<Option<[u8; 30]>>),
 }
@@ -62,7 +66,8 @@ impl ReferenceRun {
         self.moved
     }
 
-    /// Processes an event and appends its line to the report. Returns the result of a message.
+    /// Processes an event and appends its line to the report. Returns the result of a message, or of a
+    /// change of a data link.
     pub fn step(
         &mut self,
         alloc: Global,
@@ -76,7 +81,16 @@ impl ReferenceRun {
             ReferenceEvent::Seat(x, room) => self.seat(alloc, *x, *room)?,
             ReferenceEvent::Free(x) => self.free(*x)?,
             ReferenceEvent::Message(line, octets) => {
-                course = Some(self.message(alloc, *line, octets.as_slice())?);
+                let sent = self.exchange.message(alloc, *line, octets.as_slice())?;
+                course = Some(self.tell_sent(&sent)?);
+            }
+            ReferenceEvent::LinkUp(line) => {
+                let sent = self.exchange.link_up(alloc, *line)?;
+                course = Some(self.tell_sent(&sent)?);
+            }
+            ReferenceEvent::LinkDown(line) => {
+                let sent = self.exchange.link_down(alloc, *line)?;
+                course = Some(self.tell_sent(&sent)?);
             }
             ReferenceEvent::Frame(input) => self.frame(alloc, input.as_slice())?,
         }
@@ -113,13 +127,13 @@ impl ReferenceRun {
             .push_str(if freed { "freed" } else { "notnailed" })
     }
 
-    fn message(&mut self, alloc: Global, line: u8, octets: &[u8]) -> Result<Course, AllocError> {
-        let sent = self.exchange.message(alloc, line, octets)?;
+    // Appends the messages that are sent, and records the calls that end. Returns the result.
+    fn tell_sent(&mut self, sent: &StepOutput) -> Result<Course, AllocError> {
         self.records.extend_from_slice(sent.records.as_slice())?;
         if let Some((there, back)) = sent.moved {
             self.count_moved(there, back);
         }
-        append_sent(&mut self.report, &sent)?;
+        append_sent(&mut self.report, sent)?;
         Ok(sent.course)
     }
 

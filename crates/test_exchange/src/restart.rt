@@ -12,30 +12,39 @@ use crate::writing::{add_channel, add_element};
 use circuit_model::{CHANNELS_PER_LINE, Slot};
 use std::alloc::{AllocError, Global};
 
-// The scope of a RESTART: the place of one channel, or every channel of the line if it is `None`; and the octet of its
-// restart indicator.
+/// The scope of a RESTART: the place of one channel, or every channel of the line if it is `None`; the octet of its
+/// restart indicator, and the cause for the other legs of the calls.
 #[derive(Clone, Copy)]
-struct Scope {
+pub(crate) struct Scope {
     place: Option<u8>,
     indicator: u8,
+    cause: u8,
 }
 
 impl Scope {
+    /// Returns every channel of a line, with this cause.
+    pub(crate) fn line(cause: u8) -> Scope {
+        Scope {
+            place: None,
+            indicator: 0x86,
+            cause,
+        }
+    }
+
     // Returns the scope of a RESTART that is accepted.
     fn of(message: &Received) -> Option<Scope> {
         if message.kind != RESTART || message.flag {
             return None;
         }
         let indicator = *message.find(RESTART_INDICATOR)?.first()?;
+        let line = Scope::line(TEMPORARY_FAILURE);
         match indicator {
             0x80 => Some(Scope {
                 place: Some(place_named(message)?),
                 indicator,
+                ..line
             }),
-            0x86 | 0x87 => Some(Scope {
-                place: None,
-                indicator,
-            }),
+            0x86 | 0x87 => Some(Scope { indicator, ..line }),
             _ => None,
         }
     }
@@ -92,8 +101,8 @@ impl ReferenceExchange {
         Ok(())
     }
 
-    // Removes a leg whose slot is restarted. Its call is recorded at the first of its legs.
-    fn restart_leg(
+    /// Removes a leg whose slot is restarted. Its call is recorded at the first of its legs.
+    pub(crate) fn restart_leg(
         &mut self,
         alloc: Global,
         leg: Leg,
@@ -106,11 +115,11 @@ impl ReferenceExchange {
             Some(peer) if peer.is_calling() => peer.at,
             _ => leg.at,
         };
-        tell_restarted(calls, caller, sent)?;
+        tell_restarted(calls, caller, scope.cause, sent)?;
         self.remove(leg);
         match peer {
             Some(peer) if scope.holds(leg.at.line, peer.at) => Ok(()),
-            _ => self.clear_peer(alloc, leg, TEMPORARY_FAILURE, sent),
+            _ => self.clear_peer(alloc, leg, scope.cause, sent),
         }
     }
 }
@@ -119,14 +128,12 @@ impl ReferenceExchange {
 fn tell_restarted(
     calls: &[CallRecord],
     caller: Slot,
+    cause: u8,
     sent: &mut StepOutput,
 ) -> Result<(), AllocError> {
     let told = calls.iter().find(|call| call.caller == caller).copied();
     if let (Some(call), false) = (told, is_told(sent.records.as_slice(), caller)) {
-        sent.records.push(CallRecord {
-            cause: TEMPORARY_FAILURE,
-            ..call
-        })?;
+        sent.records.push(CallRecord { cause, ..call })?;
     }
     Ok(())
 }

@@ -8,7 +8,7 @@ use crate::writing::{add_cause, add_state, bare_message};
 use circuit_model::Slot;
 use std::alloc::{AllocError, Global};
 
-/// The result of a message.
+/// The result of a message, or of a change of a data link.
 #[derive(Clone, Copy, PartialEq, Eq)]
 pub enum Course {
     /// The octets are not a message.
@@ -39,8 +39,19 @@ pub enum Course {
     Offered,
     /// It requested a call to a list of lines, of which the first is full: the call is offered to a later one.
     OfferedBehindFull,
+    /// It requested a call to a list of lines, of which the data link of the first is down: the call is offered to a
+    /// later one.
+    OfferedBehindDown,
     /// It requested a call to a room, which is connected.
     Seated,
+    /// A data link is down, and no leg was removed.
+    LinkDown,
+    /// A data link is down, and legs were removed.
+    LinkDownUnderCalls,
+    /// A data link is up, and no user was sent a message.
+    LinkUp,
+    /// A data link is up, and users were sent messages.
+    LinkUpUnderCalls,
 }
 
 /// A message to the user of a line.
@@ -78,10 +89,10 @@ pub struct CallRecord {
     pub cause: u8,
 }
 
-/// The reply to a message.
+/// The reply to a message, or to a change of a data link.
 #[derive(Drop)]
 pub struct StepOutput {
-    /// The result of the message.
+    /// The result of the event.
     pub course: Course,
     /// The messages that are sent, in order.
     pub sends: Vec<Signal>,

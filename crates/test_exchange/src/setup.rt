@@ -29,9 +29,13 @@ pub enum Refusal {
     ChannelTaken,
     /// The caller's line has no idle slot.
     LineFull,
+    /// The data link of the called line is down.
+    LinkDown,
+    /// The data link of each line of the called list is down.
+    AllLinksDown,
     /// The called line has no idle slot other than the caller's.
     CalledLineFull,
-    /// No line of the called list has an idle slot other than the caller's.
+    /// No line of the called list whose data link is up has an idle slot other than the caller's.
     AllLinesFull,
     /// No conference port is free.
     NoPort,
@@ -47,6 +51,7 @@ impl Refusal {
             Refusal::NoNumber | Refusal::NoDigits | Refusal::UnfinishedNumber => 28,
             Refusal::UnknownNumber => 1,
             Refusal::ChannelTaken => 44,
+            Refusal::LinkDown | Refusal::AllLinksDown => 27,
             Refusal::LineFull | Refusal::CalledLineFull | Refusal::AllLinesFull => 34,
             Refusal::NoPort => 42,
         }

@@ -4,7 +4,8 @@ use crate::exchange::ReferenceExchange;
 use crate::legs::{Leg, State, leg_at};
 use crate::sent::StepOutput;
 use crate::types::{
-    INVALID_NUMBER, NO_ANSWER, NO_USER_RESPONDING, RELEASE, RELEASE_COMPLETE, TIMER_EXPIRY,
+    DESTINATION_OUT_OF_ORDER, INVALID_NUMBER, NO_ANSWER, NO_USER_RESPONDING, RELEASE,
+    RELEASE_COMPLETE, TIMER_EXPIRY,
 };
 use crate::writing::{add_cause, bare_message};
 use circuit_model::{CHANNELS_PER_LINE, Circuit, Kind, Slot};
@@ -26,6 +27,8 @@ pub struct ReferenceTimers {
     pub t305: u32,
     /// For the reply to a RELEASE.
     pub t308: u32,
+    /// For a data link that is down, at an active leg.
+    pub t309: u32,
     /// For the message after the called user's CALL PROCEEDING.
     pub t310: u32,
 }
@@ -39,6 +42,7 @@ impl Default for ReferenceTimers {
             t303: 4 * SECOND,
             t305: 30 * SECOND,
             t308: 4 * SECOND,
+            t309: 6 * SECOND,
             t310: 10 * SECOND,
         }
     }
@@ -57,6 +61,8 @@ pub enum Expiry {
     Proceeding,
     /// The called user, who is alerted and has not answered, is cleared.
     Alerting,
+    /// The leg, whose data link has been down in the active state, is removed.
+    Outage,
     /// RELEASE follows DISCONNECT.
     Disconnect,
     /// RELEASE is retransmitted.
@@ -96,6 +102,7 @@ fn limit(leg: Leg, timers: ReferenceTimers) -> Option<(u32, Expiry)> {
         State::Disconnected => Some((timers.t305, Expiry::Disconnect)),
         State::Releasing if leg.resent => Some((timers.t308, Expiry::ReleaseOver)),
         State::Releasing => Some((timers.t308, Expiry::ReleaseAgain)),
+        State::Active if leg.resent => Some((timers.t309, Expiry::Outage)),
         State::CallProceeding | State::Delivered | State::Active => None,
     }
 }
@@ -135,10 +142,10 @@ impl ReferenceExchange {
         })?;
         let calls = self.calls(alloc)?;
         self.run_out(alloc, leg, expiry, sent)?;
-        let cause = if expiry == Expiry::Alerting {
-            NO_ANSWER
-        } else {
-            NO_USER_RESPONDING
+        let cause = match expiry {
+            Expiry::Alerting => NO_ANSWER,
+            Expiry::Outage => DESTINATION_OUT_OF_ORDER,
+            _ => NO_USER_RESPONDING,
         };
         self.tell_ended(calls.as_slice(), cause, sent)
     }
@@ -193,6 +200,10 @@ impl ReferenceExchange {
                 self.clear_leg(alloc, leg, TIMER_EXPIRY, sent)?;
                 self.clear_peer(alloc, leg, NO_ANSWER, sent)
             }
+            Expiry::Outage => {
+                self.remove(leg);
+                self.clear_peer(alloc, leg, DESTINATION_OUT_OF_ORDER, sent)
+            }
             Expiry::Disconnect => {
                 self.set_state(leg, State::Releasing);
                 self.send_release(alloc, leg, Some(leg.cause), sent)
@@ -219,8 +230,8 @@ impl ReferenceExchange {
         Ok(())
     }
 
-    // The leg at a slot, whose message is retransmitted, waits from the next frame on.
-    fn wait_again(&mut self, at: Slot) {
+    /// The leg at a slot, whose message is retransmitted or whose data link is down, waits from the next frame on.
+    pub(crate) fn wait_again(&mut self, at: Slot) {
         let since = self.next_frame();
         for held in self.legs.iter_mut() {
             if held.at == at {

@@ -91,10 +91,14 @@ pub const USER_BUSY: u8 = 17;
 pub const NO_USER_RESPONDING: u8 = 18;
 /// Cause: no answer from user, who is alerted.
 pub const NO_ANSWER: u8 = 19;
+/// Cause: destination out of order.
+pub const DESTINATION_OUT_OF_ORDER: u8 = 27;
 /// Cause: invalid number format, which is an incomplete number too.
 pub const INVALID_NUMBER: u8 = 28;
 /// Cause: response to STATUS ENQUIRY.
 pub const RESPONSE_TO_STATUS_ENQUIRY: u8 = 30;
+/// Cause: normal, unspecified.
+pub const NORMAL_UNSPECIFIED: u8 = 31;
 /// Cause: temporary failure.
 pub const TEMPORARY_FAILURE: u8 = 41;
 /// Cause: invalid call reference value.

@@ -1,17 +1,17 @@
-//! The number of messages with each effect.
+//! The number of messages and of changes of data links with each effect.
 
 use std::fmt;
 use test_exchange::{Act, Course, Refusal};
 
-/// The number of messages with each effect.
+/// The number of messages and of changes of data links with each effect.
 #[derive(Clone, Copy)]
 pub struct Counts {
     // In the order of `COURSES`.
-    counts: [u32; 40],
+    counts: [u32; 48],
 }
 
-// Each effect of a message.
-const COURSES: [Course; 40] = [
+// Each effect of a message, and of a change of a data link.
+const COURSES: [Course; 48] = [
     Course::Discarded,
     Course::Unanswered,
     Course::NoLeg,
@@ -23,7 +23,12 @@ const COURSES: [Course; 40] = [
     Course::DialledRoom,
     Course::Offered,
     Course::OfferedBehindFull,
+    Course::OfferedBehindDown,
     Course::Seated,
+    Course::LinkDown,
+    Course::LinkDownUnderCalls,
+    Course::LinkUp,
+    Course::LinkUpUnderCalls,
     Course::For(Act::Nothing),
     Course::For(Act::Unexpected),
     Course::For(Act::Enquiry),
@@ -43,6 +48,8 @@ const COURSES: [Course; 40] = [
     Course::Refused(Refusal::UnfinishedNumber),
     Course::Refused(Refusal::ChannelTaken),
     Course::Refused(Refusal::LineFull),
+    Course::Refused(Refusal::LinkDown),
+    Course::Refused(Refusal::AllLinksDown),
     Course::Refused(Refusal::CalledLineFull),
     Course::Refused(Refusal::AllLinesFull),
     Course::Refused(Refusal::NoPort),
@@ -50,6 +57,7 @@ const COURSES: [Course; 40] = [
     Course::GivenUp(Refusal::NoDigits),
     Course::GivenUp(Refusal::UnknownNumber),
     Course::GivenUp(Refusal::UnfinishedNumber),
+    Course::GivenUp(Refusal::LinkDown),
     Course::GivenUp(Refusal::CalledLineFull),
     Course::GivenUp(Refusal::NoPort),
 ];
@@ -57,10 +65,10 @@ const COURSES: [Course; 40] = [
 impl Counts {
     /// Returns counts of 0.
     pub fn new() -> Counts {
-        Counts { counts: [0; 40] }
+        Counts { counts: [0; 48] }
     }
 
-    /// Counts one message.
+    /// Counts one message or change.
     pub fn count(&mut self, course: Course) {
         for (entry, count) in COURSES.iter().zip(self.counts.iter_mut()) {
             if *entry == course {
@@ -110,7 +118,12 @@ fn words_for(course: Course) -> &'static str {
         Course::DialledRoom => "seated once dialled",
         Course::Offered => "offered",
         Course::OfferedBehindFull => "offered behind a full line",
+        Course::OfferedBehindDown => "offered behind a line that is down",
         Course::Seated => "seated",
+        Course::LinkDown => "links down",
+        Course::LinkDownUnderCalls => "links down under calls",
+        Course::LinkUp => "links up",
+        Course::LinkUpUnderCalls => "links up under calls",
         Course::For(act) => name_of(act),
         Course::Refused(refusal) => words_of(refusal),
         Course::GivenUp(refusal) => words_of_clearing(refusal),
@@ -144,6 +157,8 @@ fn words_of(refusal: Refusal) -> &'static str {
         Refusal::UnfinishedNumber => "unfinished number",
         Refusal::ChannelTaken => "channel taken",
         Refusal::LineFull => "line full",
+        Refusal::LinkDown => "called line down",
+        Refusal::AllLinksDown => "all lines of a list down",
         Refusal::CalledLineFull => "called line full",
         Refusal::AllLinesFull => "all lines of a list full",
         Refusal::NoPort => "no port",
@@ -157,6 +172,8 @@ fn words_of_clearing(refusal: Refusal) -> &'static str {
         Refusal::NoDigits => "cleared for no digits",
         Refusal::UnknownNumber => "cleared for an unknown number",
         Refusal::UnfinishedNumber => "cleared for an unfinished number",
+        Refusal::LinkDown => "cleared for a line that is down",
+        Refusal::AllLinksDown => "cleared for lines that are down",
         Refusal::CalledLineFull => "cleared for a full line",
         Refusal::AllLinesFull => "cleared for full lines",
         Refusal::NoPort => "cleared for want of a port",

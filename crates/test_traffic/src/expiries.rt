@@ -8,7 +8,7 @@ use test_exchange::{ExpiredTimer, Expiry};
 #[derive(Clone, Copy)]
 pub struct Expiries {
     // In the order of `EACH`.
-    counts: [u32; 8],
+    counts: [u32; 9],
     beyond: u32,
     beside: u32,
     ringing: u32,
@@ -16,12 +16,13 @@ pub struct Expiries {
 }
 
 // Each kind of expiry.
-const EACH: [Expiry; 8] = [
+const EACH: [Expiry; 9] = [
     Expiry::Digits,
     Expiry::SetupAgain,
     Expiry::SetupOver,
     Expiry::Proceeding,
     Expiry::Alerting,
+    Expiry::Outage,
     Expiry::Disconnect,
     Expiry::ReleaseAgain,
     Expiry::ReleaseOver,
@@ -31,7 +32,7 @@ impl Expiries {
     /// Returns counts of 0.
     pub fn new() -> Expiries {
         Expiries {
-            counts: [0; 8],
+            counts: [0; 9],
             beyond: 0,
             beside: 0,
             ringing: 0,
@@ -125,6 +126,7 @@ fn words_for(expiry: Expiry) -> &'static str {
         Expiry::SetupOver => "times no answer to it",
         Expiry::Proceeding => "times nothing behind CALL PROCEEDING",
         Expiry::Alerting => "times no answer behind ALERTING",
+        Expiry::Outage => "times a data link down too long",
         Expiry::Disconnect => "times no answer to DISCONNECT",
         Expiry::ReleaseAgain => "times RELEASE again",
         Expiry::ReleaseOver => "times no answer to it",

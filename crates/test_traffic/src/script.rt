@@ -69,6 +69,7 @@ fn worker_of(event: &ReferenceEvent, processors: u8) -> u8 {
     let line = match event {
         ReferenceEvent::Nail(x, _) | ReferenceEvent::Seat(x, _) | ReferenceEvent::Free(x) => x.line,
         ReferenceEvent::Message(line, _) => *line,
+        ReferenceEvent::LinkUp(line) | ReferenceEvent::LinkDown(line) => *line,
         ReferenceEvent::Frame(_) => return processors,
     };
     line.checked_rem(processors).unwrap_or(0)
@@ -87,6 +88,8 @@ fn append_event(text: &mut String, event: &ReferenceEvent) -> Result<(), AllocEr
         }
         ReferenceEvent::Free(x) => append_slot(text, "free", *x)?,
         ReferenceEvent::Message(line, octets) => append_message(text, *line, octets.as_slice())?,
+        ReferenceEvent::LinkUp(line) => write!(text, "up {line}")?,
+        ReferenceEvent::LinkDown(line) => write!(text, "down {line}")?,
         ReferenceEvent::Frame(input) => append_frame(text, input.as_slice())?,
     }
     text.push_str("\n")

@@ -172,6 +172,7 @@ fn draw_timers(random: &mut Random) -> ReferenceTimers {
         t303: draw_timer(random, usual.t303),
         t305: draw_timer(random, usual.t305),
         t308: draw_timer(random, usual.t308),
+        t309: draw_timer(random, usual.t309),
         t310: draw_timer(random, usual.t310),
     }
 }
@@ -185,6 +186,7 @@ fn append_timers(text: &mut String, timers: &ReferenceTimers) -> Result<(), Allo
         ("T303", timers.t303, usual.t303),
         ("T305", timers.t305, usual.t305),
         ("T308", timers.t308, usual.t308),
+        ("T309", timers.t309, usual.t309),
         ("T310", timers.t310, usual.t310),
     ] {
         if frames != usual {
@@ -302,24 +304,28 @@ impl Setting {
 
 /// Generates a trace of n events, for 1 to 8 call processors: calls on several lines with the replies of both sides,
 /// and nailed connections, seats, releases and frames. Some traces start with a line that is almost full, or with many
-/// nailed connections. Some have sequences of at least 30 frames. Most set tones, and timers of few frames. The users
-/// react to the result in file order.
+/// nailed connections. Some have sequences of at least 30 frames, and some have data links that go down and come up. Most
+/// set tones, and timers of few frames. The users react to the result in file order.
 pub fn draw_traffic(alloc: Global, random: &mut Random, events: u32) -> Result<Drawn, AllocError> {
     let setting = Setting::draw(alloc, random)?;
     let processors = 1 + random.below(8);
     let pace = draw_pace(random);
     let mut pauses = Pauses::draw(random);
     let crowd = Crowd::draw(random, &pauses);
+    let outages = Outages::draw(random);
     let mut draft = Draft::new(alloc, &setting, processors)?;
     for number in 0..events {
-        let event = draft.next_event(alloc, random, &mut pauses, crowd, number)?;
+        let event = match outages.draw_change(random, draft.run.exchange()) {
+            Some(change) => change,
+            None => draft.next_event(alloc, random, &mut pauses, crowd, number)?,
+        };
         draft.take(alloc, event, random.once_in(pace))?;
     }
     Ok(draft.drawn(setting))
 }
 
 /// Generates a trace of n events in one segment, for 4 call processors and 4 lines, like a trace of [`draw_traffic`]
-/// without sequences of frames.
+/// without sequences of frames and changes of data links.
 pub fn draw_long_traffic(
     alloc: Global,
     random: &mut Random,
@@ -470,6 +476,38 @@ impl Pauses {
             return true;
         }
         false
+    }
+}
+
+// The changes of data links: one event in `times` is one, none if 0.
+#[derive(Clone, Copy)]
+struct Outages {
+    times: u8,
+}
+
+impl Outages {
+    fn draw(random: &mut Random) -> Outages {
+        Outages {
+            times: random.pick(&[0, 0, 0, 30, 90]),
+        }
+    }
+
+    // Returns a change of a line's data link: mostly it comes up if it is down, and goes down otherwise. Returns `None` for
+    // another event.
+    fn draw_change(
+        self,
+        random: &mut Random,
+        exchange: &ReferenceExchange,
+    ) -> Option<ReferenceEvent> {
+        if self.times == 0 || !random.once_in(self.times) {
+            return None;
+        }
+        let line = random.below(exchange.external().max(1));
+        if exchange.is_down(line) != random.once_in(6) {
+            Some(ReferenceEvent::LinkUp(line))
+        } else {
+            Some(ReferenceEvent::LinkDown(line))
+        }
     }
 }
 

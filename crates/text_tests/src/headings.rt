@@ -17,7 +17,10 @@ const TRACES: [&[&str]; 3] = [
         "number 00 room 63",
         "tone busy  44",
         "timer T303 7",
+        "timer T309 9",
+        "down 0",
         "M 0 08fF05",
+        "up  0",
         "sync",
         "F",
         "#",
@@ -149,6 +152,7 @@ fn is_heading_of(heading: &Heading, trace: &Trace) -> bool {
         && heading.tones().busy.as_slice() == trace.tones.busy.as_slice()
         && heading.timers().t303 == trace.timers.t303
         && heading.timers().t305 == trace.timers.t305
+        && heading.timers().t309 == trace.timers.t309
 }
 
 fn tells_the_same(follower: &Follower, trace: &Trace) -> bool {
@@ -170,7 +174,7 @@ fn a_heading_tells_what_a_trace_says(rt: HostRuntime) -> Result<(), Fail> {
 }
 
 // Lines that are refused after the lines of `BEFORE`, each for its reason.
-const REFUSED: [(&str, Reason); 8] = [
+const REFUSED: [(&str, Reason); 12] = [
     ("exchange 1 2 1 3", Reason::Word),
     ("number 121 line 0", Reason::Prefix),
     ("number 4x line 0", Reason::Number),
@@ -179,6 +183,10 @@ const REFUSED: [(&str, Reason); 8] = [
     ("M 2", Reason::Slot),
     ("M 0 0", Reason::Hex),
     ("F 1:00", Reason::Length),
+    ("up 2", Reason::Slot),
+    ("down 00", Reason::Slot),
+    ("down", Reason::Word),
+    ("up 0 1", Reason::Word),
 ];
 
 const BEFORE: [&str; 4] = [

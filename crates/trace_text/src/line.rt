@@ -97,8 +97,8 @@ pub(crate) fn message_of(alloc: Global, external: u8, line: &[u8]) -> Result<Eve
 fn only_line(external: u8, line: &[u8]) -> Result<u8, Reason>
     ensures { result ≡ only_line external (words line.now) }
 {
-    let (word, rest) = first_word(line).ok_or(Reason::Word)?;
-    if first_word(rest).is_some() {
+    let (word, others) = first_word(line).ok_or(Reason::Word)?;
+    if first_word(others).is_some() {
         return Err(Reason::Word);
     }
     line_of_word(external, word).ok_or(Reason::Slot)

@@ -12,43 +12,50 @@ use test_exchange::{
 enum Step {
     /// A message on a line, in hexadecimal digits.
     Message(u8, &'static str),
+    /// The data link of a line is up.
+    Up(u8),
+    /// The data link of a line is down.
+    Down(u8),
     /// Frames without octets.
     Frames(u8),
 }
 
-use Step::{Frames, Message};
+use Step::{Down, Frames, Message, Up};
 
 /// A worked example: its timers, its steps, and the lines of the report, without the lines of frames that send no
 /// message.
 struct Worked {
-    /// The frames of T301, T302, T303, T305, T308 and T310.
-    timers: [u32; 6],
+    /// The frames of T301, T302, T303, T305, T308, T309 and T310.
+    timers: [u32; 7],
     steps: &'static [Step],
     wanted: &'static [&'static str],
-    /// The frame in which the last call ended, and its cause.
-    ended: Option<(u32, u8)>,
+    /// The first frame of the last call's conversation, or the next one if there was none; the frame in which the call
+    /// ended, and its cause.
+    ended: Option<(u32, u32, u8)>,
 }
 
 const LONG: u32 = 999_999_999;
 
 const SETUP: Step = Message(0, "080200010504038090A31803A98381700480313031");
 
+const CONNECT: Step = Message(1, "0802800107");
+
 const OFFERED: &str =
     "1 message 0:08028001021803A98381 1:0802000105A104038090A31803A98381700480313031";
 
-const WORKED: [Worked; 13] = [
+const WORKED: [Worked; 17] = [
     Worked {
-        timers: [LONG, LONG, 1, LONG, LONG, LONG],
+        timers: [LONG, LONG, 1, LONG, LONG, LONG, LONG],
         steps: &[SETUP, Frames(61)],
         wanted: &[
             OFFERED,
             "32 frame 30 send 1:0802000105A104038090A31803A98381700480313031",
             "62 frame 60 send 1:080200015A080282E6 send 0:080280014508028292",
         ],
-        ended: Some((61, 18)),
+        ended: Some((61, 61, 18)),
     },
     Worked {
-        timers: [LONG, LONG, LONG, 1, 1, LONG],
+        timers: [LONG, LONG, LONG, 1, 1, LONG, LONG],
         steps: &[
             Message(0, "080200010504038090A370028031"),
             Message(0, "080200017B70028039"),
@@ -65,17 +72,17 @@ const WORKED: [Worked; 13] = [
         ended: None,
     },
     Worked {
-        timers: [LONG, LONG, 1, LONG, LONG, 40],
+        timers: [LONG, LONG, 1, LONG, LONG, LONG, 40],
         steps: &[SETUP, Message(1, "0802800102"), Frames(61)],
         wanted: &[
             OFFERED,
             "2 message",
             "63 frame 60 send 1:0802000145080282E6 send 0:080280014508028292",
         ],
-        ended: Some((61, 18)),
+        ended: Some((61, 61, 18)),
     },
     Worked {
-        timers: [LONG, 30, LONG, LONG, LONG, LONG],
+        timers: [LONG, 30, LONG, LONG, LONG, LONG, LONG],
         steps: &[
             Message(0, "080200010504038090A370028031"),
             Frames(30),
@@ -93,7 +100,7 @@ const WORKED: [Worked; 13] = [
         ended: None,
     },
     Worked {
-        timers: [LONG, LONG, 29, LONG, LONG, LONG],
+        timers: [LONG, LONG, 29, LONG, LONG, LONG, LONG],
         steps: &[Frames(1), SETUP, Frames(30)],
         wanted: &[
             "2 message 0:08028001021803A98381 1:0802000105A104038090A31803A98381700480313031",
@@ -102,7 +109,7 @@ const WORKED: [Worked; 13] = [
         ended: None,
     },
     Worked {
-        timers: [LONG, LONG, 30, LONG, LONG, LONG],
+        timers: [LONG, LONG, 30, LONG, LONG, LONG, LONG],
         steps: &[Frames(1), SETUP, Frames(60)],
         wanted: &[
             "2 message 0:08028001021803A98381 1:0802000105A104038090A31803A98381700480313031",
@@ -112,7 +119,7 @@ const WORKED: [Worked; 13] = [
     },
     // RELEASE by T305, and again by T308, to a called user.
     Worked {
-        timers: [LONG, LONG, LONG, 1, 1, LONG],
+        timers: [LONG, LONG, LONG, 1, 1, LONG, LONG],
         steps: &[
             SETUP,
             Message(0, "08020001450802809F"),
@@ -131,11 +138,11 @@ const WORKED: [Worked; 13] = [
             "94 message 1:080200017D0802829E140113",
             "96 message 1:080200017D0802829E140100",
         ],
-        ended: Some((0, 31)),
+        ended: Some((0, 0, 31)),
     },
     // RELEASE without a cause, and its retransmission.
     Worked {
-        timers: [LONG, LONG, LONG, LONG, 30, LONG],
+        timers: [LONG, LONG, LONG, LONG, 30, LONG, LONG],
         steps: &[
             SETUP,
             Message(0, "08020001450802809F"),
@@ -150,11 +157,11 @@ const WORKED: [Worked; 13] = [
             "34 frame 30 send 0:080280014D",
             "95 message 0:080280017D0802829E140100",
         ],
-        ended: Some((0, 31)),
+        ended: Some((0, 0, 31)),
     },
     // CALL PROCEEDING for the second SETUP: RELEASE is sent twice too.
     Worked {
-        timers: [LONG, LONG, 1, 1, 1, 1],
+        timers: [LONG, LONG, 1, 1, 1, LONG, 1],
         steps: &[
             SETUP,
             Frames(31),
@@ -177,11 +184,11 @@ const WORKED: [Worked; 13] = [
             "154 message 1:080200017D0802829E140113",
             "156 message 1:080200017D0802829E140100",
         ],
-        ended: Some((61, 18)),
+        ended: Some((61, 61, 18)),
     },
     // ALERTING again does not restart T301, and the caller is cleared with another cause than the called user.
     Worked {
-        timers: [40, LONG, LONG, LONG, LONG, LONG],
+        timers: [40, LONG, LONG, LONG, LONG, LONG, LONG],
         steps: &[
             SETUP,
             Message(1, "0802800101"),
@@ -195,11 +202,11 @@ const WORKED: [Worked; 13] = [
             "34 message 1:080200017D080282E5140107",
             "64 frame 60 send 1:0802000145080282E6 send 0:080280014508028293",
         ],
-        ended: Some((61, 19)),
+        ended: Some((61, 61, 19)),
     },
     // The called user answers in the last frame before the one that examines its channel.
     Worked {
-        timers: [1, LONG, LONG, LONG, LONG, LONG],
+        timers: [1, LONG, LONG, LONG, LONG, LONG, LONG],
         steps: &[
             SETUP,
             Message(1, "0802800101"),
@@ -216,7 +223,7 @@ const WORKED: [Worked; 13] = [
     },
     // RESTART while T303 runs for the second time, and the channel used again.
     Worked {
-        timers: [LONG, LONG, 1, LONG, LONG, LONG],
+        timers: [LONG, LONG, 1, LONG, LONG, LONG, LONG],
         steps: &[
             SETUP,
             Frames(60),
@@ -234,11 +241,11 @@ const WORKED: [Worked; 13] = [
             "95 frame 90 send 1:0802000105A1040288901803A98381700480313031",
             "125 frame 120 send 1:080200015A080282E6 send 0:080280024508028292",
         ],
-        ended: Some((121, 18)),
+        ended: Some((121, 121, 18)),
     },
     // Channels 31, 1 and 2 of three lines, whose callers began to wait in frames 0, 1 and 3.
     Worked {
-        timers: [LONG, 29, LONG, LONG, LONG, LONG],
+        timers: [LONG, 29, LONG, LONG, LONG, LONG, LONG],
         steps: &[
             Message(0, "080200010504038090A31803A9839F70028031"),
             Message(0, "080200020504038090A31803A9838170028031"),
@@ -272,6 +279,79 @@ const WORKED: [Worked; 13] = [
         ],
         ended: None,
     },
+    // A link that is down for 31 frames under an active call. The second failure does not restart T309.
+    Worked {
+        timers: [LONG, LONG, LONG, LONG, LONG, 31, LONG],
+        steps: &[SETUP, CONNECT, Down(1), Frames(30), Down(1), Frames(31)],
+        wanted: &[
+            OFFERED,
+            "2 message moved 0 0 1:080200010F 0:0802800107",
+            "3 message",
+            "34 message",
+            "65 frame 60 send 0:08028001450802829B",
+        ],
+        ended: Some((0, 61, 27)),
+    },
+    // The link is up again in time: STATUS with cause 31 and state 10. T309 starts again when it is down again.
+    Worked {
+        timers: [LONG, LONG, LONG, LONG, LONG, 31, LONG],
+        steps: &[
+            SETUP,
+            CONNECT,
+            Down(0),
+            Frames(31),
+            Up(0),
+            Frames(30),
+            Down(0),
+            Frames(31),
+        ],
+        wanted: &[
+            OFFERED,
+            "2 message moved 0 0 1:080200010F 0:0802800107",
+            "3 message",
+            "35 message 0:080280017D0802829F14010A",
+            "66 message",
+        ],
+        ended: None,
+    },
+    // A link that is down under a call that is not answered: the caller is cleared, and the next call is refused.
+    Worked {
+        timers: [LONG, LONG, LONG, LONG, LONG, 1, LONG],
+        steps: &[
+            SETUP,
+            Frames(2),
+            Down(1),
+            Message(0, "080200014D"),
+            Message(0, "080200020504038090A31803A98381700480313031"),
+        ],
+        wanted: &[
+            OFFERED,
+            "4 message 0:08028001450802829B",
+            "5 message 0:080280015A",
+            "6 message 0:080280025A0802829B",
+        ],
+        ended: Some((2, 2, 27)),
+    },
+    // A number is not complete when the link comes up: the caller is cleared with cause 41. The link of the called line is
+    // down when the rest of another number comes: that caller is cleared with cause 27.
+    Worked {
+        timers: [LONG, LONG, LONG, LONG, LONG, 1, LONG],
+        steps: &[
+            Message(0, "080200010504038090A370028031"),
+            Up(0),
+            Message(0, "080200020504038090A370028031"),
+            Down(1),
+            Message(0, "080200027B7003803031"),
+        ],
+        wanted: &[
+            "1 message 0:080280010D1803A98381",
+            "2 message 0:0802800145080282A9",
+            "3 message 0:080280020D1803A98382",
+            "4 message",
+            "5 message 0:08028002450802829B",
+        ],
+        ended: None,
+    },
 ];
 
 // Calls to 101 are routed to line 1.
@@ -290,6 +370,12 @@ fn take(alloc: Global, run: &mut ReferenceRun, step: Step) -> Result<(), Fail> {
             let event = ReferenceEvent::Message(line, hex::decode(alloc, digits)?);
             run.step(alloc, &event)?;
         }
+        Up(line) => {
+            run.step(alloc, &ReferenceEvent::LinkUp(line))?;
+        }
+        Down(line) => {
+            run.step(alloc, &ReferenceEvent::LinkDown(line))?;
+        }
         Frames(count) => {
             for _ in 0..count {
                 run.step(alloc, &ReferenceEvent::Frame(Vec::new(alloc)))?;
@@ -299,14 +385,15 @@ fn take(alloc: Global, run: &mut ReferenceRun, step: Step) -> Result<(), Fail> {
     Ok(())
 }
 
-fn timers_of(frames: [u32; 6]) -> ReferenceTimers {
-    let [t301, t302, t303, t305, t308, t310] = frames;
+fn timers_of(frames: [u32; 7]) -> ReferenceTimers {
+    let [t301, t302, t303, t305, t308, t309, t310] = frames;
     ReferenceTimers {
         t301,
         t302,
         t303,
         t305,
         t308,
+        t309,
         t310,
     }
 }
@@ -335,13 +422,13 @@ fn is_wanted(report: &str, wanted: &[&str]) -> bool {
 }
 
 // Returns the record of the call between the first channels of lines 0 and 1.
-fn unanswered((to, cause): (u32, u8)) -> CallRecord {
+fn call_of((from, to, cause): (u32, u32, u8)) -> CallRecord {
     let place = 0;
     CallRecord {
         caller: Slot { line: 0, place },
         called: Party::Line(Slot { line: 1, place }),
-        answered: false,
-        from: to,
+        answered: from < to,
+        from,
         to,
         cause,
     }
@@ -352,7 +439,7 @@ fn comes_out(alloc: Global, worked: &Worked) -> Result<bool, Fail> {
     let run = run_of(alloc, worked)?;
     Ok(
         is_wanted(run.report(), worked.wanted)
-            && run.records().last().copied() == worked.ended.map(unanswered),
+            && run.records().last().copied() == worked.ended.map(call_of),
     )
 }
 

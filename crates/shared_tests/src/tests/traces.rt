@@ -16,6 +16,7 @@ const TIMERS: Timers = Timers {
     t303: 1,
     t305: 1,
     t308: 1,
+    t309: 1,
     t310: 1,
 };
 
