@@ -38,7 +38,8 @@ impl<P: PathMap> CallControl<P> {
         requires fresh { (out.old.sends ≡ []) × (out.old.moved ≡ None) }
         ensures makes { EachLinked tones.now self.old.map self.old.legs (λ s w.
             HasMade s self.new.map self.new.legs out.new (outcome_of_link s.dimensions s.tones true line w).making) }
-        ensures records { EachLinked tones.now self.old.map self.old.legs (λ s w. out.new.records ≡ (outcome_of_link s.dimensions s.tones true line w).recorded) }
+        ensures records { EachLinked tones.now self.old.map self.old.legs (λ s w.
+            out.new.records ≡ (outcome_of_link s.dimensions s.tones true line w).recorded) }
         ensures moved { out.new.moved ≡ None }
         ensures sizes { SameSizes self.old.map self.new.map }
     {
@@ -58,7 +59,8 @@ impl<P: PathMap> CallControl<P> {
         requires fresh { (out.old.sends ≡ []) × (out.old.moved ≡ None) }
         ensures makes { EachLinked tones.now self.old.map self.old.legs (λ s w.
             HasMade s self.new.map self.new.legs out.new (outcome_of_link s.dimensions s.tones false line w).making) }
-        ensures records { EachLinked tones.now self.old.map self.old.legs (λ s w. out.new.records ≡ (outcome_of_link s.dimensions s.tones false line w).recorded) }
+        ensures records { EachLinked tones.now self.old.map self.old.legs (λ s w.
+            out.new.records ≡ (outcome_of_link s.dimensions s.tones false line w).recorded) }
         ensures moved { out.new.moved ≡ None }
         ensures sizes { SameSizes self.old.map self.new.map }
     {

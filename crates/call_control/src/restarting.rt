@@ -98,8 +98,10 @@ impl<P: PathMap> CallControl<P> {
         requires at { leg_at self.old.legs held.slot ≡ Some held.leg }
         requires cause { cause < 128 }
         requires room { (length out.old.sends < max_sends) × (length records.old < max_records) }
-        ensures makes { Performs (restart_leg tones.now cause asked self.old.legs (Some held)) self.old.map self.old.legs out.old self.new.map self.new.legs out.new }
-        ensures records { (d : Dimensions) (w : World) → Holds d self.old.map self.old.legs w → records.new ≡ records.old ++ cons_option (record_ended w held cause) [] }
+        ensures makes { Performs (restart_leg tones.now cause asked self.old.legs (Some held))
+            self.old.map self.old.legs out.old self.new.map self.new.legs out.new }
+        ensures records { (d : Dimensions) (w : World) → Holds d self.old.map self.old.legs w
+            → records.new ≡ records.old ++ cons_option (record_ended w held cause) [] }
         ensures few { (length out.new.sends ≤ length out.old.sends + 1) × (length records.new ≤ length records.old + 1) }
         ensures moved { out.new.moved ≡ out.old.moved }
         ensures sizes { SameSizes self.old.map self.new.map }
@@ -125,7 +127,8 @@ impl<P: PathMap> CallControl<P> {
         requires count { length self.old.legs.held ≡ 30 * self.old.map.external }
         requires cause { cause < 128 }
         requires room { length out.old.sends < max_sends }
-        ensures makes { Performs (with_peer peer (restart_peer tones.now cause asked line)) self.old.map self.old.legs out.old self.new.map self.new.legs out.new }
+        ensures makes { Performs (with_peer peer (restart_peer tones.now cause asked line))
+            self.old.map self.old.legs out.old self.new.map self.new.legs out.new }
         ensures few { length out.new.sends ≤ length out.old.sends + 1 }
         ensures moved { out.new.moved ≡ out.old.moved }
         ensures sizes { SameSizes self.old.map self.new.map }

@@ -166,7 +166,7 @@ module _ (d : Dimensions) (tones : Tones) (m : Making) (x : Slot) (leg : Leg) (k
 
 -- ---- a slot
 
--- what holds of no operations, and of those of the leg that holds the slot, holds of those at the slot
+-- a fact of no operations, and of the operations of the leg that holds the slot, is a fact of the operations at the slot
 module _ (legs : Legs) (x : Slot) (does : Option HeldLeg → List Operation) (P : List Operation → Type 0) (none : P (does None))
     (some : (leg : Leg) → leg_at legs x ≡ Some leg → P (does (Some (record { slot = x; leg = leg })))) where
   held_by : (o : Option Leg) → leg_at legs x ≡ o → P (does (option_map (λ (leg : Leg). let held : HeldLeg = record { slot = x; leg = leg } in held) o))

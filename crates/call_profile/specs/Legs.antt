@@ -42,8 +42,8 @@ pending_at legs x = slice_index_or legs.pending (number_of x) None
 abbrev pub kept_at : Legs → Slot → Option (List ℕ)
 kept_at legs x = slice_index_or legs.kept (number_of x) None
 
--- a leg waits in its state from this frame on, after it gets its slot, and again after a retransmission; in active the
--- flag of the latter states that T309 runs (5.8.9)
+-- a leg waits in its state from this frame on, after it gets its slot, and again after a retransmission; in active
+-- the flag of a retransmission states that T309 runs (5.8.9)
 abbrev pub waiting_from : ℕ → Leg → Leg
 waiting_from next leg = record leg { since = next; resent = false }
 

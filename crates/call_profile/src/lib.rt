@@ -1,8 +1,9 @@
 //! Defines the rules of calls, in specifications that are read from top to bottom. `Step` gives the reply to each event
 //! and the exchange state after it. `Calls` gives the request of a message, and `ActCourse`, `Digits`, `Setup` and
-//! `Restarts` its list of operations (`Operations`). `LinkChanges` gives those of a data link that goes down or comes up. `Expiring` gives the turn of a frame. A few functions read a leg
-//! or a circuit ([`is_addressed_to`], [`waiting_from`], [`retransmitted_from`], [`is_calling`], [`party_of`],
-//! [`first_frame_of`]). The other functions are theorems on these definitions:
+//! `Restarts` its list of operations (`Operations`). `LinkChanges` gives the operations of a data link that goes down or
+//! comes up. `Expiring` gives the turn of a frame. A few functions read a leg or a circuit ([`is_addressed_to`],
+//! [`waiting_from`], [`retransmitted_from`], [`is_calling`], [`party_of`], [`first_frame_of`]). The other functions are
+//! theorems on these definitions:
 //!
 //! - Every event keeps the legs consistent ([`law_of_legs`]). A number is pending at exactly those legs that wait for
 //!   further digits. The state of a leg determines the circuit by which its slot receives. In release request, the

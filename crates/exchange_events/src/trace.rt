@@ -24,8 +24,7 @@ pub enum Event {
     Free(Slot),
     /// A message from the user of a line: 0 to 260 octets.
     Message(u8, Octets),
-    /// The data link of a line is up: it is established for the first time, again, or anew (DL-ESTABLISH indication or
-    /// confirm).
+    /// The data link of a line is up: it is established or re-established (DL-ESTABLISH indication or confirm).
     LinkUp(u8),
     /// The data link of a line is down (DL-RELEASE indication).
     LinkDown(u8),
