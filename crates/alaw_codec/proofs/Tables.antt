@@ -21,14 +21,14 @@ values_are : map widened VALUES ≡ map expand (range_with_len 0 256)
 unfolding decision_values
 values_are = refl
 
-entry : (table : List ℤ) (octet : ℕ) → map widened table ≡ map expand (range_with_len 0 256) → octet < 256 → widened (get_or table octet (pos 0)) ≡ expand octet
-entry table octet same h =
+widened_entry : (table : List ℤ) (octet : ℕ) → map widened table ≡ map expand (range_with_len 0 256) → octet < 256 → widened (get_or table octet (pos 0)) ≡ expand octet
+widened_entry table octet same h =
     sym (get_or-map widened table octet (pos 0))
     ∙ ap (λ (values : List ℤ). get_or values octet (pos 0)) same
     ∙ get_or-map-range_with_len expand 0 256 octet octet (pos 0) h (omega arith)
 
-pub value_at : (octet : ℕ) → octet < 256 → widened (get_or VALUES octet (pos 0)) ≡ expand octet
-value_at octet h = entry VALUES octet values_are h
+pub widened_value_at : (octet : ℕ) → octet < 256 → widened (get_or VALUES octet (pos 0)) ≡ expand octet
+widened_value_at octet h = widened_entry VALUES octet values_are h
 
 within_test : ℕ → Bool
 within_test octet = nat_le (nat_abs (expand octet)) 4032
@@ -37,9 +37,9 @@ every_size : agree_below within_test (λ octet. true) 256 ≡ true
 unfolding within_test decision_values
 every_size = refl
 
-pub within : (octet : ℕ) → octet < 256 → nat_abs (expand octet) ≤ 4032
+pub expand_within : (octet : ℕ) → octet < 256 → nat_abs (expand octet) ≤ 4032
 unfolding within_test
-within octet h = leb-true _ _ (agree_below_at within_test (λ octet. true) 256 octet every_size h)
+expand_within octet h = leb-true _ _ (agree_below_at within_test (λ octet. true) 256 octet every_size h)
 
 -- ---- the interval from the leading bit
 
@@ -82,6 +82,6 @@ every_octet : agree_below round_trip_test (λ octet. true) 256 ≡ true
 unfolding round_trip_test decision_values
 every_octet = refl
 
-pub round_trip : (octet : ℕ) → octet < 256 → compress (expand octet) ≡ octet
+pub compress_round_trip : (octet : ℕ) → octet < 256 → compress (expand octet) ≡ octet
 unfolding round_trip_test
-round_trip octet h = eqb-true _ _ (agree_below_at round_trip_test (λ octet. true) 256 octet every_octet h)
+compress_round_trip octet h = eqb-true _ _ (agree_below_at round_trip_test (λ octet. true) 256 octet every_octet h)

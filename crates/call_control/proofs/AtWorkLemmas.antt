@@ -22,14 +22,14 @@ use Rattle.call_profile.specs.Peers.{IsThere, PeerIsThere, IsSilent}
 use Rattle.exchange_events.specs.Sizes.{Setting, Dimensions}
 use Rattle.call_control.specs.Standing.{Holds}
 use Rattle.call_profile.specs.World.{World}
-use Rattle.call_profile.proofs.PermittedActLemmas.{is_there, peer_there_too, rings_silent, caller_silent}
-use Rattle.call_profile.proofs.AnsweringLemmas.{answers_among, cleared_by}
+use Rattle.call_profile.proofs.PermittedActLemmas.{is_there, peer_there_too, heard_by_rings_silent, caller_silent}
+use Rattle.call_profile.proofs.AnsweringLemmas.{answers_among, unless_naming_cleared}
 use Rattle.call_profile.proofs.RecordOfActLemmas.{leg_records}
-use Rattle.call_profile.proofs.MessageToLegLemmas.{Asked, asked}
+use Rattle.call_profile.proofs.MessageToLegLemmas.{Asked, Asked-act_of}
 
 -- a slot hears nothing more once it is cleared
-pub cleared_silent : (d : Dimensions) (map : Connections) (legs : Legs) (w : World) (x : Slot) → Holds d map legs w → unless_naming x (hears_at map x) ≡ None
-cleared_silent d map legs w x holds = cleared_by w.holding.circuits x (hears_at map x) (sym (holds.circuits.holds.heard x))
+pub unless_naming_cleared_silent : (d : Dimensions) (map : Connections) (legs : Legs) (w : World) (x : Slot) → Holds d map legs w → unless_naming x (hears_at map x) ≡ None
+unless_naming_cleared_silent d map legs w x holds = unless_naming_cleared w.holding.circuits x (hears_at map x) (sym (holds.circuits.holds.heard x))
 
 pub peer_external : (external : ℕ) (h : HeldLeg) (o : Option HeldLeg) → PeerIsThere external h o → IfSome o (λ other. IsExternal external other.slot)
 peer_external external h None is = tt
@@ -43,7 +43,7 @@ silent_on_map map w same (Some c) deaf = same c.slot ∙ deaf
 -- a leg that is asked for more digits is in overlap sending
 pub digits_state : (state : ℕ) (m : Message) → act_on state m ≡ act.Digits → state ≡ overlap_sending
 digits_state state m dials =
-    eqb-true state overlap_sending (subst (Asked state) dials (asked state m.kind (clearing_cause m.elements) (is_null (call_state_in m.elements)) (cause_fits m.elements)))
+    eqb-true state overlap_sending (subst (Asked state) dials (Asked-act_of state m.kind (clearing_cause m.elements) (is_null (call_state_in m.elements)) (cause_fits m.elements)))
 
 -- a line has a place for each of its thirty legs
 pub row_inside : (s : Setting) (map : Connections) (legs : Legs) (w : World) (line : ℕ) → IsAtWork s map legs w → line < map.external → 30 * line + 30 ≤ length legs.held
@@ -70,15 +70,15 @@ module _ (s : Setting) (map : Connections) (legs : Legs) (w : World) (work : IsA
       let there = subst (λ n. PeerIsThere n h (peer_of w.legs h.leg.peer)) (sym external_is) (peer_there_too s.dimensions.external s.tones w h work.stands.legs in_world at_world) in
       subst (PeerIsThere map.external h) (sym (is ∙ ap (λ ls. peer_of ls h.leg.peer) work.holds.legs_are)) there
 
-  pub known_silent : (m : Message) → act_on h.leg.state m ≡ act.Answer → hears_at map h.slot ≡ None
-  known_silent m answers =
+  pub hears_at_known_silent : (m : Message) → act_on h.leg.state m ≡ act.Answer → hears_at map h.slot ≡ None
+  hears_at_known_silent m answers =
       work.holds.circuits.holds.heard h.slot
-      ∙ rings_silent s.dimensions.external s.tones w h work.stands.legs in_world at_world (answers_among h.leg.state m.kind _ _ answers)
+      ∙ heard_by_rings_silent s.dimensions.external s.tones w h work.stands.legs in_world at_world (answers_among h.leg.state m.kind _ _ answers)
 
   -- the caller of a leg that is asked to be alerted hears nothing
   pub known_waiting : (m : Message) → act_on h.leg.state m ≡ act.Alerting → (o : Option HeldLeg) → o ≡ peer_of legs h.leg.peer → IsSilent map o
   known_waiting m alerts o is =
-      let asks = subst (Asked h.leg.state) alerts (asked h.leg.state m.kind (clearing_cause m.elements) (is_null (call_state_in m.elements)) (cause_fits m.elements)) in
+      let asks = subst (Asked h.leg.state) alerts (Asked-act_of h.leg.state m.kind (clearing_cause m.elements) (is_null (call_state_in m.elements)) (cause_fits m.elements)) in
       let deaf = caller_silent s.dimensions.external s.tones w h work.stands.legs in_world at_world asks in
       let same : peer_of w.legs h.leg.peer ≡ o = sym (is ∙ ap (λ ls. peer_of ls h.leg.peer) work.holds.legs_are) in
       silent_on_map map w work.holds.circuits.holds.heard o (subst (λ (p : Option HeldLeg). IfSome p (λ c. heard_by w.holding.circuits c.slot ≡ None)) same deaf)

@@ -59,12 +59,12 @@ module _ (s : Setting) (numbers : List Number) (map : Connections) (legs : Legs)
   digits_accept passes = ap (with_pending s w h m) pends_world ∙ ap (dial_on s w h (asked_with p m)) passes
 
   -- the first check, and the others
-  pub wrongly_refused : adds_wrongly p.called m ≡ true → digits_refusal s w h.slot p.called m ≡ Some invalid_number_format
-  wrongly_refused wrong = rw wrong refl
+  pub digits_refusal_wrong : adds_wrongly p.called m ≡ true → digits_refusal s w h.slot p.called m ≡ Some invalid_number_format
+  digits_refusal_wrong wrong = rw wrong refl
 
-  pub rightly_checked : (called : List ℕ) (readable : Bool) (t : Found) → adds_wrongly p.called m ≡ false → called ≡ called_with p.called m → readable ≡ is_some (dialled_digits called) → t ≡ target_dialled numbers called
+  pub digits_refusal_right : (called : List ℕ) (readable : Bool) (t : Found) → adds_wrongly p.called m ≡ false → called ≡ called_with p.called m → readable ≡ is_some (dialled_digits called) → t ≡ target_dialled numbers called
       → digits_refusal s w h.slot p.called m ≡ first_cause (dialled_checks s.dimensions w h.slot m readable t)
-  rightly_checked called readable t right same reads leads =
+  digits_refusal_right called readable t right same reads leads =
       let none : is_none (dialled_digits (called_with p.called m)) ≡ not readable =
       ap (λ (c : List ℕ). is_none (dialled_digits c)) (sym same) ∙ not_some (dialled_digits called) ∙ ap not (sym reads) in
       let found : target_dialled s.plan (called_with p.called m) ≡ t =

@@ -20,8 +20,8 @@ use Rattle.call_profile.specs.Restarts.{MessageOutcome}
 use Rattle.call_profile.specs.World.{World}
 use Rattle.call_profile.proofs.ClearingLemmas.{Kept}
 use Rattle.call_profile.proofs.ExpiringLemmas.{lines_none, lines_more, lines_kept, place_within}
-use Rattle.call_profile.proofs.ExpiredRecordLemmas.{slot_told}
-use Rattle.call_profile.proofs.NoneDueLemmas.{none_due}
+use Rattle.call_profile.proofs.ExpiredRecordLemmas.{records_slot_told}
+use Rattle.call_profile.proofs.NoneDueLemmas.{outcome_of_lines_none_due}
 use Rattle.leg_table.specs.DueBounds.{NoneDue}
 use Rattle.call_control.specs.Standing.{Holds, Makes}
 
@@ -45,7 +45,7 @@ line_done s frame w line map legs sends moved before told kept small first makes
     let still = lines_kept s frame w kept line (omega (arith, small)) in
     let is : told ≡ a.recorded ++ records a.making.world (making_after_all s.dimensions a.making (expire_slot s frame a.making.world.legs x)).world (cause_at s frame a.making.world.legs x) =
     more ∙ ap (λ list. list ++ expired_records s frame a.making.world x) first
-    ∙ ap (λ list. a.recorded ++ list) (sym (slot_told s frame a.making x still (place_within s.dimensions.external frame line small))) in
+    ∙ ap (λ list. a.recorded ++ list) (sym (records_slot_told s frame a.making x still (place_within s.dimensions.external frame line small))) in
     let one : line + 1 ≡ suc line = omega arith in
     let next : outcome_of_lines s frame w (line + 1) ≡ outcome_on_line s frame line a = ap (outcome_of_lines s frame w) one ∙ lines_more s frame w line in
     subst (λ (b : MessageOutcome). Makes s.dimensions map legs sends moved b.making × (told ≡ b.recorded)) (sym next) (makes, is)
@@ -65,5 +65,5 @@ nothing_due s frame place timers w map legs sends moved told holds no_sends no_m
     let here : NoneDue s.timers legs.held (frame % 30) frame = subst (λ (p : ℕ). NoneDue s.timers legs.held p frame) at (subst (λ (t : Timers). NoneDue t legs.held place frame) (sym same_timers) none) in
     let quiet : (line : ℕ) → IfSome (leg_at w.legs (slot_looked_at frame line)) (λ leg. due_of s.timers frame leg ≡ None) = λ line.
     subst (λ (ls : Legs). IfSome (leg_at ls (slot_looked_at frame line)) (λ leg. due_of s.timers frame leg ≡ None)) holds.legs_are (here line) in
-    subst (λ (b : MessageOutcome). Makes s.dimensions map legs sends moved b.making × (told ≡ b.recorded)) (sym (none_due s frame w quiet s.dimensions.external))
+    subst (λ (b : MessageOutcome). Makes s.dimensions map legs sends moved b.making × (told ≡ b.recorded)) (sym (outcome_of_lines_none_due s frame w quiet s.dimensions.external))
     (record { holds = holds; sent = no_sends; moves = no_moves }, no_told)

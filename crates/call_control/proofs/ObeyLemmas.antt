@@ -6,7 +6,7 @@ use Rattle.circuit_model.specs.declared.circuit.Kind.{Kind}
 use Rattle.circuit_model.specs.Circuits.{is_idle, is_member}
 use Rattle.circuit_model.specs.Holding.{Connect, Seat, Give_tone, Clear, after}
 use Rattle.circuit_model.specs.Ports.{port_of, ports_with}
-use Rattle.circuit_model.proofs.Slots.{idle_is_deaf}
+use Rattle.circuit_model.proofs.Slots.{heard_by_idle_is_deaf}
 use Rattle.circuit_map.specs.Connections.{Connections, SameSizes, Obeys, AreMoves, joined_both, parted, hears_at}
 use Rattle.call_profile.specs.Legs.{Legs}
 use Rattle.call_profile.specs.Operations.{moves_for, moves_of_seat}
@@ -55,8 +55,8 @@ module _ (d : Dimensions) (m : Connections) (legs : Legs) (w : World) (h : Holds
   pair_moves moves x y are =
       subst (λ (e : Dimensions). moves ≡ moves_for e w.layout x y) h.sizes ((λ i. (are.0 i, are.1 i)) ∙ ap (λ l. moves_for (dimensions_of m) l x y) h.circuits.layout)
 
-  pub idle_silent : (x : Slot) → is_idle w.holding.circuits x ≡ true → hears_at m x ≡ None
-  idle_silent x idle = h.circuits.holds.heard x ∙ idle_is_deaf w.holding.circuits x idle
+  pub hears_at_idle_silent : (x : Slot) → is_idle w.holding.circuits x ≡ true → hears_at m x ≡ None
+  hears_at_idle_silent x idle = h.circuits.holds.heard x ∙ heard_by_idle_is_deaf w.holding.circuits x idle
 
   -- a seat where a port is free
   pub seat_free : (x : Slot) → CanSeat d w x → ¬ (count_by is_member w.holding.circuits ≡ 30 * m.bridges)

@@ -15,17 +15,17 @@ use Rattle.call_control.specs.declared.preparsing.Incoming.{Incoming}
 use Rattle.call_control.specs.declared.preparsing.PreparsedMessage.{PreparsedMessage}
 use Rattle.call_control.specs.Ahead.{IsDialled, IsIncoming, IsReadAhead, is_message, message_ahead}
 
-pub taken : (legs now : Legs) (line : ℕ) (octets : List ℕ) (r : Result Message Discard) (P : Request → Type 0) → legs ≡ now → r ≡ reading octets
+pub request_of_taken : (legs now : Legs) (line : ℕ) (octets : List ℕ) (r : Result Message Discard) (P : Request → Type 0) → legs ≡ now → r ≡ reading octets
     → P (request_read legs line r) → P (request_of now line octets)
-taken legs now line octets r P same read p =
+request_of_taken legs now line octets r P same read p =
     subst (λ (ls : Legs). P (request_of ls line octets)) same (subst (λ (q : Result Message Discard). P (request_read legs line q)) read p)
 
 -- ---- a message that is read
 
 -- what was read, if octets are a message
-pub read_there : (plan : List Number) (octets : List ℕ) (o : Option Incoming) (incoming : Incoming) → o ≡ Some incoming
+pub IsIncoming_read : (plan : List Number) (octets : List ℕ) (o : Option Incoming) (incoming : Incoming) → o ≡ Some incoming
     → MatchOption o (is_message octets ≡ false) (IsIncoming plan octets) → IsIncoming plan octets incoming
-read_there plan octets o incoming is known = subst (λ (p : Option Incoming). MatchOption p (is_message octets ≡ false) (IsIncoming plan octets)) is known
+IsIncoming_read plan octets o incoming is known = subst (λ (p : Option Incoming). MatchOption p (is_message octets ≡ false) (IsIncoming plan octets)) is known
 
 refused : (r : Result Message Discard) → is_ok r ≡ false → (why : Discard) × (r ≡ Err why)
 refused (Ok m) e = absurd cc

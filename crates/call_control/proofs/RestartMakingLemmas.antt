@@ -24,7 +24,7 @@ use Rattle.call_profile.specs.World.{World}
 use Rattle.call_profile.proofs.PermittedActLemmas.{peer_there_too}
 use Rattle.call_profile.proofs.RestartedSlotLemmas.{below_none, below_more}
 use Rattle.call_profile.proofs.ClearingLemmas.{Kept}
-use Rattle.call_profile.proofs.RestartLemmas.{below_kept, slot_told}
+use Rattle.call_profile.proofs.RestartLemmas.{below_kept, records_slot_told}
 
 -- the other leg of a call is there, where there is one
 there_of : (external : ℕ) (h : HeldLeg) (o : Option HeldLeg) → PeerIsThere external h o → IfSome o (λ other. IsThere external other)
@@ -60,25 +60,25 @@ sizes_then a b c first second = record {
 }
 
 -- no slot yet
-pub none_done : (d : Dimensions) (tones : Tones) (r : Restart) (line : ℕ) (w : World) (map : Connections) (legs : Legs) (sends : List Signal) (moved : Option (ℕ × ℕ)) (told : List CallRecord)
+pub outcome_below_none : (d : Dimensions) (tones : Tones) (r : Restart) (line : ℕ) (w : World) (map : Connections) (legs : Legs) (sends : List Signal) (moved : Option (ℕ × ℕ)) (told : List CallRecord)
     → Holds d map legs w → sends ≡ [] → moved ≡ None → told ≡ []
     → Makes d map legs sends moved (outcome_below d (restart_rule tones r) line w 0).making × (told ≡ (outcome_below d (restart_rule tones r) line w 0).recorded)
-none_done d tones r line w map legs sends moved told holds no_sends no_moves no_told =
+outcome_below_none d tones r line w map legs sends moved told holds no_sends no_moves no_told =
     subst (λ (b : MessageOutcome). Makes d map legs sends moved b.making × (told ≡ b.recorded)) (sym (below_none d (restart_rule tones r) line w)) (record { holds = holds; sent = no_sends; moves = no_moves }, no_told)
 
 -- one slot more
-pub step_done : (d : Dimensions) (tones : Tones) (r : Restart) (line : ℕ) (w : World) (place : ℕ) (map : Connections) (legs : Legs) (sends : List Signal) (moved : Option (ℕ × ℕ)) (before told : List CallRecord)
+pub outcome_below_step : (d : Dimensions) (tones : Tones) (r : Restart) (line : ℕ) (w : World) (place : ℕ) (map : Connections) (legs : Legs) (sends : List Signal) (moved : Option (ℕ × ℕ)) (before told : List CallRecord)
     → line < d.external → Kept d tones w → place < 30
     → before ≡ (outcome_below d (restart_rule tones r) line w place).recorded
     → Makes d map legs sends moved (making_after_all d (outcome_below d (restart_rule tones r) line w place).making (restart_slot tones r (outcome_below d (restart_rule tones r) line w place).making.world.legs (record { line = line; place = place })))
     → told ≡ before ++ slot_records r (outcome_below d (restart_rule tones r) line w place).making.world (record { line = line; place = place })
     → Makes d map legs sends moved (outcome_below d (restart_rule tones r) line w (place + 1)).making × (told ≡ (outcome_below d (restart_rule tones r) line w (place + 1)).recorded)
-step_done d tones r line w place map legs sends moved before told below kept small first makes more =
+outcome_below_step d tones r line w place map legs sends moved before told below kept small first makes more =
     let a = outcome_below d (restart_rule tones r) line w place in
     let x : Slot = record { line = line; place = place } in
     let still = below_kept d tones r line w below kept place (omega (arith, small)) in
     let is : told ≡ a.recorded ++ records a.making.world (making_after_all d a.making (restart_slot tones r a.making.world.legs x)).world temporary_failure =
-    more ∙ ap (λ list. list ++ slot_records r a.making.world x) first ∙ ap (λ list. a.recorded ++ list) (sym (slot_told d tones r a.making x still (below, small))) in
+    more ∙ ap (λ list. list ++ slot_records r a.making.world x) first ∙ ap (λ list. a.recorded ++ list) (sym (records_slot_told d tones r a.making x still (below, small))) in
     let one : place + 1 ≡ suc place = omega arith in
     let next : outcome_below d (restart_rule tones r) line w (place + 1) ≡ outcome_at_slot d (restart_rule tones r) x a = ap (outcome_below d (restart_rule tones r) line w) one ∙ below_more d (restart_rule tones r) line w place in
     subst (λ (b : MessageOutcome). Makes d map legs sends moved b.making × (told ≡ b.recorded)) (sym next) (makes, is)

@@ -19,7 +19,7 @@ use Rattle.call_processor.specs.Frames.{Carrying, HasFrame, IsReady, Plays}
 use Rattle.call_processor.specs.Keeping.{HasKept, KeepsWork, has_no_octets}
 use Rattle.call_processor.specs.Parts.{is_its}
 use Rattle.call_processor.specs.Work.{Did, DidEvent, entries_for}
-use Rattle.call_processor.proofs.EventLemmas.{did_more, frame_stays, next_of, nothing_done}
+use Rattle.call_processor.proofs.EventLemmas.{did_more, frame_stays, next_of, Did_none}
 use Rattle.call_processor.proofs.FrameLemmas.{frame_its, still_ready}
 use Rattle.call_processor.proofs.KeepingLemmas.{Keeps, Stays, keeps_front, keeps_lacking, keeps_more, keeps_none, keeps_whole}
 
@@ -161,7 +161,7 @@ pub in_order_none : (events : List ℕ) (v : SeatKnowledge) → DidInOrder event
 in_order_none events v = record {
   done = [];
   first = (events, refl);
-  did = nothing_done v;
+  did = Did_none v;
   grew = sym (append-nil v.seen);
   all = λ never. absurd (cc never);
 }

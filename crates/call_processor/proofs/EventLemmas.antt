@@ -24,8 +24,8 @@ starts_same v = ([], sym (append-nil v.seen))
 pub starts_on : (a b c : List Entry) → StartsWith a b → StartsWith b c → StartsWith a c
 starts_on a b c p q = (q.0 ++ p.0, p.1 ∙ (ap (λ (l : List Entry). l ++ p.0) q.1 ∙ append_assoc c q.0 p.0))
 
-pub nothing_done : (v : SeatKnowledge) → Did v [] v
-nothing_done v = record {
+pub Did_none : (v : SeatKnowledge) → Did v [] v
+Did_none v = record {
   own = sym (append-nil v.own);
   exact = λ is. is;
   turns = omega arith;
@@ -47,8 +47,8 @@ pub record Next (history : List Entry) (n place : ℕ) (w x : SeatKnowledge) : T
 seen_next : (history : List Entry) (n place : ℕ) (w x : SeatKnowledge) → Next history n place w x → x.seen ≡ history ++ (w.number, n) ∷ []
 seen_next history n place w x e = ap (λ (k : SeatKnowledge). k.seen) e.seat
 
-pub begins_next : (history : List Entry) (n place : ℕ) (w x : SeatKnowledge) → Next history n place w x → StartsWith x.seen w.seen
-begins_next history n place w x e = starts_on x.seen history w.seen ((w.number, n) ∷ [], seen_next history n place w x e) e.begins
+pub StartsWith_next : (history : List Entry) (n place : ℕ) (w x : SeatKnowledge) → Next history n place w x → StartsWith x.seen w.seen
+StartsWith_next history n place w x e = starts_on x.seen history w.seen ((w.number, n) ∷ [], seen_next history n place w x e) e.begins
 
 pub did_more : (history : List Entry) (v w x : SeatKnowledge) (events : List ℕ) (n place : ℕ) → Did v events w → Next history n place w x → Did v (events ++ n ∷ []) x
 did_more history v w x events n place d e =
@@ -61,23 +61,23 @@ did_more history v w x events n place d e =
           ∙ ap (λ (l : List Entry). v.own ++ l) (sym (map-append (λ (m : ℕ). (v.number, m)) events (n ∷ []))))));
       exact = λ was. e.exact;
       turns = omega (arith, left, turn, d.turns, length_push events n);
-      begins = starts_on x.seen w.seen v.seen (begins_next history n place w x e) d.begins;
+      begins = starts_on x.seen w.seen v.seen (StartsWith_next history n place w x e) d.begins;
       number = ap (λ (k : SeatKnowledge). k.number) e.seat ∙ d.number;
       baton = ap (λ (k : SeatKnowledge). k.baton) e.seat ∙ d.baton;
       made = ap (λ (k : SeatKnowledge). k.made) e.seat ∙ d.made;
       others = ap (λ (k : SeatKnowledge). k.kept) e.seat ∙ d.others;
     }
 
-got_left : {A : Type 0} (xs ys : List A) (i : ℕ) (x : A) → slice_get xs i ≡ Some x → slice_get (xs ++ ys) i ≡ Some x
-got_left [] ys i x e = absurd (cc e)
-got_left (y ∷ xs) ys zero x e = e
-got_left (y ∷ xs) ys (suc i) x e = got_left xs ys i x e
+slice_get-append_left : {A : Type 0} (xs ys : List A) (i : ℕ) (x : A) → slice_get xs i ≡ Some x → slice_get (xs ++ ys) i ≡ Some x
+slice_get-append_left [] ys i x e = absurd (cc e)
+slice_get-append_left (y ∷ xs) ys zero x e = e
+slice_get-append_left (y ∷ xs) ys (suc i) x e = slice_get-append_left xs ys i x e
 
-got_last : {A : Type 0} (xs : List A) (x : A) (i : ℕ) → length xs ≡ i → slice_get (xs ++ x ∷ []) i ≡ Some x
-got_last [] x zero e = refl
-got_last [] x (suc i) e = absurd (omega (arith, e))
-got_last (y ∷ xs) x zero e = absurd (omega (arith, e))
-got_last (y ∷ xs) x (suc i) e = got_last xs x i (omega (arith, e))
+slice_get-append_last : {A : Type 0} (xs : List A) (x : A) (i : ℕ) → length xs ≡ i → slice_get (xs ++ x ∷ []) i ≡ Some x
+slice_get-append_last [] x zero e = refl
+slice_get-append_last [] x (suc i) e = absurd (omega (arith, e))
+slice_get-append_last (y ∷ xs) x zero e = absurd (omega (arith, e))
+slice_get-append_last (y ∷ xs) x (suc i) e = slice_get-append_last xs x i (omega (arith, e))
 
 -- an answer stays one, however much more of the history the seat sees
 pub answer_stays : (board : Board) (w x : SeatKnowledge) (p : Placed) → StartsWith x.seen w.seen → x.number ≡ w.number → IsAnswer board w p → IsAnswer board x p
@@ -86,7 +86,7 @@ answer_stays board w x p s number a =
     let same : before p.place x.seen ≡ before p.place w.seen = ap (take p.place) s.1 ∙ take-append-le p.place w.seen s.0 (omega (arith, here)) in
     record {
       reply = a.reply;
-      entry = ap (λ (l : List Entry). slice_get l p.place) s.1 ∙ (got_left w.seen s.0 p.place (w.number, p.answer.event) a.entry ∙ ap (λ (m : ℕ). Some (m, p.answer.event)) (sym number));
+      entry = ap (λ (l : List Entry). slice_get l p.place) s.1 ∙ (slice_get-append_left w.seen s.0 p.place (w.number, p.answer.event) a.entry ∙ ap (λ (m : ℕ). Some (m, p.answer.event)) (sym number));
       given = subst (λ (l : List Entry). AnswersAt board l p.answer.event a.reply) (sym same) a.given;
       few = a.few;
       keeps = a.keeps;
@@ -102,7 +102,7 @@ answer_next board history w x p r e given few keeps =
     let own : x.number ≡ w.number = ap (λ (k : SeatKnowledge). k.number) e.seat in
     record {
       reply = r;
-      entry = ap (λ (l : List Entry). slice_get l p.place) seen ∙ (got_last history (w.number, n) p.place e.place_is ∙ ap (λ (m : ℕ). Some (m, n)) (sym own));
+      entry = ap (λ (l : List Entry). slice_get l p.place) seen ∙ (slice_get-append_last history (w.number, n) p.place e.place_is ∙ ap (λ (m : ℕ). Some (m, n)) (sym own));
       given = subst (λ (l : List Entry). AnswersAt board l n r) (sym same) given;
       few = few;
       keeps = keeps;
@@ -139,7 +139,7 @@ pub record Going (board : Board) (done : List ℕ) (v : SeatKnowledge) (answers 
 
 pub going_none : (board : Board) (v : SeatKnowledge) (answers : List Placed) → answers ≡ [] → Going board [] v answers v
 going_none board v answers none = record {
-  did = nothing_done v;
+  did = Did_none v;
   told = ap answered_events none;
   each = subst (All (IsAnswer board v)) (sym none) (All-nil (IsAnswer board v));
   rising = subst (AllPairs (λ (p q : Placed). p.place < q.place)) (sym none) (λ i j d lt within. absurd (omega (arith, within)));
@@ -154,7 +154,7 @@ pub going_more : (board : Board) (history : List Entry) (done : List ℕ) (v w x
     → AnswersAt board history p.answer.event r → MovesAtMost board.bound r → p.answer.reply ≡ kept_of r
     → Going board (done ++ p.answer.event ∷ []) v (answers ++ p ∷ []) x
 going_more board history done v w x answers p r g e given few keeps =
-    let begins = begins_next history p.answer.event p.place w x e in
+    let begins = StartsWith_next history p.answer.event p.place w x e in
     let own : x.number ≡ w.number = ap (λ (k : SeatKnowledge). k.number) e.seat in
     let long = long_start history w.seen e.begins in
     let longer = long_start w.seen v.seen g.did.begins in
@@ -195,7 +195,7 @@ pub going_said : (board : Board) (done : List ℕ) (v w x : SeatKnowledge) (answ
     → length x.seen ≡ p.place + 1 → p.answer.event ≡ n → IsAnswer board x p → Going board (done ++ n ∷ []) v (answers ++ p ∷ []) x
 going_said board done v w x answers p n g h last event a =
     let e = next_of w x n h in
-    let begins = begins_next (before h.place x.seen) n h.place w x e in
+    let begins = StartsWith_next (before h.place x.seen) n h.place w x e in
     let own : x.number ≡ w.number = ap (λ (k : SeatKnowledge). k.number) e.seat in
     let long = long_start (before h.place x.seen) w.seen e.begins in
     let longer = long_start w.seen v.seen g.did.begins in
@@ -253,7 +253,7 @@ works_front board part done rest v w answers front g = record {
 pub works_lacking : (board : Board) (history : List Entry) (part done rest : List ℕ) (n place : ℕ) (v w x : SeatKnowledge) (answers : List Placed) → part ≡ (done ++ n ∷ []) ++ rest
     → Going board done v answers w → Next history n place w x → Works board part v answers false x
 works_lacking board history part done rest n place v w x answers front g e =
-    let begins = begins_next history n place w x e in
+    let begins = StartsWith_next history n place w x e in
     let own : x.number ≡ w.number = ap (λ (k : SeatKnowledge). k.number) e.seat in
     record {
       done = done ++ n ∷ [];

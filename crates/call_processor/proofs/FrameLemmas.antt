@@ -27,8 +27,8 @@ use Rattle.call_profile.specs.Step.{next, world_after_all, events_of}
 use Rattle.exchange_core.specs.Working.{Entry, IsNumbered, IsOfSize, IsToolFor, ShowsWorld, order_of}
 use Rattle.call_profile.specs.World.{World, start, pass}
 use Rattle.call_profile.proofs.HistoryLemmas.{made, made_pass}
-use Rattle.call_profile.proofs.QuietEventLemmas.{SameFrames, same_self, then_same as same_then, quiet, passed_same}
-use Rattle.call_profile.proofs.RunLemmas.{few_events, world_next}
+use Rattle.call_profile.proofs.QuietEventLemmas.{SameFrames, same_self, then_same as same_then, SameFrames-next, passed_same}
+use Rattle.call_profile.proofs.RunLemmas.{length-events_of-le, world_next}
 use Rattle.exchange_core.proofs.StepLemmas.{fits_all, world_more}
 use Rattle.call_processor.specs.Parts.{does, is_its}
 use Rattle.call_processor.specs.Frames.{Plays, Carrying, CarriesFrames, IsReady, IsPlayed}
@@ -54,7 +54,7 @@ quiet_one : (s : Setting) (trace : Trace) (w : World) (n : ℕ) (o : Option Even
     → ((v : World) → SameFrames v (world_after_all s v es)) → SameFrames w (world_after_all s w (cons_option o es))
 quiet_one s trace w n None es is none rest = rest w
 quiet_one s trace w n (Some e) es is none rest =
-    same_then w (next s w e) (world_after_all s (next s w e) es) (quiet s w e (λ input frame. none (input, is ∙ ap Some frame))) (rest (next s w e))
+    same_then w (next s w e) (world_after_all s (next s w e) es) (SameFrames-next s w e (λ input frame. none (input, is ∙ ap Some frame))) (rest (next s w e))
 
 quiet_all : (s : Setting) (trace : Trace) (history : List Entry) → NoFrames trace history → (w : World) → SameFrames w (world_after_all s w (events_of trace.events (order_of history)))
 quiet_all s trace [] none w = same_self w
@@ -82,11 +82,11 @@ same_frames board seen history begins none =
 
 -- ---- how many frames there have been
 
-pub frames_few : (board : Board) (history : List Entry) → IsSound board.trace → length history < length board.trace.events → (world_at board history).holding.next < 4294967295
-frames_few board history sound room =
+pub world_at_frames_few : (board : Board) (history : List Entry) → IsSound board.trace → length history < length board.trace.events → (world_at board history).holding.next < 4294967295
+world_at_frames_few board history sound room =
     let s = setting_at board in
     let grows = world_next s (start s.dimensions) (events_of board.trace.events (order_of history)) in
-    let few = few_events board.trace.events (order_of history) in
+    let few = length-events_of-le board.trace.events (order_of history) in
     let long : length (order_of history) ≡ length history = length-map history (λ (entry : Entry). entry.1) in
     let most = sound.count in
     omega (arith, grows, few, long, room, most)

@@ -8,7 +8,7 @@ use Rattle.exchange_core.specs.Boards.{Board}
 use Rattle.call_processor.specs.declared.worked.Placed.{Placed}
 use Rattle.call_processor.specs.Keeping.{HasKept, KeepsWork}
 use Rattle.call_processor.specs.Work.{DidEvent, IsAnswer}
-use Rattle.call_processor.proofs.EventLemmas.{Going, begins_next, going_none, going_said, next_of, works_front, works_lacking, works_whole}
+use Rattle.call_processor.proofs.EventLemmas.{Going, StartsWith_next, going_none, going_said, next_of, works_front, works_lacking, works_whole}
 
 pub on_ok : {A E : Type 0} {P Q : Type 0} (r : Result A E) → (P → Q) → OnOk r P → OnOk r Q
 on_ok (Ok a) f p = f p
@@ -38,7 +38,7 @@ module _ {K : Type 0} (holds : K → List Placed → Type 0) (board : Board) (oc
     answers = g.answers ++ kept.answer ∷ [];
     held = kept.held g.answers g.held;
     going = going_said board done v w x g.answers kept.answer n g.going h kept.place kept.event_is kept.is;
-    said = All-push (octets x) g.answers kept.answer (stays w x g.answers (begins_next (before h.place x.seen) n h.place w x (next_of w x n h)) g.going.each g.said) kept.said;
+    said = All-push (octets x) g.answers kept.answer (stays w x g.answers (StartsWith_next (before h.place x.seen) n h.place w x (next_of w x n h)) g.going.each g.said) kept.said;
   }
 
   pub keeps_whole : (part : List ℕ) (v w : SeatKnowledge) (k : K) → Keeps holds board octets part v k w → KeepsWork holds board octets part v k true w
@@ -56,7 +56,7 @@ module _ {K : Type 0} (holds : K → List Placed → Type 0) (board : Board) (oc
         answers = g.answers;
         held = refused g.answers g.held;
         works = works_lacking board (before h.place x.seen) part done rest n h.place v w x g.answers front g.going e;
-        said = stays w x g.answers (begins_next (before h.place x.seen) n h.place w x e) g.going.each g.said;
+        said = stays w x g.answers (StartsWith_next (before h.place x.seen) n h.place w x e) g.going.each g.said;
       }
 
   -- a seat that comes to its part before it did anything

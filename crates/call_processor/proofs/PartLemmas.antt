@@ -28,43 +28,43 @@ few_ended n last = one (nat_lt last n)
     one false = omega arith
 
 -- behind the last segment there is no event
-in_last : (ends : List ℕ) (n : ℕ) → 1 ≤ n → n ≤ last_of ends → segment_of ends n < length ends
-in_last [] n low high = absurd (omega (arith, low, high))
-in_last (last ∷ []) n low high = let off : nat_lt last n ≡ false = grind (arith, nat_tests, high) in rw off (omega arith)
-in_last (first ∷ second ∷ ends) n low high =
-    let rest = in_last (second ∷ ends) n low high in
+segment_of_in_last : (ends : List ℕ) (n : ℕ) → 1 ≤ n → n ≤ last_of ends → segment_of ends n < length ends
+segment_of_in_last [] n low high = absurd (omega (arith, low, high))
+segment_of_in_last (last ∷ []) n low high = let off : nat_lt last n ≡ false = grind (arith, nat_tests, high) in rw off (omega arith)
+segment_of_in_last (first ∷ second ∷ ends) n low high =
+    let rest = segment_of_in_last (second ∷ ends) n low high in
     let one = few_ended n first in
     omega (arith, sum_by-cons (λ last. cond (nat_lt last n) 1 0) first (second ∷ ends), rest, one)
 
 pub in_segment : (trace : Trace) (n : ℕ) → AreSegments (length trace.events) trace.segments → IsEvent trace n → segment_of trace.segments n < length trace.segments
-in_segment trace n segments is = in_last trace.segments n is.0 (let high = is.1 in omega (arith, high, segments.whole))
+in_segment trace n segments is = segment_of_in_last trace.segments n is.0 (let high = is.1 in omega (arith, high, segments.whole))
 
 -- at least k segments end before n where the first k do
-pub at_least : (ends : List ℕ) (n k : ℕ) → k ≤ length ends → ((i : ℕ) → i < k → get_or ends i 0 < n) → k ≤ segment_of ends n
-at_least ends n zero within h = omega arith
-at_least [] n (suc k) within h = absurd (omega arith)
-at_least (last ∷ ends) n (suc k) within h =
+pub segment_of_at_least : (ends : List ℕ) (n k : ℕ) → k ≤ length ends → ((i : ℕ) → i < k → get_or ends i 0 < n) → k ≤ segment_of ends n
+segment_of_at_least ends n zero within h = omega arith
+segment_of_at_least [] n (suc k) within h = absurd (omega arith)
+segment_of_at_least (last ∷ ends) n (suc k) within h =
     let one = end_before n last (h 0 (omega arith)) in
-    let rest = at_least ends n k (omega arith) (λ i lt. h (suc i) (omega arith)) in
+    let rest = segment_of_at_least ends n k (omega arith) (λ i lt. h (suc i) (omega arith)) in
     omega (arith, sum_by-cons (ended_before n) last ends, one, rest)
 
 -- at most k segments end before n where none does from the one with number k on
-pub at_most : (ends : List ℕ) (n k : ℕ) → ((i : ℕ) → k ≤ i → i < length ends → n ≤ get_or ends i 0) → segment_of ends n ≤ k
-at_most [] n k h = omega arith
-at_most (last ∷ ends) n zero h =
+pub segment_of_at_most : (ends : List ℕ) (n k : ℕ) → ((i : ℕ) → k ≤ i → i < length ends → n ≤ get_or ends i 0) → segment_of ends n ≤ k
+segment_of_at_most [] n k h = omega arith
+segment_of_at_most (last ∷ ends) n zero h =
     let one = not_ended n last (h 0 (omega arith) (omega arith)) in
-    let rest = at_most ends n zero (λ i le lt. h (suc i) (omega arith) (omega arith)) in
+    let rest = segment_of_at_most ends n zero (λ i le lt. h (suc i) (omega arith) (omega arith)) in
     omega (arith, sum_by-cons (ended_before n) last ends, one, rest)
-at_most (last ∷ ends) n (suc k) h =
+segment_of_at_most (last ∷ ends) n (suc k) h =
     let one = few_ended n last in
-    let rest = at_most ends n k (λ i le lt. h (suc i) (omega arith) (omega arith)) in
+    let rest = segment_of_at_most ends n k (λ i le lt. h (suc i) (omega arith) (omega arith)) in
     omega (arith, sum_by-cons (ended_before n) last ends, one, rest)
 
 abbrev pub Rising : List ℕ → Type 0
 Rising ends = AllPairs (λ (m n : ℕ). m < n) ends
 
-pub rises : (ends : List ℕ) → Rising ends → (i j : ℕ) → i ≤ j → j < length ends → get_or ends i 0 ≤ get_or ends j 0
-rises ends r i j le within =
+pub ends_rise : (ends : List ℕ) → Rising ends → (i j : ℕ) → i ≤ j → j < length ends → get_or ends i 0 ≤ get_or ends j 0
+ends_rise ends r i j le within =
     elim (cases_lt i j) [
       | inl below ↦ let h = r i j 0 below within in omega (arith, h)
       | inr above ↦ let same : i ≡ j = omega (arith, le, above) in omega (arith, ap (λ (k : ℕ). get_or ends k 0) same)
@@ -85,25 +85,25 @@ below_last (n ∷ m ∷ ns) r (suc k) within = below_last (m ∷ ns) (λ i j d l
 abbrev before_end : List ℕ → ℕ → ℕ
 before_end ends k = get_or (0 ∷ ends) k 0
 
-inside_one : (ends : List ℕ) → Rising ends → (k n : ℕ) → k < length ends → before_end ends k < n → n ≤ get_or ends k 0 → segment_of ends n ≡ k
-inside_one ends r k n within low high =
-    let up = at_most ends n k (λ i le lt. let h = rises ends r k i le lt in omega (arith, h, high)) in
-    let down = at_least ends n k (omega arith) (first k within low) in
+segment_of_inside_one : (ends : List ℕ) → Rising ends → (k n : ℕ) → k < length ends → before_end ends k < n → n ≤ get_or ends k 0 → segment_of ends n ≡ k
+segment_of_inside_one ends r k n within low high =
+    let up = segment_of_at_most ends n k (λ i le lt. let h = ends_rise ends r k i le lt in omega (arith, h, high)) in
+    let down = segment_of_at_least ends n k (omega arith) (first k within low) in
     omega (arith, up, down)
   where
     first : (k : ℕ) → k < length ends → before_end ends k < n → (i : ℕ) → i < k → get_or ends i 0 < n
     first zero within low i lt = absurd (omega arith)
-    first (suc k) within low i lt = let h = rises ends r i k (omega arith) (omega arith) in omega (arith, h, low)
+    first (suc k) within low i lt = let h = ends_rise ends r i k (omega arith) (omega arith) in omega (arith, h, low)
 
-before_one : (ends : List ℕ) → Rising ends → (k n : ℕ) → k < length ends → 1 ≤ n → n ≤ before_end ends k → segment_of ends n < k
-before_one ends r zero n within some low = absurd (omega arith)
-before_one ends r (suc k) n within some low =
-    let up = at_most ends n k (λ i le lt. let h = rises ends r k i le lt in omega (arith, h, low)) in
+segment_of_before_one : (ends : List ℕ) → Rising ends → (k n : ℕ) → k < length ends → 1 ≤ n → n ≤ before_end ends k → segment_of ends n < k
+segment_of_before_one ends r zero n within some low = absurd (omega arith)
+segment_of_before_one ends r (suc k) n within some low =
+    let up = segment_of_at_most ends n k (λ i le lt. let h = ends_rise ends r k i le lt in omega (arith, h, low)) in
     omega (arith, up)
 
 after_one : (ends : List ℕ) → Rising ends → (k n : ℕ) → k < length ends → get_or ends k 0 < n → k < segment_of ends n
 after_one ends r k n within high =
-    let down = at_least ends n (suc k) (omega arith) (λ i lt. let h = rises ends r i k (omega arith) within in omega (arith, h, high)) in
+    let down = segment_of_at_least ends n (suc k) (omega arith) (λ i lt. let h = ends_rise ends r i k (omega arith) within in omega (arith, h, high)) in
     omega (arith, down)
 
 range_parts : (a m n : ℕ) → range_with_len a (m + n) ≡ range_with_len a m ++ range_with_len (a + m) n
@@ -146,11 +146,11 @@ module _ (trace : Trace) (k : ℕ) (p q : ℕ → Bool) (sound : AreSegments (le
       let two : range_with_len (1 + first) ((last - first) + (count - last)) ≡ range_with_len (1 + first) (last - first) ++ range_with_len ((1 + first) + (last - first)) (count - last) =
       range_parts (1 + first) (last - first) (count - last) in
       let front : filter p (range_with_len 1 first) ≡ [] =
-      none_pass p 1 first (λ n low high. other n (let h = before_one ends r k n within low (omega (arith, high)) in λ e. absurd (omega (arith, h, e)))) in
+      none_pass p 1 first (λ n low high. other n (let h = segment_of_before_one ends r k n within low (omega (arith, high)) in λ e. absurd (omega (arith, h, e)))) in
       let back : filter p (range_with_len ((1 + first) + (last - first)) (count - last)) ≡ [] =
       none_pass p ((1 + first) + (last - first)) (count - last) (λ n low high. other n (let h = after_one ends r k n within (omega (arith, low, order)) in λ e. absurd (omega (arith, h, e)))) in
       let middle : filter p (range_with_len (1 + first) (last - first)) ≡ filter q (range_with_len (1 + first) (last - first)) =
-      alike p q (1 + first) (last - first) (λ n low high. same n (inside_one ends r k n within (omega (arith, low)) (omega (arith, high, order)))) in
+      alike p q (1 + first) (last - first) (λ n low high. same n (segment_of_inside_one ends r k n within (omega (arith, low)) (omega (arith, high, order)))) in
       let swap : 1 + first ≡ first + 1 = omega arith in
       ap (filter p) one
       ∙ (filter-append p (range_with_len 1 first) (range_with_len (1 + first) ((last - first) + (count - last)))
@@ -163,7 +163,7 @@ module _ (trace : Trace) (k : ℕ) (p q : ℕ → Bool) (sound : AreSegments (le
     where
       before_below : (ends : List ℕ) → Rising ends → (k : ℕ) → k < length ends → before_end ends k ≤ get_or ends k 0
       before_below ends r zero within = omega arith
-      before_below ends r (suc k) within = rises ends r k (suc k) (omega arith) within
+      before_below ends r (suc k) within = ends_rise ends r k (suc k) (omega arith) within
 
 -- a part is what the worker does of the numbers from behind the end before to the end of the segment
 pub part_is : (trace : Trace) (k : ℕ) (worker : Worker) → AreSegments (length trace.events) trace.segments → k < length trace.segments
@@ -204,18 +204,18 @@ part_at trace k worker sound within first end low high =
     ∙ (ap (λ (n : ℕ). filter (is_its trace worker) (range_with_len (before_end trace.segments k + 1) n)) size
     ∙ ap (λ (n : ℕ). filter (is_its trace worker) (range_with_len n (end - first))) (sym low))
 
-pub first_of_all : (ends : List ℕ) (k : ℕ) → k ≡ 0 → before_end ends k ≡ 0
-first_of_all ends zero e = refl
-first_of_all ends (suc k) e = absurd (omega (arith, e))
+pub before_end_first : (ends : List ℕ) (k : ℕ) → k ≡ 0 → before_end ends k ≡ 0
+before_end_first ends zero e = refl
+before_end_first ends (suc k) e = absurd (omega (arith, e))
 
-pub first_later : (ends : List ℕ) (k : ℕ) → 0 < k → before_end ends k ≡ get_or ends (k - 1) 0
-first_later ends zero e = absurd (omega (arith, e))
-first_later ends (suc k) e = let same : k ≡ suc k - 1 = omega arith in ap (λ (m : ℕ). get_or ends m 0) same
+pub before_end_later : (ends : List ℕ) (k : ℕ) → 0 < k → before_end ends k ≡ get_or ends (k - 1) 0
+before_end_later ends zero e = absurd (omega (arith, e))
+before_end_later ends (suc k) e = let same : k ≡ suc k - 1 = omega arith in ap (λ (m : ℕ). get_or ends m 0) same
 
 pub order_of_ends : (events : ℕ) (ends : List ℕ) (k : ℕ) → AreSegments events ends → k < length ends → (get_or ends k 0 ≤ events) × (get_or ends (k - 1) 0 ≤ get_or ends k 0)
 order_of_ends events ends k sound within =
     let high = below_last ends sound.rising k within in
-    let low = rises ends sound.rising (k - 1) k (omega arith) within in
+    let low = ends_rise ends sound.rising (k - 1) k (omega arith) within in
     (omega (arith, high, sound.whole), low)
 
 -- ---- a worker's part, event by event
@@ -224,8 +224,8 @@ abbrev pub up_to : Trace → Worker → ℕ → ℕ → List ℕ
 up_to trace worker first event = filter (is_its trace worker) (range_with_len first (event - first))
 
 -- none comes before the first
-pub none_up_to : (trace : Trace) (worker : Worker) (first : ℕ) → [] ≡ up_to trace worker first first
-none_up_to trace worker first = let zero_it : 0 ≡ first - first = omega arith in ap (λ (n : ℕ). filter (is_its trace worker) (range_with_len first n)) zero_it
+pub up_to_none : (trace : Trace) (worker : Worker) (first : ℕ) → [] ≡ up_to trace worker first first
+up_to_none trace worker first = let zero_it : 0 ≡ first - first = omega arith in ap (λ (n : ℕ). filter (is_its trace worker) (range_with_len first n)) zero_it
 
 -- the numbers up to one, and those from it on
 pub range_front : (first event end : ℕ) → first ≤ event → event ≤ end → range_with_len first (end - first) ≡ range_with_len first (event - first) ++ range_with_len event (end - event)
@@ -253,20 +253,20 @@ up_to_parts trace worker first event end low high =
     ap (filter (is_its trace worker)) (range_front first event end low high)
     ∙ filter-append (is_its trace worker) (range_with_len first (event - first)) (range_with_len event (end - event))
 
-one_more : (trace : Trace) (worker : Worker) (first event : ℕ) → first ≤ event → up_to trace worker first (event + 1) ≡ up_to trace worker first event ++ cond (is_its trace worker event) (event ∷ []) []
-one_more trace worker first event low =
+up_to_one_more : (trace : Trace) (worker : Worker) (first event : ℕ) → first ≤ event → up_to trace worker first (event + 1) ≡ up_to trace worker first event ++ cond (is_its trace worker event) (event ∷ []) []
+up_to_one_more trace worker first event low =
     let one : (event + 1) - event ≡ suc zero = omega arith in
     up_to_parts trace worker first event (event + 1) low (omega arith)
     ∙ ap (λ (n : ℕ). up_to trace worker first event ++ filter (is_its trace worker) (range_with_len event n)) one
 
-pub next_not : (trace : Trace) (worker : Worker) (first event : ℕ) → first ≤ event → is_its trace worker event ≡ false → up_to trace worker first (event + 1) ≡ up_to trace worker first event
-next_not trace worker first event low off =
-    one_more trace worker first event low
+pub up_to_next_not : (trace : Trace) (worker : Worker) (first event : ℕ) → first ≤ event → is_its trace worker event ≡ false → up_to trace worker first (event + 1) ≡ up_to trace worker first event
+up_to_next_not trace worker first event low off =
+    up_to_one_more trace worker first event low
     ∙ (ap (λ (b : Bool). up_to trace worker first event ++ cond b (event ∷ []) []) off ∙ append-nil (up_to trace worker first event))
 
-pub next_its : (trace : Trace) (worker : Worker) (first event : ℕ) → first ≤ event → is_its trace worker event ≡ true → up_to trace worker first (event + 1) ≡ up_to trace worker first event ++ event ∷ []
-next_its trace worker first event low its =
-    one_more trace worker first event low ∙ ap (λ (b : Bool). up_to trace worker first event ++ cond b (event ∷ []) []) its
+pub up_to_next_its : (trace : Trace) (worker : Worker) (first event : ℕ) → first ≤ event → is_its trace worker event ≡ true → up_to trace worker first (event + 1) ≡ up_to trace worker first event ++ event ∷ []
+up_to_next_its trace worker first event low its =
+    up_to_one_more trace worker first event low ∙ ap (λ (b : Bool). up_to trace worker first event ++ cond b (event ∷ []) []) its
 
 abbrev pub rest_from : Trace → Worker → ℕ → ℕ → List ℕ
 rest_from trace worker event end = filter (is_its trace worker) (range_with_len event (end - event))
@@ -279,7 +279,7 @@ pub front_next : (trace : Trace) (worker : Worker) (part : List ℕ) (first even
     → part ≡ (up_to trace worker first event ++ event ∷ []) ++ rest_from trace worker (event + 1) end
 front_next trace worker part first event end is low high its =
     is ∙ (up_to_parts trace worker first (event + 1) end (omega (arith, low)) (omega (arith, high))
-    ∙ ap (λ (l : List ℕ). l ++ rest_from trace worker (event + 1) end) (next_its trace worker first event low its))
+    ∙ ap (λ (l : List ℕ). l ++ rest_from trace worker (event + 1) end) (up_to_next_its trace worker first event low its))
 
 -- a turn is left for each event of the part that was not done yet
 pub turn_left : (part done rest : List ℕ) (n left turns : ℕ) → part ≡ (done ++ n ∷ []) ++ rest → length part ≤ turns → left + length done ≡ turns → 0 < left

@@ -16,7 +16,7 @@ use Rattle.call_profile.specs.Permitted.{CanSeat}
 use Rattle.exchange_events.specs.Sizes.{Setting, Dimensions}
 use Rattle.call_profile.specs.Setup.{Check, checks, first_cause, refusal, caller_slot, target_of, call, call_line, accept, is_room_full}
 use Rattle.call_profile.specs.World.{World, is_full}
-use Rattle.call_profile.proofs.CommandLemmas.{both_true, not_full}
+use Rattle.call_profile.proofs.CommandLemmas.{both_true, count_by-is_member_not_full}
 use Rattle.call_profile.proofs.SetupLemmas.{all_pass, all_from, caller_is}
 
 -- ---- the operations
@@ -38,7 +38,7 @@ pub can_seat : (s : Setting) (w : World) (line : ℕ) (m : Message) (x : Slot) (
 can_seat s w line m x room stands within accepted at is = record {
   within = within;
   idle = (both_true (is_idle w.holding.circuits x) (is_none (leg_at w.legs x)) (caller_is w line (channel_in m.elements) x at).0).0;
-  free = not_full s.dimensions.bridges w.holding stands.circuits (room_free s w line m room accepted is);
+  free = count_by-is_member_not_full s.dimensions.bridges w.holding stands.circuits (room_free s w line m room accepted is);
 }
 
 -- a slot that can be seated still can, whatever the legs are

@@ -23,13 +23,13 @@ use Rattle.call_profile.specs.Operations.{Put, making_at, making_after_all}
 use Rattle.exchange_events.specs.Sizes.{Dimensions}
 use Rattle.call_profile.specs.World.{World}
 use Rattle.call_profile.proofs.AnsweringLemmas.{cleared_idle, silent_idle}
-use Rattle.call_profile.proofs.BesideLemmas.{entry_here, entry_else}
-use Rattle.call_profile.proofs.HearingLemmas.{clear_keeps, connect_keeps}
+use Rattle.call_profile.proofs.BesideLemmas.{leg_at-with_entry_here, leg_at-with_entry_else}
+use Rattle.call_profile.proofs.HearingLemmas.{heard_by_clear_keeps, heard_by_connect_keeps}
 use Rattle.call_profile.proofs.TwoEntriesLemmas.{ArePeers, strange_both}
 use Rattle.call_profile.proofs.ClearingLemmas.{Kept}
-use Rattle.call_profile.proofs.TwoStatesLemmas.{both_gone, gone_to}
-use Rattle.call_profile.proofs.ToneLemmas.{no_tone, sounding_keeps, sounding_valid, sounds}
-use Rattle.call_profile.proofs.LegTableLemmas.{both_size, both_else, both_first, both_second}
+use Rattle.call_profile.proofs.TwoStatesLemmas.{LegsStand_both_gone, gone_to}
+use Rattle.call_profile.proofs.ToneLemmas.{no_tone, heard_by_sounding_keeps, sounding_valid, sounds}
+use Rattle.call_profile.proofs.LegTableLemmas.{length-with_entry_both, leg_at_both_else, leg_at_both_first, leg_at_both_second}
 
 -- ---- the caller's state, from the called leg's
 
@@ -68,7 +68,7 @@ module _ (d : Dimensions) (tones : Tones) (w : World) (x y : Slot) (leg other : 
       let waited = waits (first_of_two leg.state among) in
       let old = stand.each y other peers.in_y peers.at_y in (
         valid,
-        both_gone d.external tones w after_proceeding x y leg other incoming_call_proceeding other.state other.since other.resent (record {
+        LegsStand_both_gone d.external tones w after_proceeding x y leg other incoming_call_proceeding other.state other.since other.resent (record {
           stand = stand;
           in_x = peers.in_x;
           in_y = peers.in_y;
@@ -79,12 +79,12 @@ module _ (d : Dimensions) (tones : Tones) (w : World) (x y : Slot) (leg other : 
           state_y = old.state;
           matched = subst (λ t. are_matched t incoming_call_proceeding ≡ true) (sym waited) refl;
           size = length-set w.legs.held (number_of x) (Some (gone_to w incoming_call_proceeding leg)) ∙ stand.count;
-          here_x = entry_here d.external w.legs x (Some (gone_to w incoming_call_proceeding leg)) stand.count peers.in_x;
-          here_y = entry_else d.external w.legs x y (Some (gone_to w incoming_call_proceeding leg)) peers.in_x peers.in_y peers.apart ∙ peers.at_y;
+          here_x = leg_at-with_entry_here d.external w.legs x (Some (gone_to w incoming_call_proceeding leg)) stand.count peers.in_x;
+          here_y = leg_at-with_entry_else d.external w.legs x y (Some (gone_to w incoming_call_proceeding leg)) peers.in_x peers.in_y peers.apart ∙ peers.at_y;
           hears_x = subst (MayHear tones (gone_to w incoming_call_proceeding leg)) (sym silent) (λ e. absurd cc, refl);
           hears_y = old.hears;
           beside = record {
-            legs = λ z in_z not_x not_y. entry_else d.external w.legs x z (Some (gone_to w incoming_call_proceeding leg)) peers.in_x in_z not_x;
+            legs = λ z in_z not_x not_y. leg_at-with_entry_else d.external w.legs x z (Some (gone_to w incoming_call_proceeding leg)) peers.in_x in_z not_x;
             heard = λ z l in_z at_z not_x not_y. refl;
             strange = λ z l p in_z at_z not_x not_y is. let strange = strange_both d.external tones w x y leg other stand peers z l in_z at_z not_x not_y in (strange.0 p is, strange.1 p is);
           };
@@ -101,7 +101,7 @@ module _ (d : Dimensions) (tones : Tones) (w : World) (x y : Slot) (leg other : 
       let one : Option Leg = Some (gone_to w call_received leg) in
       let two : Option Leg = Some (gone_to w call_delivered other) in (
         sounding_valid w.holding y idle d.bridges valid tone,
-        both_gone d.external tones w (making_after_all d (making_at w) (on_alerting tones (record { slot = x; leg = leg }) (record { slot = y; leg = other }))).world x y leg other call_received call_delivered w.holding.next false (record {
+        LegsStand_both_gone d.external tones w (making_after_all d (making_at w) (on_alerting tones (record { slot = x; leg = leg }) (record { slot = y; leg = other }))).world x y leg other call_received call_delivered w.holding.next false (record {
           stand = stand;
           in_x = peers.in_x;
           in_y = peers.in_y;
@@ -111,14 +111,14 @@ module _ (d : Dimensions) (tones : Tones) (w : World) (x y : Slot) (leg other : 
           state_x = refl;
           state_y = refl;
           matched = refl;
-          size = both_size d.external w.legs x y one two stand.count peers.in_x peers.in_y peers.apart;
-          here_x = both_first d.external w.legs x y one two stand.count peers.in_x peers.in_y peers.apart;
-          here_y = both_second d.external w.legs x y one two stand.count peers.in_x peers.in_y peers.apart;
-          hears_x = subst (MayHear tones (gone_to w call_received leg)) (sym (sounding_keeps w.holding y idle x called_apart tone ∙ silent)) (λ e. absurd cc, refl);
+          size = length-with_entry_both d.external w.legs x y one two stand.count peers.in_x peers.in_y peers.apart;
+          here_x = leg_at_both_first d.external w.legs x y one two stand.count peers.in_x peers.in_y peers.apart;
+          here_y = leg_at_both_second d.external w.legs x y one two stand.count peers.in_x peers.in_y peers.apart;
+          hears_x = subst (MayHear tones (gone_to w call_received leg)) (sym (heard_by_sounding_keeps w.holding y idle x called_apart tone ∙ silent)) (λ e. absurd cc, refl);
           hears_y = sounds w.holding y idle tones (gone_to w call_delivered other) (λ e. absurd cc);
           beside = record {
-            legs = both_else d.external w.legs x y one two stand.count peers.in_x peers.in_y peers.apart;
-            heard = λ z l in_z at_z not_x not_y. sounding_keeps w.holding y idle z not_y tone;
+            legs = leg_at_both_else d.external w.legs x y one two stand.count peers.in_x peers.in_y peers.apart;
+            heard = λ z l in_z at_z not_x not_y. heard_by_sounding_keeps w.holding y idle z not_y tone;
             strange = λ z l p in_z at_z not_x not_y is. let strange = strange_both d.external tones w x y leg other stand peers z l in_z at_z not_x not_y in (strange.0 p is, strange.1 p is);
           };
         }),
@@ -144,15 +144,15 @@ module _ (d : Dimensions) (tones : Tones) (w : World) (x y : Slot) (leg other : 
       → heard_by (after cleared (Connect y x)).circuits z ≡ heard_by w.holding.circuits z
   heard_others z l in_z at_z not_x not_y =
       let strange = strange_both d.external tones w x y leg other stand peers z l in_z at_z not_x not_y in
-      connect_keeps cleared y x z idle_caller idle_called not_y not_x
-      ∙ clear_keeps d.bridges tones w.holding l z y valid (stand.each z l in_z at_z).hears not_y strange.1
+      heard_by_connect_keeps cleared y x z idle_caller idle_called not_y not_x
+      ∙ heard_by_clear_keeps d.bridges tones w.holding l z y valid (stand.each z l in_z at_z).hears not_y strange.1
 
   pub answer_kept : Kept d tones (making_after_all d (making_at w) (on_connect (record { slot = x; leg = leg }) (record { slot = y; leg = other }))).world
   answer_kept =
       let one : Option Leg = Some (gone_to w active leg) in
       let two : Option Leg = Some (gone_to w active other) in (
         valid-connect d.bridges cleared y x (valid-clear d.bridges w.holding y valid) peers.apart idle_caller idle_called,
-        both_gone d.external tones w (making_after_all d (making_at w) (on_connect (record { slot = x; leg = leg }) (record { slot = y; leg = other }))).world x y leg other active active w.holding.next false (record {
+        LegsStand_both_gone d.external tones w (making_after_all d (making_at w) (on_connect (record { slot = x; leg = leg }) (record { slot = y; leg = other }))).world x y leg other active active w.holding.next false (record {
           stand = stand;
           in_x = peers.in_x;
           in_y = peers.in_y;
@@ -162,13 +162,13 @@ module _ (d : Dimensions) (tones : Tones) (w : World) (x y : Slot) (leg other : 
           state_x = refl;
           state_y = refl;
           matched = refl;
-          size = both_size d.external w.legs x y one two stand.count peers.in_x peers.in_y peers.apart;
-          here_x = both_first d.external w.legs x y one two stand.count peers.in_x peers.in_y peers.apart;
-          here_y = both_second d.external w.legs x y one two stand.count peers.in_x peers.in_y peers.apart;
+          size = length-with_entry_both d.external w.legs x y one two stand.count peers.in_x peers.in_y peers.apart;
+          here_x = leg_at_both_first d.external w.legs x y one two stand.count peers.in_x peers.in_y peers.apart;
+          here_y = leg_at_both_second d.external w.legs x y one two stand.count peers.in_x peers.in_y peers.apart;
           hears_x = subst (MayHear tones (gone_to w active leg)) (sym heard_called) (refl, peers.there);
           hears_y = subst (MayHear tones (gone_to w active other)) (sym heard_caller) (refl, peers.back);
           beside = record {
-            legs = both_else d.external w.legs x y one two stand.count peers.in_x peers.in_y peers.apart;
+            legs = leg_at_both_else d.external w.legs x y one two stand.count peers.in_x peers.in_y peers.apart;
             heard = heard_others;
             strange = λ z l p in_z at_z not_x not_y is. let strange = strange_both d.external tones w x y leg other stand peers z l in_z at_z not_x not_y in (strange.0 p is, strange.1 p is);
           };

@@ -116,14 +116,14 @@ module _ (external : ℕ) (tones : Tones) (w : World) (x : Slot) (leg : Leg) (ri
 
 -- ---- the two slots are silent once the caller's is cleared
 
-pub cleared_by : (circuits : List Circuit) (y : Slot) (o : Option Circuit) → heard_by circuits y ≡ o → unless_naming y o ≡ None
-cleared_by circuits y None e = refl
-cleared_by circuits y (Some c) e = rw (listener_is_named y c (heard_by-stands circuits y c e).1) refl
+pub unless_naming_cleared : (circuits : List Circuit) (y : Slot) (o : Option Circuit) → heard_by circuits y ≡ o → unless_naming y o ≡ None
+unless_naming_cleared circuits y None e = refl
+unless_naming_cleared circuits y (Some c) e = rw (listener_is_named y c (heard_by-stands circuits y c e).1) refl
 
 pub cleared_idle : (bridges : ℕ) (h : Holding) (y : Slot) → Valid bridges h → is_idle (after h (Clear y)).circuits y ≡ true
 cleared_idle bridges h y valid =
     deaf_is_idle (after h (Clear y)).circuits y ((valid-clear bridges h y valid).standing y)
-    (heard_by-clear h.circuits y y (valid.standing y) ∙ cleared_by h.circuits y (heard_by h.circuits y) refl)
+    (heard_by-clear h.circuits y y (valid.standing y) ∙ unless_naming_cleared h.circuits y (heard_by h.circuits y) refl)
 
 pub silent_idle : (bridges : ℕ) (h : Holding) (x y : Slot) → Valid bridges h → heard_by h.circuits x ≡ None → is_idle (after h (Clear y)).circuits x ≡ true
 silent_idle bridges h x y valid silent =
@@ -178,10 +178,10 @@ answered_by s w line r h m valid stand e at within answers =
       },
     )
 
-pub answered : (s : Setting) (w : World) (line : ℕ) (octets : List ℕ) (h : HeldLeg) (m : Message) → Valid s.dimensions.bridges w.holding → LegsStand s.dimensions.external s.tones w
+pub connected_by_answer : (s : Setting) (w : World) (line : ℕ) (octets : List ℕ) (h : HeldLeg) (m : Message) → Valid s.dimensions.bridges w.holding → LegsStand s.dimensions.external s.tones w
     → line < s.dimensions.external → request_of w.legs line octets ≡ For_leg h m → act_on h.leg.state m ≡ act.Answer
     → (y : Slot) × (h.leg.peer ≡ peer.Leg y) × AreConnected s.dimensions.bridges w (after_message s w line octets) y h.slot
-answered s w line octets h m valid stand below e answers =
+connected_by_answer s w line octets h m valid stand below e answers =
     let named = received_stands w.legs line octets h m e in
     let on = named.among in
     answered_by s w line (request_of w.legs line octets) h m valid stand e named.at (rw on.0 below, on.1) answers

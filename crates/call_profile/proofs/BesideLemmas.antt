@@ -23,11 +23,11 @@ use Rattle.call_profile.specs.World.{World}
 abbrev pub look : Slot → List (Option Leg) → Option Leg
 look x os = slice_index_or os (number_of x) None
 
-pub entry_here : (external : ℕ) (legs : Legs) (x : Slot) (o : Option Leg) → length legs.held ≡ 30 * external → IsExternal external x → leg_at (with_entry legs x o) x ≡ o
-entry_here external legs x o size inside = get_or-set_same legs.held (number_of x) o None (let n = number_inside external x inside in omega (arith, n, size))
+pub leg_at-with_entry_here : (external : ℕ) (legs : Legs) (x : Slot) (o : Option Leg) → length legs.held ≡ 30 * external → IsExternal external x → leg_at (with_entry legs x o) x ≡ o
+leg_at-with_entry_here external legs x o size inside = get_or-set_same legs.held (number_of x) o None (let n = number_inside external x inside in omega (arith, n, size))
 
-pub entry_else : (external : ℕ) (legs : Legs) (x z : Slot) (o : Option Leg) → IsExternal external x → IsExternal external z → (z ≡ x → ⊥) → leg_at (with_entry legs x o) z ≡ leg_at legs z
-entry_else external legs x z o at_x at_z apart = get_or-set_other legs.held (number_of x) (number_of z) o None (λ e. apart (same_number z x at_z.1 at_x.1 e))
+pub leg_at-with_entry_else : (external : ℕ) (legs : Legs) (x z : Slot) (o : Option Leg) → IsExternal external x → IsExternal external z → (z ≡ x → ⊥) → leg_at (with_entry legs x o) z ≡ leg_at legs z
+leg_at-with_entry_else external legs x z o at_x at_z apart = get_or-set_other legs.held (number_of x) (number_of z) o None (λ e. apart (same_number z x at_z.1 at_x.1 e))
 
 -- the second of two entries for one slot is left
 pub entry_twice : (legs : Legs) (x : Slot) (o p : Option Leg) → with_entry (with_entry legs x o) x p ≡ with_entry legs x p

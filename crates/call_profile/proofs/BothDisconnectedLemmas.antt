@@ -15,9 +15,9 @@ use Rattle.call_profile.specs.Legs.{leg_at, with_entry}
 use Rattle.call_profile.specs.Operations.{begun, with_tone}
 use Rattle.call_profile.specs.World.{World}
 use Rattle.call_profile.proofs.TwoEntriesLemmas.{ArePeers, strange_both, both_stand, fine_leg}
-use Rattle.call_profile.proofs.HearingLemmas.{clear_keeps}
+use Rattle.call_profile.proofs.HearingLemmas.{heard_by_clear_keeps}
 use Rattle.call_profile.proofs.OneLegClearedLemmas.{disconnected_stands}
-use Rattle.call_profile.proofs.ToneLemmas.{cleared_is_idle, sounding_keeps, sounding_valid, sounds}
+use Rattle.call_profile.proofs.ToneLemmas.{cleared_is_idle, heard_by_sounding_keeps, sounding_valid, sounds}
 
 module _ (external : ℕ) (tones : Tones) (bridges : ℕ) (w v : World) (x y : Slot) (leg other : Leg) (cause also : ℕ) (small : cause < 128) (small_too : also < 128)
     (valid : Valid bridges w.holding) (stand : LegsStand external tones w) (peers : ArePeers external w x y leg other) where
@@ -63,14 +63,14 @@ module _ (external : ℕ) (tones : Tones) (bridges : ℕ) (w v : World) (x y : S
     -- a third leg hears what it heard
     heard_first : (z : Slot) (l : Leg) → IsExternal external z → leg_at w.legs z ≡ Some l → (z ≡ x → ⊥) → (z ≡ y → ⊥) → heard_by first.circuits z ≡ heard_by w.holding.circuits z
     heard_first z l in_z at_z not_x not_y =
-        sounding_keeps cleared_one x idle_x z not_x tone_one
-        ∙ clear_keeps bridges tones w.holding l z x valid (stand.each z l in_z at_z).hears not_x (strange_both external tones w x y leg other stand peers z l in_z at_z not_x not_y).0
+        heard_by_sounding_keeps cleared_one x idle_x z not_x tone_one
+        ∙ heard_by_clear_keeps bridges tones w.holding l z x valid (stand.each z l in_z at_z).hears not_x (strange_both external tones w x y leg other stand peers z l in_z at_z not_x not_y).0
 
     heard_both : (z : Slot) (l : Leg) → IsExternal external z → leg_at w.legs z ≡ Some l → (z ≡ x → ⊥) → (z ≡ y → ⊥) → heard_by both.circuits z ≡ heard_by w.holding.circuits z
     heard_both z l in_z at_z not_x not_y =
         let once = heard_first z l in_z at_z not_x not_y in
-        sounding_keeps cleared_two y idle_y z not_y tone_two
-        ∙ clear_keeps bridges tones first l z y first_valid (subst (MayHear tones l) (sym once) (stand.each z l in_z at_z).hears) not_y (strange_both external tones w x y leg other stand peers z l in_z at_z not_x not_y).1
+        heard_by_sounding_keeps cleared_two y idle_y z not_y tone_two
+        ∙ heard_by_clear_keeps bridges tones first l z y first_valid (subst (MayHear tones l) (sym once) (stand.each z l in_z at_z).hears) not_y (strange_both external tones w x y leg other stand peers z l in_z at_z not_x not_y).1
         ∙ once
 
     heard_then : (z : Slot) (l : Leg) → IsExternal external z → leg_at w.legs z ≡ Some l → (z ≡ x → ⊥) → (z ≡ y → ⊥) → heard_by v.holding.circuits z ≡ heard_by w.holding.circuits z
@@ -83,8 +83,8 @@ module _ (external : ℕ) (tones : Tones) (bridges : ℕ) (w v : World) (x y : S
     still_sounds : heard_by both.circuits x ≡ heard_by first.circuits x
     still_sounds =
         let apart : x ≡ y → ⊥ = λ e. peers.apart (sym e) in
-        sounding_keeps cleared_two y idle_y x apart tone_two
-        ∙ clear_keeps bridges tones first one x y first_valid first_sounds apart (λ p is same. let wrong : peer.Alone ≡ peer.Leg p = is in cc)
+        heard_by_sounding_keeps cleared_two y idle_y x apart tone_two
+        ∙ heard_by_clear_keeps bridges tones first one x y first_valid first_sounds apart (λ p is same. let wrong : peer.Alone ≡ peer.Leg p = is in cc)
 
     hears_x : MayHear tones one (heard_by v.holding.circuits x)
     hears_x = subst (λ (h : Holding). MayHear tones one (heard_by h.circuits x)) (sym holding) (subst (MayHear tones one) (sym still_sounds) first_sounds)

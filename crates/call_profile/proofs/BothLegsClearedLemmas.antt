@@ -13,10 +13,10 @@ use Rattle.call_profile.specs.LegStanding.{LegStands, LegsStand, MayHear}
 use Rattle.call_profile.specs.Legs.{leg_at, with_entry}
 use Rattle.call_profile.specs.Operations.{begun, with_tone}
 use Rattle.call_profile.specs.World.{World}
-use Rattle.call_profile.proofs.HearingLemmas.{clear_both_keeps}
-use Rattle.call_profile.proofs.OneLegClearedLemmas.{IsLeft, left_stands, left_reference, disconnected_stands, deaf_once, deaf_still}
+use Rattle.call_profile.proofs.HearingLemmas.{heard_by_clear_both_keeps}
+use Rattle.call_profile.proofs.OneLegClearedLemmas.{IsLeft, left_stands, left_reference, disconnected_stands, heard_by_deaf_once, heard_by_deaf_still}
 use Rattle.call_profile.proofs.TwoEntriesLemmas.{ArePeers, strange_both, IsFine, both_stand, fine_leg}
-use Rattle.call_profile.proofs.ToneLemmas.{cleared_is_idle, sounding_keeps, sounds}
+use Rattle.call_profile.proofs.ToneLemmas.{cleared_is_idle, heard_by_sounding_keeps, sounds}
 
 module _ (external : ℕ) (tones : Tones) (bridges : ℕ) (w v : World) (x y : Slot) (leg other : Leg) (o : Option Leg) (cause : ℕ) (small : cause < 128) (valid : Valid bridges w.holding) (stand : LegsStand external tones w)
     (peers : ArePeers external w x y leg other) (left : IsLeft w.holding.next leg o)
@@ -40,14 +40,14 @@ module _ (external : ℕ) (tones : Tones) (bridges : ℕ) (w v : World) (x y : S
   heard_both z l in_z at_z not_x not_y =
       let strange = strange_both external tones w x y leg other stand peers z l in_z at_z not_x not_y in
       ap (λ (h : Holding). heard_by h.circuits z) holding
-      ∙ sounding_keeps cleared y idle_y z not_y tone
-      ∙ clear_both_keeps bridges tones w.holding l z x y valid (stand.each z l in_z at_z).hears not_x strange.0 not_y strange.1
+      ∙ heard_by_sounding_keeps cleared y idle_y z not_y tone
+      ∙ heard_by_clear_both_keeps bridges tones w.holding l z x y valid (stand.each z l in_z at_z).hears not_x strange.0 not_y strange.1
 
   deaf_x : heard_by v.holding.circuits x ≡ None
   deaf_x =
       ap (λ (h : Holding). heard_by h.circuits x) holding
-      ∙ sounding_keeps cleared y idle_y x (λ e. peers.apart (sym e)) tone
-      ∙ deaf_still bridges (after w.holding (Clear x)) x y (valid-clear bridges w.holding x valid) (deaf_once bridges w.holding x valid)
+      ∙ heard_by_sounding_keeps cleared y idle_y x (λ e. peers.apart (sym e)) tone
+      ∙ heard_by_deaf_still bridges (after w.holding (Clear x)) x y (valid-clear bridges w.holding x valid) (heard_by_deaf_once bridges w.holding x valid)
 
   hears_y : MayHear tones told (heard_by v.holding.circuits y)
   hears_y = subst (λ (h : Holding). MayHear tones told (heard_by h.circuits y)) (sym holding) (sounds cleared y idle_y tones told (λ e. absurd cc))

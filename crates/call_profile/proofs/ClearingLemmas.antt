@@ -24,7 +24,7 @@ use Rattle.call_profile.specs.Operations.{Making, begun, making_at, making_after
 use Rattle.exchange_events.specs.Sizes.{Setting, Dimensions}
 use Rattle.call_profile.specs.World.{World}
 use Rattle.call_profile.proofs.BesideLemmas.{peer_there, peer_back}
-use Rattle.call_profile.proofs.OneLegClearedLemmas.{IsLeft, alone_left}
+use Rattle.call_profile.proofs.OneLegClearedLemmas.{IsLeft, LegsStand_alone_left}
 use Rattle.call_profile.proofs.BothLegsClearedLemmas.{both_cleared}
 use Rattle.call_profile.proofs.TwoEntriesLemmas.{ArePeers}
 use Rattle.call_profile.proofs.ToneLemmas.{cleared_is_idle, sounding_valid}
@@ -68,7 +68,7 @@ module _ (d : Dimensions) (tones : Tones) (w : World) (x : Slot) (leg : Leg) (o 
   valid_left = subst (Valid d.bridges) (sym holding) (valid-clear d.bridges w.holding x valid)
 
   pub alone_kept : ((p : Slot) → leg.peer ≡ peer.Leg p → ⊥) → Kept d tones m.world
-  alone_kept no_peer = (valid_left, alone_left d.external tones d.bridges w m.world x leg o valid stand within at left legs holding no_peer)
+  alone_kept no_peer = (valid_left, LegsStand_alone_left d.external tones d.bridges w m.world x leg o valid stand within at left legs holding no_peer)
 
   pub both_kept : (y : Slot) (other : Leg) → IsExternal d.external y → leg_at w.legs y ≡ Some other → IsInCall leg.side x leg y other
       → Kept d tones (making_after_all d m (clear_with tones cause (record { slot = y; leg = other }))).world

@@ -19,7 +19,7 @@ use Rattle.call_profile.specs.LegStanding.{LegStands, LegsStand, HasPeer, MayHea
 use Rattle.call_profile.specs.Legs.{Legs, leg_at}
 use Rattle.exchange_events.specs.Sound.{Fits}
 use Rattle.call_profile.specs.World.{World, obey, is_full, pass}
-use Rattle.call_profile.proofs.HearingLemmas.{IsStrange, clear_keeps, connect_keeps, seat_keeps}
+use Rattle.call_profile.proofs.HearingLemmas.{IsStrange, heard_by_clear_keeps, heard_by_connect_keeps, heard_by_seat_keeps}
 use Rattle.call_profile.proofs.ClearingLemmas.{Kept}
 
 -- ---- slots that no leg holds
@@ -47,8 +47,8 @@ strange_to_empty external tones w x stand none z l in_z at_z p is same =
     let has = subst (HasPeer external w.legs z l) is (stand.each z l in_z at_z).peer in
     not_empty w.legs x p has.1.0 none has.1.1 same
 
-pub not_full : (bridges : ℕ) (h : Holding) → Valid bridges h → (count_by is_member h.circuits == 30 * bridges) ≡ false → count_by is_member h.circuits < 30 * bridges
-not_full bridges h valid other = let most = valid.seated in grind (arith, common_steps, other, most)
+pub count_by-is_member_not_full : (bridges : ℕ) (h : Holding) → Valid bridges h → (count_by is_member h.circuits == 30 * bridges) ≡ false → count_by is_member h.circuits < 30 * bridges
+count_by-is_member_not_full bridges h valid other = let most = valid.seated in grind (arith, common_steps, other, most)
 
 -- ---- circuits change, and each leg hears what it heard
 
@@ -80,7 +80,7 @@ module _ (d : Dimensions) (tones : Tones) (w : World) (valid : Valid d.bridges w
       let at_y = both_true (is_idle w.holding.circuits y) (is_none (leg_at w.legs y)) idle_y in (
         valid-connect d.bridges w.holding x y valid apart at_x.0 at_y.0,
         still_stand d.external tones w (obey d w (Connect x y)) refl stand (λ z l in_z at_z.
-            connect_keeps w.holding x y z at_x.0 at_y.0
+            heard_by_connect_keeps w.holding x y z at_x.0 at_y.0
             (not_empty w.legs x z l (is_empty (leg_at w.legs x) at_x.1) at_z)
             (not_empty w.legs y z l (is_empty (leg_at w.legs y) at_y.1) at_z)),
       )
@@ -88,9 +88,9 @@ module _ (d : Dimensions) (tones : Tones) (w : World) (valid : Valid d.bridges w
   seated_kept : (x : Slot) (room : ℕ) → idle w x ≡ true → is_full d w ≡ false → Kept d tones (obey d w (Take_seat x room))
   seated_kept x room idle_x free =
       let at_x = both_true (is_idle w.holding.circuits x) (is_none (leg_at w.legs x)) idle_x in (
-        valid-seat d.bridges w.holding x room valid at_x.0 (not_full d.bridges w.holding valid free),
+        valid-seat d.bridges w.holding x room valid at_x.0 (count_by-is_member_not_full d.bridges w.holding valid free),
         still_stand d.external tones w (obey d w (Take_seat x room)) refl stand (λ z l in_z at_z.
-            seat_keeps w.holding x z room at_x.0 (not_empty w.legs x z l (is_empty (leg_at w.legs x) at_x.1) at_z)),
+            heard_by_seat_keeps w.holding x z room at_x.0 (not_empty w.legs x z l (is_empty (leg_at w.legs x) at_x.1) at_z)),
       )
 
   freed_kept : (x : Slot) → is_nailed w x ≡ true → Kept d tones (obey d w (Clear_slot x))
@@ -98,7 +98,7 @@ module _ (d : Dimensions) (tones : Tones) (w : World) (valid : Valid d.bridges w
       let none = is_empty (leg_at w.legs x) (both_true (not (is_idle w.holding.circuits x)) (is_none (leg_at w.legs x)) nailed_x).1 in (
         valid-clear d.bridges w.holding x valid,
         still_stand d.external tones w (obey d w (Clear_slot x)) refl stand (λ z l in_z at_z.
-            clear_keeps d.bridges tones w.holding l z x valid (stand.each z l in_z at_z).hears
+            heard_by_clear_keeps d.bridges tones w.holding l z x valid (stand.each z l in_z at_z).hears
             (not_empty w.legs x z l none at_z)
             (strange_to_empty d.external tones w x stand none z l in_z at_z)),
       )

@@ -38,19 +38,19 @@ module _ (w : World) (x : Slot) (leg : Leg) (at : leg_at w.legs x ≡ Some leg) 
     | inr differ ↦ rw differ (and_true (idle w y))
   ]
 
-  pub same_choice : (line : ℕ) → lowest_idle_beside w x line ≡ lowest_idle w line
-  same_choice line = λ i. find (λ y. beside_or_not y i) (slots_of line)
+  pub lowest_idle_beside_same_choice : (line : ℕ) → lowest_idle_beside w x line ≡ lowest_idle w line
+  lowest_idle_beside_same_choice line = λ i. find (λ y. beside_or_not y i) (slots_of line)
 
   unavailable : (line : ℕ) (down : Bool) → is_down w.legs line ≡ down → IsFull w x line → IsUnavailable w line
   unavailable line true is none = inl is
-  unavailable line false is none = inr (sym (same_choice line) ∙ sym (ap (λ (down : Bool). if down then None else lowest_idle_beside w x line) is) ∙ none)
+  unavailable line false is none = inr (sym (lowest_idle_beside_same_choice line) ∙ sym (ap (λ (down : Bool). if down then None else lowest_idle_beside w x line) is) ∙ none)
 
 -- ---- the cause tells which check failed
 
 -- a check with another cause is not the one that failed
-later : (fails : Bool) (cause why : ℕ) (cs : List Check) → (cause ≡ why → ⊥) → first_cause ((fails, cause) ∷ cs) ≡ Some why → first_cause cs ≡ Some why
-later true cause why cs apart e = let f : Some cause ≡ Some why = e in let same : cause ≡ why = cc in absurd (apart same)
-later false cause why cs apart e = e
+first_cause_later : (fails : Bool) (cause why : ℕ) (cs : List Check) → (cause ≡ why → ⊥) → first_cause ((fails, cause) ∷ cs) ≡ Some why → first_cause cs ≡ Some why
+first_cause_later true cause why cs apart e = let f : Some cause ≡ Some why = e in let same : cause ≡ why = cc in absurd (apart same)
+first_cause_later false cause why cs apart e = e
 
 failed : (fails : Bool) (cause : ℕ) (cs : List Check) → (first_cause cs ≡ Some cause → ⊥) → first_cause ((fails, cause) ∷ cs) ≡ Some cause → fails ≡ true
 failed true cause cs none e = refl
@@ -69,25 +69,25 @@ module _ (a b c d g e f : Bool) where
   abbrev seven : List Check
   seven = (a, invalid_number_format) ∷ (b, invalid_number_format) ∷ (c, unallocated_number) ∷ (d, invalid_number_format) ∷ last_three
 
-  last_is : (why : ℕ) → (invalid_number_format ≡ why → ⊥) → (unallocated_number ≡ why → ⊥) → (destination_out_of_order ≡ why → ⊥) → first_cause seven ≡ Some why → first_cause last_two ≡ Some why
-  last_is why not_format not_number not_cut is =
-      later g destination_out_of_order why last_two not_cut
-      (later d invalid_number_format why last_three not_format
-      (later c unallocated_number why ((d, invalid_number_format) ∷ last_three) not_number
-      (later b invalid_number_format why ((c, unallocated_number) ∷ (d, invalid_number_format) ∷ last_three) not_format
-      (later a invalid_number_format why ((b, invalid_number_format) ∷ (c, unallocated_number) ∷ (d, invalid_number_format) ∷ last_three) not_format is))))
+  first_cause-last_two : (why : ℕ) → (invalid_number_format ≡ why → ⊥) → (unallocated_number ≡ why → ⊥) → (destination_out_of_order ≡ why → ⊥) → first_cause seven ≡ Some why → first_cause last_two ≡ Some why
+  first_cause-last_two why not_format not_number not_cut is =
+      first_cause_later g destination_out_of_order why last_two not_cut
+      (first_cause_later d invalid_number_format why last_three not_format
+      (first_cause_later c unallocated_number why ((d, invalid_number_format) ∷ last_three) not_number
+      (first_cause_later b invalid_number_format why ((c, unallocated_number) ∷ (d, invalid_number_format) ∷ last_three) not_format
+      (first_cause_later a invalid_number_format why ((b, invalid_number_format) ∷ (c, unallocated_number) ∷ (d, invalid_number_format) ∷ last_three) not_format is))))
 
   sixth : first_cause seven ≡ Some no_channel_available → e ≡ true
   sixth is =
       failed e no_channel_available ((f, switching_equipment_congestion) ∷ [])
-      (λ rest. no_check no_channel_available (later f switching_equipment_congestion no_channel_available [] (λ same. omega (arith, same)) rest))
-      (last_is no_channel_available (λ same. omega (arith, same)) (λ same. omega (arith, same)) (λ same. omega (arith, same)) is)
+      (λ rest. no_check no_channel_available (first_cause_later f switching_equipment_congestion no_channel_available [] (λ same. omega (arith, same)) rest))
+      (first_cause-last_two no_channel_available (λ same. omega (arith, same)) (λ same. omega (arith, same)) (λ same. omega (arith, same)) is)
 
   seventh : first_cause seven ≡ Some switching_equipment_congestion → f ≡ true
   seventh is =
       failed f switching_equipment_congestion [] (no_check switching_equipment_congestion)
-      (later e no_channel_available switching_equipment_congestion ((f, switching_equipment_congestion) ∷ []) (λ same. omega (arith, same))
-      (last_is switching_equipment_congestion (λ same. omega (arith, same)) (λ same. omega (arith, same)) (λ same. omega (arith, same)) is))
+      (first_cause_later e no_channel_available switching_equipment_congestion ((f, switching_equipment_congestion) ∷ []) (λ same. omega (arith, same))
+      (first_cause-last_two switching_equipment_congestion (λ same. omega (arith, same)) (λ same. omega (arith, same)) (λ same. omega (arith, same)) is))
 
 none_of : (o : Option Slot) → is_none o ≡ true → o ≡ None
 none_of None e = refl

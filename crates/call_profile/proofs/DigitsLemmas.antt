@@ -28,12 +28,12 @@ use Rattle.call_profile.specs.Setup.{Check, is_room_full, target_dialled}
 use Rattle.call_profile.specs.Waiting.{Waits}
 use Rattle.call_profile.specs.World.{World}
 use Rattle.call_profile.proofs.AcceptedSetupLemmas.{small_cause}
-use Rattle.call_profile.proofs.BesideLemmas.{Beside, SameReferences, each_stands, entry_else, entry_here, named_back, same_or_apart, still_one}
+use Rattle.call_profile.proofs.BesideLemmas.{Beside, SameReferences, each_stands, leg_at-with_entry_else, leg_at-with_entry_here, named_back, same_or_apart, still_one}
 use Rattle.call_profile.proofs.ClearingLemmas.{Kept}
-use Rattle.call_profile.proofs.HearingLemmas.{IsStrange, clear_keeps}
+use Rattle.call_profile.proofs.HearingLemmas.{IsStrange, heard_by_clear_keeps}
 use Rattle.call_profile.proofs.OneLegClearedLemmas.{disconnected_stands}
 use Rattle.call_profile.proofs.SetupLemmas.{CanReach, accepted_kept, all_from, all_pass, all_reached, reached}
-use Rattle.call_profile.proofs.ToneLemmas.{cleared_is_idle, sounding_keeps, sounding_valid, sounds}
+use Rattle.call_profile.proofs.ToneLemmas.{cleared_is_idle, heard_by_sounding_keeps, sounding_valid, sounds}
 use Rattle.call_profile.proofs.WaitingLegLemmas.{each_waits, waiting_may}
 
 -- ---- a leg that is alone is cleared
@@ -63,17 +63,17 @@ module _ (d : Dimensions) (tones : Tones) (w : World) (h : HeldLeg) (cause : ℕ
       cc
 
   legs_else : (z : Slot) → IsExternal d.external z → (z ≡ x → ⊥) → leg_at v.legs z ≡ leg_at w.legs z
-  legs_else z in_z apart = entry_else d.external w.legs x z (Some new) within in_z apart
+  legs_else z in_z apart = leg_at-with_entry_else d.external w.legs x z (Some new) within in_z apart
 
-  here : leg_at v.legs x ≡ Some new
-  here = entry_here d.external w.legs x (Some new) stand.count within
+  leg_at_here : leg_at v.legs x ≡ Some new
+  leg_at_here = leg_at-with_entry_here d.external w.legs x (Some new) stand.count within
 
   beside_x : Beside d.external w v x x
   beside_x = record {
     legs = λ z in_z apart same. legs_else z in_z apart;
     heard = λ z l in_z at_z apart same.
-        sounding_keeps cleared x idle_x z apart (tone_of tones new)
-        ∙ clear_keeps d.bridges tones w.holding l z x valid (stand.each z l in_z at_z).hears apart (strange_x z l in_z at_z);
+        heard_by_sounding_keeps cleared x idle_x z apart (tone_of tones new)
+        ∙ heard_by_clear_keeps d.bridges tones w.holding l z x valid (stand.each z l in_z at_z).hears apart (strange_x z l in_z at_z);
     strange = λ z l p in_z at_z apart same is. (strange_x z l in_z at_z p is, strange_x z l in_z at_z p is);
   }
 
@@ -81,12 +81,12 @@ module _ (d : Dimensions) (tones : Tones) (w : World) (h : HeldLeg) (cause : ℕ
   new_stands = disconnected_stands d.external tones w v x h.leg w.holding.next cause small (stand.each x h.leg within at) (sounds cleared x idle_x tones new (λ e. absurd cc))
 
   stands_x : (l : Leg) → leg_at v.legs x ≡ Some l → LegStands d.external tones v x l
-  stands_x l is = let e : Some new ≡ Some l = sym here ∙ is in let same : new ≡ l = cc in subst (LegStands d.external tones v x) same new_stands
+  stands_x l is = let e : Some new ≡ Some l = sym leg_at_here ∙ is in let same : new ≡ l = cc in subst (LegStands d.external tones v x) same new_stands
 
   references : SameReferences d.external w v
   references z b in_z at_z = elim (same_or_apart z x) [
     | inl is_x ↦
-        let e : Some new ≡ Some b = sym here ∙ sym (ap (leg_at v.legs) is_x) ∙ at_z in
+        let e : Some new ≡ Some b = sym leg_at_here ∙ sym (ap (leg_at v.legs) is_x) ∙ at_z in
         let same : new ≡ b = cc in
         (h.leg, ap (leg_at w.legs) is_x ∙ at, ap (λ (l : Leg). l.side) same, ap (λ (l : Leg). l.reference) same)
     | inr apart ↦ (b, sym (legs_else z in_z apart) ∙ at_z, refl, refl)
@@ -115,14 +115,14 @@ pub digits_small : (s : Setting) (w : World) (x : Slot) (called : List ℕ) (m :
 digits_small s w x called m cause e = small_cause (digits_checks s w x called m) cause (omega arith, (omega arith, (omega arith, (omega arith, (omega arith, (omega arith, (omega arith, tt))))))) e
 
 module _ (s : Setting) (w : World) (x : Slot) (p : Pending) (m : Message) (planned : IsPlanned s) (passes : digits_refusal s w x p.called m ≡ None) where
-  pub passed : AllByRecursion (λ (c : Check). c.0 ≡ false) (digits_checks s w x p.called m)
-  passed = all_pass (digits_checks s w x p.called m) passes
+  pub digits_checks_passed : AllByRecursion (λ (c : Check). c.0 ≡ false) (digits_checks s w x p.called m)
+  digits_checks_passed = all_pass (digits_checks s w x p.called m) passes
 
   pub digits_fit : FitsElements p → FitsElements (asked_with p m)
   digits_fit fits = record {
     bearer = fits.bearer;
     calling = fits.calling;
-    called = not_long (length (called_with p.called m)) (right_false (has_no_octet _) (nat_lt 21 (length (called_with p.called m))) passed.0);
+    called = not_long (length (called_with p.called m)) (right_false (has_no_octet _) (nat_lt 21 (length (called_with p.called m))) digits_checks_passed.0);
     low = fits.low;
     high = fits.high;
   }
@@ -131,7 +131,7 @@ module _ (s : Setting) (w : World) (x : Slot) (p : Pending) (m : Message) (plann
   digits_reach = record {
     line = λ l is. reached s (called_with p.called m) l planned is;
     lines = λ ls are. all_reached s (called_with p.called m) ls planned are;
-    room = λ room is. sym (ap (is_room_full s.dimensions w) is) ∙ (all_from 6 (digits_checks s w x p.called m) passed).0;
+    room = λ room is. sym (ap (is_room_full s.dimensions w) is) ∙ (all_from 6 (digits_checks s w x p.called m) digits_checks_passed).0;
   }
 
 -- ---- what is done

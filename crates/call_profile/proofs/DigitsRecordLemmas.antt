@@ -15,10 +15,10 @@ use Rattle.call_profile.specs.Legs.{leg_at}
 use Rattle.call_profile.specs.Operations.{Operation, begun, making_at, making_after_all}
 use Rattle.call_profile.specs.Setup.{target_dialled}
 use Rattle.call_profile.specs.World.{World}
-use Rattle.call_profile.proofs.BesideLemmas.{entry_else}
+use Rattle.call_profile.proofs.BesideLemmas.{leg_at-with_entry_else}
 use Rattle.call_profile.proofs.DigitsLemmas.{digits_are, number, digits_reach}
 use Rattle.call_profile.proofs.EndedCallLemmas.{no_record_where_kept}
-use Rattle.call_profile.proofs.SetupRecordLemmas.{accepted_ends, not_there}
+use Rattle.call_profile.proofs.SetupRecordLemmas.{records_accepted_ends, not_there}
 
 and_false : (b : Bool) → (b && false) ≡ false
 and_false true = refl
@@ -29,27 +29,27 @@ waits_silent leg is = rw is (and_false _)
 
 module _ (s : Setting) (w : World) (h : HeldLeg) (m : Message) (planned : IsPlanned s) (stands : CallsStand s w) (within : IsExternal s.dimensions.external h.slot)
     (at : leg_at w.legs h.slot ≡ Some h.leg) (is : h.leg.state ≡ overlap_sending) where
-  silent : is_calling (leg_at w.legs h.slot) ≡ false
-  silent = ap is_calling at ∙ waits_silent h.leg is
+  is_calling_silent : is_calling (leg_at w.legs h.slot) ≡ false
+  is_calling_silent = ap is_calling at ∙ waits_silent h.leg is
 
-  clearing_ends : (cause : ℕ) → records w (making_after_all s.dimensions (making_at w) (clear_with s.tones cause h)).world 0 ≡ []
-  clearing_ends cause =
+  records_clearing_ends : (cause : ℕ) → records w (making_after_all s.dimensions (making_at w) (clear_with s.tones cause h)).world 0 ≡ []
+  records_clearing_ends cause =
       no_record_where_kept s.dimensions.external w (making_after_all s.dimensions (making_at w) (clear_with s.tones cause h)).world 0 stands.legs.count
       (λ z leg in_z at_z calls.
-      entry_else s.dimensions.external w.legs h.slot z (Some (begun w (in_disconnect_indication cause h.leg))) within in_z (not_there w.legs h.slot z leg silent at_z calls) ∙ at_z)
+      leg_at-with_entry_else s.dimensions.external w.legs h.slot z (Some (begun w (in_disconnect_indication cause h.leg))) within in_z (not_there w.legs h.slot z leg is_calling_silent at_z calls) ∙ at_z)
 
   abbrev called : List ℕ
   called = (number s w h m planned stands within at is).number.called
 
-  dialling_ends : (o : Option ℕ) → digits_refusal s w h.slot called m ≡ o
+  records_dialling_ends : (o : Option ℕ) → digits_refusal s w h.slot called m ≡ o
       → records w (making_after_all s.dimensions (making_at w) (dial_on s w h (asked_with (number s w h m planned stands within at is).number m) o)).world 0 ≡ []
-  dialling_ends (Some cause) refused = clearing_ends cause
-  dialling_ends None passes =
+  records_dialling_ends (Some cause) refused = records_clearing_ends cause
+  records_dialling_ends None passes =
       let reach = digits_reach s w h.slot (number s w h m planned stands within at is).number m planned passes in
-      accepted_ends s w false h.leg.reference (asked_with (number s w h m planned stands within at is).number m) h.slot stands.legs.count within silent (target_dialled s.plan (called_with called m))
+      records_accepted_ends s w false h.leg.reference (asked_with (number s w h m planned stands within at is).number m) h.slot stands.legs.count within is_calling_silent (target_dialled s.plan (called_with called m))
       (reach.line, reach.lines)
 
-  pub digits_end_none : records w (making_after_all s.dimensions (making_at w) (on_digits s w h m)).world 0 ≡ []
-  digits_end_none =
+  pub records_digits_end_none : records w (making_after_all s.dimensions (making_at w) (on_digits s w h m)).world 0 ≡ []
+  records_digits_end_none =
       subst (λ (os : List Operation). records w (making_after_all s.dimensions (making_at w) os).world 0 ≡ []) (sym (digits_are s w h m planned stands within at is))
-      (dialling_ends (digits_refusal s w h.slot called m) refl)
+      (records_dialling_ends (digits_refusal s w h.slot called m) refl)

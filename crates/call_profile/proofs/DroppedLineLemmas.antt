@@ -23,7 +23,7 @@ use Rattle.call_profile.specs.LinkChanges.{whole_line, drop_leg, drop_slot, rule
 use Rattle.call_profile.specs.Operations.{Operation, Making, Await, begun, making_after_all}
 use Rattle.call_profile.specs.Restarts.{MessageOutcome, outcome_below, restarts_slot}
 use Rattle.call_profile.specs.World.{World}
-use Rattle.call_profile.proofs.BesideLemmas.{entry_here, entry_else, same_or_apart}
+use Rattle.call_profile.proofs.BesideLemmas.{leg_at-with_entry_here, leg_at-with_entry_else, same_or_apart}
 use Rattle.call_profile.proofs.ClearingLemmas.{Kept}
 use Rattle.call_profile.proofs.LinkLemmas.{drop_slot_kept, linked_kept}
 use Rattle.call_profile.proofs.RestartedLegLemmas.{peer_after, leg_done}
@@ -98,10 +98,10 @@ module _ (d : Dimensions) (tones : Tones) (line : ℕ) (m : Making) (x : Slot) (
       peers = λ z l in_z at_z names_x quiet.
           let named = named_active z l in_z at_z names_x in
           absurd (quiet (named.3 (ap (λ (k : Leg). k.state) (is_leg leg named.0 at named.1) ∙ is)));
-      same = λ z in_z not_x active_if. entry_else d.external u.legs x z (Some (retransmitted_from u.holding.next leg)) in_x in_z not_x;
+      same = λ z in_z not_x active_if. leg_at-with_entry_else d.external u.legs x z (Some (retransmitted_from u.holding.next leg)) in_x in_z not_x;
       gone = λ l also quiet. absurd (quiet (ap (λ (k : Leg). k.state) (is_leg leg l at also) ∙ is));
       waits = λ l also is_active.
-          entry_here d.external u.legs x (Some (retransmitted_from u.holding.next leg)) kept.1.count in_x
+          leg_at-with_entry_here d.external u.legs x (Some (retransmitted_from u.holding.next leg)) kept.1.count in_x
           ∙ ap (λ (k : Leg). Some (retransmitted_from u.holding.next k)) (sym (is_leg leg l at also))
           ∙ ap (λ (k : Leg). Some k) (sym (ap (λ (b : Bool). if b then l else retransmitted_from u.holding.next l) (ap (λ (k : Leg). k.resent) (is_leg leg l at also) ∙ runs)));
       empty = λ none. let wrong : None ≡ Some leg = sym none ∙ at in absurd cc;

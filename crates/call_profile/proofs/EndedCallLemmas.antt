@@ -50,8 +50,8 @@ goes_on true a kept = rw (kept refl) refl
 goes_on false a kept = refl
 
 -- a caller's leg that goes on calling isn't recorded
-untold : (before after : World) (cause : ℕ) (x : Slot) → (is_calling (leg_at before.legs x) ≡ true → is_calling (leg_at after.legs x) ≡ true) → record_at before after cause x ≡ None
-untold before after cause x kept = rw (goes_on (is_calling (leg_at before.legs x)) (is_calling (leg_at after.legs x)) kept) refl
+record_at_untold : (before after : World) (cause : ℕ) (x : Slot) → (is_calling (leg_at before.legs x) ≡ true → is_calling (leg_at after.legs x) ≡ true) → record_at before after cause x ≡ None
+record_at_untold before after cause x kept = rw (goes_on (is_calling (leg_at before.legs x)) (is_calling (leg_at after.legs x)) kept) refl
 
 stops : (b a : Bool) → a ≡ false → (b && not a) ≡ b
 stops true a over = rw over refl
@@ -62,9 +62,9 @@ told_where : (w : World) (cause : ℕ) (x : Slot) (leg : Leg) → leg_at w.legs 
 told_where w cause x leg at = rw at refl
 
 -- one that stops is recorded
-told : (before after : World) (cause : ℕ) (x : Slot) (leg : Leg) → leg_at before.legs x ≡ Some leg → is_calling (leg_at after.legs x) ≡ false
+record_at_told : (before after : World) (cause : ℕ) (x : Slot) (leg : Leg) → leg_at before.legs x ≡ Some leg → is_calling (leg_at after.legs x) ≡ false
     → record_at before after cause x ≡ record_calling before cause (record { slot = x; leg = leg })
-told before after cause x leg at over =
+record_at_told before after cause x leg at over =
     rw (stops (is_calling (leg_at before.legs x)) (is_calling (leg_at after.legs x)) over) (told_where before cause x leg at)
 
 -- ---- the records of a step
@@ -77,7 +77,7 @@ pub no_record_where_calling : (external : ℕ) (before after : World) (cause : �
     → ((x : Slot) → IsExternal external x → GoesOn before.legs after.legs x) → records before after cause ≡ []
 no_record_where_calling external before after cause size kept =
     none_hit (λ n. record_at before after cause (slot_numbered n)) 0 (length before.legs.held)
-    (λ n low high. untold before after cause (slot_numbered n) (kept (slot_numbered n) (in_numbered external n (omega (arith, high, size)))))
+    (λ n low high. record_at_untold before after cause (slot_numbered n) (kept (slot_numbered n) (in_numbered external n (omega (arith, high, size)))))
 
 still_there : (before after : Legs) (x : Slot) (o : Option Leg) → leg_at before x ≡ o → ((leg : Leg) → o ≡ Some leg → is_calling (Some leg) ≡ true → leg_at after x ≡ Some leg)
     → is_calling o ≡ true → is_calling (leg_at after x) ≡ true
@@ -103,7 +103,7 @@ one_record external before after cause x leg size within at over others =
     let slot = numbered_number x within.1 in
     one_hit f 0 (length before.legs.held) (number_of x) (omega arith) (omega (arith, inside, size))
     (λ n low high apart.
-    untold before after cause (slot_numbered n)
+    record_at_untold before after cause (slot_numbered n)
     (others (slot_numbered n) (in_numbered external n (omega (arith, high, size))) (λ e. apart (sym (number_numbered n) ∙ ap number_of e))))
     ∙ ap (λ (z : Slot). cons_option (record_at before after cause z) []) slot
-    ∙ ap (λ (o : Option CallRecord). cons_option o []) (told before after cause x leg at over)
+    ∙ ap (λ (o : Option CallRecord). cons_option o []) (record_at_told before after cause x leg at over)

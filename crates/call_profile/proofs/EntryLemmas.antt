@@ -42,7 +42,7 @@ module _ (external : ℕ) (legs : Legs) (x : Slot) (in_x : IsExternal external x
 abbrev pub bare : (X : Type 0) → ℕ → List (Option X)
 bare X n = replicate n None
 
-pub none_in : (X : Type 0) (n i : ℕ) → get_or (bare X n) i None ≡ None
-none_in X zero i = refl
-none_in X (suc n) zero = refl
-none_in X (suc n) (suc i) = none_in X n i
+pub get_or-bare : (X : Type 0) (n i : ℕ) → get_or (bare X n) i None ≡ None
+get_or-bare X zero i = refl
+get_or-bare X (suc n) zero = refl
+get_or-bare X (suc n) (suc i) = get_or-bare X n i

@@ -18,7 +18,7 @@ use Rattle.call_profile.specs.Acts.{in_release_request, tone_of}
 use Rattle.call_profile.specs.LegStanding.{LegStands, LegsStand, HasPeer, MayHear, IsInCall}
 use Rattle.call_profile.specs.Legs.{waiting_from, leg_at, with_entry}
 use Rattle.call_profile.specs.World.{World}
-use Rattle.call_profile.proofs.BesideLemmas.{look, entry_here, entry_else, same_or_apart, named_back, Beside, each_stands, SameReferences, still_one}
+use Rattle.call_profile.proofs.BesideLemmas.{look, leg_at-with_entry_here, leg_at-with_entry_else, same_or_apart, named_back, Beside, each_stands, SameReferences, still_one}
 use Rattle.call_profile.proofs.HearingLemmas.{IsStrange}
 
 -- ---- a leg that waits anew, in the same state
@@ -47,11 +47,11 @@ module _ (external : ℕ) (tones : Tones) (w v : World) (x : Slot) (leg : Leg) (
   abbrev anew : Leg
   anew = anew_from next again leg
 
-  here : leg_at v.legs x ≡ Some anew
-  here = ap (look x) legs ∙ entry_here external w.legs x (Some anew) stand.count within
+  leg_at_here : leg_at v.legs x ≡ Some anew
+  leg_at_here = ap (look x) legs ∙ leg_at-with_entry_here external w.legs x (Some anew) stand.count within
 
-  else_where : (z : Slot) → IsExternal external z → (z ≡ x → ⊥) → leg_at v.legs z ≡ leg_at w.legs z
-  else_where z in_z apart = ap (look z) legs ∙ entry_else external w.legs x z (Some anew) within in_z apart
+  leg_at_else_where : (z : Slot) → IsExternal external z → (z ≡ x → ⊥) → leg_at v.legs z ≡ leg_at w.legs z
+  leg_at_else_where z in_z apart = ap (look z) legs ∙ leg_at-with_entry_else external w.legs x z (Some anew) within in_z apart
 
   -- the peer of a leg is there still, and may be the one that waits anew
   peer_anew : (z : Slot) (l : Leg) (p : Peer) → HasPeer external w.legs z l p → HasPeer external v.legs z l p
@@ -60,8 +60,8 @@ module _ (external : ℕ) (tones : Tones) (w v : World) (x : Slot) (leg : Leg) (
     | inl is_x ↦
         let same : Some has.1.0 ≡ Some leg = sym has.1.1 ∙ ap (leg_at w.legs) is_x ∙ at in
         let other : has.1.0 ≡ leg = cc in
-        (has.0, (anew, ap (leg_at v.legs) is_x ∙ here, other_anew next again l.side z y l leg (subst (λ (k : Leg). IsInCall l.side z l y k) other has.1.2)))
-    | inr apart ↦ (has.0, (has.1.0, else_where y has.0 apart ∙ has.1.1, has.1.2))
+        (has.0, (anew, ap (leg_at v.legs) is_x ∙ leg_at_here, other_anew next again l.side z y l leg (subst (λ (k : Leg). IsInCall l.side z l y k) other has.1.2)))
+    | inr apart ↦ (has.0, (has.1.0, leg_at_else_where y has.0 apart ∙ has.1.1, has.1.2))
   ]
   peer_anew z l (peer.Room room) has = has
 
@@ -98,19 +98,19 @@ module _ (external : ℕ) (tones : Tones) (w v : World) (x : Slot) (leg : Leg) (
   stands_anew : (z : Slot) (l : Leg) → IsExternal external z → leg_at v.legs z ≡ Some l → LegStands external tones v z l
   stands_anew z l in_z at_z = elim (same_or_apart z x) [
     | inl is_x ↦
-        let e : Some anew ≡ Some l = sym here ∙ sym (ap (leg_at v.legs) is_x) ∙ at_z in
+        let e : Some anew ≡ Some l = sym leg_at_here ∙ sym (ap (leg_at v.legs) is_x) ∙ at_z in
         let same : anew ≡ l = cc in
         subst (λ (s : Slot). LegStands external tones v s l) (sym is_x) (subst (LegStands external tones v x) same anew_stands)
-    | inr apart ↦ else_stands z l in_z (sym (else_where z in_z apart) ∙ at_z)
+    | inr apart ↦ else_stands z l in_z (sym (leg_at_else_where z in_z apart) ∙ at_z)
   ]
 
   references_anew : SameReferences external w v
   references_anew z b in_z at_z = elim (same_or_apart z x) [
     | inl is_x ↦
-        let e : Some anew ≡ Some b = sym here ∙ sym (ap (leg_at v.legs) is_x) ∙ at_z in
+        let e : Some anew ≡ Some b = sym leg_at_here ∙ sym (ap (leg_at v.legs) is_x) ∙ at_z in
         let same : anew ≡ b = cc in
         (leg, ap (leg_at w.legs) is_x ∙ at, ap (λ (l : Leg). l.side) same, ap (λ (l : Leg). l.reference) same)
-    | inr apart ↦ (b, sym (else_where z in_z apart) ∙ at_z, refl, refl)
+    | inr apart ↦ (b, sym (leg_at_else_where z in_z apart) ∙ at_z, refl, refl)
   ]
 
   pub waits_anew : LegsStand external tones v
@@ -137,11 +137,11 @@ module _ (external : ℕ) (tones : Tones) (w v : World) (x : Slot) (leg : Leg) (
   abbrev asked : Leg
   asked = waiting_from next (in_release_request leg)
 
-  asked_here : leg_at v.legs x ≡ Some asked
-  asked_here = ap (look x) legs ∙ entry_here external w.legs x (Some asked) stand.count within
+  leg_at_asked_here : leg_at v.legs x ≡ Some asked
+  leg_at_asked_here = ap (look x) legs ∙ leg_at-with_entry_here external w.legs x (Some asked) stand.count within
 
   legs_else : (z : Slot) → IsExternal external z → (z ≡ x → ⊥) → leg_at v.legs z ≡ leg_at w.legs z
-  legs_else z in_z apart = ap (look z) legs ∙ entry_else external w.legs x z (Some asked) within in_z apart
+  legs_else z in_z apart = ap (look z) legs ∙ leg_at-with_entry_else external w.legs x z (Some asked) within in_z apart
 
   -- nobody names a leg that is alone
   strange_x : (z : Slot) (l : Leg) → IsExternal external z → leg_at w.legs z ≡ Some l → IsStrange l x
@@ -169,12 +169,12 @@ module _ (external : ℕ) (tones : Tones) (w v : World) (x : Slot) (leg : Leg) (
       }
 
   stands_x : (l : Leg) → leg_at v.legs x ≡ Some l → LegStands external tones v x l
-  stands_x l at_x = let e : Some asked ≡ Some l = sym asked_here ∙ at_x in let same : asked ≡ l = cc in subst (LegStands external tones v x) same asked_stands
+  stands_x l at_x = let e : Some asked ≡ Some l = sym leg_at_asked_here ∙ at_x in let same : asked ≡ l = cc in subst (LegStands external tones v x) same asked_stands
 
   references_asked : SameReferences external w v
   references_asked z b in_z at_z = elim (same_or_apart z x) [
     | inl is_x ↦
-        let e : Some asked ≡ Some b = sym asked_here ∙ sym (ap (leg_at v.legs) is_x) ∙ at_z in
+        let e : Some asked ≡ Some b = sym leg_at_asked_here ∙ sym (ap (leg_at v.legs) is_x) ∙ at_z in
         let same : asked ≡ b = cc in
         (leg, ap (leg_at w.legs) is_x ∙ at, ap (λ (l : Leg). l.side) same, ap (λ (l : Leg). l.reference) same)
     | inr apart ↦ (b, sym (legs_else z in_z apart) ∙ at_z, refl, refl)

@@ -25,10 +25,10 @@ use Rattle.call_profile.specs.Legs.{leg_at, kept_at, with_entry, retransmitted_f
 use Rattle.call_profile.specs.Operations.{Operation, Making, begun, making_after_all}
 use Rattle.call_profile.specs.World.{World}
 use Rattle.call_profile.proofs.AnsweringLemmas.{ringing, caller_of}
-use Rattle.call_profile.proofs.BesideLemmas.{look, entry_here, entry_else, same_or_apart}
+use Rattle.call_profile.proofs.BesideLemmas.{look, leg_at-with_entry_here, leg_at-with_entry_else, same_or_apart}
 use Rattle.call_profile.proofs.ClearingLemmas.{Kept, held_there}
 use Rattle.call_profile.proofs.ExpiryStateLemmas.{due_state}
-use Rattle.call_profile.proofs.LegTableLemmas.{both_else, both_second}
+use Rattle.call_profile.proofs.LegTableLemmas.{leg_at_both_else, leg_at_both_second}
 use Rattle.call_profile.proofs.EndedCallLemmas.{GoesOn, no_record_where_calling, one_record}
 use Rattle.call_profile.proofs.RecordOfActLemmas.{called_silent, clearing_records, disconnected_silent, same_goes_on}
 use Rattle.call_profile.proofs.RefusalLemmas.{no_records}
@@ -51,19 +51,19 @@ module _ (d : Dimensions) (tones : Tones) (m : Making) (x : Slot) (leg : Leg) (k
   Told cause os told = records w (making_after_all d m os).world cause ≡ told
 
   -- one entry is another, and calls if it called
-  pub quiet : (cause : ℕ) (v : World) (o : Option Leg) → v.legs.held ≡ (with_entry w.legs x o).held → (is_calling (Some leg) ≡ true → is_calling o ≡ true) → records w v cause ≡ []
-  quiet cause v o legs goes = no_record_where_calling d.external w v cause kept.1.count (λ z in_z. elim (same_or_apart z x) [
+  pub records_quiet : (cause : ℕ) (v : World) (o : Option Leg) → v.legs.held ≡ (with_entry w.legs x o).held → (is_calling (Some leg) ≡ true → is_calling o ≡ true) → records w v cause ≡ []
+  records_quiet cause v o legs goes = no_record_where_calling d.external w v cause kept.1.count (λ z in_z. elim (same_or_apart z x) [
     | inl same ↦ subst (GoesOn w.legs v.legs) (sym same) (λ calls.
-        ap (λ os. is_calling (look x os)) legs ∙ ap is_calling (entry_here d.external w.legs x o kept.1.count within) ∙ goes (sym (ap is_calling at) ∙ calls))
-    | inr apart ↦ same_goes_on w.legs v.legs z (ap (look z) legs ∙ entry_else d.external w.legs x z o within in_z apart)
+        ap (λ os. is_calling (look x os)) legs ∙ ap is_calling (leg_at-with_entry_here d.external w.legs x o kept.1.count within) ∙ goes (sym (ap is_calling at) ∙ calls))
+    | inr apart ↦ same_goes_on w.legs v.legs z (ap (look z) legs ∙ leg_at-with_entry_else d.external w.legs x z o within in_z apart)
   ])
 
-  pub never : (o : Option Leg) → is_among before_clearing leg.state ≡ false → is_calling (Some leg) ≡ true → is_calling o ≡ true
-  never o not_up calls = let none = no_caller leg not_up in let wrong : false ≡ true = sym none ∙ calls in cc
+  pub is_calling_never : (o : Option Leg) → is_among before_clearing leg.state ≡ false → is_calling (Some leg) ≡ true → is_calling o ≡ true
+  is_calling_never o not_up calls = let none = no_caller leg not_up in let wrong : false ≡ true = sym none ∙ calls in cc
 
   again_told : (o : Option (List ℕ)) → Told no_user_responding (send_again h o) []
   again_told None = no_records w no_user_responding
-  again_told (Some octets) = quiet no_user_responding (making_after_all d m (send_again h (Some octets))).world (Some (retransmitted_from w.holding.next leg)) refl (λ calls. calls)
+  again_told (Some octets) = records_quiet no_user_responding (making_after_all d m (send_again h (Some octets))).world (Some (retransmitted_from w.holding.next leg)) refl (λ calls. calls)
 
   over_told : Told no_user_responding (give_up h ++ clear_peer tones w.legs h no_user_responding) (cons_option (record_ended w h no_user_responding) [])
   over_told = clearing_records d tones w x leg None no_user_responding kept.1 within at (inl refl) (making_after_all d m (give_up h)) refl
@@ -98,10 +98,10 @@ module _ (d : Dimensions) (tones : Tones) (m : Making) (x : Slot) (leg : Leg) (k
         cc in
         let v : World = (making_after_all d m (clear_with tones recovery_on_timer_expiry h ++ clear_with tones cause k)).world in
         let over : is_calling (leg_at v.legs y) ≡ false =
-        ap is_calling (both_second d.external w.legs x y (Some one) (Some two) kept.1.count within c.2 apart) ∙ disconnected_silent w.holding.next cause other in
+        ap is_calling (leg_at_both_second d.external w.legs x y (Some one) (Some two) kept.1.count within c.2 apart) ∙ disconnected_silent w.holding.next cause other in
         let recorded : records w v cause ≡ cons_option (record_calling w cause k) [] = one_record d.external w v cause y other kept.1.count c.2 at_y over (λ z in_z not_y. elim (same_or_apart z x) [
           | inl same ↦ subst (GoesOn w.legs v.legs) (sym same) (called_silent w.legs v.legs x leg at call.is_called)
-          | inr not_x ↦ same_goes_on w.legs v.legs z (both_else d.external w.legs x y (Some one) (Some two) kept.1.count within c.2 apart z in_z not_x not_y)
+          | inr not_x ↦ same_goes_on w.legs v.legs z (leg_at_both_else d.external w.legs x y (Some one) (Some two) kept.1.count within c.2 apart z in_z not_x not_y)
         ]) in
         ap (λ o. records w (making_after_all d m (clear_with tones recovery_on_timer_expiry h ++ with_peer o (clear_with tones cause))).world cause) is_peer
         ∙ recorded
@@ -112,16 +112,16 @@ module _ (d : Dimensions) (tones : Tones) (m : Making) (x : Slot) (leg : Leg) (k
 
   pub expiry_told : (e : Expiry) → leg.state ≡ timed_state e → Told (cause_of_expiry e) (on_expiry tones w.legs h e) (cons_option (record_of_expiry w h e) [])
   expiry_told expiry.Digits state =
-      quiet no_user_responding (making_after_all d m (clear_with tones invalid_number_format h)).world (Some (begun w (in_disconnect_indication invalid_number_format leg))) refl
-      (never (Some (begun w (in_disconnect_indication invalid_number_format leg))) (rw state refl))
+      records_quiet no_user_responding (making_after_all d m (clear_with tones invalid_number_format h)).world (Some (begun w (in_disconnect_indication invalid_number_format leg))) refl
+      (is_calling_never (Some (begun w (in_disconnect_indication invalid_number_format leg))) (rw state refl))
   expiry_told expiry.SetupAgain state = again_told (kept_at w.legs x)
   expiry_told expiry.SetupOver state = over_told
   expiry_told expiry.Proceeding state = both_told no_user_responding (rw state refl)
   expiry_told expiry.Alerting state = both_told no_answer_from_user (rw state refl)
   expiry_told expiry.Outage state = clearing_records d tones w x leg None destination_out_of_order kept.1 within at (inl refl) (making_after_all d m (remove_leg h)) refl
-  expiry_told expiry.Disconnect state = quiet no_user_responding (making_after_all d m (ask_for_release h)).world (Some (begun w (in_release_request leg))) refl (never (Some (begun w (in_release_request leg))) (rw state refl))
+  expiry_told expiry.Disconnect state = records_quiet no_user_responding (making_after_all d m (ask_for_release h)).world (Some (begun w (in_release_request leg))) refl (is_calling_never (Some (begun w (in_release_request leg))) (rw state refl))
   expiry_told expiry.ReleaseAgain state = again_told (kept_at w.legs x)
-  expiry_told expiry.ReleaseOver state = quiet no_user_responding (making_after_all d m (remove_leg h)).world None refl (never None (rw state refl))
+  expiry_told expiry.ReleaseOver state = records_quiet no_user_responding (making_after_all d m (remove_leg h)).world None refl (is_calling_never None (rw state refl))
 
 -- ---- a slot, in a frame
 
@@ -129,18 +129,18 @@ module _ (s : Setting) (frame : ℕ) (m : Making) (x : Slot) (kept : Kept s.dime
   abbrev done : List Operation → World
   done os = (making_after_all s.dimensions m os).world
 
-  told_due : (leg : Leg) (o : Option Expiry) → leg_at m.world.legs x ≡ Some leg → due_of s.timers frame leg ≡ o
+  records-cause_if_due_told : (leg : Leg) (o : Option Expiry) → leg_at m.world.legs x ≡ Some leg → due_of s.timers frame leg ≡ o
       → records m.world (done (if_due s.tones m.world.legs (record { slot = x; leg = leg }) o)) (cause_if_due o)
       ≡ cons_option (option_and_then (record_of_expiry m.world (record { slot = x; leg = leg })) o) []
-  told_due leg None at is = no_records m.world no_user_responding
-  told_due leg (Some e) at is = expiry_told s.dimensions s.tones m x leg kept within at e (due_state leg.state leg.resent leg.since frame s.timers e is)
+  records-cause_if_due_told leg None at is = no_records m.world no_user_responding
+  records-cause_if_due_told leg (Some e) at is = expiry_told s.dimensions s.tones m x leg kept within at e (due_state leg.state leg.resent leg.since frame s.timers e is)
 
-  told_held : (o : Option Leg) → leg_at m.world.legs x ≡ o
+  records_told_held : (o : Option Leg) → leg_at m.world.legs x ≡ o
       → records m.world (done (expire_leg s frame m.world.legs (option_map (λ (leg : Leg). let held : HeldLeg = record { slot = x; leg = leg } in held) o)))
       (cause_if_due (option_and_then (λ (k : HeldLeg). due_of s.timers frame k.leg) (option_map (λ (leg : Leg). let held : HeldLeg = record { slot = x; leg = leg } in held) o)))
       ≡ cons_option (option_and_then (λ (k : HeldLeg). option_and_then (record_of_expiry m.world k) (due_of s.timers frame k.leg)) (option_map (λ (leg : Leg). let held : HeldLeg = record { slot = x; leg = leg } in held) o)) []
-  told_held None at = no_records m.world no_user_responding
-  told_held (Some leg) at = told_due leg (due_of s.timers frame leg) at refl
+  records_told_held None at = no_records m.world no_user_responding
+  records_told_held (Some leg) at = records-cause_if_due_told leg (due_of s.timers frame leg) at refl
 
-  pub slot_told : records m.world (done (expire_slot s frame m.world.legs x)) (cause_at s frame m.world.legs x) ≡ expired_records s frame m.world x
-  slot_told = told_held (leg_at m.world.legs x) refl
+  pub records_slot_told : records m.world (done (expire_slot s frame m.world.legs x)) (cause_at s frame m.world.legs x) ≡ expired_records s frame m.world x
+  records_slot_told = records_told_held (leg_at m.world.legs x) refl

@@ -30,7 +30,7 @@ use Rattle.call_profile.specs.Operations as op
 use Rattle.call_profile.specs.Operations.{Operation, Making, begun, making_after, making_after_all}
 use Rattle.call_profile.specs.Restarts.{MessageOutcome}
 use Rattle.call_profile.specs.World.{World, pass}
-use Rattle.call_profile.proofs.BesideLemmas.{entry_else, same_or_apart, peer_back}
+use Rattle.call_profile.proofs.BesideLemmas.{leg_at-with_entry_else, same_or_apart, peer_back}
 use Rattle.call_profile.proofs.ClearingLemmas.{Kept, held_there}
 use Rattle.call_profile.proofs.CommandLemmas.{pass_kept}
 use Rattle.call_profile.proofs.ExpiringLemmas.{at_slot, lines_kept, lines_none, lines_more, place_within}
@@ -60,22 +60,22 @@ module _ (d : Dimensions) (z : Slot) (in_z : IsExternal d.external z) where
   SparesAll [] = Unit {0}
   SparesAll (o ∷ os) = Spares o × SparesAll os
 
-  spared : (m : Making) (o : Operation) → Spares o → leg_at (making_after d m o).world.legs z ≡ leg_at m.world.legs z
-  spared m (op.Clear x) may = refl
-  spared m (op.Pair x y) may = refl
-  spared m (op.Seat x room) may = refl
-  spared m (op.Sound x kind) may = refl
-  spared m (op.Put x leg) may = entry_else d.external m.world.legs x z (Some (begun m.world leg)) may.0 in_z may.1
-  spared m (op.Wait x leg p) may = entry_else d.external m.world.legs x z (Some (begun m.world leg)) may.0 in_z may.1
-  spared m (op.Expect x leg message) may = entry_else d.external m.world.legs x z (Some (begun m.world leg)) may.0 in_z may.1
-  spared m (op.Repeat h octets) may = entry_else d.external m.world.legs h.slot z (Some (retransmitted_from m.world.holding.next h.leg)) may.0 in_z may.1
-  spared m (op.Await x leg) may = entry_else d.external m.world.legs x z (Some (retransmitted_from m.world.holding.next leg)) may.0 in_z may.1
-  spared m (op.Remove x) may = entry_else d.external m.world.legs x z None may.0 in_z may.1
-  spared m (op.Send line message) may = refl
+  leg_at_spared : (m : Making) (o : Operation) → Spares o → leg_at (making_after d m o).world.legs z ≡ leg_at m.world.legs z
+  leg_at_spared m (op.Clear x) may = refl
+  leg_at_spared m (op.Pair x y) may = refl
+  leg_at_spared m (op.Seat x room) may = refl
+  leg_at_spared m (op.Sound x kind) may = refl
+  leg_at_spared m (op.Put x leg) may = leg_at-with_entry_else d.external m.world.legs x z (Some (begun m.world leg)) may.0 in_z may.1
+  leg_at_spared m (op.Wait x leg p) may = leg_at-with_entry_else d.external m.world.legs x z (Some (begun m.world leg)) may.0 in_z may.1
+  leg_at_spared m (op.Expect x leg message) may = leg_at-with_entry_else d.external m.world.legs x z (Some (begun m.world leg)) may.0 in_z may.1
+  leg_at_spared m (op.Repeat h octets) may = leg_at-with_entry_else d.external m.world.legs h.slot z (Some (retransmitted_from m.world.holding.next h.leg)) may.0 in_z may.1
+  leg_at_spared m (op.Await x leg) may = leg_at-with_entry_else d.external m.world.legs x z (Some (retransmitted_from m.world.holding.next leg)) may.0 in_z may.1
+  leg_at_spared m (op.Remove x) may = leg_at-with_entry_else d.external m.world.legs x z None may.0 in_z may.1
+  leg_at_spared m (op.Send line message) may = refl
 
-  spared_all : (m : Making) (os : List Operation) → SparesAll os → leg_at (making_after_all d m os).world.legs z ≡ leg_at m.world.legs z
-  spared_all m [] may = refl
-  spared_all m (o ∷ os) may = spared_all (making_after d m o) os may.1 ∙ spared m o may.0
+  leg_at-making_after_all_spared : (m : Making) (os : List Operation) → SparesAll os → leg_at (making_after_all d m os).world.legs z ≡ leg_at m.world.legs z
+  leg_at-making_after_all_spared m [] may = refl
+  leg_at-making_after_all_spared m (o ∷ os) may = leg_at-making_after_all_spared (making_after d m o) os may.1 ∙ leg_at_spared m o may.0
 
   both_spare : (os ps : List Operation) → SparesAll os → SparesAll ps → SparesAll (os ++ ps)
   both_spare [] ps one other = other
@@ -158,8 +158,8 @@ module _ (s : Setting) (frame next : ℕ) (before : Legs) (later : frame < next)
       h = record { slot = x; leg = leg }
 
       -- what an earlier line's timer has put here is not due in the same frame
-      was : leg_at now_legs x ≡ leg_at before x
-      was = elim began [
+      leg_at_before : leg_at now_legs x ≡ leg_at before x
+      leg_at_before = elim began [
         | inl stays ↦ stays
         | inr begins ↦
             let since = subst (λ (o : Option Leg). IfSome o (λ l. l.since ≡ next)) at begins in
@@ -168,13 +168,13 @@ module _ (s : Setting) (frame next : ℕ) (before : Legs) (later : frame < next)
       ]
 
       runs : RunsOut s.timers frame before x leg
-      runs = record { looked = looked; at = sym was ∙ at; due = ap (λ (o : Option Expiry). is_some o) is }
+      runs = record { looked = looked; at = sym leg_at_before ∙ at; due = ap (λ (o : Option Expiry). is_some o) is }
 
       expired : Changed (making_after_all s.dimensions m (on_expiry s.tones now_legs h e)).world.legs
       expired = elim (same_or_apart z x) [
         | inl same ↦ inr (leg, ap (leg_at before) same ∙ runs.at, inl (subst (λ (y : Slot). RunsOut s.timers frame before y leg) (sym same) runs))
         | inr apart ↦ elim (names leg leg.peer (kept.1.each x leg in_x at).peer) [
-          | inl away ↦ still (making_after_all s.dimensions m (on_expiry s.tones now_legs h e)).world.legs (spared_all s.dimensions z in_z m (on_expiry s.tones now_legs h e) (expiry_spares s.dimensions z in_z s.tones now_legs h (in_x, apart) e away))
+          | inl away ↦ still (making_after_all s.dimensions m (on_expiry s.tones now_legs h e)).world.legs (leg_at-making_after_all_spared s.dimensions z in_z m (on_expiry s.tones now_legs h e) (expiry_spares s.dimensions z in_z s.tones now_legs h (in_x, apart) e away))
           | inr named ↦ elim so_far [
             | inl stays ↦ inr (named.0, sym stays ∙ named.1, inr (x, leg, named.2, runs))
             | inr other ↦ inr other

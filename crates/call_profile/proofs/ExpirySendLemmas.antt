@@ -19,7 +19,7 @@ use Rattle.call_profile.specs.Operations.{Operation, Making, making_after, makin
 use Rattle.call_profile.specs.Restarts.{MessageOutcome}
 use Rattle.call_profile.specs.World.{World}
 use Rattle.call_profile.proofs.ClearingLemmas.{Kept}
-use Rattle.call_profile.proofs.ExpiredRecordLemmas.{slot_told}
+use Rattle.call_profile.proofs.ExpiredRecordLemmas.{records_slot_told}
 use Rattle.call_profile.proofs.ExpiringLemmas.{lines_none, lines_more, lines_kept, place_within}
 
 -- ---- how many messages operations send
@@ -41,8 +41,8 @@ abbrev sent_by_all : List Operation → ℕ
 sent_by_all [] = 0
 sent_by_all (o ∷ os) = sent_by o + sent_by_all os
 
-one_more : (sends : List Signal) (one : Signal) → length (sends ++ one ∷ []) ≡ length sends + 1
-one_more sends one = length-append sends (one ∷ [])
+length-append_one : (sends : List Signal) (one : Signal) → length (sends ++ one ∷ []) ≡ length sends + 1
+length-append_one sends one = length-append sends (one ∷ [])
 
 none_more : (n : ℕ) → n ≡ n + 0
 none_more n = omega arith
@@ -54,11 +54,11 @@ performed d m (op.Seat x room) = none_more _
 performed d m (op.Sound x kind) = none_more _
 performed d m (op.Put x leg) = none_more _
 performed d m (op.Wait x leg p) = none_more _
-performed d m (op.Expect x leg message) = one_more m.sends (record { line = x.line; octets = encoding message })
-performed d m (op.Repeat h octets) = one_more m.sends (record { line = h.slot.line; octets = octets })
+performed d m (op.Expect x leg message) = length-append_one m.sends (record { line = x.line; octets = encoding message })
+performed d m (op.Repeat h octets) = length-append_one m.sends (record { line = h.slot.line; octets = octets })
 performed d m (op.Await x leg) = none_more _
 performed d m (op.Remove x) = none_more _
-performed d m (op.Send line message) = one_more m.sends (record { line = line; octets = encoding message })
+performed d m (op.Send line message) = length-append_one m.sends (record { line = line; octets = encoding message })
 
 performed_all : (d : Dimensions) (m : Making) (os : List Operation) → length (making_after_all d m os).sends ≡ length m.sends + sent_by_all os
 performed_all d m [] = none_more _
@@ -102,11 +102,11 @@ leg_sends s frame legs (Some h) = due_sends s.tones legs h (due_of s.timers fram
 
 -- ---- a frame's turn
 
-pub lines_send : (s : Setting) (frame : ℕ) (w : World) (lines : ℕ) → length (outcome_of_lines s frame w lines).making.sends ≤ 2 * lines
-lines_send s frame w zero = subst (λ (a : MessageOutcome). length a.making.sends ≤ 0) (sym (lines_none s frame w)) (omega arith)
-lines_send s frame w (suc line) =
+pub length-outcome_of_lines_sends-le : (s : Setting) (frame : ℕ) (w : World) (lines : ℕ) → length (outcome_of_lines s frame w lines).making.sends ≤ 2 * lines
+length-outcome_of_lines_sends-le s frame w zero = subst (λ (a : MessageOutcome). length a.making.sends ≤ 0) (sym (lines_none s frame w)) (omega arith)
+length-outcome_of_lines_sends-le s frame w (suc line) =
     let a = outcome_of_lines s frame w line in
-    let so_far = lines_send s frame w line in
+    let so_far = length-outcome_of_lines_sends-le s frame w line in
     let few = leg_sends s frame a.making.world.legs (held_at a.making.world.legs (slot_looked_at frame line)) in
     let all = performed_all s.dimensions a.making (expire_slot s frame a.making.world.legs (slot_looked_at frame line)) in
     subst (λ (b : MessageOutcome). length b.making.sends ≤ 2 * suc line) (sym (lines_more s frame w line)) (omega (arith, so_far, few, all))
@@ -115,13 +115,13 @@ option_few : (o : Option CallRecord) → length (cons_option o []) ≤ 1
 option_few None = omega arith
 option_few (Some r) = omega arith
 
-pub lines_record : (s : Setting) (frame : ℕ) (w : World) → Kept s.dimensions s.tones w → (lines : ℕ) → lines ≤ s.dimensions.external → length (outcome_of_lines s frame w lines).recorded ≤ lines
-lines_record s frame w kept zero few = subst (λ (a : MessageOutcome). length a.recorded ≤ 0) (sym (lines_none s frame w)) (omega arith)
-lines_record s frame w kept (suc line) few =
+pub length-outcome_of_lines_records-le : (s : Setting) (frame : ℕ) (w : World) → Kept s.dimensions s.tones w → (lines : ℕ) → lines ≤ s.dimensions.external → length (outcome_of_lines s frame w lines).recorded ≤ lines
+length-outcome_of_lines_records-le s frame w kept zero few = subst (λ (a : MessageOutcome). length a.recorded ≤ 0) (sym (lines_none s frame w)) (omega arith)
+length-outcome_of_lines_records-le s frame w kept (suc line) few =
     let a = outcome_of_lines s frame w line in
     let x = slot_looked_at frame line in
-    let so_far = lines_record s frame w kept line (omega (arith, few)) in
-    let told = slot_told s frame a.making x (lines_kept s frame w kept line (omega (arith, few))) (place_within s.dimensions.external frame line (omega (arith, few))) in
+    let so_far = length-outcome_of_lines_records-le s frame w kept line (omega (arith, few)) in
+    let told = records_slot_told s frame a.making x (lines_kept s frame w kept line (omega (arith, few))) (place_within s.dimensions.external frame line (omega (arith, few))) in
     let one = subst (λ (list : List CallRecord). length list ≤ 1) (sym told) (option_few _) in
     let both = length-append a.recorded (records a.making.world (making_after_all s.dimensions a.making (expire_slot s frame a.making.world.legs x)).world (cause_at s frame a.making.world.legs x)) in
     subst (λ (b : MessageOutcome). length b.recorded ≤ suc line) (sym (lines_more s frame w line)) (omega (arith, so_far, one, both))

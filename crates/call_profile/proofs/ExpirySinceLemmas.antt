@@ -13,11 +13,11 @@ use Rattle.call_profile.specs.Legs.{Legs, retransmitted_from, leg_at, with_entry
 use Rattle.call_profile.specs.Operations as op
 use Rattle.call_profile.specs.Operations.{Operation, Making, begun, making_after, making_after_all}
 use Rattle.call_profile.specs.World.{World}
-use Rattle.call_profile.proofs.BesideLemmas.{entry_here, entry_else, same_or_apart}
+use Rattle.call_profile.proofs.BesideLemmas.{leg_at-with_entry_here, leg_at-with_entry_else, same_or_apart}
 use Rattle.call_profile.proofs.ClearingLemmas.{Kept}
 use Rattle.call_profile.proofs.ExpiringLemmas.{each_line, slot_fine, slot_may, place_within}
 use Rattle.call_profile.proofs.Permitted.{IsPermitted, ArePermitted}
-use Rattle.call_profile.proofs.ToneLemmas.{sounding_next}
+use Rattle.call_profile.proofs.ToneLemmas.{with_tone_sounding_next}
 
 -- the leg at a slot is as it was, or waits from this frame on
 abbrev pub StaysOrBegins : ℕ → Legs → Legs → Slot → Type 0
@@ -33,9 +33,9 @@ module _ (d : Dimensions) (tones : Tones) (plan : List Number) (before : Legs) (
 
   entered : (legs : Legs) (x : Slot) (o : Option Leg) → IsExternal d.external x → length legs.held ≡ 30 * d.external → StaysOrBegins next before legs z → IfSome o (λ leg. leg.since ≡ next) → StaysOrBegins next before (with_entry legs x o) z
   entered legs x o in_x size so_far since = elim (same_or_apart z x) [
-    | inl same ↦ begins o (with_entry legs x o) (ap (leg_at (with_entry legs x o)) same ∙ entry_here d.external legs x o size in_x) since
+    | inl same ↦ begins o (with_entry legs x o) (ap (leg_at (with_entry legs x o)) same ∙ leg_at-with_entry_here d.external legs x o size in_x) since
     | inr apart ↦
-        let else = entry_else d.external legs x z o in_x in_z apart in
+        let else = leg_at-with_entry_else d.external legs x z o in_x in_z apart in
         elim so_far [
           | inl stays ↦ inl (else ∙ stays)
           | inr began ↦ inr (subst (λ (p : Option Leg). IfSome p (λ leg. leg.since ≡ next)) (sym else) began)
@@ -46,7 +46,7 @@ module _ (d : Dimensions) (tones : Tones) (plan : List Number) (before : Legs) (
   performed m (op.Clear x) may fine = fine
   performed m (op.Pair x y) may fine = fine
   performed m (op.Seat x room) may fine = fine
-  performed m (op.Sound x kind) may fine = (sounding_next m.world.holding x kind ∙ fine.0, fine.1, fine.2)
+  performed m (op.Sound x kind) may fine = (with_tone_sounding_next m.world.holding x kind ∙ fine.0, fine.1, fine.2)
   performed m (op.Put x leg) may fine = (fine.0, length-set m.world.legs.held (number_of x) (Some (begun m.world leg)) ∙ fine.1, entered m.world.legs x (Some (begun m.world leg)) may.0 fine.1 fine.2 fine.0)
   performed m (op.Wait x leg p) may fine = (fine.0, length-set m.world.legs.held (number_of x) (Some (begun m.world leg)) ∙ fine.1, entered m.world.legs x (Some (begun m.world leg)) may.0 fine.1 fine.2 fine.0)
   performed m (op.Expect x leg message) may fine = (fine.0, length-set m.world.legs.held (number_of x) (Some (begun m.world leg)) ∙ fine.1, entered m.world.legs x (Some (begun m.world leg)) may.0 fine.1 fine.2 fine.0)
@@ -77,5 +77,5 @@ module _ (s : Setting) (frame : ℕ) (w : World) (kept : Kept s.dimensions s.ton
   pub began_by : (lines : ℕ) → lines ≤ s.dimensions.external → StaysOrBegins w.holding.next w.legs (outcome_of_lines s frame w lines).making.world.legs z
   began_by lines few = (lines_fine lines few).2
 
-  pub next_by : (lines : ℕ) → lines ≤ s.dimensions.external → (outcome_of_lines s frame w lines).making.world.holding.next ≡ w.holding.next
-  next_by lines few = (lines_fine lines few).0
+  pub outcome_of_lines_next : (lines : ℕ) → lines ≤ s.dimensions.external → (outcome_of_lines s frame w lines).making.world.holding.next ≡ w.holding.next
+  outcome_of_lines_next lines few = (lines_fine lines few).0

@@ -189,47 +189,47 @@ module _ (s : Setting) (slots : ℕ) where
 
   -- ---- an event
 
-  either_alike : (b : Bool) (u v w : World) (layout : Layout) → without_paths u ≡ without_paths v → without_paths (if b then u else with_layout w layout) ≡ without_paths (if b then v else w)
-  either_alike true u v w layout same = same
-  either_alike false u v w layout same = refl
+  without_paths_either_alike : (b : Bool) (u v w : World) (layout : Layout) → without_paths u ≡ without_paths v → without_paths (if b then u else with_layout w layout) ≡ without_paths (if b then v else w)
+  without_paths_either_alike true u v w layout same = same
+  without_paths_either_alike false u v w layout same = refl
 
-  pub next_alike : (w : World) (layout : Layout) (e : Event) → without_paths (next t (with_layout w layout) e) ≡ without_paths (next s w e)
-  next_alike w layout (Nail x y) = either_alike (may_nail w x y) (obey t.dimensions (with_layout w layout) (Connect x y)) (obey s.dimensions w (Connect x y)) w layout refl
-  next_alike w layout (Seat_event x room) = either_alike (may_seat s.dimensions w x) (obey t.dimensions (with_layout w layout) (Take_seat x room)) (obey s.dimensions w (Take_seat x room)) w layout refl
-  next_alike w layout (Free x) = either_alike (is_nailed w x) (obey t.dimensions (with_layout w layout) (Clear_slot x)) (obey s.dimensions w (Clear_slot x)) w layout refl
-  next_alike w layout (Message line octets) = (done_alike w layout line octets).making.world
-  next_alike w layout (LinkUp line) = (link_alike w layout false line).making.world
-  next_alike w layout (LinkDown line) = (link_alike w layout true line).making.world
-  next_alike w layout (Frame input) = (frame_alike w layout input).making.world
+  pub without_paths-next_alike : (w : World) (layout : Layout) (e : Event) → without_paths (next t (with_layout w layout) e) ≡ without_paths (next s w e)
+  without_paths-next_alike w layout (Nail x y) = without_paths_either_alike (may_nail w x y) (obey t.dimensions (with_layout w layout) (Connect x y)) (obey s.dimensions w (Connect x y)) w layout refl
+  without_paths-next_alike w layout (Seat_event x room) = without_paths_either_alike (may_seat s.dimensions w x) (obey t.dimensions (with_layout w layout) (Take_seat x room)) (obey s.dimensions w (Take_seat x room)) w layout refl
+  without_paths-next_alike w layout (Free x) = without_paths_either_alike (is_nailed w x) (obey t.dimensions (with_layout w layout) (Clear_slot x)) (obey s.dimensions w (Clear_slot x)) w layout refl
+  without_paths-next_alike w layout (Message line octets) = (done_alike w layout line octets).making.world
+  without_paths-next_alike w layout (LinkUp line) = (link_alike w layout false line).making.world
+  without_paths-next_alike w layout (LinkDown line) = (link_alike w layout true line).making.world
+  without_paths-next_alike w layout (Frame input) = (frame_alike w layout input).making.world
 
-  nailed_alike : (b : Bool) (p q : Layout) (x y : Slot) → without_moves (if b then nail_reply t.dimensions p x y else Busy) ≡ without_moves (if b then nail_reply s.dimensions q x y else Busy)
-  nailed_alike true p q x y = refl
-  nailed_alike false p q x y = refl
+  without_moves_nailed_alike : (b : Bool) (p q : Layout) (x y : Slot) → without_moves (if b then nail_reply t.dimensions p x y else Busy) ≡ without_moves (if b then nail_reply s.dimensions q x y else Busy)
+  without_moves_nailed_alike true p q x y = refl
+  without_moves_nailed_alike false p q x y = refl
 
-  at_port : (p q : Layout) (x : Slot) (port : Option Slot) → without_moves (seat_reply t.dimensions p x port) ≡ without_moves (seat_reply s.dimensions q x port)
-  at_port p q x None = refl
-  at_port p q x (Some port) = refl
+  without_moves_at_port : (p q : Layout) (x : Slot) (port : Option Slot) → without_moves (seat_reply t.dimensions p x port) ≡ without_moves (seat_reply s.dimensions q x port)
+  without_moves_at_port p q x None = refl
+  without_moves_at_port p q x (Some port) = refl
 
-  seated_alike : (free full : Bool) (p q : Layout) (x : Slot) (port : Option Slot)
+  without_moves_seated_alike : (free full : Bool) (p q : Layout) (x : Slot) (port : Option Slot)
       → without_moves (if not free then Busy else (if full then NoPort else seat_reply t.dimensions p x port)) ≡ without_moves (if not free then Busy else (if full then NoPort else seat_reply s.dimensions q x port))
-  seated_alike true true p q x port = refl
-  seated_alike true false p q x port = at_port p q x port
-  seated_alike false full p q x port = refl
+  without_moves_seated_alike true true p q x port = refl
+  without_moves_seated_alike true false p q x port = without_moves_at_port p q x port
+  without_moves_seated_alike false full p q x port = refl
 
-  sent_alike : (a b : MessageOutcome) → DoneAlike a b → without_moves (Sent_reply a.making.sends a.making.moves a.recorded) ≡ without_moves (Sent_reply b.making.sends b.making.moves b.recorded)
-  sent_alike a b alike = λ i. Sent_reply (alike.making.sends i) (none_told a.making.moves b.making.moves alike.making.moved i) (alike.recorded i)
+  without_moves_sent_alike : (a b : MessageOutcome) → DoneAlike a b → without_moves (Sent_reply a.making.sends a.making.moves a.recorded) ≡ without_moves (Sent_reply b.making.sends b.making.moves b.recorded)
+  without_moves_sent_alike a b alike = λ i. Sent_reply (alike.making.sends i) (none_told a.making.moves b.making.moves alike.making.moved i) (alike.recorded i)
 
   changed_alike : (a b : MessageOutcome) → DoneAlike a b → without_moves (link_reply a) ≡ without_moves (link_reply b)
   changed_alike a b alike = λ i. Sent_reply (alike.making.sends i) None (alike.recorded i)
 
-  pub reply_alike : (w : World) (layout : Layout) (e : Event) → without_moves (reply t (with_layout w layout) e) ≡ without_moves (reply s w e)
-  reply_alike w layout (Nail x y) = nailed_alike (may_nail w x y) layout w.layout x y
-  reply_alike w layout (Seat_event x room) = seated_alike (idle w x) (is_full s.dimensions w) layout w.layout x (port_of s.dimensions.external (ports_with x w.ports) x)
-  reply_alike w layout (Free x) = refl
-  reply_alike w layout (Message line octets) = sent_alike (outcome_of_octets t (with_layout w layout) line octets) (outcome_of_octets s w line octets) (done_alike w layout line octets)
-  reply_alike w layout (LinkUp line) = changed_alike (outcome_of_link t.dimensions t.tones false line (with_layout w layout)) (outcome_of_link s.dimensions s.tones false line w) (link_alike w layout false line)
-  reply_alike w layout (LinkDown line) = changed_alike (outcome_of_link t.dimensions t.tones true line (with_layout w layout)) (outcome_of_link s.dimensions s.tones true line w) (link_alike w layout true line)
-  reply_alike w layout (Frame input) =
+  pub without_moves-reply_alike : (w : World) (layout : Layout) (e : Event) → without_moves (reply t (with_layout w layout) e) ≡ without_moves (reply s w e)
+  without_moves-reply_alike w layout (Nail x y) = without_moves_nailed_alike (may_nail w x y) layout w.layout x y
+  without_moves-reply_alike w layout (Seat_event x room) = without_moves_seated_alike (idle w x) (is_full s.dimensions w) layout w.layout x (port_of s.dimensions.external (ports_with x w.ports) x)
+  without_moves-reply_alike w layout (Free x) = refl
+  without_moves-reply_alike w layout (Message line octets) = without_moves_sent_alike (outcome_of_octets t (with_layout w layout) line octets) (outcome_of_octets s w line octets) (done_alike w layout line octets)
+  without_moves-reply_alike w layout (LinkUp line) = changed_alike (outcome_of_link t.dimensions t.tones false line (with_layout w layout)) (outcome_of_link s.dimensions s.tones false line w) (link_alike w layout false line)
+  without_moves-reply_alike w layout (LinkDown line) = changed_alike (outcome_of_link t.dimensions t.tones true line (with_layout w layout)) (outcome_of_link s.dimensions s.tones true line w) (link_alike w layout true line)
+  without_moves-reply_alike w layout (Frame input) =
       let alike = frame_alike w layout input in
       λ i. Frame_reply w.holding.next (alike.making.sends i) (alike.recorded i)
 
@@ -239,23 +239,23 @@ module _ (s : Setting) (slots : ℕ) where
   with_own : (u v : World) → without_paths u ≡ without_paths v → u ≡ with_layout v u.layout
   with_own u v same = ap (λ (x : World). with_layout x u.layout) same
 
-  runs_alike : (w : World) (layout : Layout) (es : List Event) → map without_moves (run t (with_layout w layout) es) ≡ map without_moves (run s w es)
-  runs_alike w layout [] = refl
-  runs_alike w layout (e ∷ es) =
+  map-without_moves_runs : (w : World) (layout : Layout) (es : List Event) → map without_moves (run t (with_layout w layout) es) ≡ map without_moves (run s w es)
+  map-without_moves_runs w layout [] = refl
+  map-without_moves_runs w layout (e ∷ es) =
       let u = next t (with_layout w layout) e in
       let v = next s w e in
-      let rest : map without_moves (run t u es) ≡ map without_moves (run s v es) = ap (λ (x : World). map without_moves (run t x es)) (with_own u v (next_alike w layout e)) ∙ runs_alike v u.layout es in
-      λ i. reply_alike w layout e i ∷ rest i
+      let rest : map without_moves (run t u es) ≡ map without_moves (run s v es) = ap (λ (x : World). map without_moves (run t x es)) (with_own u v (without_paths-next_alike w layout e)) ∙ map-without_moves_runs v u.layout es in
+      λ i. without_moves-reply_alike w layout e i ∷ rest i
 
-  worlds_alike : (w : World) (layout : Layout) (es : List Event) → without_paths (world_after_all t (with_layout w layout) es) ≡ without_paths (world_after_all s w es)
-  worlds_alike w layout [] = refl
-  worlds_alike w layout (e ∷ es) =
+  without_paths-world_after_all_alike : (w : World) (layout : Layout) (es : List Event) → without_paths (world_after_all t (with_layout w layout) es) ≡ without_paths (world_after_all s w es)
+  without_paths-world_after_all_alike w layout [] = refl
+  without_paths-world_after_all_alike w layout (e ∷ es) =
       let u = next t (with_layout w layout) e in
       let v = next s w e in
-      ap (λ (x : World). without_paths (world_after_all t x es)) (with_own u v (next_alike w layout e)) ∙ worlds_alike v u.layout es
+      ap (λ (x : World). without_paths (world_after_all t x es)) (with_own u v (without_paths-next_alike w layout e)) ∙ without_paths-world_after_all_alike v u.layout es
 
-  pub replies_alike : (es : List Event) → map without_moves (replies_of_run t es) ≡ map without_moves (replies_of_run s es)
-  replies_alike es = runs_alike (start s.dimensions) (start s.dimensions).layout es
+  pub map-without_moves_replies : (es : List Event) → map without_moves (replies_of_run t es) ≡ map without_moves (replies_of_run s es)
+  map-without_moves_replies es = map-without_moves_runs (start s.dimensions) (start s.dimensions).layout es
 
-  pub ends_alike : (es : List Event) → without_paths (world_of_run t es) ≡ without_paths (world_of_run s es)
-  ends_alike es = worlds_alike (start s.dimensions) (start s.dimensions).layout es
+  pub without_paths_ends_alike : (es : List Event) → without_paths (world_of_run t es) ≡ without_paths (world_of_run s es)
+  without_paths_ends_alike es = without_paths-world_after_all_alike (start s.dimensions) (start s.dimensions).layout es

@@ -40,18 +40,18 @@ use Rattle.call_profile.specs.Operations.{Operation, Making, begun, making_after
 use Rattle.call_profile.specs.Recorded.{HasEnded}
 use Rattle.call_profile.specs.Restarts.{MessageOutcome}
 use Rattle.call_profile.specs.World.{World, pass}
-use Rattle.call_profile.proofs.BesideLemmas.{entry_here, entry_else, same_or_apart}
+use Rattle.call_profile.proofs.BesideLemmas.{leg_at-with_entry_here, leg_at-with_entry_else, same_or_apart}
 use Rattle.call_profile.proofs.ClearingLemmas.{Kept, held_there}
 use Rattle.call_profile.proofs.CommandLemmas.{pass_kept}
-use Rattle.call_profile.proofs.ExpiredRecordLemmas.{no_caller, slot_told}
+use Rattle.call_profile.proofs.ExpiredRecordLemmas.{no_caller, records_slot_told}
 use Rattle.call_profile.proofs.ExpiringLemmas.{at_slot, lines_kept, lines_none, lines_more, place_within, slot_may}
 use Rattle.call_profile.proofs.ExpiryChangeLemmas.{Changed, changed_by, neither_runs_out, none_else_changes, unchanged_due}
-use Rattle.call_profile.proofs.ExpirySinceLemmas.{next_by}
+use Rattle.call_profile.proofs.ExpirySinceLemmas.{outcome_of_lines_next}
 use Rattle.call_profile.proofs.ExpiryStateLemmas.{due_state}
 use Rattle.call_profile.proofs.Permitted.{IsPermitted, ArePermitted}
 use Rattle.call_profile.proofs.RecordedCallLemmas.{calling_record, record_cause}
 use Rattle.call_profile.proofs.RecordedMessageLemmas.{AreEndedBy, AreOfEnded, of_records, both_of_ended}
-use Rattle.call_profile.proofs.RecordOrderLemmas.{calling_is, pairs_snoc, record_parties}
+use Rattle.call_profile.proofs.RecordOrderLemmas.{record_of_calling, pairs_snoc, record_parties}
 
 -- ---- a slot's leg calls no more, or is as it was
 
@@ -85,9 +85,9 @@ module _ (d : Dimensions) (tones : Tones) (plan : List Number) (before : Legs) (
   entered legs x o in_x silent so_far = (
     length-set legs.held (number_of x) o ∙ so_far.0,
     elim (same_or_apart z x) [
-      | inl same ↦ inr (ap (λ (y : Slot). is_calling (leg_at (with_entry legs x o) y)) same ∙ ap is_calling (entry_here d.external legs x o so_far.0 in_x) ∙ silent)
+      | inl same ↦ inr (ap (λ (y : Slot). is_calling (leg_at (with_entry legs x o) y)) same ∙ ap is_calling (leg_at-with_entry_here d.external legs x o so_far.0 in_x) ∙ silent)
       | inr apart ↦
-          let else = entry_else d.external legs x z o in_x in_z apart in
+          let else = leg_at-with_entry_else d.external legs x z o in_x in_z apart in
           elim so_far.1 [
             | inl stays ↦ inl (else ∙ stays)
             | inr hushed ↦ inr (ap is_calling else ∙ hushed)
@@ -174,16 +174,16 @@ due_silent s frame leg o is e calm found =
 -- ---- the record of a line
 
 -- a caller in call delivered has a called user who is alerted, and one in outgoing call proceeding has not
-silence : (e : Expiry) (caller : Leg) → e ≢ expiry.Outage → IsTrue (are_matched caller.state (timed_state e)) → cause_of_expiry e ≡ cause_of_silence caller
-silence expiry.Digits caller calm matched = absurd (grind (arith, common_steps, matched))
-silence expiry.SetupAgain caller calm matched = grind (arith, common_steps, matched)
-silence expiry.SetupOver caller calm matched = grind (arith, common_steps, matched)
-silence expiry.Proceeding caller calm matched = grind (arith, common_steps, matched)
-silence expiry.Alerting caller calm matched = grind (arith, common_steps, matched)
-silence expiry.Outage caller calm matched = absurd (calm refl)
-silence expiry.Disconnect caller calm matched = absurd (grind (arith, common_steps, matched))
-silence expiry.ReleaseAgain caller calm matched = absurd (grind (arith, common_steps, matched))
-silence expiry.ReleaseOver caller calm matched = absurd (grind (arith, common_steps, matched))
+cause_of_expiry_silence : (e : Expiry) (caller : Leg) → e ≢ expiry.Outage → IsTrue (are_matched caller.state (timed_state e)) → cause_of_expiry e ≡ cause_of_silence caller
+cause_of_expiry_silence expiry.Digits caller calm matched = absurd (grind (arith, common_steps, matched))
+cause_of_expiry_silence expiry.SetupAgain caller calm matched = grind (arith, common_steps, matched)
+cause_of_expiry_silence expiry.SetupOver caller calm matched = grind (arith, common_steps, matched)
+cause_of_expiry_silence expiry.Proceeding caller calm matched = grind (arith, common_steps, matched)
+cause_of_expiry_silence expiry.Alerting caller calm matched = grind (arith, common_steps, matched)
+cause_of_expiry_silence expiry.Outage caller calm matched = absurd (calm refl)
+cause_of_expiry_silence expiry.Disconnect caller calm matched = absurd (grind (arith, common_steps, matched))
+cause_of_expiry_silence expiry.ReleaseAgain caller calm matched = absurd (grind (arith, common_steps, matched))
+cause_of_expiry_silence expiry.ReleaseOver caller calm matched = absurd (grind (arith, common_steps, matched))
 
 -- a record is of a call to the slot that is looked at, with the cause that the caller's state gives
 record IsToldOf (u : World) (x : Slot) (cause : ℕ) (c : CallRecord) : Type 0 where
@@ -202,13 +202,13 @@ module _ (external : ℕ) (tones : Tones) (u : World) (x : Slot) (leg : Leg) (c 
   of_called (peer.Leg y) is has side e =
       let other = has.1.0 in
       let caller : HeldLeg = record { slot = y; leg = other } in
-      let record_is = calling_is u cause caller c (rw (held_there u.legs y other has.1.1) at e) in
+      let record_is = record_of_calling u cause caller c (rw (held_there u.legs y other has.1.1) at e) in
       let who = record_parties u cause caller c record_is in
       let call : IsInCall Called x leg y other = subst (λ (s : Side). IsInCall s x leg y other) side has.1.2 in
       let both : Some (party.Line x) ≡ Some c.called = sym (ap party_of call.there) ∙ who.1 in
       record {
         called = cc;
-        caller = (y, other, has.1.1, who.0, silence f other calm (subst (λ (n : ℕ). IsTrue (are_matched other.state n)) state call.matched));
+        caller = (y, other, has.1.1, who.0, cause_of_expiry_silence f other calm (subst (λ (n : ℕ). IsTrue (are_matched other.state n)) state call.matched));
       }
   of_called (peer.Room room) is has side e = absurd (cc e)
 
@@ -306,15 +306,15 @@ none_come = record { rising = λ i j d lt within. absurd (omega (arith, lt, with
 
 -- ---- the record of a call that was not answered
 
-early : (w : World) (cause : ℕ) (h : HeldLeg) → (h.leg.state == active) ≡ false
+record_of_early : (w : World) (cause : ℕ) (h : HeldLeg) → (h.leg.state == active) ≡ false
     → record_of w cause h ≡ option_map (λ (called : Party). let c : CallRecord = record { caller = h.slot; called = called; answered = false; from = w.holding.next; to = w.holding.next; cause = cause } in c) (party_of h.leg.peer)
-early w cause h e = rw e refl
+record_of_early w cause h e = rw e refl
 
-early_same : (u w : World) (cause : ℕ) (h : HeldLeg) → (h.leg.state == active) ≡ false → u.holding.next ≡ w.holding.next → record_of u cause h ≡ record_of w cause h
-early_same u w cause h e next =
-    early u cause h e
+record_of_early_same : (u w : World) (cause : ℕ) (h : HeldLeg) → (h.leg.state == active) ≡ false → u.holding.next ≡ w.holding.next → record_of u cause h ≡ record_of w cause h
+record_of_early_same u w cause h e next =
+    record_of_early u cause h e
     ∙ ap (λ (n : ℕ). option_map (λ (called : Party). let c : CallRecord = record { caller = h.slot; called = called; answered = false; from = n; to = n; cause = cause } in c) (party_of h.leg.peer)) next
-    ∙ sym (early w cause h e)
+    ∙ sym (record_of_early w cause h e)
 
 no_timer_but : (state : ℕ) → is_among without_timers state ≡ false → (state == active) ≡ false
 no_timer_but state e = grind (arith, common_steps, e)
@@ -384,8 +384,8 @@ module _ (s : Setting) (frame : ℕ) (w : World) (kept : Kept s.dimensions s.ton
             let other : e ≢ expiry.Outage = λ same. calm_here leg at (is ∙ ap (λ (f : Expiry). Some f) same) in
             expiry_hush s.dimensions s.tones s.plan u.legs z in_z u.legs (record { slot = x; leg = leg }) e other (due_silent s frame leg (Some e) is e other refl))
 
-    silent : (z : Slot) → IsExternal external z → is_calling (leg_at u.legs z) ≡ false → is_calling (leg_at v.legs z) ≡ false
-    silent z in_z quiet = elim (became z in_z) [
+    is_calling_silent : (z : Slot) → IsExternal external z → is_calling (leg_at u.legs z) ≡ false → is_calling (leg_at v.legs z) ≡ false
+    is_calling_silent z in_z quiet = elim (became z in_z) [
       | inl stays ↦ ap is_calling stays ∙ quiet
       | inr hushed ↦ hushed
     ]
@@ -414,13 +414,13 @@ module _ (s : Setting) (frame : ℕ) (w : World) (kept : Kept s.dimensions s.ton
         stays among (inr out) = untimed h.slot h.leg ended.within at_first among out
 
     same_record : (h : HeldLeg) → HasEnded external u v h → record_of u (silence_of h) h ≡ record_of w (silence_of h) h
-    same_record h ended = early_same u w (silence_of h) h (not_active h ended) (next_by s frame w kept h.slot ended.within n fewer)
+    same_record h ended = record_of_early_same u w (silence_of h) h (not_active h ended) (outcome_of_lines_next s frame w kept h.slot ended.within n fewer)
 
     abbrev cause_here : ℕ
     cause_here = cause_at s frame u.legs x
 
     told_here : records u v cause_here ≡ cons_option (one_at s frame u x) []
-    told_here = slot_told s frame a.making x now_kept in_x
+    told_here = records_slot_told s frame a.making x now_kept in_x
 
     ended_here : AreOfEnded external u v cause_here (records u v cause_here)
     ended_here = of_records external u v cause_here now_kept.1.count
@@ -451,7 +451,7 @@ module _ (s : Setting) (frame : ℕ) (w : World) (kept : Kept s.dimensions s.ton
     step : So_far (suc n) (outcome_on_line s frame n a)
     step = record {
       legs = λ z leg in_z at calls. so_far.legs z leg in_z (calls_still z leg in_z at calls) calls;
-      recorded = both_of_ended external w u v silence_of so_far.legs same_record silent a.recorded (records u v cause_here) so_far.recorded ended_silent;
+      recorded = both_of_ended external w u v silence_of so_far.legs same_record is_calling_silent a.recorded (records u v cause_here) so_far.recorded ended_silent;
       order = subst (λ (told : List CallRecord). ComeBelow (suc n) (a.recorded ++ told)) (sym told_here)
           (then_below n a.recorded so_far.order x refl (one_at s frame u x) (λ c e. (told_of s frame u now_kept x in_x calm_here c e).called));
     }

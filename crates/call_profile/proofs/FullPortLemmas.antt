@@ -10,7 +10,7 @@ use Rattle.circuit_model.specs.declared.circuit.Circuit.TheVariants.{Pair, Membe
 use Rattle.circuit_model.specs.Circuits.{is_member}
 use Rattle.circuit_model.specs.Holding.{empty, frames, circuits_of}
 use Rattle.circuit_model.specs.Ports.{Ports, free_ports, port_frames, ports_of, owner_of}
-use Rattle.circuit_model.proofs.PortSeats.{Matched, port_is, seat_is, matched-frames, matched-empty, frames_alike}
+use Rattle.circuit_model.proofs.PortSeats.{Matched, port_is, seat_is, matched-frames, matched-empty, length-port_frames_alike}
 use Rattle.tone_rules.specs.declared.tones.Tones.{Tones}
 use Rattle.exchange_events.specs.Sizes.{Dimensions}
 use Rattle.call_profile.specs.IsMade.{IsMade}
@@ -32,7 +32,7 @@ made_matched d tones w made =
     let cs = later.commands in
     let long = ap length later.held ∙ refl in
     let more = length-append w.held (w.holding.circuits ∷ []) in
-    let seats : length w.seated ≡ length w.held = ap length made.seated ∙ frames_alike empty (free_ports d.bridges) made.commands ∙ sym (ap length made.held) in
+    let seats : length w.seated ≡ length w.held = ap length made.seated ∙ length-port_frames_alike empty (free_ports d.bridges) made.commands ∙ sym (ap length made.held) in
     let matched = matched-frames d.bridges empty (free_ports d.bridges) cs f (matched-empty d.bridges) later.allowed (omega (arith, long, more)) in
     let circuits : circuits_of (frames empty cs) f ≡ w.holding.circuits = ap (λ (held : List (List Circuit)). circuits_of held f) (sym later.held) ∙ last_entry w.held w.holding.circuits [] in
     let ports : ports_of (port_frames (free_ports d.bridges) cs) f ≡ w.ports =

@@ -12,7 +12,7 @@ use Rattle.call_profile.specs.IdleSlots.{lowest_called, hunted}
 use Rattle.call_profile.specs.Legs.{lowest_free_reference, is_down}
 use Rattle.call_profile.specs.Setup.{accept, call, call_line, called_checks}
 use Rattle.call_profile.specs.World.{World}
-use Rattle.call_profile.proofs.SetupLemmas.{called_is, hunted_on}
+use Rattle.call_profile.proofs.SetupLemmas.{called_is, lowest_idle_beside_hunted_on}
 use Rattle.q931_codec.specs.Causes.{destination_out_of_order, no_channel_available, switching_equipment_congestion}
 
 -- the same slot, if one is found
@@ -48,13 +48,13 @@ module _ (w : World) (x : Slot) where
   first_idle [] y e = absurd cc
   first_idle (line ∷ lines) y e = first_step line lines y (lowest_called w x line) refl (first_idle lines y) e
 
-  found_behind : (before after : List ℕ) (y : Slot) → All (IsFull w x) before → lowest_called w x y.line ≡ Some y → hunted w x (before ++ y.line ∷ after) ≡ Some y
-  found_behind [] after y full lowest = ap (λ o. option_or o (hunted w x after)) lowest
-  found_behind (line ∷ before) after y full lowest =
-      ap (λ o. option_or o (hunted w x (before ++ y.line ∷ after))) (All-head (IsFull w x) line before full) ∙ found_behind before after y (All-tail (IsFull w x) line before full) lowest
+  hunted_found_behind : (before after : List ℕ) (y : Slot) → All (IsFull w x) before → lowest_called w x y.line ≡ Some y → hunted w x (before ++ y.line ∷ after) ≡ Some y
+  hunted_found_behind [] after y full lowest = ap (λ o. option_or o (hunted w x after)) lowest
+  hunted_found_behind (line ∷ before) after y full lowest =
+      ap (λ o. option_or o (hunted w x (before ++ y.line ∷ after))) (All-head (IsFull w x) line before full) ∙ hunted_found_behind before after y (All-tail (IsFull w x) line before full) lowest
 
-  pub is_found : (lines : List ℕ) (y : Slot) → IsFirstIdle w x lines y → hunted w x lines ≡ Some y
-  is_found lines y first = ap (λ (ls : List ℕ). hunted w x ls) first.listed ∙ found_behind first.before first.after y first.full first.lowest
+  pub hunted_found : (lines : List ℕ) (y : Slot) → IsFirstIdle w x lines y → hunted w x lines ≡ Some y
+  hunted_found lines y first = ap (λ (ls : List ℕ). hunted w x ls) first.listed ∙ hunted_found_behind first.before first.after y first.full first.lowest
 
   -- ---- all lines are full
 
@@ -66,16 +66,16 @@ module _ (w : World) (x : Slot) where
   all_full [] e = All-nil (IsFull w x)
   all_full (line ∷ lines) e = none_step line lines (lowest_called w x line) refl (all_full lines) e
 
-  pub none_found : (lines : List ℕ) → All (IsFull w x) lines → hunted w x lines ≡ None
-  none_found [] full = refl
-  none_found (line ∷ lines) full = ap (λ o. option_or o (hunted w x lines)) (All-head (IsFull w x) line lines full) ∙ none_found lines (All-tail (IsFull w x) line lines full)
+  pub hunted_none_found : (lines : List ℕ) → All (IsFull w x) lines → hunted w x lines ≡ None
+  hunted_none_found [] full = refl
+  hunted_none_found (line ∷ lines) full = ap (λ o. option_or o (hunted w x lines)) (All-head (IsFull w x) line lines full) ∙ hunted_none_found lines (All-tail (IsFull w x) line lines full)
 
   -- ---- what the slot is
 
   pub idle_on_one : (lines : List ℕ) (y : Slot) → hunted w x lines ≡ Some y → IsIdleOnOne w x lines y
   idle_on_one lines y e =
       let first = first_idle lines y e in
-      let is = called_is w x y.line y (hunted_on w x lines y e) in
+      let is = called_is w x y.line y (lowest_idle_beside_hunted_on w x lines y e) in
       record {
         free = is.0;
         apart = is.1;
@@ -84,9 +84,9 @@ module _ (w : World) (x : Slot) where
 
   -- ---- a list of one line
 
-  pub or_none : (o : Option Slot) → option_or o None ≡ o
-  or_none None = refl
-  or_none (Some y) = refl
+  pub option_or-none : (o : Option Slot) → option_or o None ≡ o
+  option_or-none None = refl
+  option_or-none (Some y) = refl
 
   and_true : (b : Bool) → (b && true) ≡ b
   and_true true = refl
@@ -95,12 +95,12 @@ module _ (w : World) (x : Slot) where
   one_checked : (d : Dimensions) (line : ℕ) (full : Bool) → is_none (hunted w x (line ∷ [])) ≡ full → full ≡ is_none (lowest_called w x line) → called_checks d w (Some x) (Lines (line ∷ [])) ≡ called_checks d w (Some x) (Line line)
   one_checked d line full is same = λ i. (and_true (is_down w.legs line) i, destination_out_of_order) ∷ ((is ∙ same) i, no_channel_available) ∷ (false, switching_equipment_congestion) ∷ []
 
-  pub one_is_full : (d : Dimensions) (line : ℕ) → called_checks d w (Some x) (Lines (line ∷ [])) ≡ called_checks d w (Some x) (Line line)
-  one_is_full d line = one_checked d line (is_none (lowest_called w x line)) (ap is_none (or_none (lowest_called w x line))) refl
+  pub called_checks_one_is_full : (d : Dimensions) (line : ℕ) → called_checks d w (Some x) (Lines (line ∷ [])) ≡ called_checks d w (Some x) (Line line)
+  called_checks_one_is_full d line = one_checked d line (is_none (lowest_called w x line)) (ap is_none (option_or-none (lowest_called w x line))) refl
 
   one_call : (first : Bool) (own : ℕ) (asked : Pending) (line : ℕ) (o : Option Slot) → lowest_called w x line ≡ o → call first w own asked x (Lines (line ∷ [])) (option_or o None) ≡ call first w own asked x (Line line) o
   one_call first own asked line None chosen = refl
   one_call first own asked line (Some y) chosen = ap (λ n. call_line first own asked x y (lowest_free_reference w.legs n)) (called_is w x line y chosen).2.0
 
-  pub one_accepted : (first : Bool) (own : ℕ) (asked : Pending) (line : ℕ) → accept first w own asked x (Lines (line ∷ [])) ≡ accept first w own asked x (Line line)
-  one_accepted first own asked line = one_call first own asked line (lowest_called w x line) refl
+  pub accept_one_line : (first : Bool) (own : ℕ) (asked : Pending) (line : ℕ) → accept first w own asked x (Lines (line ∷ [])) ≡ accept first w own asked x (Line line)
+  accept_one_line first own asked line = one_call first own asked line (lowest_called w x line) refl

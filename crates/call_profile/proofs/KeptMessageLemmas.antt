@@ -18,7 +18,7 @@ use Rattle.call_profile.specs.LegStanding.{CallsStand}
 use Rattle.call_profile.specs.World.{World}
 use Rattle.exchange_events.specs.Sizes.{Setting}
 use Rattle.call_profile.proofs.BesideLemmas.{same_or_apart}
-use Rattle.call_profile.proofs.EntryLemmas.{written, leg_here, kept_here, leg_else, kept_else, none_in}
+use Rattle.call_profile.proofs.EntryLemmas.{written, leg_here, kept_here, leg_else, kept_else, get_or-bare}
 
 -- ---- the states
 
@@ -103,10 +103,10 @@ pub none_wait : (external next : ℕ) → LegsWait external next (no_legs extern
 none_wait external next = record {
   legs_count = length-replicate (30 * external) None;
   count = length-replicate (30 * external) None;
-  since = λ x in_x. subst (λ (q : Option Leg). IfSome q (λ leg. leg.since ≤ next)) (sym (none_in Leg (30 * external) (number_of x))) tt;
+  since = λ x in_x. subst (λ (q : Option Leg). IfSome q (λ leg. leg.since ≤ next)) (sym (get_or-bare Leg (30 * external) (number_of x))) tt;
   each = λ x in_x.
-      subst (λ (q : Option Leg). MayKeep q (kept_at (no_legs external) x)) (sym (none_in Leg (30 * external) (number_of x)))
-      (subst (MayKeep None) (sym (none_in (List ℕ) (30 * external) (number_of x))) tt);
+      subst (λ (q : Option Leg). MayKeep q (kept_at (no_legs external) x)) (sym (get_or-bare Leg (30 * external) (number_of x)))
+      (subst (MayKeep None) (sym (get_or-bare (List ℕ) (30 * external) (number_of x))) tt);
 }
 
 -- ---- what holds of it in a world

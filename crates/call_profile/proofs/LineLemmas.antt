@@ -32,9 +32,9 @@ slots_more line place within =
 pub found_from : Legs → ℕ → Bool → ℕ → ℕ → Option HeldLeg
 found_from legs line flag reference place = find (is_addressed_to flag reference) (filter_map (held_at legs) (slots_from line place))
 
-pub found_all : (legs : Legs) (line : ℕ) (flag : Bool) (reference : ℕ) → leg_named legs line flag reference ≡ found_from legs line flag reference 0
+pub leg_named_found_all : (legs : Legs) (line : ℕ) (flag : Bool) (reference : ℕ) → leg_named legs line flag reference ≡ found_from legs line flag reference 0
 unfolding found_from
-found_all legs line flag reference = rw (slots_all line) refl
+leg_named_found_all legs line flag reference = rw (slots_all line) refl
 
 pub found_end : (legs : Legs) (line : ℕ) (flag : Bool) (reference : ℕ) → found_from legs line flag reference 30 ≡ None
 unfolding found_from
@@ -61,9 +61,9 @@ module _ (legs : Legs) (line : ℕ) (flag : Bool) (reference place : ℕ) (withi
 pub unused_from : Legs → ℕ → ℕ → ℕ
 unused_from legs line reference = position_or_len (is_unused legs line) (range_with_len reference (31 - reference))
 
-pub unused_all : (legs : Legs) (line : ℕ) → lowest_free_reference legs line ≡ 1 + unused_from legs line 1
+pub lowest_free_reference_unused_all : (legs : Legs) (line : ℕ) → lowest_free_reference legs line ≡ 1 + unused_from legs line 1
 unfolding unused_from
-unused_all legs line = refl
+lowest_free_reference_unused_all legs line = refl
 
 pub unused_end : (legs : Legs) (line : ℕ) → unused_from legs line 31 ≡ 0
 unfolding unused_from

@@ -30,12 +30,12 @@ use Rattle.call_profile.specs.World.{World}
 use Rattle.call_profile.proofs.ClearingLemmas.{Kept}
 use Rattle.call_profile.proofs.DigitsLemmas.{cleared_kept}
 use Rattle.call_profile.proofs.ExpiredLegLemmas.{waits_anew}
-use Rattle.call_profile.proofs.ExpiredRecordLemmas.{quiet, never}
+use Rattle.call_profile.proofs.ExpiredRecordLemmas.{records_quiet, is_calling_never}
 use Rattle.call_profile.proofs.ExpiryStateLemmas.{is_alone}
 use Rattle.call_profile.proofs.Permitted.{ArePermitted}
 use Rattle.call_profile.proofs.PermittedActLemmas.{clear_permitted, is_there, status_writable}
 use Rattle.call_profile.proofs.RefusalLemmas.{no_records}
-use Rattle.call_profile.proofs.RestartLemmas.{leg_kept, leg_permitted, leg_told}
+use Rattle.call_profile.proofs.RestartLemmas.{leg_kept, leg_permitted, records_leg_told}
 
 -- ---- a line's link is another
 
@@ -139,21 +139,21 @@ module _ (d : Dimensions) (tones : Tones) (m : Making) (x : Slot) (leg : Leg) (k
 
   started_told : (runs : Bool) → Told destination_out_of_order (if runs then [] else Await x leg ∷ []) []
   started_told true = no_records w destination_out_of_order
-  started_told false = quiet d tones m x leg kept within at destination_out_of_order (making_after_all d m (Await x leg ∷ [])).world (Some (retransmitted_from w.holding.next leg)) refl (λ calls. calls)
+  started_told false = records_quiet d tones m x leg kept within at destination_out_of_order (making_after_all d m (Await x leg ∷ [])).world (Some (retransmitted_from w.holding.next leg)) refl (λ calls. calls)
 
   pub drop_told : Told destination_out_of_order (drop_leg tones w.legs (Some h)) (cons_option (dropped_record w h) [])
   drop_told = elim (true_or_false (leg.state == active)) [
     | inl up ↦ rw up (started_told leg.resent)
-    | inr not_up ↦ rw not_up (leg_told d tones whole_line destination_out_of_order (omega arith) m x leg kept within at)
+    | inr not_up ↦ rw not_up (records_leg_told d tones whole_line destination_out_of_order (omega arith) m x leg kept within at)
   ]
 
   reported_told : Told temporary_failure (report_state h) []
-  reported_told = quiet d tones m x leg kept within at temporary_failure (making_after_all d m (report_state h)).world (Some (waiting_from w.holding.next leg)) refl (λ calls. calls)
+  reported_told = records_quiet d tones m x leg kept within at temporary_failure (making_after_all d m (report_state h)).world (Some (waiting_from w.holding.next leg)) refl (λ calls. calls)
 
   digits_told : leg.state ≡ overlap_sending → Told temporary_failure (clear_with tones temporary_failure h) []
   digits_told is =
       let waits : Option Leg = Some (begun w (in_disconnect_indication temporary_failure leg)) in
-      quiet d tones m x leg kept within at temporary_failure (making_after_all d m (clear_with tones temporary_failure h)).world waits refl (never d tones m x leg kept within at waits (rw is refl))
+      records_quiet d tones m x leg kept within at temporary_failure (making_after_all d m (clear_with tones temporary_failure h)).world waits refl (is_calling_never d tones m x leg kept within at waits (rw is refl))
 
   pub resume_told : Told temporary_failure (resume_leg tones (Some h)) []
   resume_told = elim (true_or_false (leg.state == active)) [

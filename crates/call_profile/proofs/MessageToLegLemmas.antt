@@ -65,30 +65,30 @@ dialled false state a is p = p
 not_released : (state : ℕ) → is_among before_release_request state ≡ true → state ≢ release_request
 not_released state among is = grind (arith, common_steps, among, is)
 
-pub asked : (state : ℕ) (k : MessageKind) (cause : ℕ) (tells_null : Bool) → cause < 128 → Asked state (act_of state k cause tells_null)
-asked state kind.CallProceeding cause tells_null small = expected (is_among (call_present ∷ []) state) state act.Proceeding (λ among. among)
-asked state kind.Alerting cause tells_null small = expected (is_among (call_present ∷ incoming_call_proceeding ∷ []) state) state act.Alerting (λ among. among)
-asked state kind.Connect cause tells_null small = expected (is_among ringing state) state act.Answer (λ among. among)
-asked state kind.ConnectAcknowledge cause tells_null small = expected (is_among (active ∷ []) state) state act.Nothing (λ among. tt)
-asked state kind.Progress cause tells_null small = expected (is_among every_state state) state act.Nothing (λ among. tt)
-asked state kind.Notify cause tells_null small = expected (is_among every_state state) state act.Nothing (λ among. tt)
-asked state kind.Facility cause tells_null small = expected (is_among every_state state) state act.Nothing (λ among. tt)
-asked state kind.UserInformation cause tells_null small = expected (is_among every_state state) state act.Nothing (λ among. tt)
-asked state kind.Setup cause tells_null small = expected (is_among every_state state) state act.Nothing (λ among. tt)
-asked state kind.Disconnect cause tells_null small = expected (is_among before_release_request state) state (act.Disconnect cause) (λ among. (small, not_released state among))
-asked state kind.Release cause tells_null small =
+pub Asked-act_of : (state : ℕ) (k : MessageKind) (cause : ℕ) (tells_null : Bool) → cause < 128 → Asked state (act_of state k cause tells_null)
+Asked-act_of state kind.CallProceeding cause tells_null small = expected (is_among (call_present ∷ []) state) state act.Proceeding (λ among. among)
+Asked-act_of state kind.Alerting cause tells_null small = expected (is_among (call_present ∷ incoming_call_proceeding ∷ []) state) state act.Alerting (λ among. among)
+Asked-act_of state kind.Connect cause tells_null small = expected (is_among ringing state) state act.Answer (λ among. among)
+Asked-act_of state kind.ConnectAcknowledge cause tells_null small = expected (is_among (active ∷ []) state) state act.Nothing (λ among. tt)
+Asked-act_of state kind.Progress cause tells_null small = expected (is_among every_state state) state act.Nothing (λ among. tt)
+Asked-act_of state kind.Notify cause tells_null small = expected (is_among every_state state) state act.Nothing (λ among. tt)
+Asked-act_of state kind.Facility cause tells_null small = expected (is_among every_state state) state act.Nothing (λ among. tt)
+Asked-act_of state kind.UserInformation cause tells_null small = expected (is_among every_state state) state act.Nothing (λ among. tt)
+Asked-act_of state kind.Setup cause tells_null small = expected (is_among every_state state) state act.Nothing (λ among. tt)
+Asked-act_of state kind.Disconnect cause tells_null small = expected (is_among before_release_request state) state (act.Disconnect cause) (λ among. (small, not_released state among))
+Asked-act_of state kind.Release cause tells_null small =
     either (state == release_request) state (act.ReleaseComplete cause) (expected_in before_release_request state (act.Release cause)) small (expected (is_among before_release_request state) state (act.Release cause) (λ among. small))
-asked state kind.ReleaseComplete cause tells_null small = expected (is_among every_state state) state (act.ReleaseComplete cause) (λ among. small)
-asked state kind.Status cause tells_null small =
+Asked-act_of state kind.ReleaseComplete cause tells_null small = expected (is_among every_state state) state (act.ReleaseComplete cause) (λ among. small)
+Asked-act_of state kind.Status cause tells_null small =
     expected (is_among every_state state) state (if tells_null then act.ReleaseComplete temporary_failure else act.Nothing) (λ among. either tells_null state (act.ReleaseComplete temporary_failure) act.Nothing (omega arith) tt)
-asked state kind.StatusEnquiry cause tells_null small = expected (is_among every_state state) state act.Enquiry (λ among. tt)
-asked state kind.SetupAcknowledge cause tells_null small = tt
-asked state kind.Restart cause tells_null small = tt
-asked state kind.RestartAcknowledge cause tells_null small = tt
-asked state kind.Information cause tells_null small =
+Asked-act_of state kind.StatusEnquiry cause tells_null small = expected (is_among every_state state) state act.Enquiry (λ among. tt)
+Asked-act_of state kind.SetupAcknowledge cause tells_null small = tt
+Asked-act_of state kind.Restart cause tells_null small = tt
+Asked-act_of state kind.RestartAcknowledge cause tells_null small = tt
+Asked-act_of state kind.Information cause tells_null small =
     dialled (state == overlap_sending) state (expected_in (outgoing_call_proceeding ∷ call_delivered ∷ active ∷ []) state act.Nothing) refl
     (expected (is_among (outgoing_call_proceeding ∷ call_delivered ∷ active ∷ []) state) state act.Nothing (λ among. tt))
-asked state (kind.Unknown octet) cause tells_null small = tt
+Asked-act_of state (kind.Unknown octet) cause tells_null small = tt
 
 pub two_ring : (state : ℕ) → is_among (call_present ∷ incoming_call_proceeding ∷ []) state ≡ true → is_among ringing state ≡ true
 two_ring state among = grind (arith, common_steps, among)
@@ -121,8 +121,8 @@ module _ (s : Setting) (w : World) (h : HeldLeg) (planned : IsPlanned s) (stands
       let peers = peers_of external w h.slot c.0 h.leg c.3.0 within c.2 at c.3.1 in_call in
       subst (λ (list : List Operation). Kept s.dimensions s.tones (making_after_all s.dimensions (making_at w) list).world) (sym (with_caller w.legs h.leg.peer c.0 c.3.0 os c.1 c.3.1)) (kept c.0 c.3.0 peers c.3.2)
 
-  silent : is_among ringing h.leg.state ≡ true → heard_by w.holding.circuits h.slot ≡ None
-  silent rings = silent_by s.dimensions.external s.tones w h.slot h.leg rings (heard_by w.holding.circuits h.slot) (stand.each h.slot h.leg within at).hears
+  heard_by_silent : is_among ringing h.leg.state ≡ true → heard_by w.holding.circuits h.slot ≡ None
+  heard_by_silent rings = silent_by s.dimensions.external s.tones w h.slot h.leg rings (heard_by w.holding.circuits h.slot) (stand.each h.slot h.leg within at).hears
 
   -- what an act that was asked makes
   act_kept : (m : Message) (a : Act) → Asked h.leg.state a → Kept s.dimensions s.tones (making_by s w (course_of s w h m a)).world
@@ -135,15 +135,15 @@ module _ (s : Setting) (w : World) (h : HeldLeg) (planned : IsPlanned s) (stands
       let c = caller_of external s.tones w h.slot h.leg rings h.leg.peer (stand.each h.slot h.leg within at).peer in
       let in_call : IsInCall h.leg.side h.slot h.leg c.0 c.3.0 = subst (λ (side : Side). IsInCall side h.slot h.leg c.0 c.3.0) (sym c.3.2.is_called) c.3.2 in
       let peers = peers_of external w h.slot c.0 h.leg c.3.0 within c.2 at c.3.1 in_call in
-      proceeding_kept s.dimensions s.tones w h.slot c.0 h.leg c.3.0 valid stand peers c.3.2 (silent rings) asks
+      proceeding_kept s.dimensions s.tones w h.slot c.0 h.leg c.3.0 valid stand peers c.3.2 (heard_by_silent rings) asks
   act_kept m act.Alerting asks =
       let rings = two_ring h.leg.state asks in
-      ringing_kept rings (on_alerting s.tones h) (λ y other peers call. alerting_kept s.dimensions s.tones w h.slot y h.leg other valid stand peers call (silent rings) asks)
-  act_kept m act.Answer asks = ringing_kept asks (on_connect h) (λ y other peers call. answer_kept s.dimensions s.tones w h.slot y h.leg other valid stand peers call (silent asks))
+      ringing_kept rings (on_alerting s.tones h) (λ y other peers call. alerting_kept s.dimensions s.tones w h.slot y h.leg other valid stand peers call (heard_by_silent rings) asks)
+  act_kept m act.Answer asks = ringing_kept asks (on_connect h) (λ y other peers call. answer_kept s.dimensions s.tones w h.slot y h.leg other valid stand peers call (heard_by_silent asks))
   act_kept m act.Digits asks = digits_kept s w h m planned stands within at (eqb-true h.leg.state overlap_sending asks)
   act_kept m (act.Disconnect cause) asks = disconnect_kept s w h m cause asks.0 valid stand within at
   act_kept m (act.Release cause) asks = released_kept s w h m cause asks valid stand within at
   act_kept m (act.ReleaseComplete cause) asks = gone_kept s w h m cause asks valid stand within at
 
   pub leg_kept : (m : Message) → Kept s.dimensions s.tones (making_by s w (course_of s w h m (act_on h.leg.state m))).world
-  leg_kept m = act_kept m (act_on h.leg.state m) (asked h.leg.state m.kind (clearing_cause m.elements) (is_null (call_state_in m.elements)) (cause_fits m.elements))
+  leg_kept m = act_kept m (act_on h.leg.state m) (Asked-act_of h.leg.state m.kind (clearing_cause m.elements) (is_null (call_state_in m.elements)) (cause_fits m.elements))

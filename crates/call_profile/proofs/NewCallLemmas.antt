@@ -7,7 +7,7 @@ use Rattle.circuit_model.specs.Circuits.{heard_by, is_idle}
 use Rattle.circuit_model.specs.Extent.{IsExternal}
 use Rattle.circuit_model.specs.Holding.{Valid}
 use Rattle.circuit_model.proofs.Hearing.{heard_by-one}
-use Rattle.circuit_model.proofs.Slots.{same_slot-refl, idle_is_deaf}
+use Rattle.circuit_model.proofs.Slots.{same_slot-refl, heard_by_idle_is_deaf}
 use Rattle.circuit_model.proofs.Validity.{valid-seat, deaf_is_idle}
 use Rattle.control_memory.specs.Layout.{number_of}
 use Rattle.call_states.specs.declared.pending.Pending.{Pending}
@@ -23,12 +23,12 @@ use Rattle.call_profile.specs.Operations.{Wait, begun, making_at, making_after, 
 use Rattle.call_profile.specs.Setup.{caller_leg, called_leg, call_line, call_room, await_digits}
 use Rattle.exchange_events.specs.Sizes.{Dimensions}
 use Rattle.call_profile.specs.World.{World, is_full}
-use Rattle.call_profile.proofs.BesideLemmas.{entry_here, entry_else, same_or_apart, Beside, each_stands}
-use Rattle.call_profile.proofs.HearingLemmas.{IsStrange, seat_keeps}
+use Rattle.call_profile.proofs.BesideLemmas.{leg_at-with_entry_here, leg_at-with_entry_else, same_or_apart, Beside, each_stands}
+use Rattle.call_profile.proofs.HearingLemmas.{IsStrange, heard_by_seat_keeps}
 use Rattle.call_profile.proofs.ClearingLemmas.{Kept}
-use Rattle.call_profile.proofs.CommandLemmas.{both_true, is_empty, not_full, strange_to_empty}
+use Rattle.call_profile.proofs.CommandLemmas.{both_true, is_empty, count_by-is_member_not_full, strange_to_empty}
 use Rattle.call_profile.proofs.VacantSlotLemmas.{none_named}
-use Rattle.call_profile.proofs.LegTableLemmas.{both_size, both_else, both_first, both_second}
+use Rattle.call_profile.proofs.LegTableLemmas.{length-with_entry_both, leg_at_both_else, leg_at_both_first, leg_at_both_second}
 
 -- ---- one leg a call reference, once there is a new leg
 
@@ -44,11 +44,11 @@ HasNone external legs x new = (z : Slot) (l : Leg) → IsExternal external z →
 module _ (external : ℕ) (legs : Legs) (x : Slot) (new : Leg) (size : length legs.held ≡ 30 * external) (in_x : IsExternal external x) where
   here_is : (z : Slot) (l : Leg) → z ≡ x → leg_at (with_entry legs x (Some new)) z ≡ Some l → l ≡ new
   here_is z l is at =
-      let e : Some l ≡ Some new = sym at ∙ ap (leg_at (with_entry legs x (Some new))) is ∙ entry_here external legs x (Some new) size in_x in
+      let e : Some l ≡ Some new = sym at ∙ ap (leg_at (with_entry legs x (Some new))) is ∙ leg_at-with_entry_here external legs x (Some new) size in_x in
       cc
 
-  else_is : (z : Slot) (l : Leg) → IsExternal external z → (z ≡ x → ⊥) → leg_at (with_entry legs x (Some new)) z ≡ Some l → leg_at legs z ≡ Some l
-  else_is z l in_z apart at = sym (entry_else external legs x z (Some new) in_x in_z apart) ∙ at
+  leg_at_else : (z : Slot) (l : Leg) → IsExternal external z → (z ≡ x → ⊥) → leg_at (with_entry legs x (Some new)) z ≡ Some l → leg_at legs z ≡ Some l
+  leg_at_else z l in_z apart at = sym (leg_at-with_entry_else external legs x z (Some new) in_x in_z apart) ∙ at
 
   distinct_with : Distinct external legs → HasNone external legs x new → Distinct external (with_entry legs x (Some new))
   distinct_with distinct none p q a b in_p in_q at_p at_q line side reference = elim (same_or_apart p x) [
@@ -56,7 +56,7 @@ module _ (external : ℕ) (legs : Legs) (x : Slot) (new : Leg) (size : length le
       | inl q_is ↦ p_is ∙ sym q_is
       | inr q_not ↦
           let new_is = here_is p a p_is at_p in
-          absurd (none q b in_q q_not (else_is q b in_q q_not at_q)
+          absurd (none q b in_q q_not (leg_at_else q b in_q q_not at_q)
           (sym line ∙ ap (λ (z : Slot). z.line) p_is)
           (sym side ∙ ap (λ (l : Leg). l.side) new_is)
           (sym reference ∙ ap (λ (l : Leg). l.reference) new_is))
@@ -64,11 +64,11 @@ module _ (external : ℕ) (legs : Legs) (x : Slot) (new : Leg) (size : length le
     | inr p_not ↦ elim (same_or_apart q x) [
       | inl q_is ↦
           let new_is = here_is q b q_is at_q in
-          absurd (none p a in_p p_not (else_is p a in_p p_not at_p)
+          absurd (none p a in_p p_not (leg_at_else p a in_p p_not at_p)
           (line ∙ ap (λ (z : Slot). z.line) q_is)
           (side ∙ ap (λ (l : Leg). l.side) new_is)
           (reference ∙ ap (λ (l : Leg). l.reference) new_is))
-      | inr q_not ↦ distinct p q a b in_p in_q (else_is p a in_p p_not at_p) (else_is q b in_q q_not at_q) line side reference
+      | inr q_not ↦ distinct p q a b in_p in_q (leg_at_else p a in_p p_not at_p) (leg_at_else q b in_q q_not at_q) line side reference
     ]
   ]
 
@@ -94,11 +94,11 @@ pub record MayOffer (d : Dimensions) (w : World) (x y : Slot) (reference : ℕ) 
   pub free : leg_named w.legs y.line true reference ≡ None
 
 module _ (w : World) (x : Slot) (idle_x : idle w x ≡ true) where
-  pub silent_slot : heard_by w.holding.circuits x ≡ None
-  silent_slot = idle_is_deaf w.holding.circuits x (both_true (is_idle w.holding.circuits x) (is_none (leg_at w.legs x)) idle_x).0
+  pub heard_by_silent_slot : heard_by w.holding.circuits x ≡ None
+  heard_by_silent_slot = heard_by_idle_is_deaf w.holding.circuits x (both_true (is_idle w.holding.circuits x) (is_none (leg_at w.legs x)) idle_x).0
 
-  pub empty_slot : leg_at w.legs x ≡ None
-  empty_slot = is_empty (leg_at w.legs x) (both_true (is_idle w.holding.circuits x) (is_none (leg_at w.legs x)) idle_x).1
+  pub leg_at_empty_slot : leg_at w.legs x ≡ None
+  leg_at_empty_slot = is_empty (leg_at w.legs x) (both_true (is_idle w.holding.circuits x) (is_none (leg_at w.legs x)) idle_x).1
 
 pub idle_may : (d : Dimensions) (tones : Tones) (w : World) (own : ℕ) (x : Slot) → Valid d.bridges w.holding → LegsStand d.external tones w → IsExternal d.external x → idle w x ≡ true
     → (1 ≤ own) × (own < 2 ^ 15) → leg_named w.legs x.line false own ≡ None → MayCall d tones w own x
@@ -106,8 +106,8 @@ idle_may d tones w own x valid stand in_x idle_x small unused = record {
   valid = valid;
   stand = stand;
   in_x = in_x;
-  silent = silent_slot w x idle_x;
-  strange = strange_to_empty d.external tones w x stand (empty_slot w x idle_x);
+  silent = heard_by_silent_slot w x idle_x;
+  strange = strange_to_empty d.external tones w x stand (leg_at_empty_slot w x idle_x);
   small = small;
   unused = λ z l in_z apart at line side same. none_named w.legs x.line false own unused z l (line, in_z.1) at side same;
 }
@@ -123,10 +123,10 @@ module _ (d : Dimensions) (tones : Tones) (w : World) (first : Bool) (own : ℕ)
   after_call = (making_after_all d (making_at w) (call_line first own asked x y reference)).world
 
   at_caller : leg_at after_call.legs x ≡ Some caller
-  at_caller = both_first d.external w.legs x y (Some caller) (Some called) may.stand.count may.in_x offer.in_y offer.apart
+  at_caller = leg_at_both_first d.external w.legs x y (Some caller) (Some called) may.stand.count may.in_x offer.in_y offer.apart
 
   at_called : leg_at after_call.legs y ≡ Some called
-  at_called = both_second d.external w.legs x y (Some caller) (Some called) may.stand.count may.in_x offer.in_y offer.apart
+  at_called = leg_at_both_second d.external w.legs x y (Some caller) (Some called) may.stand.count may.in_x offer.in_y offer.apart
 
   one_call : AreOneCall x caller y called
   one_call = record { calls = refl; is_called = refl; there = refl; back = refl; matched = refl }
@@ -146,16 +146,16 @@ module _ (d : Dimensions) (tones : Tones) (w : World) (first : Bool) (own : ℕ)
     reference = offer.small;
     cause = omega arith;
     peer = (may.in_x, (caller, at_caller, one_call));
-    hears = subst (MayHear tones called) (sym (silent_slot w y offer.idle_y)) (λ e. absurd cc, refl);
+    hears = subst (MayHear tones called) (sym (heard_by_silent_slot w y offer.idle_y)) (λ e. absurd cc, refl);
   }
 
   beside_call : Beside d.external w after_call x y
   beside_call = record {
-    legs = both_else d.external w.legs x y (Some caller) (Some called) may.stand.count may.in_x offer.in_y offer.apart;
+    legs = leg_at_both_else d.external w.legs x y (Some caller) (Some called) may.stand.count may.in_x offer.in_y offer.apart;
     heard = λ z l in_z at_z not_x not_y. refl;
     strange = λ z l p in_z at_z not_x not_y is. (
       may.strange z l in_z at_z p is,
-      strange_to_empty d.external tones w y may.stand (empty_slot w y offer.idle_y) z l in_z at_z p is,
+      strange_to_empty d.external tones w y may.stand (leg_at_empty_slot w y offer.idle_y) z l in_z at_z p is,
     );
   }
 
@@ -175,14 +175,14 @@ module _ (d : Dimensions) (tones : Tones) (w : World) (first : Bool) (own : ℕ)
         let new_is = here_is d.external w.legs x caller may.stand.count may.in_x z l is at in
         let sides : Caller ≡ Called = sym (ap (λ (k : Leg). k.side) new_is) ∙ side in
         cc
-    | inr other ↦ none_named w.legs y.line true reference offer.free z l (line, in_z.1) (else_is d.external w.legs x caller may.stand.count may.in_x z l in_z other at) side same
+    | inr other ↦ none_named w.legs y.line true reference offer.free z l (line, in_z.1) (leg_at_else d.external w.legs x caller may.stand.count may.in_x z l in_z other at) side same
   ]
 
   pub line_call_kept : Kept d tones (making_after_all d (making_at w) (call_line first own asked x y reference)).world
   line_call_kept = (
     may.valid,
     record {
-      count = both_size d.external w.legs x y (Some caller) (Some called) may.stand.count may.in_x offer.in_y offer.apart;
+      count = length-with_entry_both d.external w.legs x y (Some caller) (Some called) may.stand.count may.in_x offer.in_y offer.apart;
       each = each_stands d.external tones w after_call x y beside_call may.stand at_x at_y;
       one = distinct_with d.external (with_entry w.legs x (Some caller)) y called (length-set w.legs.held (number_of x) (Some caller) ∙ may.stand.count) offer.in_y
           (distinct_with d.external w.legs x caller may.stand.count may.in_x may.stand.one none_caller) none_called;
@@ -199,7 +199,7 @@ module _ (d : Dimensions) (tones : Tones) (w : World) (first : Bool) (own : ℕ)
   after_seat = (making_after_all d (making_at w) (call_room first own x room)).world
 
   at_member : leg_at after_seat.legs x ≡ Some member
-  at_member = entry_here d.external w.legs x (Some member) may.stand.count may.in_x
+  at_member = leg_at-with_entry_here d.external w.legs x (Some member) may.stand.count may.in_x
 
   idle_member : is_idle w.holding.circuits x ≡ true
   idle_member = deaf_is_idle w.holding.circuits x (may.valid.standing x) may.silent
@@ -218,8 +218,8 @@ module _ (d : Dimensions) (tones : Tones) (w : World) (first : Bool) (own : ℕ)
 
   beside_seat : Beside d.external w after_seat x x
   beside_seat = record {
-    legs = λ z in_z not_x same. entry_else d.external w.legs x z (Some member) may.in_x in_z not_x;
-    heard = λ z l in_z at_z not_x same. seat_keeps w.holding x z room idle_member not_x;
+    legs = λ z in_z not_x same. leg_at-with_entry_else d.external w.legs x z (Some member) may.in_x in_z not_x;
+    heard = λ z l in_z at_z not_x same. heard_by_seat_keeps w.holding x z room idle_member not_x;
     strange = λ z l p in_z at_z not_x same is.
         let strange = may.strange z l in_z at_z p is in
         (strange, strange);
@@ -233,7 +233,7 @@ module _ (d : Dimensions) (tones : Tones) (w : World) (first : Bool) (own : ℕ)
 
   pub room_call_kept : Kept d tones (making_after_all d (making_at w) (call_room first own x room)).world
   room_call_kept = (
-    valid-seat d.bridges w.holding x room may.valid idle_member (not_full d.bridges w.holding may.valid free),
+    valid-seat d.bridges w.holding x room may.valid idle_member (count_by-is_member_not_full d.bridges w.holding may.valid free),
     record {
       count = length-set w.legs.held (number_of x) (Some member) ∙ may.stand.count;
       each = each_stands d.external tones w after_seat x x beside_seat may.stand seated_leg seated_leg;
@@ -251,7 +251,7 @@ module _ (d : Dimensions) (tones : Tones) (w : World) (own : ℕ) (asked : Pendi
   after_wait = (making_after d (making_at w) (Wait x (caller_leg overlap_sending own peer.Alone) asked)).world
 
   at_waiting : leg_at after_wait.legs x ≡ Some waiting
-  at_waiting = entry_here d.external w.legs x (Some waiting) may.stand.count may.in_x
+  at_waiting = leg_at-with_entry_here d.external w.legs x (Some waiting) may.stand.count may.in_x
 
   waiting_stands : LegStands d.external tones after_wait x waiting
   waiting_stands = record {
@@ -264,7 +264,7 @@ module _ (d : Dimensions) (tones : Tones) (w : World) (own : ℕ) (asked : Pendi
 
   beside_wait : Beside d.external w after_wait x x
   beside_wait = record {
-    legs = λ z in_z not_x same. entry_else d.external w.legs x z (Some waiting) may.in_x in_z not_x;
+    legs = λ z in_z not_x same. leg_at-with_entry_else d.external w.legs x z (Some waiting) may.in_x in_z not_x;
     heard = λ z l in_z at_z not_x same. refl;
     strange = λ z l p in_z at_z not_x same is.
         let strange = may.strange z l in_z at_z p is in

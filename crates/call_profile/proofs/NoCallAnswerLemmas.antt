@@ -25,14 +25,14 @@ back_permitted d tones plan m line below (Some message) writable = ((below, writ
 
 -- ---- what a message that names no leg asks for
 
-pub on_global : (m : Message) → m.reference ≡ 0 → request_without_leg m ≡ on_global_reference (restart_asked m)
-on_global m is = ap (λ (b : Bool). if b then on_global_reference (restart_asked m) else (if asks_for_call m then New_call m else On_no_call m)) (eq-eqb m.reference 0 is)
+pub request_without_leg_on_global : (m : Message) → m.reference ≡ 0 → request_without_leg m ≡ on_global_reference (restart_asked m)
+request_without_leg_on_global m is = ap (λ (b : Bool). if b then on_global_reference (restart_asked m) else (if asks_for_call m then New_call m else On_no_call m)) (eq-eqb m.reference 0 is)
 
-off_global : (m : Message) → (m.reference ≡ 0 → ⊥) → request_without_leg m ≡ (if asks_for_call m then New_call m else On_no_call m)
-off_global m own = ap (λ (b : Bool). if b then on_global_reference (restart_asked m) else (if asks_for_call m then New_call m else On_no_call m)) (differs m.reference 0 own)
+request_without_leg_off_global : (m : Message) → (m.reference ≡ 0 → ⊥) → request_without_leg m ≡ (if asks_for_call m then New_call m else On_no_call m)
+request_without_leg_off_global m own = ap (λ (b : Bool). if b then on_global_reference (restart_asked m) else (if asks_for_call m then New_call m else On_no_call m)) (differs m.reference 0 own)
 
-pub asks : (m : Message) → (m.reference ≡ 0 → ⊥) → asks_for_call m ≡ true → request_without_leg m ≡ New_call m
-asks m own is = off_global m own ∙ ap (λ (b : Bool). if b then New_call m else On_no_call m) is
+pub request_without_leg_asks : (m : Message) → (m.reference ≡ 0 → ⊥) → asks_for_call m ≡ true → request_without_leg m ≡ New_call m
+request_without_leg_asks m own is = request_without_leg_off_global m own ∙ ap (λ (b : Bool). if b then New_call m else On_no_call m) is
 
-pub asks_not : (m : Message) → (m.reference ≡ 0 → ⊥) → asks_for_call m ≡ false → request_without_leg m ≡ On_no_call m
-asks_not m own is = off_global m own ∙ ap (λ (b : Bool). if b then New_call m else On_no_call m) is
+pub request_without_leg_asks_not : (m : Message) → (m.reference ≡ 0 → ⊥) → asks_for_call m ≡ false → request_without_leg m ≡ On_no_call m
+request_without_leg_asks_not m own is = request_without_leg_off_global m own ∙ ap (λ (b : Bool). if b then New_call m else On_no_call m) is

@@ -11,9 +11,9 @@ use Rattle.call_profile.specs.World.{World}
 use Rattle.call_profile.proofs.RefusalLemmas.{no_records}
 
 module _ (s : Setting) (w : World) (line : ℕ) (m : Message) where
-  sends_only : (o : Option OutgoingMessage) → records w (making_by s w (only (answer_back line o))).world 0 ≡ []
-  sends_only None = no_records w 0
-  sends_only (Some message) = no_records w 0
+  records_sends_only : (o : Option OutgoingMessage) → records w (making_by s w (only (answer_back line o))).world 0 ≡ []
+  records_sends_only None = no_records w 0
+  records_sends_only (Some message) = no_records w 0
 
-  pub answer_ends_none : records w (outcome_for s w line (On_no_call m)).making.world 0 ≡ []
-  answer_ends_none = sends_only (answer_without_call m)
+  pub records_answer_ends_none : records w (outcome_for s w line (On_no_call m)).making.world 0 ≡ []
+  records_answer_ends_none = records_sends_only (answer_without_call m)

@@ -27,10 +27,10 @@ nothing_done s w cause os none =
     ap (outcome_then s.dimensions cause (untouched w)) none
     ∙ (λ i. record { making = making_at w; recorded = no_records w cause i })
 
-pub none_due : (s : Setting) (frame : ℕ) (w : World) → ((line : ℕ) → IfSome (leg_at w.legs (slot_looked_at frame line)) (λ leg. due_of s.timers frame leg ≡ None))
+pub outcome_of_lines_none_due : (s : Setting) (frame : ℕ) (w : World) → ((line : ℕ) → IfSome (leg_at w.legs (slot_looked_at frame line)) (λ leg. due_of s.timers frame leg ≡ None))
     → (lines : ℕ) → outcome_of_lines s frame w lines ≡ untouched w
-none_due s frame w quiet zero = lines_none s frame w
-none_due s frame w quiet (suc line) =
+outcome_of_lines_none_due s frame w quiet zero = lines_none s frame w
+outcome_of_lines_none_due s frame w quiet (suc line) =
     lines_more s frame w line
-    ∙ ap (outcome_on_line s frame line) (none_due s frame w quiet line)
+    ∙ ap (outcome_on_line s frame line) (outcome_of_lines_none_due s frame w quiet line)
     ∙ nothing_done s w _ _ (leg_not_due s frame w.legs (slot_looked_at frame line) (leg_at w.legs (slot_looked_at frame line)) (quiet line))

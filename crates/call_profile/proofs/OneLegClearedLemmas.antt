@@ -13,18 +13,18 @@ use Rattle.call_profile.specs.Acts.{in_release_request, in_disconnect_indication
 use Rattle.call_profile.specs.LegStanding.{LegStands, LegsStand, MayHear}
 use Rattle.call_profile.specs.Legs.{waiting_from, leg_at, with_entry}
 use Rattle.call_profile.specs.World.{World}
-use Rattle.call_profile.proofs.AnsweringLemmas.{cleared_by}
-use Rattle.call_profile.proofs.BesideLemmas.{look, entry_here, entry_else, same_or_apart, named_back, Beside, each_stands, SameReferences, still_one}
-use Rattle.call_profile.proofs.HearingLemmas.{IsStrange, clear_keeps}
+use Rattle.call_profile.proofs.AnsweringLemmas.{unless_naming_cleared}
+use Rattle.call_profile.proofs.BesideLemmas.{look, leg_at-with_entry_here, leg_at-with_entry_else, same_or_apart, named_back, Beside, each_stands, SameReferences, still_one}
+use Rattle.call_profile.proofs.HearingLemmas.{IsStrange, heard_by_clear_keeps}
 
 -- ---- what is alone
 
 -- a slot that was cleared hears nothing, whatever is cleared then
-pub deaf_once : (bridges : ℕ) (h : Holding) (x : Slot) → Valid bridges h → heard_by (after h (Clear x)).circuits x ≡ None
-deaf_once bridges h x valid = heard_by-clear h.circuits x x (valid.standing x) ∙ cleared_by h.circuits x (heard_by h.circuits x) refl
+pub heard_by_deaf_once : (bridges : ℕ) (h : Holding) (x : Slot) → Valid bridges h → heard_by (after h (Clear x)).circuits x ≡ None
+heard_by_deaf_once bridges h x valid = heard_by-clear h.circuits x x (valid.standing x) ∙ unless_naming_cleared h.circuits x (heard_by h.circuits x) refl
 
-pub deaf_still : (bridges : ℕ) (h : Holding) (x y : Slot) → Valid bridges h → heard_by h.circuits x ≡ None → heard_by (after h (Clear y)).circuits x ≡ None
-deaf_still bridges h x y valid deaf = heard_by-clear h.circuits y x (valid.standing x) ∙ ap (unless_naming y) deaf
+pub heard_by_deaf_still : (bridges : ℕ) (h : Holding) (x y : Slot) → Valid bridges h → heard_by h.circuits x ≡ None → heard_by (after h (Clear y)).circuits x ≡ None
+heard_by_deaf_still bridges h x y valid deaf = heard_by-clear h.circuits y x (valid.standing x) ∙ ap (unless_naming y) deaf
 
 -- a leg that was released is alone in silence, and one that was disconnected with a cause where it hears what it may
 pub released_stands : (external : ℕ) (tones : Tones) (w v : World) (x : Slot) (leg : Leg) (next : ℕ) → LegStands external tones w x leg → heard_by v.holding.circuits x ≡ None
@@ -73,10 +73,10 @@ module _ (external : ℕ) (tones : Tones) (bridges : ℕ) (w v : World) (x : Slo
     (within : IsExternal external x) (at : leg_at w.legs x ≡ Some leg) (left : IsLeft w.holding.next leg o)
     (legs : v.legs.held ≡ (with_entry w.legs x o).held) (holding : v.holding ≡ after w.holding (Clear x)) (no_peer : (p : Slot) → leg.peer ≡ peer.Leg p → ⊥) where
   legs_alone : (z : Slot) → IsExternal external z → (z ≡ x → ⊥) → leg_at v.legs z ≡ leg_at w.legs z
-  legs_alone z in_z apart = ap (look z) legs ∙ entry_else external w.legs x z o within in_z apart
+  legs_alone z in_z apart = ap (look z) legs ∙ leg_at-with_entry_else external w.legs x z o within in_z apart
 
   here_alone : leg_at v.legs x ≡ o
-  here_alone = ap (look x) legs ∙ entry_here external w.legs x o stand.count within
+  here_alone = ap (look x) legs ∙ leg_at-with_entry_here external w.legs x o stand.count within
 
   -- nobody else names the slot
   strange_alone : (z : Slot) (l : Leg) → IsExternal external z → leg_at w.legs z ≡ Some l → IsStrange l x
@@ -87,7 +87,7 @@ module _ (external : ℕ) (tones : Tones) (bridges : ℕ) (w v : World) (x : Slo
   heard_alone : (z : Slot) (l : Leg) → IsExternal external z → leg_at w.legs z ≡ Some l → (z ≡ x → ⊥) → heard_by v.holding.circuits z ≡ heard_by w.holding.circuits z
   heard_alone z l in_z at_z apart =
       ap (λ (h : Holding). heard_by h.circuits z) holding
-      ∙ clear_keeps bridges tones w.holding l z x valid (stand.each z l in_z at_z).hears apart (strange_alone z l in_z at_z)
+      ∙ heard_by_clear_keeps bridges tones w.holding l z x valid (stand.each z l in_z at_z).hears apart (strange_alone z l in_z at_z)
 
   beside_alone : Beside external w v x x
   beside_alone = record {
@@ -97,7 +97,7 @@ module _ (external : ℕ) (tones : Tones) (bridges : ℕ) (w v : World) (x : Slo
   }
 
   new_alone : (l : Leg) → leg_at v.legs x ≡ Some l → LegStands external tones v x l
-  new_alone l is = left_stands external tones w v x leg w.holding.next o left (stand.each x leg within at) (ap (λ (h : Holding). heard_by h.circuits x) holding ∙ deaf_once bridges w.holding x valid) l (sym here_alone ∙ is)
+  new_alone l is = left_stands external tones w v x leg w.holding.next o left (stand.each x leg within at) (ap (λ (h : Holding). heard_by h.circuits x) holding ∙ heard_by_deaf_once bridges w.holding x valid) l (sym here_alone ∙ is)
 
   references_alone : SameReferences external w v
   references_alone z b in_z at_z = elim (same_or_apart z x) [
@@ -107,8 +107,8 @@ module _ (external : ℕ) (tones : Tones) (bridges : ℕ) (w v : World) (x : Slo
     | inr not_x ↦ (b, sym (legs_alone z in_z not_x) ∙ at_z, refl, refl)
   ]
 
-  pub alone_left : LegsStand external tones v
-  alone_left = record {
+  pub LegsStand_alone_left : LegsStand external tones v
+  LegsStand_alone_left = record {
     count = ap length legs ∙ length-set w.legs.held (number_of x) o ∙ stand.count;
     each = each_stands external tones w v x x beside_alone stand new_alone new_alone;
     one = still_one external tones w v references_alone stand;

@@ -32,12 +32,12 @@ use Rattle.call_profile.specs.KeptMessages.{MayKeep, LegsWait}
 use Rattle.call_profile.specs.Waiting.{IsWaiting, MayWait, NumbersPend}
 use Rattle.call_profile.specs.World.{World, pass}
 use Rattle.call_profile.proofs.BesideLemmas.{same_or_apart}
-use Rattle.call_profile.proofs.EntryLemmas.{written, leg_here, pending_here, leg_else, pending_else, none_in}
+use Rattle.call_profile.proofs.EntryLemmas.{written, leg_here, pending_here, leg_else, pending_else, get_or-bare}
 use Rattle.call_profile.proofs.ClearingLemmas.{Kept}
 use Rattle.call_profile.proofs.CommandLemmas.{pass_kept}
 use Rattle.call_profile.proofs.ExpiringLemmas.{slot_may, slot_fine, each_line, place_within}
 use Rattle.call_profile.proofs.KeptMessageLemmas.{awaits_by, digits_keep_none, kept_from, kept_anew, kept_there, written_wait, wait_on}
-use Rattle.call_profile.proofs.ToneLemmas.{sounding_next}
+use Rattle.call_profile.proofs.ToneLemmas.{with_tone_sounding_next}
 use Rattle.call_profile.proofs.Permitted.{IsPermitted, ArePermitted}
 use Rattle.call_profile.proofs.PermittedLemmas.{act_may, call_may, answer_may}
 use Rattle.call_profile.proofs.RestartLemmas.{slot_kept, slot_permitted}
@@ -90,7 +90,7 @@ module _ (d : Dimensions) (tones : Tones) (plan : List Number) where
   performed m (op.Clear x) may stand = stand
   performed m (op.Pair x y) may stand = stand
   performed m (op.Seat x room) may stand = stand
-  performed m (op.Sound x kind) may stand = (stand.0, subst (λ next. LegsWait d.external next m.world.legs) (sym (sounding_next m.world.holding x kind)) stand.1)
+  performed m (op.Sound x kind) may stand = (stand.0, subst (λ next. LegsWait d.external next m.world.legs) (sym (with_tone_sounding_next m.world.holding x kind)) stand.1)
   performed m (op.Put x leg) may stand = entered m.world x may.0 stand (Some (begun m.world leg)) None None may.2 (omega arith) may.3
   performed m (op.Wait x leg p) may stand =
       entered m.world x may.0 stand (Some (begun m.world leg)) (Some p) None (waiting_begun plan m.world.holding.next leg p may.2) (omega arith) (digits_keep_none leg.state may.2.state)
@@ -181,6 +181,6 @@ none_pend external plan = record {
   legs_count = length-replicate (30 * external) None;
   count = length-replicate (30 * external) None;
   each = λ x in_x.
-      subst (λ (q : Option Leg). MayWait plan q (pending_at (no_legs external) x)) (sym (none_in Leg (30 * external) (number_of x)))
-      (subst (MayWait plan None) (sym (none_in Pending (30 * external) (number_of x))) tt);
+      subst (λ (q : Option Leg). MayWait plan q (pending_at (no_legs external) x)) (sym (get_or-bare Leg (30 * external) (number_of x)))
+      (subst (MayWait plan None) (sym (get_or-bare Pending (30 * external) (number_of x))) tt);
 }

@@ -42,7 +42,7 @@ use Rattle.call_profile.specs.World.{World, obey}
 use Rattle.call_profile.proofs.AnsweringLemmas.{ringing, caller_of, silent_by, cleared_idle, silent_idle}
 use Rattle.call_profile.proofs.AlertingLemmas.{waiting, silent_waiting}
 use Rattle.call_profile.proofs.ClearingLemmas.{held_there, peers_apart}
-use Rattle.call_profile.proofs.MessageToLegLemmas.{Asked, asked, two_ring}
+use Rattle.call_profile.proofs.MessageToLegLemmas.{Asked, Asked-act_of, two_ring}
 use Rattle.call_profile.proofs.ToneLemmas.{cleared_is_idle, tone_octets}
 
 -- ---- what can be sent to a leg
@@ -50,8 +50,8 @@ use Rattle.call_profile.proofs.ToneLemmas.{cleared_is_idle, tone_octets}
 told_state : (state : ℕ) → is_among every_state state ≡ true → state < 64
 told_state state among = grind (arith, common_steps, among)
 
-pub stands_told : (external : ℕ) (tones : Tones) (w : World) (x : Slot) (leg : Leg) → LegStands external tones w x leg → FitsMessages leg
-stands_told external tones w x leg stands = record { state = told_state leg.state stands.state; reference = stands.reference.1 }
+pub FitsMessages_standing : (external : ℕ) (tones : Tones) (w : World) (x : Slot) (leg : Leg) → LegStands external tones w x leg → FitsMessages leg
+FitsMessages_standing external tones w x leg stands = record { state = told_state leg.state stands.state; reference = stands.reference.1 }
 
 pub message_writable : (leg : Leg) (k : MessageKind) → FitsMessages leg → IsNamed k → IsWritable (message_to leg k)
 message_writable leg k told named = short_writable _ leg.reference k None None None None told.reference named tt tt tt
@@ -87,12 +87,12 @@ peer_held legs p y other is at = rw (is, held_there legs y other at) refl
 
 module _ (external : ℕ) (tones : Tones) (w : World) (h : HeldLeg) (stand : LegsStand external tones w) (within : IsExternal external h.slot) (at : leg_at w.legs h.slot ≡ Some h.leg) where
   pub is_there : IsThere external h
-  is_there = record { within = within; told = stands_told external tones w h.slot h.leg (stand.each h.slot h.leg within at) }
+  is_there = record { within = within; told = FitsMessages_standing external tones w h.slot h.leg (stand.each h.slot h.leg within at) }
 
   peer_is : (p : Peer) → HasPeer external w.legs h.slot h.leg p → PeerIsThere external h (peer_of w.legs p)
   peer_is peer.Alone has = tt
   peer_is (peer.Leg y) has = rw (held_there w.legs y has.1.0 has.1.1) (
-    record { within = has.0; told = stands_told external tones w y has.1.0 (stand.each y has.1.0 has.0 has.1.1) },
+    record { within = has.0; told = FitsMessages_standing external tones w y has.1.0 (stand.each y has.1.0 has.0 has.1.1) },
     peers_apart w.legs h.slot y h.leg has.1.0 at has.1.1 has.1.2,
   )
   peer_is (peer.Room room) has = tt
@@ -100,8 +100,8 @@ module _ (external : ℕ) (tones : Tones) (w : World) (h : HeldLeg) (stand : Leg
   pub peer_there_too : PeerIsThere external h (peer_of w.legs h.leg.peer)
   peer_there_too = peer_is h.leg.peer (stand.each h.slot h.leg within at).peer
 
-  pub rings_silent : is_among ringing h.leg.state ≡ true → heard_by w.holding.circuits h.slot ≡ None
-  rings_silent rings = silent_by external tones w h.slot h.leg rings (heard_by w.holding.circuits h.slot) (stand.each h.slot h.leg within at).hears
+  pub heard_by_rings_silent : is_among ringing h.leg.state ≡ true → heard_by w.holding.circuits h.slot ≡ None
+  heard_by_rings_silent rings = silent_by external tones w h.slot h.leg rings (heard_by w.holding.circuits h.slot) (stand.each h.slot h.leg within at).hears
 
   -- the caller of a leg that may be alerted hears nothing
   pub caller_silent : is_among (call_present ∷ incoming_call_proceeding ∷ []) h.leg.state ≡ true → IfSome (peer_of w.legs h.leg.peer) (λ c. heard_by w.holding.circuits c.slot ≡ None)
@@ -198,7 +198,7 @@ module _ (s : Setting) (w : World) (h : HeldLeg) (stand : CallsStand s w) (withi
   asked_permitted m act.Alerting asks digits =
       alerting_permitted d tones s.plan (making_at w) h there (peer_of w.legs h.leg.peer) peer_too
       (each_idle (peer_of w.legs h.leg.peer) (caller_silent d.external tones w h stand.legs within at asks))
-  asked_permitted m act.Answer asks digits = answer_permitted (rings_silent d.external tones w h stand.legs within at asks) (peer_of w.legs h.leg.peer) peer_too
+  asked_permitted m act.Answer asks digits = answer_permitted (heard_by_rings_silent d.external tones w h stand.legs within at asks) (peer_of w.legs h.leg.peer) peer_too
   asked_permitted m act.Digits asks digits = digits asks
   asked_permitted m (act.Disconnect cause) asks digits =
       let expects : IsAwaited (in_release_request h.leg) (message_to h.leg kind.Release) =
@@ -212,4 +212,4 @@ module _ (s : Setting) (w : World) (h : HeldLeg) (stand : CallsStand s w) (withi
 
   pub act_permitted : (m : Message) → ((h.leg.state == overlap_sending) ≡ true → ArePermitted d tones s.plan (making_at w) (on_digits s w h m))
       → ArePermitted s.dimensions s.tones s.plan (making_at w) (course_of s w h m (act_on h.leg.state m)).operations
-  act_permitted m digits = asked_permitted m (act_on h.leg.state m) (asked h.leg.state m.kind (clearing_cause m.elements) (is_null (call_state_in m.elements)) (cause_fits m.elements)) digits
+  act_permitted m digits = asked_permitted m (act_on h.leg.state m) (Asked-act_of h.leg.state m.kind (clearing_cause m.elements) (is_null (call_state_in m.elements)) (cause_fits m.elements)) digits

@@ -17,11 +17,11 @@ use Rattle.call_profile.specs.Operations.{making_at}
 use Rattle.call_profile.specs.Setup.{target_dialled}
 use Rattle.call_profile.specs.Waiting.{Waits}
 use Rattle.call_profile.specs.World.{World}
-use Rattle.call_profile.proofs.CommandLemmas.{not_full}
-use Rattle.call_profile.proofs.DigitsLemmas.{digits_are, digits_fit, digits_reach, digits_small, number, passed}
+use Rattle.call_profile.proofs.CommandLemmas.{count_by-is_member_not_full}
+use Rattle.call_profile.proofs.DigitsLemmas.{digits_are, digits_fit, digits_reach, digits_small, number, digits_checks_passed}
 use Rattle.call_profile.proofs.Permitted.{ArePermitted}
 use Rattle.call_profile.proofs.PermittedActLemmas.{clear_permitted, is_there}
-use Rattle.call_profile.proofs.PermittedSetupLemmas.{CanAccept, accepted_permitted, begun}
+use Rattle.call_profile.proofs.PermittedSetupLemmas.{CanAccept, accepted_permitted, found_for_begun}
 
 module _ (s : Setting) (w : World) (h : HeldLeg) (m : Message) (planned : IsPlanned s) (stands : CallsStand s w) (within : IsExternal s.dimensions.external h.slot)
     (at : leg_at w.legs h.slot ≡ Some h.leg) (is : h.leg.state ≡ overlap_sending) where
@@ -47,13 +47,13 @@ module _ (s : Setting) (w : World) (h : HeldLeg) (m : Message) (planned : IsPlan
         room = λ room leads. record {
           within = within;
           idle = deaf_is_idle w.holding.circuits h.slot (stands.circuits.standing h.slot) waits.silent;
-          free = not_full s.dimensions.bridges w.holding stands.circuits (reach.room room leads);
+          free = count_by-is_member_not_full s.dimensions.bridges w.holding stands.circuits (reach.room room leads);
         };
         more = λ more. record {
           state = refl;
           calls = refl;
           alone = refl;
-          dialled = begun s.plan (dialled_digits (called_with p.called m)) (passed s w h.slot p m planned passes).1.0 more;
+          dialled = found_for_begun s.plan (dialled_digits (called_with p.called m)) (digits_checks_passed s w h.slot p m planned passes).1.0 more;
           fits = fits;
         };
       }

@@ -38,7 +38,7 @@ use Rattle.call_profile.specs.Waiting.{IsWaiting}
 use Rattle.call_profile.specs.World.{World}
 use Rattle.call_profile.proofs.AcceptedSetupLemmas.{can_seat, refusal_small, can_still}
 use Rattle.call_profile.proofs.PermittedActLemmas.{message_writable}
-use Rattle.call_profile.proofs.SetupLemmas.{all_pass, all_from, all_reached, caller_is, offered, offered_by_hunting, reached}
+use Rattle.call_profile.proofs.SetupLemmas.{all_pass, all_from, all_reached, caller_is, MayOffer-lowest_free_reference, offered_by_hunting, reached}
 
 -- ---- what is passed on is not too long
 
@@ -66,21 +66,21 @@ asked_fits m readable = record {
 
 -- ---- what is sent can be written
 
-pub bears : (place : ℕ) → place < 30 → is_bearer_channel (channel_at place) ≡ true
-bears place within = grind (arith, common_steps, within)
+pub is_bearer_channel_bears : (place : ℕ) → place < 30 → is_bearer_channel (channel_at place) ≡ true
+is_bearer_channel_bears place within = grind (arith, common_steps, within)
 
 refusal_writable : (reference cause : ℕ) → reference < 2 ^ 15 → cause < 128 → IsWritable (record (bare true reference kind.ReleaseComplete) { cause = Some cause })
 refusal_writable reference cause small few = short_writable true reference kind.ReleaseComplete (Some cause) None None None small tt few tt tt
 
 channel_writable : (x : Slot) (leg : Leg) → x.place < 30 → FitsMessages leg → IsWritable (with_channel x (message_to leg kind.CallProceeding))
-channel_writable x leg within told = short_writable _ leg.reference kind.CallProceeding None None (Some (channel_at x.place)) None told.reference tt tt tt (bears x.place within)
+channel_writable x leg within told = short_writable _ leg.reference kind.CallProceeding None None (Some (channel_at x.place)) None told.reference tt tt tt (is_bearer_channel_bears x.place within)
 
 proceeding_writable : (first : Bool) (x : Slot) (leg : Leg) → x.place < 30 → FitsMessages leg → IsWritable (call_proceeding first x leg)
 proceeding_writable true x leg within told = channel_writable x leg within told
 proceeding_writable false x leg within told = message_writable leg kind.CallProceeding told tt
 
 acknowledge_writable : (x : Slot) (leg : Leg) → x.place < 30 → FitsMessages leg → IsWritable (setup_acknowledge x leg)
-acknowledge_writable x leg within told = short_writable _ leg.reference kind.SetupAcknowledge None None (Some (channel_at x.place)) None told.reference tt tt tt (bears x.place within)
+acknowledge_writable x leg within told = short_writable _ leg.reference kind.SetupAcknowledge None None (Some (channel_at x.place)) None told.reference tt tt tt (is_bearer_channel_bears x.place within)
 
 offer_writable : (p : Pending) (y : Slot) (leg : Leg) → y.place < 30 → FitsMessages leg → FitsElements p → IsWritable (offer p y leg)
 offer_writable p y leg within told fits = record {
@@ -89,7 +89,7 @@ offer_writable p y leg within told fits = record {
   bearer = fits.bearer;
   cause = tt;
   state = tt;
-  channel = bears y.place within;
+  channel = is_bearer_channel_bears y.place within;
   calling = fits.calling;
   called = fits.called;
   low = fits.low;
@@ -98,9 +98,9 @@ offer_writable p y leg within told fits = record {
 
 -- ---- the digits so far, where the plan finds that more are to come
 
-pub begun : (plan : List Number) (o : Option (List ℕ)) → is_none o ≡ false → found_for plan (unwrap_or o []) ≡ More → option_map (found_for plan) o ≡ Some More
-begun plan None some is = absurd cc
-begun plan (Some digits) some is = ap (λ t. Some t) is
+pub found_for_begun : (plan : List Number) (o : Option (List ℕ)) → is_none o ≡ false → found_for plan (unwrap_or o []) ≡ More → option_map (found_for plan) o ≡ Some More
+found_for_begun plan None some is = absurd cc
+found_for_begun plan (Some digits) some is = ap (λ t. Some t) is
 
 -- ---- what is done, by a SETUP or for more digits
 
@@ -157,7 +157,7 @@ waiting_permitted s w false own asked x in_x small waits = ((in_x, told s w fals
 module _ (s : Setting) (w : World) (first : Bool) (own : ℕ) (asked : Pending) (x : Slot) where
   call_permitted : (t : Found) (o : Option Slot) → called_slot w x t ≡ o → CanAccept s w own asked x t → ArePermitted s.dimensions s.tones s.plan (making_at w) (call first w own asked x t o)
   call_permitted (Line l) (Some y) chosen can =
-      let may = offered s w x l y (can.line l refl) chosen in
+      let may = MayOffer-lowest_free_reference s w x l y (can.line l refl) chosen in
       line_permitted s w first own asked x y (lowest_free_reference w.legs l) can.within can.small can.fits may.in_y may.small.1
   call_permitted (Line l) None chosen can = tt
   call_permitted (Lines ls) (Some y) chosen can =
@@ -181,7 +181,7 @@ module _ (s : Setting) (w : World) (line : ℕ) (m : Message) (planned : IsPlann
         state = refl;
         calls = refl;
         alone = refl;
-        dialled = begun s.plan (digits_in m) (all_from 5 (checks s w line m) passed).0 is;
+        dialled = found_for_begun s.plan (digits_in m) (all_from 5 (checks s w line m) passed).0 is;
         fits = asked_fits m passed.1.0;
       }
 

@@ -11,7 +11,7 @@ use Rattle.q931_codec.specs.Contents.{call_state_in, channel_in}
 use Rattle.q931_codec.specs.Causes.{invalid_number_format, no_answer_from_user, no_user_responding, recovery_on_timer_expiry, temporary_failure, destination_out_of_order}
 use Rattle.q931_codec.specs.Reading.{reading}
 use Rattle.q931_codec.proofs.EncodingFacts.{encoding_read}
-use Rattle.q931_codec.proofs.Messages.{message_read}
+use Rattle.q931_codec.proofs.Messages.{reading_message}
 use Rattle.q931_codec.proofs.RowFacts.{fields_back}
 use Rattle.call_timers.specs.declared.expiry.Expiry.{Expiry}
 use Rattle.call_timers.specs.declared.expiry.Expiry.TheVariants as expiry
@@ -175,7 +175,7 @@ answer_tells line m = either_answer_tells line (m.reference == global_call_refer
 kept_quiet : (h : HeldLeg) (octets : List ℕ) → IsKept h.leg octets → has_progress (reading octets) ≡ false
 kept_quiet h octets is =
     let m : OutgoingMessage = is.message in
-    let reads = message_read (encoding m) _ (encoding_read m is.awaited.writable) in
+    let reads = reading_message (encoding m) _ (encoding_read m is.awaited.writable) in
     ap has_progress (ap reading is.encoded ∙ reads) ∙ (fields_back m is.awaited.writable).progress ∙ is.awaited.quiet
 
 module _ (s : Setting) (w : World) (h : HeldLeg) (stands : CallsStand s w) (in_x : IsExternal s.dimensions.external h.slot) (at : leg_at w.legs h.slot ≡ Some h.leg) where

@@ -19,7 +19,7 @@ use Rattle.call_profile.specs.Expiring.{slot_looked_at, expire_slot}
 use Rattle.call_profile.specs.World.{World, obey, pass}
 use Rattle.call_profile.proofs.ExpiringLemmas.{each_line}
 use Rattle.call_profile.proofs.RestartedSlotLemmas.{each_below}
-use Rattle.call_profile.proofs.ToneLemmas.{sounding_next}
+use Rattle.call_profile.proofs.ToneLemmas.{with_tone_sounding_next}
 use Rattle.call_profile.specs.LinkChanges.{outcome_of_link, rule_of, with_line}
 
 -- two worlds with the same frames behind them
@@ -33,7 +33,7 @@ performed_same : (d : Dimensions) (m : Making) (o : Operation) → SameFrames m.
 performed_same d m (op.Clear x) = record { inputs = refl; held = refl; seated = refl; next = refl }
 performed_same d m (op.Pair x y) = record { inputs = refl; held = refl; seated = refl; next = refl }
 performed_same d m (op.Seat x room) = record { inputs = refl; held = refl; seated = refl; next = refl }
-performed_same d m (op.Sound x kind) = record { inputs = refl; held = refl; seated = refl; next = sounding_next m.world.holding x kind }
+performed_same d m (op.Sound x kind) = record { inputs = refl; held = refl; seated = refl; next = with_tone_sounding_next m.world.holding x kind }
 performed_same d m (op.Put x leg) = record { inputs = refl; held = refl; seated = refl; next = refl }
 performed_same d m (op.Wait x leg p) = record { inputs = refl; held = refl; seated = refl; next = refl }
 performed_same d m (op.Expect x leg message) = record { inputs = refl; held = refl; seated = refl; next = refl }
@@ -73,14 +73,14 @@ linked_same s w down line =
     each_below s.dimensions (rule_of s.tones down) line (with_line w line down) (λ a. SameFrames w a.making.world) (record { inputs = refl; held = refl; seated = refl; next = refl })
     (λ a place small same. then_same w a.making.world _ same (performed_all_same s.dimensions a.making ((rule_of s.tones down).does a.making.world.legs (record { line = line; place = place })))) 30 (omega arith)
 
-pub quiet : (s : Setting) (w : World) (e : Event) → ((input : Input) → ¬ (e ≡ Frame input)) → SameFrames w (next s w e)
-quiet s w (Nail x y) other = either_same (may_nail w x y) w (obey s.dimensions w (Connect x y)) (record { inputs = refl; held = refl; seated = refl; next = refl })
-quiet s w (Seat x room) other = either_same (may_seat s.dimensions w x) w (obey s.dimensions w (Take_seat x room)) (record { inputs = refl; held = refl; seated = refl; next = refl })
-quiet s w (Free x) other = either_same (is_nailed w x) w (obey s.dimensions w (Clear x)) (record { inputs = refl; held = refl; seated = refl; next = refl })
-quiet s w (Message line octets) other = received_same s w line (request_of w.legs line octets)
-quiet s w (LinkUp line) other = linked_same s w false line
-quiet s w (LinkDown line) other = linked_same s w true line
-quiet s w (Frame input) other = absurd (other input refl)
+pub SameFrames-next : (s : Setting) (w : World) (e : Event) → ((input : Input) → ¬ (e ≡ Frame input)) → SameFrames w (next s w e)
+SameFrames-next s w (Nail x y) other = either_same (may_nail w x y) w (obey s.dimensions w (Connect x y)) (record { inputs = refl; held = refl; seated = refl; next = refl })
+SameFrames-next s w (Seat x room) other = either_same (may_seat s.dimensions w x) w (obey s.dimensions w (Take_seat x room)) (record { inputs = refl; held = refl; seated = refl; next = refl })
+SameFrames-next s w (Free x) other = either_same (is_nailed w x) w (obey s.dimensions w (Clear x)) (record { inputs = refl; held = refl; seated = refl; next = refl })
+SameFrames-next s w (Message line octets) other = received_same s w line (request_of w.legs line octets)
+SameFrames-next s w (LinkUp line) other = linked_same s w false line
+SameFrames-next s w (LinkDown line) other = linked_same s w true line
+SameFrames-next s w (Frame input) other = absurd (other input refl)
 
 -- what a frame does after its boundary leaves the frames as they are, this one among them
 pub passed_same : (s : Setting) (w : World) (input : Input) → SameFrames (pass w input) (next s w (Frame input))

@@ -32,15 +32,15 @@ use Rattle.call_profile.specs.Operations.{Operation, Making, begun, making_at, m
 use Rattle.exchange_events.specs.Sizes.{Setting, Dimensions}
 use Rattle.call_profile.specs.World.{World}
 use Rattle.call_profile.proofs.AnsweringLemmas.{ringing, caller_of}
-use Rattle.call_profile.proofs.BesideLemmas.{look, entry_here, entry_else, same_or_apart}
+use Rattle.call_profile.proofs.BesideLemmas.{look, leg_at-with_entry_here, leg_at-with_entry_else, same_or_apart}
 use Rattle.call_profile.proofs.OneLegClearedLemmas.{IsLeft}
 use Rattle.call_profile.proofs.ClearingLemmas.{held_there, peers_apart}
-use Rattle.call_profile.proofs.DigitsRecordLemmas.{digits_end_none}
+use Rattle.call_profile.proofs.DigitsRecordLemmas.{records_digits_end_none}
 use Rattle.call_profile.proofs.EndedCallLemmas.{GoesOn, no_record_where_calling, one_record}
-use Rattle.call_profile.proofs.MessageToLegLemmas.{Asked, asked, two_ring, one_rings, with_caller}
+use Rattle.call_profile.proofs.MessageToLegLemmas.{Asked, Asked-act_of, two_ring, one_rings, with_caller}
 use Rattle.call_profile.proofs.RefusalLemmas.{no_records}
 use Rattle.call_profile.proofs.TwoStatesLemmas.{gone_to}
-use Rattle.call_profile.proofs.LegTableLemmas.{both_else, both_first, both_second}
+use Rattle.call_profile.proofs.LegTableLemmas.{leg_at_both_else, leg_at_both_first, leg_at_both_second}
 
 -- the record of what an act ends, as a list
 abbrev pub records_of_act : World → HeldLeg → Act → List CallRecord
@@ -87,23 +87,23 @@ module _ (d : Dimensions) (tones : Tones) (w : World) (x : Slot) (leg : Leg) (o 
 
   -- without a peer
   alone_else : (z : Slot) → IsExternal d.external z → (z ≡ x → ⊥) → GoesOn w.legs m.world.legs z
-  alone_else z in_z apart = same_goes_on w.legs m.world.legs z (ap (look z) legs ∙ entry_else d.external w.legs x z o within in_z apart)
+  alone_else z in_z apart = same_goes_on w.legs m.world.legs z (ap (look z) legs ∙ leg_at-with_entry_else d.external w.legs x z o within in_z apart)
 
   alone_over : is_calling (leg_at m.world.legs x) ≡ false
-  alone_over = ap (λ os. is_calling (look x os)) legs ∙ ap is_calling (entry_here d.external w.legs x o stand.count within) ∙ left_silent leg w.holding.next o left
+  alone_over = ap (λ os. is_calling (look x os)) legs ∙ ap is_calling (leg_at-with_entry_here d.external w.legs x o stand.count within) ∙ left_silent leg w.holding.next o left
 
-  alone_caller : records w m.world cause ≡ one leg x
-  alone_caller = one_record d.external w m.world cause x leg stand.count within at alone_over alone_else
+  records_alone_caller : records w m.world cause ≡ one leg x
+  records_alone_caller = one_record d.external w m.world cause x leg stand.count within at alone_over alone_else
 
-  alone_called : leg.side ≡ Called → records w m.world cause ≡ []
-  alone_called is = no_record_where_calling d.external w m.world cause stand.count (λ z in_z. elim (same_or_apart z x) [
+  records_alone_called : leg.side ≡ Called → records w m.world cause ≡ []
+  records_alone_called is = no_record_where_calling d.external w m.world cause stand.count (λ z in_z. elim (same_or_apart z x) [
     | inl same ↦ subst (GoesOn w.legs m.world.legs) (sym same) (called_silent w.legs m.world.legs x leg at is)
     | inr apart ↦ alone_else z in_z apart
   ])
 
   pub alone_records : (side : Side) → leg.side ≡ side → records w m.world cause ≡ cons_option (option_and_then (record_calling w cause) (caller_in side (record { slot = x; leg = leg }) None)) []
-  alone_records Caller is = alone_caller
-  alone_records Called is = alone_called is
+  alone_records Caller is = records_alone_caller
+  alone_records Called is = records_alone_called is
 
   -- with the other leg of its call, which calls no more either
   module _ (v : World) (y : Slot) (other : Leg) (p : Option Leg) (in_y : IsExternal d.external y) (at_y : leg_at w.legs y ≡ Some other) (apart : y ≡ x → ⊥)
@@ -114,37 +114,37 @@ module _ (d : Dimensions) (tones : Tones) (w : World) (x : Slot) (leg : Leg) (o 
     both_others : (z : Slot) → IsExternal d.external z → (z ≡ x → ⊥) → (z ≡ y → ⊥) → GoesOn w.legs v.legs z
     both_others z in_z not_x not_y =
         same_goes_on w.legs v.legs z
-        (ap (look z) both_legs ∙ both_else d.external w.legs x y o p stand.count within in_y apart z in_z not_x not_y)
+        (ap (look z) both_legs ∙ leg_at_both_else d.external w.legs x y o p stand.count within in_y apart z in_z not_x not_y)
 
     both_over_x : is_calling (leg_at v.legs x) ≡ false
     both_over_x =
         ap (λ os. is_calling (look x os)) both_legs
-        ∙ ap is_calling (both_first d.external w.legs x y o p stand.count within in_y apart)
+        ∙ ap is_calling (leg_at_both_first d.external w.legs x y o p stand.count within in_y apart)
         ∙ left_silent leg w.holding.next o left
 
     both_over_y : is_calling (leg_at v.legs y) ≡ false
     both_over_y =
         ap (λ os. is_calling (look y os)) both_legs
-        ∙ ap is_calling (both_second d.external w.legs x y o p stand.count within in_y apart)
+        ∙ ap is_calling (leg_at_both_second d.external w.legs x y o p stand.count within in_y apart)
         ∙ over
 
     -- the leg is the caller's, or its peer is
-    both_caller : other.side ≡ Called → records w v cause ≡ one leg x
-    both_caller is = one_record d.external w v cause x leg stand.count within at both_over_x (λ z in_z not_x. elim (same_or_apart z y) [
+    records_both_caller : other.side ≡ Called → records w v cause ≡ one leg x
+    records_both_caller is = one_record d.external w v cause x leg stand.count within at both_over_x (λ z in_z not_x. elim (same_or_apart z y) [
       | inl same ↦ subst (GoesOn w.legs v.legs) (sym same) (called_silent w.legs v.legs y other at_y is)
       | inr not_y ↦ both_others z in_z not_x not_y
     ])
 
-    both_called : leg.side ≡ Called → records w v cause ≡ one other y
-    both_called is = one_record d.external w v cause y other stand.count in_y at_y both_over_y (λ z in_z not_y. elim (same_or_apart z x) [
+    records_both_called : leg.side ≡ Called → records w v cause ≡ one other y
+    records_both_called is = one_record d.external w v cause y other stand.count in_y at_y both_over_y (λ z in_z not_y. elim (same_or_apart z x) [
       | inl same ↦ subst (GoesOn w.legs v.legs) (sym same) (called_silent w.legs v.legs x leg at is)
       | inr not_x ↦ both_others z in_z not_x not_y
     ])
 
     pub both_records : (side : Side) → leg.side ≡ side → IsInCall side x leg y other
         → records w v cause ≡ cons_option (option_and_then (record_calling w cause) (caller_in side (record { slot = x; leg = leg }) (Some (record { slot = y; leg = other })))) []
-    both_records Caller is call = both_caller call.is_called
-    both_records Called is call = both_called is
+    both_records Caller is call = records_both_caller call.is_called
+    both_records Called is call = records_both_called is
 
   peer_records : (p : Peer) → leg.peer ≡ p → HasPeer d.external w.legs x leg p
       → records w (making_after_all d m (with_peer (peer_of w.legs p) (clear_with tones cause))).world cause
@@ -165,20 +165,20 @@ module _ (d : Dimensions) (tones : Tones) (w : World) (x : Slot) (leg : Leg) (o 
 -- the called leg at x is in another state, and so is its caller's, which calls on
 module _ (external : ℕ) (w v : World) (x y : Slot) (leg other : Leg) (cause : ℕ) (size : length w.legs.held ≡ 30 * external)
     (in_x : IsExternal external x) (at_x : leg_at w.legs x ≡ Some leg) (is_called : leg.side ≡ Called) where
-  called_alone : (o : Option Leg) → v.legs.held ≡ (with_entry w.legs x o).held → records w v cause ≡ []
-  called_alone o legs = no_record_where_calling external w v cause size (λ z in_z. elim (same_or_apart z x) [
+  records_called_alone : (o : Option Leg) → v.legs.held ≡ (with_entry w.legs x o).held → records w v cause ≡ []
+  records_called_alone o legs = no_record_where_calling external w v cause size (λ z in_z. elim (same_or_apart z x) [
     | inl same ↦ subst (GoesOn w.legs v.legs) (sym same) (called_silent w.legs v.legs x leg at_x is_called)
-    | inr not_x ↦ same_goes_on w.legs v.legs z (ap (look z) legs ∙ entry_else external w.legs x z o in_x in_z not_x)
+    | inr not_x ↦ same_goes_on w.legs v.legs z (ap (look z) legs ∙ leg_at-with_entry_else external w.legs x z o in_x in_z not_x)
   ])
 
-  caller_too : (o : Option Leg) (new : Leg) → IsExternal external y → (y ≡ x → ⊥) → is_calling (Some new) ≡ true
+  records_caller_too : (o : Option Leg) (new : Leg) → IsExternal external y → (y ≡ x → ⊥) → is_calling (Some new) ≡ true
       → v.legs.held ≡ (with_entry (with_entry w.legs x o) y (Some new)).held → records w v cause ≡ []
-  caller_too o new in_y apart calls legs = no_record_where_calling external w v cause size (λ z in_z. elim (same_or_apart z x) [
+  records_caller_too o new in_y apart calls legs = no_record_where_calling external w v cause size (λ z in_z. elim (same_or_apart z x) [
     | inl same ↦ subst (GoesOn w.legs v.legs) (sym same) (called_silent w.legs v.legs x leg at_x is_called)
     | inr not_x ↦ elim (same_or_apart z y) [
       | inl same ↦ subst (GoesOn w.legs v.legs) (sym same) (λ before.
-          ap (λ os. is_calling (look y os)) legs ∙ ap is_calling (both_second external w.legs x y o (Some new) size in_x in_y apart) ∙ calls)
-      | inr not_y ↦ same_goes_on w.legs v.legs z (ap (look z) legs ∙ both_else external w.legs x y o (Some new) size in_x in_y apart z in_z not_x not_y)
+          ap (λ os. is_calling (look y os)) legs ∙ ap is_calling (leg_at_both_second external w.legs x y o (Some new) size in_x in_y apart) ∙ calls)
+      | inr not_y ↦ same_goes_on w.legs v.legs z (ap (look z) legs ∙ leg_at_both_else external w.legs x y o (Some new) size in_x in_y apart z in_z not_x not_y)
     ]
   ])
 
@@ -216,23 +216,23 @@ module _ (s : Setting) (w : World) (h : HeldLeg) (m : Message) (planned : IsPlan
   act_records act.Enquiry asks = no_records w 0
   act_records act.Proceeding asks =
       let c = has_caller (one_rings h.leg.state asks) in
-      called_alone s.dimensions.external w (making_by s w (course_of s w h m act.Proceeding)).world h.slot c.0 h.leg c.3.0 0 stand.count within at c.3.2.is_called
+      records_called_alone s.dimensions.external w (making_by s w (course_of s w h m act.Proceeding)).world h.slot c.0 h.leg c.3.0 0 stand.count within at c.3.2.is_called
       (Some (gone_to w incoming_call_proceeding h.leg)) refl
   act_records act.Alerting asks =
       let c = has_caller (two_ring h.leg.state asks) in
       let y = c.0 in
       let other = c.3.0 in
       progress_records (on_alerting s.tones h) c
-      (caller_too s.dimensions.external w (making_after_all s.dimensions (making_at w) (on_alerting s.tones h (record { slot = y; leg = other }))).world h.slot y h.leg other 0 stand.count within at c.3.2.is_called
+      (records_caller_too s.dimensions.external w (making_after_all s.dimensions (making_at w) (on_alerting s.tones h (record { slot = y; leg = other }))).world h.slot y h.leg other 0 stand.count within at c.3.2.is_called
       (Some (gone_to w call_received h.leg)) (gone_to w call_delivered other) c.2 (apart_from c) (delivered_calls w other c.3.2.calls) refl)
   act_records act.Answer asks =
       let c = has_caller asks in
       let y = c.0 in
       let other = c.3.0 in
       progress_records (on_connect h) c
-      (caller_too s.dimensions.external w (making_after_all s.dimensions (making_at w) (on_connect h (record { slot = y; leg = other }))).world h.slot y h.leg other 0 stand.count within at c.3.2.is_called
+      (records_caller_too s.dimensions.external w (making_after_all s.dimensions (making_at w) (on_connect h (record { slot = y; leg = other }))).world h.slot y h.leg other 0 stand.count within at c.3.2.is_called
       (Some (gone_to w active h.leg)) (gone_to w active other) c.2 (apart_from c) (active_calls w other c.3.2.calls) refl)
-  act_records act.Digits asks = digits_end_none s w h m planned stands within at (eqb-true h.leg.state overlap_sending asks)
+  act_records act.Digits asks = records_digits_end_none s w h m planned stands within at (eqb-true h.leg.state overlap_sending asks)
   act_records (act.Disconnect cause) asks =
       clearing_records s.dimensions s.tones w h.slot h.leg (Some (begun w (in_release_request h.leg))) cause stand within at (inr refl) (making_after_all s.dimensions (making_at w) (on_disconnect h)) refl
   act_records (act.Release cause) asks =
@@ -253,7 +253,7 @@ module _ (s : Setting) (w : World) (h : HeldLeg) (m : Message) (planned : IsPlan
   given_records (act.ReleaseComplete cause) asks = act_records (act.ReleaseComplete cause) asks
 
   asked_by : Asked h.leg.state (act_of h.leg.state m.kind (clearing_cause m.elements) (is_null (call_state_in m.elements)))
-  asked_by = asked h.leg.state m.kind (clearing_cause m.elements) (is_null (call_state_in m.elements)) (cause_fits m.elements)
+  asked_by = Asked-act_of h.leg.state m.kind (clearing_cause m.elements) (is_null (call_state_in m.elements)) (cause_fits m.elements)
 
 -- what a message to a leg ends is what its act ends
 module _ (s : Setting) (w : World) (h : HeldLeg) (m : Message) (planned : IsPlanned s) (stands : CallsStand s w)
@@ -265,5 +265,5 @@ module _ (s : Setting) (w : World) (h : HeldLeg) (m : Message) (planned : IsPlan
   leg_records = given_records s w h m planned stands within at asked_act (asked_by s w h m planned stands within at)
 
   -- and no other call ends by it
-  pub leg_ends : records w (making_by s w (course_of s w h m asked_act)).world (told_cause asked_act) ≡ records_of_act w h asked_act
-  leg_ends = act_records s w h m planned stands within at asked_act (asked_by s w h m planned stands within at)
+  pub records_leg_ends : records w (making_by s w (course_of s w h m asked_act)).world (told_cause asked_act) ≡ records_of_act w h asked_act
+  records_leg_ends = act_records s w h m planned stands within at asked_act (asked_by s w h m planned stands within at)

@@ -37,7 +37,7 @@ use Rattle.call_profile.specs.World.{World}
 use Rattle.call_profile.proofs.ClearingLemmas.{Kept, held_there}
 use Rattle.call_profile.proofs.NamedLegLemmas.{received_stands}
 use Rattle.call_profile.proofs.RecordOfActLemmas.{leg_records}
-use Rattle.call_profile.proofs.RestartLemmas.{slot_told}
+use Rattle.call_profile.proofs.RestartLemmas.{records_slot_told}
 use Rattle.call_profile.proofs.RestartedLineLemmas.{AreRestartedBelow, restarted_below}
 use Rattle.call_profile.proofs.RestartedSlotLemmas.{below_none, below_more}
 
@@ -62,8 +62,8 @@ record_parties w cause h c e =
     let m = mapped _ (party_of h.leg.peer) c e in
     (ap (λ (k : CallRecord). k.caller) (sym m.2), m.1 ∙ ap (λ (k : CallRecord). Some k.called) m.2)
 
-pub calling_is : (w : World) (cause : ℕ) (h : HeldLeg) (c : CallRecord) → record_calling w cause h ≡ Some c → record_of w cause h ≡ Some c
-calling_is w cause h c e = elim (true_or_false (is_calling (Some h.leg))) [
+pub record_of_calling : (w : World) (cause : ℕ) (h : HeldLeg) (c : CallRecord) → record_calling w cause h ≡ Some c → record_of w cause h ≡ Some c
+record_of_calling w cause h c e = elim (true_or_false (is_calling (Some h.leg))) [
   | inl calls ↦ rw calls at e
   | inr silent ↦ let wrong : None ≡ Some c = rw silent at e in absurd cc
 ]
@@ -95,13 +95,13 @@ module _ (external : ℕ) (tones : Tones) (r : Restart) (line n : ℕ) (u : Worl
   ]
 
   -- a record of a call between this slot and another that a leg holds
-  by_caller : (c : CallRecord) → c.caller ≡ here → n ≤ restarted_place r line c.called → first_restarted r line c ≡ n
-  by_caller c is other =
+  first_restarted_by_caller : (c : CallRecord) → c.caller ≡ here → n ≤ restarted_place r line c.called → first_restarted r line c ≡ n
+  first_restarted_by_caller c is other =
       let place : restarted_place r line (party.Line c.caller) ≡ n = ap (λ (x : Slot). restarted_place r line (party.Line x)) is ∙ restarted_here in
       least (restarted_place r line (party.Line c.caller)) (restarted_place r line c.called) n (omega (arith, place)) other (inl place)
 
-  by_called : (c : CallRecord) → c.called ≡ party.Line here → n ≤ restarted_place r line (party.Line c.caller) → first_restarted r line c ≡ n
-  by_called c is other =
+  first_restarted_by_called : (c : CallRecord) → c.called ≡ party.Line here → n ≤ restarted_place r line (party.Line c.caller) → first_restarted r line c ≡ n
+  first_restarted_by_called c is other =
       let place : restarted_place r line c.called ≡ n = ap (restarted_place r line) is ∙ restarted_here in
       least (restarted_place r line (party.Line c.caller)) (restarted_place r line c.called) n other (omega (arith, place)) (inr place)
 
@@ -110,43 +110,43 @@ module _ (external : ℕ) (tones : Tones) (r : Restart) (line n : ℕ) (u : Worl
     held = record { slot = here; leg = leg }
 
     -- a caller's own slot
-    caller_place : (p : Peer) → leg.peer ≡ p → HasPeer external u.legs here leg p → record_of u temporary_failure held ≡ Some c → first_restarted r line c ≡ n
-    caller_place peer.Alone is has e =
+    first_restarted_caller_place : (p : Peer) → leg.peer ≡ p → HasPeer external u.legs here leg p → record_of u temporary_failure held ≡ Some c → first_restarted r line c ≡ n
+    first_restarted_caller_place peer.Alone is has e =
         let who = record_parties u temporary_failure held c e in
         let wrong : None ≡ Some c.called = sym (ap party_of is) ∙ who.1 in
         absurd cc
-    caller_place (peer.Leg y) is has e =
+    first_restarted_caller_place (peer.Leg y) is has e =
         let who = record_parties u temporary_failure held c e in
         let both : Some (party.Line y) ≡ Some c.called = sym (ap party_of is) ∙ who.1 in
         let called : party.Line y ≡ c.called = cc in
-        by_caller c who.0 (subst (λ (p : Party). n ≤ restarted_place r line p) called (not_before y has.1.0 has.0 has.1.1))
-    caller_place (peer.Room room) is has e =
+        first_restarted_by_caller c who.0 (subst (λ (p : Party). n ≤ restarted_place r line p) called (not_before y has.1.0 has.0 has.1.1))
+    first_restarted_caller_place (peer.Room room) is has e =
         let who = record_parties u temporary_failure held c e in
         let both : Some (party.Room room) ≡ Some c.called = sym (ap party_of is) ∙ who.1 in
         let called : party.Room room ≡ c.called = cc in
-        by_caller c who.0 (subst (λ (p : Party). n ≤ restarted_place r line p) called (omega (arith, small)))
+        first_restarted_by_caller c who.0 (subst (λ (p : Party). n ≤ restarted_place r line p) called (omega (arith, small)))
 
     -- the slot of a called leg
-    called_place : (p : Peer) → leg.peer ≡ p → HasPeer external u.legs here leg p → leg.side ≡ Called
+    first_restarted_called_place : (p : Peer) → leg.peer ≡ p → HasPeer external u.legs here leg p → leg.side ≡ Called
         → option_and_then (record_calling u temporary_failure) (peer_of u.legs p) ≡ Some c → first_restarted r line c ≡ n
-    called_place peer.Alone is has side e = absurd (cc e)
-    called_place (peer.Leg y) is has side e =
+    first_restarted_called_place peer.Alone is has side e = absurd (cc e)
+    first_restarted_called_place (peer.Leg y) is has side e =
         let other = has.1.0 in
         let caller : HeldLeg = record { slot = y; leg = other } in
-        let record_is = calling_is u temporary_failure caller c (rw (held_there u.legs y other has.1.1) at e) in
+        let record_is = record_of_calling u temporary_failure caller c (rw (held_there u.legs y other has.1.1) at e) in
         let who = record_parties u temporary_failure caller c record_is in
         let call : IsInCall Called here leg y other = subst (λ (s : Side). IsInCall s here leg y other) side has.1.2 in
         let both : Some (party.Line here) ≡ Some c.called = sym (ap party_of call.there) ∙ who.1 in
         let called : c.called ≡ party.Line here = cc in
-        by_called c called (subst (λ (x : Slot). n ≤ restarted_place r line (party.Line x)) (sym who.0) (not_before y other has.0 has.1.1))
-    called_place (peer.Room room) is has side e = absurd (cc e)
+        first_restarted_by_called c called (subst (λ (x : Slot). n ≤ restarted_place r line (party.Line x)) (sym who.0) (not_before y other has.0 has.1.1))
+    first_restarted_called_place (peer.Room room) is has side e = absurd (cc e)
 
-    ended_by : (side : Side) → leg.side ≡ side → option_and_then (record_calling u temporary_failure) (caller_in side held (peer_of u.legs leg.peer)) ≡ Some c → first_restarted r line c ≡ n
-    ended_by Caller is e = caller_place leg.peer refl (stand.each here leg (below, small) at).peer (calling_is u temporary_failure held c e)
-    ended_by Called is e = called_place leg.peer refl (stand.each here leg (below, small) at).peer is e
+    first_restarted_ended_by : (side : Side) → leg.side ≡ side → option_and_then (record_calling u temporary_failure) (caller_in side held (peer_of u.legs leg.peer)) ≡ Some c → first_restarted r line c ≡ n
+    first_restarted_ended_by Caller is e = first_restarted_caller_place leg.peer refl (stand.each here leg (below, small) at).peer (record_of_calling u temporary_failure held c e)
+    first_restarted_ended_by Called is e = first_restarted_called_place leg.peer refl (stand.each here leg (below, small) at).peer is e
 
-    pub ended_place : record_ended u held temporary_failure ≡ Some c → first_restarted r line c ≡ n
-    ended_place e = ended_by leg.side refl e
+    pub first_restarted_ended_place : record_ended u held temporary_failure ≡ Some c → first_restarted r line c ≡ n
+    first_restarted_ended_place e = first_restarted_ended_by leg.side refl e
 
 -- ---- one place further on
 
@@ -207,22 +207,22 @@ module _ (s : Setting) (r : Restart) (line : ℕ) (w : World) (below : line < s.
     done : AreRestartedBelow s r line w n u
     done = restarted_below s r line w below kept n (omega (arith, small))
 
-    of_leg : is_restarted r n ≡ true → (o : Option Leg) → leg_at u.legs x ≡ o → (c : CallRecord)
+    first_restarted_of_leg : is_restarted r n ≡ true → (o : Option Leg) → leg_at u.legs x ≡ o → (c : CallRecord)
         → option_and_then (λ h. record_ended u h temporary_failure) (option_map (λ (leg : Leg). let h : HeldLeg = record { slot = x; leg = leg } in h) o) ≡ Some c → first_restarted r line c ≡ n
-    of_leg restarted None at c e = absurd (cc e)
-    of_leg restarted (Some leg) at c e = ended_place s.dimensions.external s.tones r line n u done.kept.1 below small done.gone restarted leg at c e
+    first_restarted_of_leg restarted None at c e = absurd (cc e)
+    first_restarted_of_leg restarted (Some leg) at c e = first_restarted_ended_place s.dimensions.external s.tones r line n u done.kept.1 below small done.gone restarted leg at c e
 
-    place_of : (c : CallRecord) → one_at ≡ Some c → first_restarted r line c ≡ n
-    place_of c e = elim (true_or_false (is_restarted r n)) [
-      | inl restarted ↦ of_leg restarted (leg_at u.legs x) refl c (rw restarted at e)
+    first_restarted_place_of : (c : CallRecord) → one_at ≡ Some c → first_restarted r line c ≡ n
+    first_restarted_place_of c e = elim (true_or_false (is_restarted r n)) [
+      | inl restarted ↦ first_restarted_of_leg restarted (leg_at u.legs x) refl c (rw restarted at e)
       | inr not_so ↦ let wrong : None ≡ Some c = rw not_so at e in absurd cc
     ]
 
     pub one_further : ComeBelow r line n so_far.recorded → ComeBelow r line (suc n) (outcome_at_slot s.dimensions (restart_rule s.tones r) x so_far).recorded
     one_further come =
         subst (λ (told : List CallRecord). ComeBelow r line (suc n) (so_far.recorded ++ told))
-        (sym (slot_told s.dimensions s.tones r so_far.making x done.kept (below, small) ∙ one_recorded))
-        (below_then r line n so_far.recorded come one_at place_of)
+        (sym (records_slot_told s.dimensions s.tones r so_far.making x done.kept (below, small) ∙ one_recorded))
+        (below_then r line n so_far.recorded come one_at first_restarted_place_of)
 
   come_below : (n : ℕ) → n ≤ 30 → ComeBelow r line n (outcome_below s.dimensions (restart_rule s.tones r) line w n).recorded
   come_below zero small = subst (λ (a : MessageOutcome). ComeBelow r line 0 a.recorded) (sym (below_none s.dimensions (restart_rule s.tones r) line w)) (none_below r line)
@@ -243,16 +243,16 @@ few : (o : Option CallRecord) → length (cons_option o []) ≤ 1
 few None = omega arith
 few (Some c) = omega arith
 
-by_request : (s : Setting) (w : World) (line : ℕ) (octets : List ℕ) → Arrive s w line octets → (q : Request) → request_of w.legs line octets ≡ q → ((r : Restart) → q ≡ Restarts r → ⊥)
+length-outcome_for-le : (s : Setting) (w : World) (line : ℕ) (octets : List ℕ) → Arrive s w line octets → (q : Request) → request_of w.legs line octets ≡ q → ((r : Restart) → q ≡ Restarts r → ⊥)
     → length (outcome_for s w line q).recorded ≤ 1
-by_request s w line octets may (For_leg h m) is other =
+length-outcome_for-le s w line octets may (For_leg h m) is other =
     let named = received_stands w.legs line octets h m is in
     let within : IsExternal s.dimensions.external h.slot = (subst (λ n. n < s.dimensions.external) (sym named.among.0) may.fits.0, named.among.1) in
     subst (λ (told : List CallRecord). length told ≤ 1) (sym (leg_records s w h m may.planned may.stands within named.at)) (few (record_of_act w h (act_on h.leg.state m)))
-by_request s w line octets may (New_call m) is other = omega arith
-by_request s w line octets may (On_no_call m) is other = omega arith
-by_request s w line octets may (Restarts r) is other = absurd (other r refl)
-by_request s w line octets may Unanswered is other = omega arith
+length-outcome_for-le s w line octets may (New_call m) is other = omega arith
+length-outcome_for-le s w line octets may (On_no_call m) is other = omega arith
+length-outcome_for-le s w line octets may (Restarts r) is other = absurd (other r refl)
+length-outcome_for-le s w line octets may Unanswered is other = omega arith
 
-pub others_record_one : (s : Setting) (w : World) (line : ℕ) (octets : List ℕ) → Arrive s w line octets → RestartsNothing w line octets → length (answer_to s w line octets).records ≤ 1
-others_record_one s w line octets may other = by_request s w line octets may (request_of w.legs line octets) refl other
+pub length-answer_to_others-le : (s : Setting) (w : World) (line : ℕ) (octets : List ℕ) → Arrive s w line octets → RestartsNothing w line octets → length (answer_to s w line octets).records ≤ 1
+length-answer_to_others-le s w line octets may other = length-outcome_for-le s w line octets may (request_of w.legs line octets) refl other

@@ -29,13 +29,13 @@ use Rattle.call_profile.specs.World.{World}
 use Rattle.call_profile.proofs.BesideLemmas.{same_or_apart}
 use Rattle.call_profile.proofs.ClearingLemmas.{Kept}
 use Rattle.call_profile.proofs.NamedLegLemmas.{received_stands}
-use Rattle.call_profile.proofs.NoCallEndedLemmas.{answer_ends_none}
-use Rattle.call_profile.proofs.RecordOfActLemmas.{leg_ends, leg_records, records_of_act, told_cause, disconnected_silent}
+use Rattle.call_profile.proofs.NoCallEndedLemmas.{records_answer_ends_none}
+use Rattle.call_profile.proofs.RecordOfActLemmas.{records_leg_ends, leg_records, records_of_act, told_cause, disconnected_silent}
 use Rattle.call_profile.proofs.RecordedCallLemmas.{EndsBy, record_ends, end_recorded, calling_record, record_same, record_cause}
 use Rattle.call_profile.proofs.RefusalLemmas.{no_records}
 use Rattle.call_profile.proofs.RestartedLegLemmas.{IsRestartedAt, peer_after, slot_done}
 use Rattle.call_profile.proofs.RestartedLineLemmas.{AreRestartedBelow, named_or_not, step_below, start_below}
-use Rattle.call_profile.proofs.SetupRecordLemmas.{setup_ends_none}
+use Rattle.call_profile.proofs.SetupRecordLemmas.{records_setup_ends_none}
 use Rattle.call_profile.proofs.RestartedSlotLemmas.{below_none, below_more}
 
 -- ---- records of the calls that ended
@@ -241,7 +241,7 @@ module _ (s : Setting) (w : World) (line : ℕ) (octets : List ℕ) (may : Arriv
       let cause = told_cause (act_on h.leg.state m) in
       let told = leg_records s w h m may.planned may.stands within named.at in (
         cause,
-        subst (AreOfEnded s.dimensions.external w v cause) (leg_ends s w h m may.planned may.stands within named.at ∙ sym told) (of_records s.dimensions.external w v cause size),
+        subst (AreOfEnded s.dimensions.external w v cause) (records_leg_ends s w h m may.planned may.stands within named.at ∙ sym told) (of_records s.dimensions.external w v cause size),
         elim (act_clears w h (act_on h.leg.state m)) [
           | inl clears ↦ inl clears
           | inr none ↦ inr (told ∙ none)
@@ -255,8 +255,8 @@ module _ (s : Setting) (w : World) (line : ℕ) (octets : List ℕ) (may : Arriv
   request_accounted : (q : Request) → request_of w.legs line octets ≡ q
       → IsAccounted s.dimensions.external w (outcome_for s w line q).making.world (cause_of_clearing q) (outcome_for s w line q).recorded
   request_accounted (For_leg h m) is = leg_accounted h m is
-  request_accounted (New_call m) is = none_accounted (outcome_for s w line (New_call m)).making.world None (setup_ends_none s w line m may.planned may.stands may.fits.0)
-  request_accounted (On_no_call m) is = none_accounted (outcome_for s w line (On_no_call m)).making.world None (answer_ends_none s w line m)
+  request_accounted (New_call m) is = none_accounted (outcome_for s w line (New_call m)).making.world None (records_setup_ends_none s w line m may.planned may.stands may.fits.0)
+  request_accounted (On_no_call m) is = none_accounted (outcome_for s w line (On_no_call m)).making.world None (records_answer_ends_none s w line m)
   request_accounted (Restarts r) is = (temporary_failure, restart_recorded s r line w may.fits.0 (may.stands.circuits, may.stands.legs), inl refl)
   request_accounted Unanswered is = none_accounted w None (no_records w 0)
 

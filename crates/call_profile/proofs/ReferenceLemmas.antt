@@ -10,7 +10,7 @@ use Rattle.call_states.specs.declared.leg.Side.TheVariants.{Caller, Called}
 use Rattle.call_profile.specs.Legs.{Legs, leg_at, leg_named, is_unused, lowest_free_reference, same_side}
 use Rattle.call_profile.specs.References.{IsOnLine, HasReference}
 use Rattle.call_profile.proofs.CommandLemmas.{both_true}
-use Rattle.call_profile.proofs.LineLemmas.{unused_from, unused_all, unused_end, unused_here, unused_other}
+use Rattle.call_profile.proofs.LineLemmas.{unused_from, lowest_free_reference_unused_all, unused_end, unused_here, unused_other}
 use Rattle.call_profile.proofs.NamedLegLemmas.{leg_named_stands}
 use Rattle.call_profile.proofs.VacantSlotLemmas.{none_named, new_unused}
 
@@ -72,10 +72,10 @@ before_it legs line (suc gap) from reference e small less = elim (true_or_false 
 
 pub lower_is_used : (legs : Legs) (line reference : ℕ) → 1 ≤ reference → reference < lowest_free_reference legs line → HasReference legs line reference
 lower_is_used legs line reference low high =
-    let same = unused_all legs line in
+    let same = lowest_free_reference_unused_all legs line in
     let most = at_most legs line 30 1 refl in
     let gap = reference - 1 in
     used_has legs line reference (before_it legs line gap 1 reference (omega (arith, low)) (omega (arith, same, most, high)) (omega (arith, same, high)))
 
 pub new_is_positive : (legs : Legs) (line : ℕ) → 1 ≤ lowest_free_reference legs line
-new_is_positive legs line = let same = unused_all legs line in omega (arith, same)
+new_is_positive legs line = let same = lowest_free_reference_unused_all legs line in omega (arith, same)

@@ -57,12 +57,12 @@ refused_done s w line m cause e = rw e refl
 refused_octets : (s : Setting) (w : World) (line : ℕ) (octets : List ℕ) (m : Message) (cause : ℕ) → IsRefused s w line octets m cause → outcome_of_octets s w line octets ≡ refused_outcome w line m cause
 refused_octets s w line octets m cause refused = ap (outcome_for s w line) refused.0 ∙ refused_done s w line m cause refused.1
 
-pub refused_world : (s : Setting) (w : World) (line : ℕ) (octets : List ℕ) (m : Message) (cause : ℕ) → IsRefused s w line octets m cause → after_message s w line octets ≡ w
-refused_world s w line octets m cause refused = ap (λ (a : MessageOutcome). a.making.world) (refused_octets s w line octets m cause refused)
+pub after_message_refused_world : (s : Setting) (w : World) (line : ℕ) (octets : List ℕ) (m : Message) (cause : ℕ) → IsRefused s w line octets m cause → after_message s w line octets ≡ w
+after_message_refused_world s w line octets m cause refused = ap (λ (a : MessageOutcome). a.making.world) (refused_octets s w line octets m cause refused)
 
-pub refused_answer : (s : Setting) (w : World) (line : ℕ) (octets : List ℕ) (m : Message) (cause : ℕ) → IsRefused s w line octets m cause
+pub reply_refused_answer : (s : Setting) (w : World) (line : ℕ) (octets : List ℕ) (m : Message) (cause : ℕ) → IsRefused s w line octets m cause
     → reply s w (Message_event line octets) ≡ refusal_reply line m cause
-refused_answer s w line octets m cause refused =
+reply_refused_answer s w line octets m cause refused =
     ap (λ (a : MessageOutcome). let sent : Reply = Sent_reply a.making.sends a.making.moves a.recorded in sent) (refused_octets s w line octets m cause refused)
 
 -- ---- a command that is refused

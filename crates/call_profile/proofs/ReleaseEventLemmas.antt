@@ -6,7 +6,7 @@ use Rattle.circuit_model.specs.declared.channel.Slot.{Slot}
 use Rattle.circuit_model.specs.Circuits.{heard_by}
 use Rattle.circuit_model.specs.Extent.{IsExternal}
 use Rattle.circuit_model.specs.Holding.{Clear as Clear_slot}
-use Rattle.circuit_model.proofs.Slots.{idle_is_deaf}
+use Rattle.circuit_model.proofs.Slots.{heard_by_idle_is_deaf}
 use Rattle.control_memory.specs.Layout.{number_of}
 use Rattle.number_plan.specs.declared.plan.Number.{Number}
 use Rattle.q931_codec.specs.CallStates.{call_received, call_delivered, release_request}
@@ -35,7 +35,7 @@ use Rattle.call_profile.specs.Peers.{IsThere, PeerIsThere}
 use Rattle.call_profile.specs.ReleaseTones.{SoundsByRelease}
 use Rattle.call_profile.specs.World.{World, obey}
 use Rattle.call_profile.proofs.AnsweringLemmas.{ringing}
-use Rattle.call_profile.proofs.BesideLemmas.{look, entry_here, entry_else}
+use Rattle.call_profile.proofs.BesideLemmas.{look, leg_at-with_entry_here, leg_at-with_entry_else}
 use Rattle.call_profile.proofs.ClearingLemmas.{held_there}
 use Rattle.call_profile.proofs.MessageToLegLemmas.{Asked}
 use Rattle.call_profile.proofs.Permitted.{ArePermitted}
@@ -88,13 +88,13 @@ module _ (d : Dimensions) (tones : Tones) (plan : List Number) (m : Making) (bef
   Sounds os = Sounding d tones (making_after_all d m os).world
 
   put_elsewhere : (x : Slot) (leg : Leg) → IsExternal d.external x → leg.state ≢ release_request → IsElsewhere (leg_at (with_leg m.world.legs x leg) x)
-  put_elsewhere x leg in_x apart = subst IsElsewhere (sym (entry_here d.external m.world.legs x (Some leg) before.held in_x)) apart
+  put_elsewhere x leg in_x apart = subst IsElsewhere (sym (leg_at-with_entry_here d.external m.world.legs x (Some leg) before.held in_x)) apart
 
   -- a leg that is gone: neither of the two operations reads what the other one writes
   pub removed_sounds : (h : HeldLeg) → IsExternal d.external h.slot → Sounds (remove_leg h)
   removed_sounds h in_x =
       let x = h.slot in
-      let gone = subst IsElsewhere (sym (entry_here d.external m.world.legs x None before.held in_x)) tt in
+      let gone = subst IsElsewhere (sym (leg_at-with_entry_here d.external m.world.legs x None before.held in_x)) tt in
       performed_all d tones plan m (Remove x ∷ Clear x ∷ []) (in_x, (in_x, tt)) (tt, (gone, tt)) before
 
   pub clear_quiet : (h : HeldLeg) (cause : ℕ) → IsExternal d.external h.slot → Unreleased m.world h.slot → AreHushed d tones m (clear_with tones cause h)
@@ -115,7 +115,7 @@ module _ (d : Dimensions) (tones : Tones) (plan : List Number) (m : Making) (bef
       let first = with_leg m.world.legs h.slot (begun m.world (in_state call_received h.leg)) in
       let size : length first.held ≡ 30 * d.external = length-set m.world.legs.held (number_of h.slot) _ ∙ before.held in
       let caller = begun m.world (in_state call_delivered c.leg) in
-      let put = subst IsElsewhere (sym (entry_here d.external first c.slot (Some caller) size may.1.0.0)) (λ e. absurd cc) in
+      let put = subst IsElsewhere (sym (leg_at-with_entry_here d.external first c.slot (Some caller) size may.1.0.0)) (λ e. absurd cc) in
       performed_all d tones plan m (on_alerting tones h c) may (tt, (tt, (put, (tt, tt)))) before
 
   pub answer_sounds : (h : HeldLeg) (o : Option HeldLeg) → Unreleased m.world h.slot → PeerUnreleased m.world o → ArePermitted d tones plan m (with_peer o (on_connect h)) → Sounds (with_peer o (on_connect h))
@@ -133,7 +133,7 @@ module _ (d : Dimensions) (tones : Tones) (plan : List Number) (w : World) (h : 
     cause = None;
     own = tt;
     kept = refl;
-    hears = (0, idle_is_deaf cleared.holding.circuits h.slot (cleared_is_idle w.holding h.slot));
+    hears = (0, heard_by_idle_is_deaf cleared.holding.circuits h.slot (cleared_is_idle w.holding h.slot));
   }
 
   pub disconnect_sounds : Unreleased w h.slot → ArePermitted d tones plan (making_at w) (on_disconnect h) → Sounding d tones (making_after_all d (making_at w) (on_disconnect h)).world
@@ -154,7 +154,7 @@ module _ (d : Dimensions) (tones : Tones) (plan : List Number) (w : World) (h : 
   -- once the leg's own slot has another entry
   pub peer_quiet_still : (v : World) (o : Option Leg) → v.legs.held ≡ slice_set w.legs.held (number_of h.slot) o → PeerUnreleased v other
   peer_quiet_still v o entry =
-      still_unreleased d.external w v h other peer_there (λ z in_z apart. ap (look z) entry ∙ entry_else d.external w.legs h.slot z o within in_z apart) peer_quiet
+      still_unreleased d.external w v h other peer_there (λ z in_z apart. ap (look z) entry ∙ leg_at-with_entry_else d.external w.legs h.slot z o within in_z apart) peer_quiet
 
   pub then_peer : (o : Option Leg) (cause : ℕ) → cause < 128 → (m : Making) → m.world.legs.held ≡ slice_set w.legs.held (number_of h.slot) o → Sounding d tones m.world
       → Sounding d tones (making_after_all d m (with_peer other (clear_with tones cause))).world

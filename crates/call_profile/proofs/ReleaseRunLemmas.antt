@@ -52,21 +52,21 @@ use Rattle.call_profile.specs.Restarts.{restart_slot, restart_leg, restart_peer,
 use Rattle.call_profile.specs.Setup.{accept_at, await_digits, call, call_asked, caller_leg, caller_slot, called_slot, setup, refusal, course_of_setup, target_dialled, target_of}
 use Rattle.call_profile.specs.Step.{next, may_nail, may_seat}
 use Rattle.call_profile.specs.World.{World, start, pass, is_full}
-use Rattle.call_profile.proofs.BesideLemmas.{entry_here}
+use Rattle.call_profile.proofs.BesideLemmas.{leg_at-with_entry_here}
 use Rattle.call_profile.proofs.ClearingLemmas.{Kept}
-use Rattle.call_profile.proofs.CommandLemmas.{both_true, is_empty, not_true, not_full, pass_kept}
-use Rattle.call_profile.proofs.EntryLemmas.{none_in}
+use Rattle.call_profile.proofs.CommandLemmas.{both_true, is_empty, not_true, count_by-is_member_not_full, pass_kept}
+use Rattle.call_profile.proofs.EntryLemmas.{get_or-bare}
 use Rattle.call_profile.proofs.ExpiringLemmas as expiring
 use Rattle.call_profile.proofs.ExpiringLemmas.{each_line, expiry_may, place_within, slot_fine}
 use Rattle.call_profile.proofs.ExpiryStateLemmas.{due_state}
 use Rattle.call_profile.proofs.KeptMessageLemmas.{each_is_kept}
-use Rattle.call_profile.proofs.MessageToLegLemmas.{asked}
+use Rattle.call_profile.proofs.MessageToLegLemmas.{Asked-act_of}
 use Rattle.call_profile.proofs.NamedLegLemmas.{received_stands}
 use Rattle.call_profile.proofs.Permitted.{CanPair, ArePermitted}
 use Rattle.call_profile.proofs.PermittedActLemmas.{peer_there_too, is_there}
 use Rattle.call_profile.proofs.PermittedLemmas.{act_may, call_may}
 use Rattle.call_profile.proofs.ReleaseEventLemmas.{IsElsewhere, PeerUnreleased, unreleased_by, sounding_of, peer_quiet_still, removed_sounds, clear_quiet, cleared_sounds, act_sounds, then_peer}
-use Rattle.call_profile.proofs.ReleaseToneLemmas.{Sounding, Unreleased, AreHushed, performed, performed_all}
+use Rattle.call_profile.proofs.ReleaseToneLemmas.{Sounding, Unreleased, AreHushed, Sounding-making_after, performed_all}
 use Rattle.call_profile.proofs.RestartedSlotLemmas.{each_below}
 use Rattle.call_profile.proofs.RestartLemmas as restarting
 use Rattle.call_profile.proofs.RestartLemmas.{slot_kept}
@@ -93,7 +93,7 @@ module _ (s : Setting) (w : World) (before : Sounding s.dimensions s.tones w) wh
   call_quiet first own p x (Lines lines) None may = tt
   call_quiet first own p x (Room room) o may =
       let caller = begun w (caller_leg active own (peer.Room room)) in
-      (tt, (subst IsElsewhere (sym (entry_here s.dimensions.external w.legs x (Some caller) before.held may.0.0)) (λ is. absurd cc), (tt, (tt, tt))))
+      (tt, (subst IsElsewhere (sym (leg_at-with_entry_here s.dimensions.external w.legs x (Some caller) before.held may.0.0)) (λ is. absurd cc), (tt, (tt, tt))))
   call_quiet first own p x More o may = await_quiet s w first own p x
   call_quiet first own p x Nothing o may = tt
 
@@ -282,13 +282,13 @@ module _ (s : Setting) (w : World) (stands : CallsStand s w) where
       let at_x = both_true (is_idle w.holding.circuits x) (is_none (leg_at w.legs x)) idle_x in
       let at_y = both_true (is_idle w.holding.circuits y) (is_none (leg_at w.legs y)) idle_y in
       let can : CanPair s.dimensions w x y = record { first = fits.first; second = fits.second; apart = fits.distinct; idle_first = at_x.0; idle_second = at_y.0 } in
-      performed s.dimensions s.tones s.plan (making_at w) (op.Pair x y) can (vacant x at_x.1, vacant y at_y.1) now
+      Sounding-making_after s.dimensions s.tones s.plan (making_at w) (op.Pair x y) can (vacant x at_x.1, vacant y at_y.1) now
 
   seated : (x : Slot) (room : ℕ) → IsExternal s.dimensions.external x → idle w x ≡ true → is_full s.dimensions w ≡ false → Now (making_after s.dimensions (making_at w) (op.Seat x room)).world
   seated x room in_x idle_x free =
       let at_x = both_true (is_idle w.holding.circuits x) (is_none (leg_at w.legs x)) idle_x in
-      let can : CanSeat s.dimensions w x = record { within = in_x; idle = at_x.0; free = not_full s.dimensions.bridges w.holding stands.circuits free } in
-      performed s.dimensions s.tones s.plan (making_at w) (op.Seat x room) can (vacant x at_x.1) now
+      let can : CanSeat s.dimensions w x = record { within = in_x; idle = at_x.0; free = count_by-is_member_not_full s.dimensions.bridges w.holding stands.circuits free } in
+      Sounding-making_after s.dimensions s.tones s.plan (making_at w) (op.Seat x room) can (vacant x at_x.1) now
 
   -- a message that is sent changes nothing else
   answered : (line : ℕ) (o : Option OutgoingMessage) → Now (making_after_all s.dimensions (making_at w) (answer_back line o)).world
@@ -300,7 +300,7 @@ module _ (s : Setting) (w : World) (stands : CallsStand s w) where
       let named = received_stands w.legs line octets h m is in
       let on = named.among in
       let within : IsExternal s.dimensions.external h.slot = (subst (λ n. n < s.dimensions.external) (sym on.0) fits.0, on.1) in
-      act_sounds s w h stands within named.at m (act_on h.leg.state m) (asked h.leg.state m.kind (clearing_cause m.elements) (is_null (call_state_in m.elements)) (cause_fits m.elements))
+      act_sounds s w h stands within named.at m (act_on h.leg.state m) (Asked-act_of h.leg.state m.kind (clearing_cause m.elements) (is_null (call_state_in m.elements)) (cause_fits m.elements))
       (act_may s w line octets planned fits stands h m is)
       (λ dials may. digits_sound s w now h m (unreleased_by w h.slot (Some h.leg) named.at (timed_elsewhere h.leg.state overlap_sending (eqb-true h.leg.state overlap_sending dials) (λ e. absurd cc))) within may)
   message line octets planned fits (New_call m) is = setup_sounds s w now line m (call_may s w line octets planned fits stands m is)
@@ -344,7 +344,7 @@ module _ (s : Setting) (w : World) (stands : CallsStand s w) where
   event_sounds (Free x) planned fits = elim (true_or_false (is_nailed w x)) [
     | inl may ↦
         let at_x = both_true (not (is_idle w.holding.circuits x)) (is_none (leg_at w.legs x)) may in
-        rw may (performed s.dimensions s.tones s.plan (making_at w) (op.Clear x) fits (vacant x at_x.1) now)
+        rw may (Sounding-making_after s.dimensions s.tones s.plan (making_at w) (op.Clear x) fits (vacant x at_x.1) now)
     | inr not_now ↦ rw not_now now
   ]
   event_sounds (Message line octets) planned fits = message line octets planned fits (request_of w.legs line octets) refl
@@ -361,7 +361,7 @@ each_release_sounds s w stands x leg in_x at is =
 
 -- before the first event no leg is there
 pub none_release : (d : Dimensions) (tones : Tones) → ReleasesSound d.external tones (start d)
-none_release d tones x leg octets in_x at is keeps = let e : None ≡ Some leg = sym (none_in Leg (30 * d.external) (number_of x)) ∙ at in absurd cc
+none_release d tones x leg octets in_x at is keeps = let e : None ≡ Some leg = sym (get_or-bare Leg (30 * d.external) (number_of x)) ∙ at in absurd cc
 
 -- a RELEASE with a cause is another message than one without
 pub told_apart : (leg : Leg) (cause : ℕ) → encoding (release_with leg None) ≡ encoding (release_with leg (Some cause)) → ⊥

@@ -28,9 +28,9 @@ use Rattle.call_profile.specs.ReleaseTones.{SoundsByRelease, ReleasesSound}
 use Rattle.call_profile.specs.World.{World, obey}
 use Rattle.call_profile.proofs.BesideLemmas.{same_or_apart}
 use Rattle.call_profile.proofs.EntryLemmas.{written, leg_here, kept_here, leg_else, kept_else}
-use Rattle.call_profile.proofs.HearingLemmas.{connect_keeps, seat_keeps}
+use Rattle.call_profile.proofs.HearingLemmas.{heard_by_connect_keeps, heard_by_seat_keeps}
 use Rattle.call_profile.proofs.Permitted.{IsPermitted, ArePermitted}
-use Rattle.call_profile.proofs.ToneLemmas.{sounding_keeps, sounding_valid}
+use Rattle.call_profile.proofs.ToneLemmas.{heard_by_sounding_keeps, sounding_valid}
 
 -- the leg at a slot is not in release request, if there is one
 abbrev pub Unreleased : World → Slot → Type 0
@@ -161,37 +161,37 @@ module _ (d : Dimensions) (tones : Tones) (plan : List Number) where
       let new = sounds (ap (λ (k : Leg). k.state) same ∙ is) in
       subst (λ (k : Leg). SoundsByRelease tones x k os (heard_by w.holding.circuits x)) same (subst (λ (list : List ℕ). SoundsByRelease tones x (begun w leg) list (heard_by w.holding.circuits x)) those new)
 
-  pub performed : (m : Making) (o : Operation) → IsPermitted d tones plan m o → IsHushed tones m o → Sounding d tones m.world → Sounding d tones (making_after d m o).world
-  performed m (op.Clear x) may quiet before =
+  pub Sounding-making_after : (m : Making) (o : Operation) → IsPermitted d tones plan m o → IsHushed tones m o → Sounding d tones m.world → Sounding d tones (making_after d m o).world
+  Sounding-making_after m (op.Clear x) may quiet before =
       let w = m.world in
       let v = obey d w (Clear_slot x) in
       heard_anew w v refl before (valid-clear d.bridges w.holding x before.valid)
       (at_one d tones w v x quiet (λ z apart. inr (λ leg octets old. cleared_still d tones w.holding x z leg octets before.valid apart old)))
-  performed m (op.Pair x y) may quiet before =
+  Sounding-making_after m (op.Pair x y) may quiet before =
       let w = m.world in
       let v = obey d w (Connect x y) in
       heard_anew w v refl before (valid-connect d.bridges w.holding x y before.valid may.apart may.idle_first may.idle_second)
       (at_one d tones w v x quiet.0 (λ z not_x. elim (same_or_apart z y) [
         | inl same ↦ inl (subst (Unreleased w) (sym same) quiet.1)
-        | inr not_y ↦ inr (λ leg octets old. connect_keeps w.holding x y z may.idle_first may.idle_second not_x not_y)
+        | inr not_y ↦ inr (λ leg octets old. heard_by_connect_keeps w.holding x y z may.idle_first may.idle_second not_x not_y)
       ]))
-  performed m (op.Seat x room) may quiet before =
+  Sounding-making_after m (op.Seat x room) may quiet before =
       let w = m.world in
       let v = obey d w (Take_seat x room) in
       heard_anew w v refl before (valid-seat d.bridges w.holding x room before.valid may.idle may.free)
-      (at_one d tones w v x quiet (λ z apart. inr (λ leg octets old. seat_keeps w.holding x z room may.idle apart)))
-  performed m (op.Sound x kind) may quiet before =
+      (at_one d tones w v x quiet (λ z apart. inr (λ leg octets old. heard_by_seat_keeps w.holding x z room may.idle apart)))
+  Sounding-making_after m (op.Sound x kind) may quiet before =
       let w = m.world in
       let v = (making_after d m (op.Sound x kind)).world in
       heard_anew w v refl before (sounding_valid w.holding x may.idle d.bridges before.valid kind)
-      (at_one d tones w v x quiet (λ z apart. inr (λ leg octets old. sounding_keeps w.holding x may.idle z apart kind)))
-  performed m (op.Put x leg) may quiet before =
+      (at_one d tones w v x quiet (λ z apart. inr (λ leg octets old. heard_by_sounding_keeps w.holding x may.idle z apart kind)))
+  Sounding-making_after m (op.Put x leg) may quiet before =
       entered m.world x (Some (begun m.world leg)) None None may.0 before (other_state tones x (begun m.world leg) None (heard_by m.world.holding.circuits x) (unkept_state leg.state may.3))
-  performed m (op.Wait x leg p) may quiet before =
+  Sounding-making_after m (op.Wait x leg p) may quiet before =
       entered m.world x (Some (begun m.world leg)) (Some p) None may.0 before (other_state tones x (begun m.world leg) None (heard_by m.world.holding.circuits x) (dialling_state leg.state may.2.state))
-  performed m (op.Expect x leg message) may quiet before =
+  Sounding-making_after m (op.Expect x leg message) may quiet before =
       entered m.world x (Some (begun m.world leg)) None (Some (encoding message)) may.0 before (put_with m.world x leg (encoding message) quiet)
-  performed m (op.Repeat h octets) may quiet before =
+  Sounding-making_after m (op.Repeat h octets) may quiet before =
       let w = m.world in
       let next : ℕ = w.holding.next in
       entered w h.slot (Some (retransmitted_from next h.leg)) None (Some octets) may.0 before (λ leg os e is f.
@@ -201,12 +201,12 @@ module _ (d : Dimensions) (tones : Tones) (plan : List Number) where
       let new = anew_sounds tones h.slot next h.leg octets (heard_by w.holding.circuits h.slot) old in
       subst (λ (l : Leg). SoundsByRelease tones h.slot l os (heard_by w.holding.circuits h.slot)) same
       (subst (λ (list : List ℕ). SoundsByRelease tones h.slot (retransmitted_from next h.leg) list (heard_by w.holding.circuits h.slot)) those new))
-  performed m (op.Await x leg) may quiet before =
+  Sounding-making_after m (op.Await x leg) may quiet before =
       let next : ℕ = m.world.holding.next in
       entered m.world x (Some (retransmitted_from next leg)) None None may.0 before (other_state tones x (retransmitted_from next leg) None (heard_by m.world.holding.circuits x) (unkept_state leg.state may.3))
-  performed m (op.Remove x) may quiet before = entered m.world x None None None may before (λ leg octets e is f. absurd cc)
-  performed m (op.Send line message) may quiet before = before
+  Sounding-making_after m (op.Remove x) may quiet before = entered m.world x None None None may before (λ leg octets e is f. absurd cc)
+  Sounding-making_after m (op.Send line message) may quiet before = before
 
   pub performed_all : (m : Making) (os : List Operation) → ArePermitted d tones plan m os → AreHushed d tones m os → Sounding d tones m.world → Sounding d tones (making_after_all d m os).world
   performed_all m [] may quiet before = before
-  performed_all m (o ∷ os) may quiet before = performed_all (making_after d m o) os may.1 quiet.1 (performed m o may.0 quiet.0 before)
+  performed_all m (o ∷ os) may quiet before = performed_all (making_after d m o) os may.1 quiet.1 (Sounding-making_after m o may.0 quiet.0 before)

@@ -37,12 +37,12 @@ use Rattle.exchange_events.specs.Sizes.{Dimensions}
 use Rattle.call_profile.specs.World.{World}
 use Rattle.call_profile.proofs.PermittedActLemmas.{clear_permitted, peer_there_too}
 use Rattle.call_profile.proofs.RestartedSlotLemmas.{each_below}
-use Rattle.call_profile.proofs.BesideLemmas.{entry_here, entry_twice}
-use Rattle.call_profile.proofs.OneLegClearedLemmas.{alone_left}
+use Rattle.call_profile.proofs.BesideLemmas.{leg_at-with_entry_here, entry_twice}
+use Rattle.call_profile.proofs.OneLegClearedLemmas.{LegsStand_alone_left}
 use Rattle.call_profile.proofs.ClearingLemmas.{Kept, held_there, peers_apart, alone_kept, both_kept}
 use Rattle.call_profile.proofs.RecordOfActLemmas.{alone_records, both_records, disconnected_silent}
 use Rattle.call_profile.proofs.RefusalLemmas.{no_records}
-use Rattle.call_profile.proofs.PermittedSetupLemmas.{bears}
+use Rattle.call_profile.proofs.PermittedSetupLemmas.{is_bearer_channel_bears}
 
 -- ---- a slot that is cleared twice
 
@@ -74,9 +74,9 @@ module _ (d : Dimensions) (tones : Tones) (r : Restart) (cause : ℕ) (small : c
       let waits : World = (making_after_all d gone (clear_with tones temporary_failure (record { slot = y; leg = other }))).world in
       let stands = both_kept d tones m.world x leg None temporary_failure (omega arith) kept.0 kept.1 within at (inl refl) gone refl refl y other in_y at_y call in
       let size : length gone.world.legs.held ≡ 30 * d.external = length-set m.world.legs.held (number_of x) None ∙ kept.1.count in
-      let there : leg_at waits.legs y ≡ Some (begun m.world (in_disconnect_indication temporary_failure other)) = entry_here d.external gone.world.legs y (Some (begun m.world (in_disconnect_indication temporary_failure other))) size in_y in (
+      let there : leg_at waits.legs y ≡ Some (begun m.world (in_disconnect_indication temporary_failure other)) = leg_at-with_entry_here d.external gone.world.legs y (Some (begun m.world (in_disconnect_indication temporary_failure other))) size in_y in (
         stands.0,
-        alone_left d.external tones d.bridges waits (both_gone y other) y (begun m.world (in_disconnect_indication temporary_failure other)) None stands.0 stands.1 in_y there (inl refl)
+        LegsStand_alone_left d.external tones d.bridges waits (both_gone y other) y (begun m.world (in_disconnect_indication temporary_failure other)) None stands.0 stands.1 in_y there (inl refl)
             (ap (λ (ls : Legs). ls.held) (sym (entry_twice gone.world.legs y (Some (begun m.world (in_disconnect_indication temporary_failure other))) None)))
             (sym (cleared_twice gone.world.holding y))
             (λ p is. cc),
@@ -94,11 +94,11 @@ module _ (d : Dimensions) (tones : Tones) (r : Restart) (cause : ℕ) (small : c
   leg_kept = peer_kept leg.peer refl (kept.1.each x leg within at).peer
 
   -- its call is recorded, where its clearing hadn't begun
-  told_by : (p : Peer) → leg.peer ≡ p → HasPeer d.external m.world.legs x leg p
+  records_told_by : (p : Peer) → leg.peer ≡ p → HasPeer d.external m.world.legs x leg p
       → records m.world (making_after_all d gone (with_peer (peer_of m.world.legs p) (restart_peer tones cause r x.line))).world cause
       ≡ cons_option (option_and_then (record_calling m.world cause) (caller_in leg.side held (peer_of m.world.legs p))) []
-  told_by peer.Alone is has = alone_records d tones m.world x leg None cause kept.1 within at (inl refl) gone refl leg.side refl
-  told_by (peer.Leg y) is has =
+  records_told_by peer.Alone is has = alone_records d tones m.world x leg None cause kept.1 within at (inl refl) gone refl leg.side refl
+  records_told_by (peer.Leg y) is has =
       let other = has.1.0 in
       let apart = peers_apart m.world.legs x y leg other at has.1.1 has.1.2 in
       rw (held_there m.world.legs y other has.1.1) (elim (true_or_false (restarts_slot r x.line y)) [
@@ -108,10 +108,10 @@ module _ (d : Dimensions) (tones : Tones) (r : Restart) (cause : ℕ) (small : c
             (making_after_all d gone (clear_with tones cause (record { slot = y; leg = other }))).world y other (Some (begun m.world (in_disconnect_indication cause other))) has.0 has.1.1 apart
             (disconnected_silent m.world.holding.next cause other) refl leg.side refl has.1.2)
       ])
-  told_by (peer.Room room) is has = alone_records d tones m.world x leg None cause kept.1 within at (inl refl) gone refl leg.side refl
+  records_told_by (peer.Room room) is has = alone_records d tones m.world x leg None cause kept.1 within at (inl refl) gone refl leg.side refl
 
-  pub leg_told : records m.world (making_after_all d m (restart_leg tones cause r m.world.legs (Some held))).world cause ≡ cons_option (record_ended m.world held cause) []
-  leg_told = told_by leg.peer refl (kept.1.each x leg within at).peer
+  pub records_leg_told : records m.world (making_after_all d m (restart_leg tones cause r m.world.legs (Some held))).world cause ≡ cons_option (record_ended m.world held cause) []
+  records_leg_told = records_told_by leg.peer refl (kept.1.each x leg within at).peer
 
   -- and each operation is permitted
   permitted_by : (plan : List Number) (o : Option HeldLeg) → PeerIsThere d.external held o → ArePermitted d tones plan gone (with_peer o (restart_peer tones cause r x.line))
@@ -146,15 +146,15 @@ module _ (d : Dimensions) (tones : Tones) (r : Restart) (m : Making) (x : Slot) 
   pub slot_permitted : (plan : List Number) → ArePermitted d tones plan m (restart_slot tones r m.world.legs x)
   slot_permitted plan = at_slot tones r m.world.legs x (ArePermitted d tones plan m) tt (λ leg at. leg_permitted d tones r temporary_failure (omega arith) m x leg kept within at plan)
 
-  told_of : (o : Option Leg) → leg_at m.world.legs x ≡ o
+  records_told_of : (o : Option Leg) → leg_at m.world.legs x ≡ o
       → records m.world (making_after_all d m (restart_leg tones temporary_failure r m.world.legs (option_map (λ (leg : Leg). let h : HeldLeg = record { slot = x; leg = leg } in h) o))).world temporary_failure
       ≡ cons_option (option_and_then (λ h. record_ended m.world h temporary_failure) (option_map (λ (leg : Leg). let h : HeldLeg = record { slot = x; leg = leg } in h) o)) []
-  told_of None at = no_records m.world temporary_failure
-  told_of (Some leg) at = leg_told d tones r temporary_failure (omega arith) m x leg kept within at
+  records_told_of None at = no_records m.world temporary_failure
+  records_told_of (Some leg) at = records_leg_told d tones r temporary_failure (omega arith) m x leg kept within at
 
-  pub slot_told : records m.world (making_after_all d m (restart_slot tones r m.world.legs x)).world temporary_failure ≡ slot_records r m.world x
-  slot_told = elim (true_or_false (is_restarted r x.place)) [
-    | inl restarted ↦ rw restarted (told_of (leg_at m.world.legs x) refl)
+  pub records_slot_told : records m.world (making_after_all d m (restart_slot tones r m.world.legs x)).world temporary_failure ≡ slot_records r m.world x
+  records_slot_told = elim (true_or_false (is_restarted r x.place)) [
+    | inl restarted ↦ rw restarted (records_told_of (leg_at m.world.legs x) refl)
     | inr not_so ↦ rw not_so (no_records m.world temporary_failure)
   ]
 
@@ -172,5 +172,5 @@ slot_is r w x leg restarted at = rw (restarted, at) refl
 
 -- the acknowledgement can be written
 pub acknowledgement_writable : (r : Restart) → IsOnLine r → IsWritable (acknowledgement r)
-acknowledgement_writable (Channel place) within = short_writable true global_call_reference kind.RestartAcknowledge None None (Some (channel_at place)) (Some indicated_channels) (omega arith) tt tt tt (bears place within)
+acknowledgement_writable (Channel place) within = short_writable true global_call_reference kind.RestartAcknowledge None None (Some (channel_at place)) (Some indicated_channels) (omega arith) tt tt tt (is_bearer_channel_bears place within)
 acknowledgement_writable (Interface class) within = short_writable true global_call_reference kind.RestartAcknowledge None None None (Some class) (omega arith) tt tt tt tt

@@ -26,13 +26,13 @@ use Rattle.call_profile.specs.Operations.{Making, begun, making_after_all, with_
 use Rattle.call_profile.specs.Restarts.{restarts_slot, restart_peer, restart_leg, restart_slot}
 use Rattle.exchange_events.specs.Sizes.{Dimensions}
 use Rattle.call_profile.specs.World.{World}
-use Rattle.call_profile.proofs.BesideLemmas.{entry_here, entry_else, named_back, same_or_apart}
+use Rattle.call_profile.proofs.BesideLemmas.{leg_at-with_entry_here, leg_at-with_entry_else, named_back, same_or_apart}
 use Rattle.call_profile.proofs.TwoEntriesLemmas.{ArePeers, strange_both}
 use Rattle.call_profile.proofs.ClearingLemmas.{Kept, held_there, peers_of}
 use Rattle.call_profile.proofs.CommandLemmas.{not_empty, strange_to_empty}
-use Rattle.call_profile.proofs.HearingLemmas.{IsStrange, clear_keeps, clear_both_keeps}
-use Rattle.call_profile.proofs.LegTableLemmas.{both_else, both_first, both_second}
-use Rattle.call_profile.proofs.ToneLemmas.{cleared_is_idle, sounding_keeps, sounding_next}
+use Rattle.call_profile.proofs.HearingLemmas.{IsStrange, heard_by_clear_keeps, heard_by_clear_both_keeps}
+use Rattle.call_profile.proofs.LegTableLemmas.{leg_at_both_else, leg_at_both_first, leg_at_both_second}
+use Rattle.call_profile.proofs.ToneLemmas.{cleared_is_idle, heard_by_sounding_keeps, with_tone_sounding_next}
 
 -- ---- a slot that no leg holds
 
@@ -52,26 +52,26 @@ module _ (external bridges : ℕ) (tones : Tones) (w : World) (valid : Valid bri
       let wrong : None ≡ Some has.1.0 = sym none ∙ has.1.1 in
       cc
 
-  unnamed : (c : Circuit) → heard_by w.holding.circuits y ≡ Some c → names x c ≡ false
-  unnamed (Pair from to since) e =
+  names_unnamed : (c : Circuit) → heard_by w.holding.circuits y ≡ Some c → names x c ≡ false
+  names_unnamed (Pair from to since) e =
       let hears = same_slot-true y to (heard_by-stands w.holding.circuits y (Pair from to since) e).1 in
       let here = subst (λ z. heard_by w.holding.circuits y ≡ Some (Pair from z since)) (sym hears) e in
       let not_from = same_slot-false x from (λ same. not_joined from since here (sym same)) in
       let not_to = same_slot-false x to (λ same. apart (hears ∙ sym same)) in
       rw (not_from, not_to) refl
-  unnamed (Member room to since) e =
+  names_unnamed (Member room to since) e =
       let hears = same_slot-true y to (heard_by-stands w.holding.circuits y (Member room to since) e).1 in
       same_slot-false x to (λ same. apart (hears ∙ sym same))
-  unnamed (Tone kind to since) e =
+  names_unnamed (Tone kind to since) e =
       let hears = same_slot-true y to (heard_by-stands w.holding.circuits y (Tone kind to since) e).1 in
       same_slot-false x to (λ same. apart (hears ∙ sym same))
 
-  kept_by : (o : Option Circuit) → heard_by w.holding.circuits y ≡ o → unless_naming x o ≡ o
-  kept_by None e = refl
-  kept_by (Some c) e = rw (unnamed c e) refl
+  unless_naming_kept_by : (o : Option Circuit) → heard_by w.holding.circuits y ≡ o → unless_naming x o ≡ o
+  unless_naming_kept_by None e = refl
+  unless_naming_kept_by (Some c) e = rw (names_unnamed c e) refl
 
-  pub unheld_keeps : unless_naming x (heard_by w.holding.circuits y) ≡ heard_by w.holding.circuits y
-  unheld_keeps = kept_by (heard_by w.holding.circuits y) refl
+  pub unless_naming_unheld_keeps : unless_naming x (heard_by w.holding.circuits y) ≡ heard_by w.holding.circuits y
+  unless_naming_unheld_keeps = unless_naming_kept_by (heard_by w.holding.circuits y) refl
 
 -- ---- one slot is restarted
 
@@ -115,7 +115,7 @@ module _ (d : Dimensions) (tones : Tones) (r : Restart) (cause line : ℕ) (m : 
     gone = making_after_all d m (remove_leg held)
 
     keeps_unheld : (y : Slot) → leg_at u.legs y ≡ None → heard_by (after u.holding (Clear_slot x)).circuits y ≡ heard_by u.holding.circuits y
-    keeps_unheld y none = heard_by-clear u.holding.circuits x y (kept.0.standing y) ∙ unheld_keeps d.external d.bridges tones u kept.0 kept.1 x leg in_x at y none
+    keeps_unheld y none = heard_by-clear u.holding.circuits x y (kept.0.standing y) ∙ unless_naming_unheld_keeps d.external d.bridges tones u kept.0 kept.1 x leg in_x at y none
 
     strange_if : (z : Slot) (l : Leg) → (l.peer ≡ peer.Leg x → ⊥) → IsStrange l x
     strange_if z l strange p is same = strange (is ∙ ap (λ (q : Slot). let named : Peer = peer.Leg q in named) same)
@@ -123,10 +123,10 @@ module _ (d : Dimensions) (tones : Tones) (r : Restart) (cause line : ℕ) (m : 
     -- its call has no other leg
     one_done : ((p : Slot) → leg.peer ≡ peer.Leg p → ⊥) → Done gone.world
     one_done no_peer = record {
-      here = entry_here d.external u.legs x None kept.1.count in_x;
+      here = leg_at-with_entry_here d.external u.legs x None kept.1.count in_x;
       other_leg = λ z other in_z at_z is. absurd (no_peer z (named_back d.external u.legs z x other leg is (kept.1.each z other in_z at_z).peer at));
-      legs = λ z in_z not_x strange. entry_else d.external u.legs x z None in_x in_z not_x;
-      heard = λ z l in_z at_z not_x strange. clear_keeps d.bridges tones u.holding l z x kept.0 (kept.1.each z l in_z at_z).hears not_x (strange_if z l strange);
+      legs = λ z in_z not_x strange. leg_at-with_entry_else d.external u.legs x z None in_x in_z not_x;
+      heard = λ z l in_z at_z not_x strange. heard_by_clear_keeps d.bridges tones u.holding l z x kept.0 (kept.1.each z l in_z at_z).hears not_x (strange_if z l strange);
       unheld = λ z in_z none_z. keeps_unheld z none_z;
       next = refl;
     }
@@ -153,7 +153,7 @@ module _ (d : Dimensions) (tones : Tones) (r : Restart) (cause line : ℕ) (m : 
       is_other l at_l = let e : Some l ≡ Some other = sym at_l ∙ at_y in cc
 
       here_y : leg_at v.legs y ≡ o
-      here_y = ap (λ ls. leg_at ls y) legs ∙ both_second d.external u.legs x y None o kept.1.count in_x in_y peers.apart
+      here_y = ap (λ ls. leg_at ls y) legs ∙ leg_at_both_second d.external u.legs x y None o kept.1.count in_x in_y peers.apart
 
       both_other : (z : Slot) (l : Leg) → IsExternal d.external z → leg_at u.legs z ≡ Some l → l.peer ≡ peer.Leg x → leg_at v.legs z ≡ peer_after r cause line u.holding.next z l
       both_other z l in_z at_z names_x = elim (same_or_apart z y) [
@@ -171,26 +171,26 @@ module _ (d : Dimensions) (tones : Tones) (r : Restart) (cause line : ℕ) (m : 
       both_heard z l in_z at_z not_x not_y =
           let strange = strange_both d.external tones u x y leg other kept.1 peers z l in_z at_z not_x not_y in
           ap (λ (h : Holding). heard_by h.circuits z) holding
-          ∙ sounding_keeps cleared y (cleared_is_idle (after u.holding (Clear_slot x)) y) z not_y tone
-          ∙ clear_both_keeps d.bridges tones u.holding l z x y kept.0 (kept.1.each z l in_z at_z).hears not_x strange.0 not_y strange.1
+          ∙ heard_by_sounding_keeps cleared y (cleared_is_idle (after u.holding (Clear_slot x)) y) z not_y tone
+          ∙ heard_by_clear_both_keeps d.bridges tones u.holding l z x y kept.0 (kept.1.each z l in_z at_z).hears not_x strange.0 not_y strange.1
 
       both_unheld : (z : Slot) → leg_at u.legs z ≡ None → heard_by v.holding.circuits z ≡ heard_by u.holding.circuits z
       both_unheld z none =
           let not_y : z ≡ y → ⊥ = λ same. not_empty u.legs z y other none at_y (sym same) in
           ap (λ (h : Holding). heard_by h.circuits z) holding
-          ∙ sounding_keeps cleared y (cleared_is_idle (after u.holding (Clear_slot x)) y) z not_y tone
+          ∙ heard_by_sounding_keeps cleared y (cleared_is_idle (after u.holding (Clear_slot x)) y) z not_y tone
           ∙ heard_by-clear (after u.holding (Clear_slot x)).circuits y z ((valid-clear d.bridges u.holding x kept.0).standing z)
           ∙ ap (unless_naming y) (keeps_unheld z none)
-          ∙ unheld_keeps d.external d.bridges tones u kept.0 kept.1 y other in_y at_y z none
+          ∙ unless_naming_unheld_keeps d.external d.bridges tones u kept.0 kept.1 y other in_y at_y z none
 
       both_done : Done v
       both_done = record {
-        here = ap (λ ls. leg_at ls x) legs ∙ both_first d.external u.legs x y None o kept.1.count in_x in_y peers.apart;
+        here = ap (λ ls. leg_at ls x) legs ∙ leg_at_both_first d.external u.legs x y None o kept.1.count in_x in_y peers.apart;
         other_leg = both_other;
-        legs = λ z in_z not_x strange. ap (λ ls. leg_at ls z) legs ∙ both_else d.external u.legs x y None o kept.1.count in_x in_y peers.apart z in_z not_x (apart_from z strange);
+        legs = λ z in_z not_x strange. ap (λ ls. leg_at ls z) legs ∙ leg_at_both_else d.external u.legs x y None o kept.1.count in_x in_y peers.apart z in_z not_x (apart_from z strange);
         heard = λ z l in_z at_z not_x strange. both_heard z l in_z at_z not_x (λ same. strange (ap (λ (k : Leg). k.peer) (is_other l (sym (ap (leg_at u.legs) same) ∙ at_z)) ∙ peers.back));
         unheld = λ z in_z none. both_unheld z none;
-        next = ap (λ (h : Holding). h.next) holding ∙ sounding_next cleared y tone;
+        next = ap (λ (h : Holding). h.next) holding ∙ with_tone_sounding_next cleared y tone;
       }
 
     with_peer_done : (p : Peer) → leg.peer ≡ p → HasPeer d.external u.legs x leg p → Done (making_after_all d gone (with_peer (peer_of u.legs p) (restart_peer tones cause r line))).world

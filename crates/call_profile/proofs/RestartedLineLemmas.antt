@@ -187,8 +187,8 @@ module _ (s : Setting) (r : Restart) (line : ℕ) (w : World) (below : line < s.
       nobody : (z : Slot) → leg_at u.legs z ≡ None → (other : Leg) → leg_at u.legs z ≡ Some other → other.peer ≡ peer.Leg x → ⊥
       nobody z none other at is = let wrong : None ≡ Some other = sym none ∙ at in cc
 
-      more_gone : (z : Slot) → IsExternal s.dimensions.external z → restarts_slot r line z ≡ true → z.place < suc n → leg_at v.legs z ≡ None
-      more_gone z in_z too less = elim (same_or_apart z x) [
+      leg_at_more_gone : (z : Slot) → IsExternal s.dimensions.external z → restarts_slot r line z ≡ true → z.place < suc n → leg_at v.legs z ≡ None
+      leg_at_more_gone z in_z too less = elim (same_or_apart z x) [
         | inl same ↦ ap (leg_at v.legs) same ∙ done.here
         | inr not_x ↦
             let other : z.place ≡ n → ⊥ = λ place. not_x (is_there r line z n too place) in
@@ -203,21 +203,21 @@ module _ (s : Setting) (r : Restart) (line : ℕ) (w : World) (below : line < s.
           ∙ ap (λ (b : Bool). if b then begun w (in_disconnect_indication temporary_failure leg) else leg) (none_before (restarts_slot r line x) (nat_lt n n) (lt_false r line n n (omega arith)))
 
       -- a leg that names it is cleared
-      cleared : (z : Slot) (leg : Leg) → IsExternal s.dimensions.external z → restarts_slot r line z ≡ false → leg_at u.legs z ≡ Some leg → leg.peer ≡ peer.Leg x
+      leg_at_cleared : (z : Slot) (leg : Leg) → IsExternal s.dimensions.external z → restarts_slot r line z ≡ false → leg_at u.legs z ≡ Some leg → leg.peer ≡ peer.Leg x
           → leg_at v.legs z ≡ Some (left_below r line w (suc n) leg (peer.Leg x))
-      cleared z leg in_z not_so at is =
+      leg_at_cleared z leg in_z not_so at is =
           let here : was_restarted r line (suc n) x ≡ true = rw (x_is, lt_true r line n (suc n) (omega arith)) refl in
           done.other_leg z leg in_z at is ∙ ap (λ next. peer_after r temporary_failure line next z leg) so_far.next ∙ rw (not_so, here) refl
 
-      more_others : (z : Slot) (leg : Leg) → IsExternal s.dimensions.external z → restarts_slot r line z ≡ false → leg_at w.legs z ≡ Some leg
+      leg_at_more_others : (z : Slot) (leg : Leg) → IsExternal s.dimensions.external z → restarts_slot r line z ≡ false → leg_at w.legs z ≡ Some leg
           → leg_at v.legs z ≡ Some (left_below r line w (suc n) leg leg.peer)
-      more_others z leg in_z not_so at =
+      leg_at_more_others z leg in_z not_so at =
           let now = left_below r line w n leg leg.peer in
           let at_now : leg_at u.legs z ≡ Some now = so_far.others z leg in_z not_so at in
           elim (named_or_not now.peer x) [
             | inl named ↦
                 let is = left_peer r line w n leg leg.peer x refl named in
-                cleared z leg in_z not_so (at_now ∙ ap (λ (l : Leg). Some l) is.1) is.0 ∙ ap (λ (p : Peer). Some (left_below r line w (suc n) leg p)) (sym is.0)
+                leg_at_cleared z leg in_z not_so (at_now ∙ ap (λ (l : Leg). Some l) is.1) is.0 ∙ ap (λ (p : Peer). Some (left_below r line w (suc n) leg p)) (sym is.0)
             | inr other ↦
                 let away : (y : Slot) → leg.peer ≡ peer.Leg y → y ≡ x → ⊥ = λ y is same.
                 let names_x : leg.peer ≡ peer.Leg x = is ∙ ap (λ (q : Slot). let named : Peer = peer.Leg q in named) same in
@@ -231,8 +231,8 @@ module _ (s : Setting) (r : Restart) (line : ℕ) (w : World) (below : line < s.
                 ∙ ap (λ (l : Leg). Some l) (sym (left_same r line w n leg leg.peer (λ y is. same_where_apart r line y n (away y is))))
           ]
 
-      more_empty : (z : Slot) → IsExternal s.dimensions.external z → leg_at w.legs z ≡ None → leg_at v.legs z ≡ None
-      more_empty z in_z none = elim (same_or_apart z x) [
+      leg_at_more_empty : (z : Slot) → IsExternal s.dimensions.external z → leg_at w.legs z ≡ None → leg_at v.legs z ≡ None
+      leg_at_more_empty z in_z none = elim (same_or_apart z x) [
         | inl same ↦ ap (leg_at v.legs) same ∙ done.here
         | inr not_x ↦ done.legs z in_z not_x (nobody z (so_far.empty z in_z none)) ∙ so_far.empty z in_z none
       ]
@@ -240,9 +240,9 @@ module _ (s : Setting) (r : Restart) (line : ℕ) (w : World) (below : line < s.
       one_more : Below (suc n) v
       one_more = record {
         kept = kept;
-        gone = more_gone;
-        others = more_others;
-        empty = more_empty;
+        gone = leg_at_more_gone;
+        others = leg_at_more_others;
+        empty = leg_at_more_empty;
         unheld = λ z in_z none. done.unheld z in_z (so_far.empty z in_z none) ∙ so_far.unheld z in_z none;
         next = done.next ∙ so_far.next;
       }
@@ -286,17 +286,17 @@ module _ (s : Setting) (w : World) (line : ℕ) (octets : List ℕ) (r : Restart
   all_below : AreRestartedBelow s r line w 30 left
   all_below = restarted_below s r line w is.line_exists (is.stands.circuits, is.stands.legs) 30 (omega arith)
 
-  pub restarted_gone : (x : Slot) → IsExternal s.dimensions.external x → restarts_slot r line x ≡ true → leg_at (after_message s w line octets).legs x ≡ None
-  restarted_gone x in_x restarted = ap (λ (v : World). leg_at v.legs x) after_is ∙ all_below.gone x in_x restarted in_x.1
+  pub leg_at_restarted_gone : (x : Slot) → IsExternal s.dimensions.external x → restarts_slot r line x ≡ true → leg_at (after_message s w line octets).legs x ≡ None
+  leg_at_restarted_gone x in_x restarted = ap (λ (v : World). leg_at v.legs x) after_is ∙ all_below.gone x in_x restarted in_x.1
 
   left_all : (leg : Leg) (p : Peer) → ((y : Slot) → p ≡ peer.Leg y → y.place < 30) → left_below r line w 30 leg p ≡ left_with r line w leg p
   left_all leg peer.Alone near = refl
   left_all leg (peer.Leg y) near = ap (λ (b : Bool). if b then begun w (in_disconnect_indication temporary_failure leg) else leg) (all_places (restarts_slot r line y) (nat_lt y.place 30) (lt_true r line y.place 30 (near y refl)))
   left_all leg (peer.Room room) near = refl
 
-  pub restarted_others : (x : Slot) (leg : Leg) → IsExternal s.dimensions.external x → restarts_slot r line x ≡ false → leg_at w.legs x ≡ Some leg
+  pub leg_at_restarted_others : (x : Slot) (leg : Leg) → IsExternal s.dimensions.external x → restarts_slot r line x ≡ false → leg_at w.legs x ≡ Some leg
       → leg_at (after_message s w line octets).legs x ≡ Some (left_by r line w leg)
-  restarted_others x leg in_x not_so at =
+  leg_at_restarted_others x leg in_x not_so at =
       let has = (is.stands.legs.each x leg in_x at).peer in
       ap (λ (v : World). leg_at v.legs x) after_is
       ∙ all_below.others x leg in_x not_so at

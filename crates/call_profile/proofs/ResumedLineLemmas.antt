@@ -20,12 +20,12 @@ use Rattle.call_profile.specs.Restarts.{MessageOutcome, outcome_below, restarts_
 use Rattle.call_profile.specs.Resumed.{resumed, resumed_on, LegsAreResumed}
 use Rattle.call_profile.specs.LinkChanges.{whole_line}
 use Rattle.call_profile.specs.World.{World}
-use Rattle.call_profile.proofs.BesideLemmas.{entry_here, entry_else, same_or_apart}
+use Rattle.call_profile.proofs.BesideLemmas.{leg_at-with_entry_here, leg_at-with_entry_else, same_or_apart}
 use Rattle.call_profile.proofs.ClearingLemmas.{Kept}
 use Rattle.call_profile.proofs.LinkLemmas.{linked_kept, resume_slot_kept}
 use Rattle.call_profile.proofs.RestartedLineLemmas.{was_restarted, same_where_apart, lt_true, lt_false, none_before}
 use Rattle.call_profile.proofs.RestartedSlotLemmas.{below_none, below_more}
-use Rattle.call_profile.proofs.ToneLemmas.{sounding_next}
+use Rattle.call_profile.proofs.ToneLemmas.{with_tone_sounding_next}
 use Rattle.circuit_model.specs.Holding.{Clear as Clear_slot, after}
 
 -- ---- what one slot does
@@ -45,8 +45,8 @@ module _ (d : Dimensions) (tones : Tones) (m : Making) (x : Slot) (kept : Kept d
   -- the slot has another leg
   entered : (leg new : Leg) → leg_at u.legs x ≡ Some leg → resumed u leg ≡ new → (v : World) → ((z : Slot) → leg_at v.legs z ≡ leg_at (with_entry u.legs x (Some new)) z) → v.holding.next ≡ u.holding.next → Resumes d.external u v x
   entered leg new at is v legs next = record {
-    here = legs x ∙ entry_here d.external u.legs x (Some new) kept.1.count in_x ∙ ap (λ (l : Leg). Some l) (sym is) ∙ ap (option_map (resumed u)) (sym at);
-    same = λ z in_z apart. legs z ∙ entry_else d.external u.legs x z (Some new) in_x in_z apart;
+    here = legs x ∙ leg_at-with_entry_here d.external u.legs x (Some new) kept.1.count in_x ∙ ap (λ (l : Leg). Some l) (sym is) ∙ ap (option_map (resumed u)) (sym at);
+    same = λ z in_z apart. legs z ∙ leg_at-with_entry_else d.external u.legs x z (Some new) in_x in_z apart;
     next = next;
   }
 
@@ -59,7 +59,7 @@ module _ (d : Dimensions) (tones : Tones) (m : Making) (x : Slot) (kept : Kept d
       | inl up ↦ rw up (entered leg (begun u leg) at (rw up refl) _ (λ z. refl) refl)
       | inr not_up ↦ elim (true_or_false (leg.state == overlap_sending)) [
         | inl dials ↦ rw (not_up, dials) (entered leg (begun u (in_disconnect_indication temporary_failure leg)) at (rw (not_up, dials) refl) _ (λ z. refl)
-            (sounding_next (after u.holding (Clear_slot x)) x (tone_of tones (in_disconnect_indication temporary_failure leg))))
+            (with_tone_sounding_next (after u.holding (Clear_slot x)) x (tone_of tones (in_disconnect_indication temporary_failure leg))))
         | inr other ↦ rw (not_up, other) (record {
           here = at ∙ ap (λ (l : Leg). Some l) (sym (unchanged not_up other)) ∙ ap (option_map (resumed u)) (sym at);
           same = λ z in_z apart. refl;

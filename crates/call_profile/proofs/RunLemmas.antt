@@ -21,7 +21,7 @@ use Rattle.call_profile.specs.Expiring.{slot_looked_at, expire_slot}
 use Rattle.call_profile.specs.World.{World, pass}
 use Rattle.call_profile.proofs.ExpiringLemmas.{each_line}
 use Rattle.call_profile.proofs.RestartedSlotLemmas.{each_below}
-use Rattle.call_profile.proofs.ToneLemmas.{sounding_next}
+use Rattle.call_profile.proofs.ToneLemmas.{with_tone_sounding_next}
 use Rattle.call_profile.specs.LinkChanges.{outcome_of_link, rule_of, with_line}
 
 -- ---- one event more
@@ -44,7 +44,7 @@ performed_next : (d : Dimensions) (m : Making) (o : Operation) → (making_after
 performed_next d m (op.Clear x) = refl
 performed_next d m (op.Pair x y) = refl
 performed_next d m (op.Seat x room) = refl
-performed_next d m (op.Sound x kind) = sounding_next m.world.holding x kind
+performed_next d m (op.Sound x kind) = with_tone_sounding_next m.world.holding x kind
 performed_next d m (op.Put x leg) = refl
 performed_next d m (op.Wait x leg p) = refl
 performed_next d m (op.Expect x leg message) = refl
@@ -98,6 +98,6 @@ few_more : (o : Option Event) (es : List Event) → length (cons_option o es) �
 few_more None es = omega arith
 few_more (Some e) es = omega arith
 
-pub few_events : (events : List Event) (order : List ℕ) → length (events_of events order) ≤ length order
-few_events events [] = omega arith
-few_events events (n ∷ order) = let rest = few_events events order in let one = few_more (event_at events n) (events_of events order) in omega (arith, rest, one)
+pub length-events_of-le : (events : List Event) (order : List ℕ) → length (events_of events order) ≤ length order
+length-events_of-le events [] = omega arith
+length-events_of-le events (n ∷ order) = let rest = length-events_of-le events order in let one = few_more (event_at events n) (events_of events order) in omega (arith, rest, one)

@@ -33,7 +33,7 @@ use Rattle.call_profile.specs.World.{World, is_full}
 use Rattle.call_profile.proofs.ClearingLemmas.{Kept}
 use Rattle.call_profile.proofs.CommandLemmas.{both_true}
 use Rattle.call_profile.proofs.NamedLegLemmas.{IsOn, without_leg_by}
-use Rattle.call_profile.proofs.NewCallLemmas.{MayCall, MayOffer, empty_slot, idle_may, line_call_kept, room_call_kept, waiting_kept}
+use Rattle.call_profile.proofs.NewCallLemmas.{MayCall, MayOffer, leg_at_empty_slot, idle_may, line_call_kept, room_call_kept, waiting_kept}
 use Rattle.call_profile.proofs.VacantSlotLemmas.{found_on, new_unused}
 
 -- ---- a SETUP that is not refused has passed each check
@@ -123,11 +123,11 @@ called_is w x line y e =
 -- ---- line hunting
 
 -- the slot that is found is the lowest idle slot of its line
-pub hunted_on : (w : World) (x : Slot) (lines : List ℕ) (y : Slot) → hunted w x lines ≡ Some y → lowest_called w x y.line ≡ Some y
-hunted_on w x [] y e = absurd cc
-hunted_on w x (line ∷ lines) y e = elim (either_of (lowest_called w x line) (hunted w x lines) y e) [
+pub lowest_idle_beside_hunted_on : (w : World) (x : Slot) (lines : List ℕ) (y : Slot) → hunted w x lines ≡ Some y → lowest_called w x y.line ≡ Some y
+lowest_idle_beside_hunted_on w x [] y e = absurd cc
+lowest_idle_beside_hunted_on w x (line ∷ lines) y e = elim (either_of (lowest_called w x line) (hunted w x lines) y e) [
   | inl here ↦ subst (λ n. lowest_called w x n ≡ Some y) (sym (called_is w x line y here).2.0) here
-  | inr later ↦ hunted_on w x lines y later
+  | inr later ↦ lowest_idle_beside_hunted_on w x lines y later
 ]
 
 -- its line passes a test that each line of the list passes
@@ -146,10 +146,10 @@ none_of : (o : Option HeldLeg) → is_none o ≡ true → o ≡ None
 none_of None e = refl
 none_of (Some h) e = absurd cc
 
-pub offered : (s : Setting) (w : World) (x : Slot) (line : ℕ) (y : Slot) → line < s.dimensions.external → lowest_called w x line ≡ Some y → MayOffer s.dimensions w x y (lowest_free_reference w.legs line)
-offered s w x line y below e =
+pub MayOffer-lowest_free_reference : (s : Setting) (w : World) (x : Slot) (line : ℕ) (y : Slot) → line < s.dimensions.external → lowest_called w x line ≡ Some y → MayOffer s.dimensions w x y (lowest_free_reference w.legs line)
+MayOffer-lowest_free_reference s w x line y below e =
     let is = called_is w x line y e in
-    let unused = new_unused w.legs line y is.2 (empty_slot w y is.0) in
+    let unused = new_unused w.legs line y is.2 (leg_at_empty_slot w y is.0) in
     record {
       in_y = (subst (λ n. n < s.dimensions.external) (sym is.2.0) below, is.2.1);
       apart = is.1;
@@ -162,7 +162,7 @@ pub offered_by_hunting : (s : Setting) (w : World) (x : Slot) (lines : List ℕ)
     → MayOffer s.dimensions w x y (lowest_free_reference w.legs y.line)
 offered_by_hunting s w x lines y exist e =
     let passes = hunted_passes (line_exists s.dimensions.external) w x lines y exist e in
-    offered s w x y.line y (grind (arith, nat_tests, passes)) (hunted_on w x lines y e)
+    MayOffer-lowest_free_reference s w x y.line y (grind (arith, nat_tests, passes)) (lowest_idle_beside_hunted_on w x lines y e)
 
 pub all_reached : (s : Setting) (called : List ℕ) (lines : List ℕ) → IsPlanned s → target_dialled s.plan called ≡ Lines lines → list_all (line_exists s.dimensions.external) lines ≡ true
 all_reached s called lines planned is = found_passes (is_reached s.dimensions.external) s.plan _ (target.Lines lines) planned is
@@ -182,7 +182,7 @@ pub record CanReach (s : Setting) (w : World) (t : Found) : Type 0 where
 
 module _ (s : Setting) (w : World) (first : Bool) (own : ℕ) (asked : Pending) (x : Slot) (may : MayCall s.dimensions s.tones w own x) where
   call_kept : (t : Found) (called : Option Slot) → called_slot w x t ≡ called → CanReach s w t → Kept s.dimensions s.tones (making_after_all s.dimensions (making_at w) (call first w own asked x t called)).world
-  call_kept (Line line) (Some y) chosen can = line_call_kept s.dimensions s.tones w first own asked x y (lowest_free_reference w.legs line) may (offered s w x line y (can.line line refl) chosen)
+  call_kept (Line line) (Some y) chosen can = line_call_kept s.dimensions s.tones w first own asked x y (lowest_free_reference w.legs line) may (MayOffer-lowest_free_reference s w x line y (can.line line refl) chosen)
   call_kept (Line line) None chosen can = (may.valid, may.stand)
   call_kept (Lines lines) (Some y) chosen can = line_call_kept s.dimensions s.tones w first own asked x y (lowest_free_reference w.legs y.line) may (offered_by_hunting s w x lines y (can.lines lines refl) chosen)
   call_kept (Lines lines) None chosen can = (may.valid, may.stand)

@@ -30,7 +30,7 @@ use Rattle.call_profile.proofs.RestartLemmas.{below_kept}
 use Rattle.call_profile.proofs.OctetLemmas.{octets_small}
 use Rattle.call_profile.proofs.PendingNumberLemmas.{EntriesStand, none_pend, entries_stand}
 use Rattle.call_profile.proofs.KeptMessageLemmas.{none_wait}
-use Rattle.call_profile.proofs.EntryLemmas.{none_in}
+use Rattle.call_profile.proofs.EntryLemmas.{get_or-bare}
 use Rattle.call_profile.proofs.ReleaseRunLemmas.{event_sounds, none_release}
 use Rattle.call_profile.proofs.ReleaseToneLemmas.{Sounding}
 use Rattle.call_profile.proofs.SetupLemmas.{setup_kept, new_from}
@@ -87,7 +87,7 @@ happened_kept s w (Frame input) planned fits stands = kept_stands s (next s w (F
 -- ---- whole runs
 
 none_at : (external : ℕ) (x : Slot) (leg : Leg) → leg_at (no_legs external) x ≡ Some leg → ⊥
-none_at external x leg at = let e : None ≡ Some leg = sym (none_in Leg (30 * external) (number_of x)) ∙ at in cc
+none_at external x leg at = let e : None ≡ Some leg = sym (get_or-bare Leg (30 * external) (number_of x)) ∙ at in cc
 
 pub start_stands : (s : Setting) → CallsStand s (start s.dimensions)
 start_stands s = record {

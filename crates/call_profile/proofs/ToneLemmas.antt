@@ -10,7 +10,7 @@ use Rattle.circuit_model.specs.declared.circuit.Kind.{Kind}
 use Rattle.circuit_model.specs.Circuits.{heard_by, is_idle, names}
 use Rattle.circuit_model.specs.Holding.{Holding, Clear, after, Valid}
 use Rattle.circuit_model.proofs.Hearing.{heard_by-one}
-use Rattle.circuit_model.proofs.Slots.{true_or_false, same_slot-refl, same_slot-false, idle_is_deaf}
+use Rattle.circuit_model.proofs.Slots.{true_or_false, same_slot-refl, same_slot-false, heard_by_idle_is_deaf}
 use Rattle.circuit_model.proofs.Validity.{valid-tone}
 use Rattle.q931_codec.specs.CallStates.{active, call_delivered, disconnect_indication}
 use Rattle.call_states.specs.declared.leg.Leg.{Leg}
@@ -41,12 +41,12 @@ module _ (h : Holding) (x : Slot) (idle : is_idle h.circuits x ≡ true) where
   sounding_valid bridges valid (Some kind) = valid-tone bridges h x kind valid idle
 
   heard_sounding : (o : Option Kind) → heard_by (with_tone h x o).circuits x ≡ option_map (λ kind. Tone kind x h.next) o
-  heard_sounding None = idle_is_deaf h.circuits x idle
+  heard_sounding None = heard_by_idle_is_deaf h.circuits x idle
   heard_sounding (Some kind) = heard_by-one h.circuits (Tone kind x h.next) x idle ∙ rw (same_slot-refl x) refl
 
-  pub sounding_keeps : (z : Slot) → (z ≡ x → ⊥) → (o : Option Kind) → heard_by (with_tone h x o).circuits z ≡ heard_by h.circuits z
-  sounding_keeps z not_x None = refl
-  sounding_keeps z not_x (Some kind) = heard_by-one h.circuits (Tone kind x h.next) z idle ∙ rw (same_slot-false z x not_x) refl
+  pub heard_by_sounding_keeps : (z : Slot) → (z ≡ x → ⊥) → (o : Option Kind) → heard_by (with_tone h x o).circuits z ≡ heard_by h.circuits z
+  heard_by_sounding_keeps z not_x None = refl
+  heard_by_sounding_keeps z not_x (Some kind) = heard_by-one h.circuits (Tone kind x h.next) z idle ∙ rw (same_slot-false z x not_x) refl
 
   -- a leg that gets the tone of its state and cause hears what it may
   may_sound : (tones : Tones) (leg : Leg) → leg.state ≢ active → (o : Option Kind) → tone_of tones leg ≡ o → MayHear tones leg (option_map (λ kind. Tone kind x h.next) o)
@@ -56,9 +56,9 @@ module _ (h : Holding) (x : Slot) (idle : is_idle h.circuits x ≡ true) where
   pub sounds : (tones : Tones) (leg : Leg) → leg.state ≢ active → MayHear tones leg (heard_by (with_tone h x (tone_of tones leg)).circuits x)
   sounds tones leg quiet = subst (MayHear tones leg) (sym (heard_sounding (tone_of tones leg))) (may_sound tones leg quiet (tone_of tones leg) refl)
 
-pub sounding_next : (h : Holding) (x : Slot) (o : Option Kind) → (with_tone h x o).next ≡ h.next
-sounding_next h x None = refl
-sounding_next h x (Some kind) = refl
+pub with_tone_sounding_next : (h : Holding) (x : Slot) (o : Option Kind) → (with_tone h x o).next ≡ h.next
+with_tone_sounding_next h x None = refl
+with_tone_sounding_next h x (Some kind) = refl
 
 -- ---- states without a tone
 

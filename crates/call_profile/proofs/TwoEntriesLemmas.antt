@@ -10,7 +10,7 @@ use Rattle.tone_rules.specs.declared.tones.Tones.{Tones}
 use Rattle.call_profile.specs.LegStanding.{LegStands, LegsStand}
 use Rattle.call_profile.specs.Legs.{leg_at, with_entry}
 use Rattle.call_profile.specs.World.{World}
-use Rattle.call_profile.proofs.BesideLemmas.{Beside, SameReferences, look, entry_here, entry_else, each_stands, named_back, same_or_apart, still_one}
+use Rattle.call_profile.proofs.BesideLemmas.{Beside, SameReferences, look, leg_at-with_entry_here, leg_at-with_entry_else, each_stands, named_back, same_or_apart, still_one}
 use Rattle.call_profile.proofs.HearingLemmas.{IsStrange}
 
 -- two legs that name each other, and no others
@@ -50,19 +50,19 @@ module _ (external : ℕ) (tones : Tones) (w v : World) (x y : Slot) (leg other 
   legs_both : (z : Slot) → IsExternal external z → (z ≡ x → ⊥) → (z ≡ y → ⊥) → leg_at v.legs z ≡ leg_at w.legs z
   legs_both z in_z not_x not_y =
       ap (look z) legs
-      ∙ entry_else external (with_entry w.legs x o) y z p peers.in_y in_z not_y
-      ∙ entry_else external w.legs x z o peers.in_x in_z not_x
+      ∙ leg_at-with_entry_else external (with_entry w.legs x o) y z p peers.in_y in_z not_y
+      ∙ leg_at-with_entry_else external w.legs x z o peers.in_x in_z not_x
 
   here_x : leg_at v.legs x ≡ o
   here_x =
       ap (look x) legs
-      ∙ entry_else external (with_entry w.legs x o) y x p peers.in_y peers.in_x (λ e. peers.apart (sym e))
-      ∙ entry_here external w.legs x o stand.count peers.in_x
+      ∙ leg_at-with_entry_else external (with_entry w.legs x o) y x p peers.in_y peers.in_x (λ e. peers.apart (sym e))
+      ∙ leg_at-with_entry_here external w.legs x o stand.count peers.in_x
 
   here_y : leg_at v.legs y ≡ p
   here_y =
       ap (look y) legs
-      ∙ entry_here external (with_entry w.legs x o) y p (length-set w.legs.held (number_of x) o ∙ stand.count) peers.in_y
+      ∙ leg_at-with_entry_here external (with_entry w.legs x o) y p (length-set w.legs.held (number_of x) o ∙ stand.count) peers.in_y
 
   beside_both : Beside external w v x y
   beside_both = record {

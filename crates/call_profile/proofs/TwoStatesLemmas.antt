@@ -89,8 +89,8 @@ module _ (external : ℕ) (tones : Tones) (w v : World) (x y : Slot) (leg other 
     ]
   ]
 
-  pub both_gone : LegsStand external tones v
-  both_gone = record {
+  pub LegsStand_both_gone : LegsStand external tones v
+  LegsStand_both_gone = record {
     count = g.size;
     each = each_stands external tones w v x y g.beside g.stand gone_x gone_y;
     one = still_one external tones w v references_gone g.stand;

@@ -12,7 +12,7 @@ use Rattle.call_states.specs.declared.leg.Side.{Side}
 use Rattle.call_states.specs.declared.leg.Side.TheVariants.{Caller, Called}
 use Rattle.call_states.specs.declared.leg.HeldLeg.{HeldLeg}
 use Rattle.call_profile.specs.Legs.{Legs, leg_at, held_at, slots_of, legs_of, is_addressed_to, leg_named, is_unused, lowest_free_reference, side_named, same_side}
-use Rattle.call_profile.proofs.LineLemmas.{unused_from, unused_all, unused_here, unused_other}
+use Rattle.call_profile.proofs.LineLemmas.{unused_from, lowest_free_reference_unused_all, unused_here, unused_other}
 use Rattle.call_profile.proofs.NamedLegLemmas.{IsOn, slots_on}
 
 -- ---- a slot that is found passes the test, and is one of those that were looked at
@@ -178,7 +178,7 @@ not_all legs line y on none all =
 -- the reference of a new called leg is unused, and one of the first thirty, where the line has a slot without a leg
 pub new_unused : (legs : Legs) (line : ℕ) (y : Slot) → IsOn line y → leg_at legs y ≡ None → (is_unused legs line (lowest_free_reference legs line) ≡ true) × (lowest_free_reference legs line ≤ 30)
 new_unused legs line y on none =
-    let same = unused_all legs line in
+    let same = lowest_free_reference_unused_all legs line in
     elim (found_or_all legs line 30 1 refl) [
       | inl found ↦ (subst (λ n. is_unused legs line n ≡ true) (sym same) found.0, omega (arith, same, found.1))
       | inr all ↦ absurd (not_all legs line y on none all)

@@ -18,10 +18,10 @@ use Rattle.control_memory.specs.Connecting.{without_path}
 use Rattle.control_memory.proofs.Steps.{was_there, hop_left}
 use Rattle.circuit_map.specs.Connections.{Connections, map_lines, hears_at, seats, Represents, is_pathless}
 use Rattle.circuit_map.proofs.Needs.{Needs, Paired, To_port, From_port, needed_is, heard_stands}
-use Rattle.circuit_map.proofs.Rows.{Hearing, cleared_row, kept_row}
+use Rattle.circuit_map.proofs.Rows.{Hearing, cleared_row, unless_naming_kept_row}
 use Rattle.circuit_map.proofs.Holdings.{Heeded, joins_needed}
 use Rattle.circuit_map.proofs.Paths.{hearing_in}
-use Rattle.circuit_map.proofs.Sockets.{port_line, count-returned, count-returned_mine, count-returned_other, returned_other, one_member, returned_none, none_counted, ported, port_found}
+use Rattle.circuit_map.proofs.Sockets.{port_line, count-returned, count-returned_mine, count-returned_other, port_of_returned_other, one_member, ports_without_returned_none, none_counted, ported, port_found}
 
 -- ---- whom a circuit names
 apart_by : (x y : Slot) → same_slot x y ≡ false → x ≡ y → ⊥
@@ -61,9 +61,9 @@ needs_was external before ports hears after x a b k (From_port room since e p) =
     (From_port room since r.0 was, λ same. let far = port_line external before b a was in let near = k.line in let line = ap (λ (s : Slot). s.line) same in omega (arith, far, near, line))
 
 pub needs_still : (external : ℕ) (before ports : Ports) (hears after : Slot → Option Circuit) (x a b : Slot) → Clears external before ports hears after x → (a ≡ x → ⊥) → (b ≡ x → ⊥) → Needs external before hears a b → Needs external ports after a b
-needs_still external before ports hears after x a b k off_a off_b (Paired since e) = Paired since (k.cleared b ∙ kept_row x (hears b) _ e (pair_stays x a b since off_a off_b))
-needs_still external before ports hears after x a b k off_a off_b (To_port room since e p) = To_port room since (k.cleared a ∙ kept_row x (hears a) _ e (same_slot-false x a (λ s. off_a (sym s)))) (k.others a off_a ∙ p)
-needs_still external before ports hears after x a b k off_a off_b (From_port room since e p) = From_port room since (k.cleared b ∙ kept_row x (hears b) _ e (same_slot-false x b (λ s. off_b (sym s)))) (k.others b off_b ∙ p)
+needs_still external before ports hears after x a b k off_a off_b (Paired since e) = Paired since (k.cleared b ∙ unless_naming_kept_row x (hears b) _ e (pair_stays x a b since off_a off_b))
+needs_still external before ports hears after x a b k off_a off_b (To_port room since e p) = To_port room since (k.cleared a ∙ unless_naming_kept_row x (hears a) _ e (same_slot-false x a (λ s. off_a (sym s)))) (k.others a off_a ∙ p)
+needs_still external before ports hears after x a b k off_a off_b (From_port room since e p) = From_port room since (k.cleared b ∙ unless_naming_kept_row x (hears b) _ e (same_slot-false x b (λ s. off_b (sym s)))) (k.others b off_b ∙ p)
 
 -- ---- a slot that needs no path
 pub pathless_pair : (o : Option Circuit) (y to : Slot) (s : ℕ) → is_pathless o ≡ true → o ≡ Some (Pair y to s) → ⊥
@@ -161,7 +161,7 @@ clears m h ports x line holds = record {
   line = line;
   hearing = hearing_in m h ports holds;
   cleared = λ z. heard_by-clear h.circuits x z (holds.valid.standing z);
-  others = λ z apart. returned_other m.external x z ports apart;
+  others = λ z apart. port_of_returned_other m.external x z ports apart;
 }
 
 ported_after : (m : Connections) (h : Holding) (ports : Ports) (x z : Slot) → Represents m h ports → count_by (has z) (ports_without x ports) ≡ count_by (seats z) (after h (Clear x)).circuits
@@ -229,15 +229,15 @@ listener_named x (Pair from to since) e = let same = same_slot-refl x in let is 
 listener_named x (Member room at since) e = rw e (same_slot-refl x)
 listener_named x (Tone kind to since) e = rw e (same_slot-refl x)
 
-pub row_of_self : (external : ℕ) (hears : Slot → Option Circuit) (x : Slot) → Hearing external hears → unless_naming x (hears x) ≡ None
-row_of_self external hears x k = go (hears x) refl
+pub unless_naming_row_of_self : (external : ℕ) (hears : Slot → Option Circuit) (x : Slot) → Hearing external hears → unless_naming x (hears x) ≡ None
+unless_naming_row_of_self external hears x k = go (hears x) refl
   where
     go : (o : Option Circuit) → hears x ≡ o → unless_naming x o ≡ None
     go None e = refl
     go (Some c) e = let named = listener_named x c (k.own x c e) in rw named refl
 
-pub row_of_other : (external : ℕ) (hears : Slot → Option Circuit) (x z : Slot) → Hearing external hears → (z ≡ x → ⊥) → ((s : ℕ) → hears z ≡ Some (Pair x z s) → ⊥) → unless_naming x (hears z) ≡ hears z
-row_of_other external hears x z k apart never = go (hears z) refl
+pub unless_naming_row_of_other : (external : ℕ) (hears : Slot → Option Circuit) (x z : Slot) → Hearing external hears → (z ≡ x → ⊥) → ((s : ℕ) → hears z ≡ Some (Pair x z s) → ⊥) → unless_naming x (hears z) ≡ hears z
+unless_naming_row_of_other external hears x z k apart never = go (hears z) refl
   where
     go : (o : Option Circuit) → hears z ≡ o → unless_naming x o ≡ o
     go None e = refl
@@ -251,8 +251,8 @@ row_of_other external hears x z k apart never = go (hears z) refl
 -- the row of the cleared slot goes
 pub rows_one : (external : ℕ) (hears : Slot → Option Circuit) (x z : Slot) → Hearing external hears → ((s : ℕ) → hears x ≡ Some (Pair z x s) → ⊥) → (if same_slot z x then None else hears z) ≡ unless_naming x (hears z)
 rows_one external hears x z k never = elim (same_slot_cases z x) [
-  | inl here ↦ rw here (ap (λ b. if b then None else hears x) (same_slot-refl x) ∙ sym (row_of_self external hears x k))
-  | inr away ↦ ap (λ b. if b then None else hears z) away ∙ sym (row_of_other external hears x z k (apart_by z x away) (λ s e. never s (k.both_ways z x s e)))
+  | inl here ↦ rw here (ap (λ b. if b then None else hears x) (same_slot-refl x) ∙ sym (unless_naming_row_of_self external hears x k))
+  | inr away ↦ ap (λ b. if b then None else hears z) away ∙ sym (unless_naming_row_of_other external hears x z k (apart_by z x away) (λ s e. never s (k.both_ways z x s e)))
 ]
 
 -- and the row of the other end of its connection
@@ -260,10 +260,10 @@ pub rows_two : (external : ℕ) (hears : Slot → Option Circuit) (x y z : Slot)
 rows_two external hears x y z s k hx = elim (same_slot_cases z y) [
   | inl at_y ↦ rw at_y (ap (λ b. if b then None else if same_slot y x then None else hears y) (same_slot-refl y) ∙ sym (gone y (k.both_ways x y s hx)))
   | inr off_y ↦ elim (same_slot_cases z x) [
-    | inl at_x ↦ rw at_x (same_either (same_slot x y) (same_slot x x) (hears x) (same_slot-refl x) ∙ sym (row_of_self external hears x k))
+    | inl at_x ↦ rw at_x (same_either (same_slot x y) (same_slot x x) (hears x) (same_slot-refl x) ∙ sym (unless_naming_row_of_self external hears x k))
     | inr off_x ↦
         ap (λ b. if b then None else if same_slot z x then None else hears z) off_y ∙ ap (λ b. if b then None else hears z) off_x
-        ∙ sym (row_of_other external hears x z k (apart_by z x off_x) (λ t e. apart_by z y off_y (same_pair z x y x t s (sym (k.both_ways z x t e) ∙ hx))))
+        ∙ sym (unless_naming_row_of_other external hears x z k (apart_by z x off_x) (λ t e. apart_by z y off_y (same_pair z x y x t s (sym (k.both_ways z x t e) ∙ hx))))
   ]
 ]
   where
@@ -333,14 +333,14 @@ unseated h bridges x v never c inside e =
     let for_x : listener c ≡ x = ap listener s.3 ∙ sym s.4 in
     never s.0 s.1 s.2 (sym (ap (heard_by h.circuits) for_x) ∙ found ∙ ap (λ t. Some t) s.3)
 
-pub nobody_returns : (m : Connections) (h : Holding) (ports : Ports) (x : Slot) → ((room : ℕ) (at : Slot) (s : ℕ) → hears_at m x ≡ Some (Member room at s) → ⊥) → Represents m h ports → ports_without x m.ports ≡ m.ports
-nobody_returns m h ports x never holds =
+pub ports_without_nobody_returns : (m : Connections) (h : Holding) (ports : Ports) (x : Slot) → ((room : ℕ) (at : Slot) (s : ℕ) → hears_at m x ≡ Some (Member room at s) → ⊥) → Represents m h ports → ports_without x m.ports ≡ m.ports
+ports_without_nobody_returns m h ports x never holds =
     let none = seats_none x h.circuits (λ c inside. not_true (seats x c) (unseated h m.bridges x holds.valid (λ room at s e. never room at s (holds.heard x ∙ e)) c inside)) in
-    returned_none x m.ports (ap (count_by (has x)) holds.members ∙ holds.ported x ∙ none)
+    ports_without_returned_none x m.ports (ap (count_by (has x)) holds.members ∙ holds.ported x ∙ none)
 
 -- ---- the paths of what is cleared
-pub connected_to : (m : Connections) (h : Holding) (ports : Ports) (x y to : Slot) (s : ℕ) → Represents m h ports → hears_at m x ≡ Some (Pair y to s) → hears_at m x ≡ Some (Pair y x s)
-connected_to m h ports x y to s holds e = let own : to ≡ x = (hearing_at m h ports holds).own x (Pair y to s) e in e ∙ (λ i. Some (Pair y (own i) s))
+pub hears_at_connected_to : (m : Connections) (h : Holding) (ports : Ports) (x y to : Slot) (s : ℕ) → Represents m h ports → hears_at m x ≡ Some (Pair y to s) → hears_at m x ≡ Some (Pair y x s)
+hears_at_connected_to m h ports x y to s holds e = let own : to ≡ x = (hearing_at m h ports holds).own x (Pair y to s) e in e ∙ (λ i. Some (Pair y (own i) s))
 
 pub joined_there : (m : Connections) (h : Holding) (ports : Ports) (x y : Slot) (s : ℕ) → Represents m h ports → IsSlot (map_lines m) x → hears_at m x ≡ Some (Pair y x s) → Joins m.layout x y
 joined_there m h ports x y s holds inside e = (joins_needed m h ports x y holds inside).1 (Paired s (sym (holds.heard y) ∙ (hearing_at m h ports holds).both_ways x y s e))
@@ -352,8 +352,8 @@ pub still_joined : (lines : ℕ) (first second : Layout) (x y : Slot) → length
 still_joined lines first second x y size one in_x in_y apart j = subst (λ l. Joins l y x) (sym one) ((one_less lines first x y x size in_x in_y).1 (j, apart))
 
 -- ---- a member and its port
-pub seated_in : (m : Connections) (h : Holding) (ports : Ports) (x at : Slot) (room s : ℕ) → Represents m h ports → hears_at m x ≡ Some (Member room at s) → hears_at m x ≡ Some (Member room x s)
-seated_in m h ports x at room s holds e = let own : at ≡ x = (hearing_at m h ports holds).own x (Member room at s) e in e ∙ (λ i. Some (Member room (own i) s))
+pub hears_at_seated_in : (m : Connections) (h : Holding) (ports : Ports) (x at : Slot) (room s : ℕ) → Represents m h ports → hears_at m x ≡ Some (Member room at s) → hears_at m x ≡ Some (Member room x s)
+hears_at_seated_in m h ports x at room s holds e = let own : at ≡ x = (hearing_at m h ports holds).own x (Member room at s) e in e ∙ (λ i. Some (Member room (own i) s))
 
 pub above_zero : (n : ℕ) → (n ≡ 0 → ⊥) → 0 < n
 above_zero zero never = absurd (never refl)

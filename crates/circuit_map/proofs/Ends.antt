@@ -12,10 +12,10 @@ use Rattle.control_memory.specs.Layout.{IsSlot}
 use Rattle.circuit_map.specs.Connections.{Connections, IsExternal, IsSound, AreJoined, CanBeJoined, map_lines, hears_at, parted}
 use Rattle.control_memory.specs.Connecting.{without_path}
 use Rattle.control_memory.specs.Shown.{without_both, partner}
-use Rattle.circuit_map.proofs.Paths.{external_slot, no_inlet, no_outlet}
+use Rattle.circuit_map.proofs.Paths.{external_slot, hop_of_no_inlet, path_to_no_outlet}
 use Rattle.circuit_map.proofs.Views.{idle_seen, idle_free}
 use Rattle.circuit_map.proofs.Seating.{FreePort, free_port, port_beyond, port_joins_none, none_joins_port, seated_port}
-use Rattle.circuit_map.proofs.Clearing.{hearing_at, connected_to, joined_there, joined_back, seated_in, member_ported, joined_port, port_joined, port_slot, port_apart}
+use Rattle.circuit_map.proofs.Clearing.{hearing_at, hears_at_connected_to, joined_there, joined_back, hears_at_seated_in, member_ported, joined_port, port_joined, port_slot, port_apart}
 
 -- the ends of a connection
 pub record AreEnds (m : Connections) (lines : ℕ) (x y : Slot) (since : ℕ) : Type 0 where
@@ -69,7 +69,7 @@ module _ (k m : Connections) (lines first rows : ℕ) (owners : List (Option Occ
       let holds = sound.held.1 in
       let near = seen x at in
       let known = hearing_at k h k.ports holds in
-      let hx = connected_to k h k.ports x y to since holds (ap (λ (m : Connections). hears_at m x) is ∙ hears) in
+      let hx = hears_at_connected_to k h k.ports x y to since holds (ap (λ (m : Connections). hears_at m x) is ∙ hears) in
       let hy = known.both_ways x y since hx in
       let far = known.inside y _ hy in
       let slot = external_slot k y far.0 far.1 in
@@ -91,7 +91,7 @@ module _ (k m : Connections) (lines first rows : ℕ) (owners : List (Option Occ
   port_not_lacking x at room since hears lacks =
       let h = sound.held.0 in
       let holds = sound.held.1 in
-      let hx = seated_in k h k.ports x at room since holds (ap (λ (m : Connections). hears_at m x) is ∙ hears) in
+      let hx = hears_at_seated_in k h k.ports x at room since holds (ap (λ (m : Connections). hears_at m x) is ∙ hears) in
       member_ported k h k.ports x room since holds hx (ap (λ e. port_of e k.ports x) (sym sound.first) ∙ lacks)
 
   pub port_had : (x p at : Slot) (room since : ℕ) → IsExternal m x → hears_at m x ≡ Some (Member room at since) → port_of first k.ports x ≡ Some p → HasPort k lines x p room since
@@ -99,7 +99,7 @@ module _ (k m : Connections) (lines first rows : ℕ) (owners : List (Option Occ
       let h = sound.held.0 in
       let holds = sound.held.1 in
       let near = seen x in_x in
-      let hx = seated_in k h k.ports x at room since holds (ap (λ (m : Connections). hears_at m x) is ∙ hears) in
+      let hx = hears_at_seated_in k h k.ports x at room since holds (ap (λ (m : Connections). hears_at m x) is ∙ hears) in
       let port : port_of k.external k.ports x ≡ Some p = ap (λ e. port_of e k.ports x) (sym sound.first) ∙ has in
       let inside = port_slot k.external k.bridges k.ports x p port sound.sockets in
       record {
@@ -134,8 +134,8 @@ module _ (k m : Connections) (lines first rows : ℕ) (owners : List (Option Occ
           distinct = λ e. port_beyond k.external x p near.0 f.far (sym e);
           free_x = idle_free k lines x sound.width sound.legal.inlets sound.held near idle;
           free_y = (
-            no_inlet k.layout p (λ b j. port_joins_none k h k.ports p b f.number holds f.inside f.far f.lowest f.is j),
-            no_outlet lines k.layout p sound.legal.inlets (λ a inside j. none_joins_port k h k.ports a p f.number holds (subst (λ w. IsSlot w a) sound.width inside) f.far f.lowest f.is j),
+            hop_of_no_inlet k.layout p (λ b j. port_joins_none k h k.ports p b f.number holds f.inside f.far f.lowest f.is j),
+            path_to_no_outlet lines k.layout p sound.legal.inlets (λ a inside j. none_joins_port k h k.ports a p f.number holds (subst (λ w. IsSlot w a) sound.width inside) f.far f.lowest f.is j),
           );
         };
         port = seated_port k h k.ports x p f.number holds idle f.lowest f.is;

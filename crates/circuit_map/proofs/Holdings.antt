@@ -9,7 +9,7 @@ use Rattle.circuit_model.specs.declared.circuit.Circuit.TheVariants.{Pair, Tone}
 use Rattle.circuit_model.specs.Circuits.{same_slot, heard_by, is_idle, is_member}
 use Rattle.circuit_model.specs.Holding.{Holding, Valid, Command, Connect, Give_tone, Frame, after}
 use Rattle.circuit_model.specs.Ports.{Ports, ports_after}
-use Rattle.circuit_model.proofs.Slots.{same_slot-refl, same_slot-false, same_slot_cases, idle_is_deaf}
+use Rattle.circuit_model.proofs.Slots.{same_slot-refl, same_slot-false, same_slot_cases, heard_by_idle_is_deaf}
 use Rattle.circuit_model.proofs.Hearing.{heard_by-one, heard_by-two}
 use Rattle.circuit_model.proofs.Validity.{deaf_is_idle, count_by-append, valid-tone, valid-connect, valid-frame}
 use Rattle.control_memory.specs.Layout.{IsSlot, Joins}
@@ -30,8 +30,8 @@ silent : (o : Option Circuit) → is_none o ≡ true → o ≡ None
 silent None e = refl
 silent (Some c) e = absurd (cc)
 
-pub idle_is : (m : Connections) (h : Holding) (ports : Ports) (x : Slot) → Represents m h ports → is_none (hears_at m x) ≡ is_idle h.circuits x
-idle_is m h ports x holds = one_idle (is_none (hears_at m x)) (is_idle h.circuits x) (λ e. idle_in m h ports x holds (silent (hears_at m x) e)) (λ e. ap is_none (holds.heard x ∙ idle_is_deaf h.circuits x e))
+pub is_none-hears_at_idle : (m : Connections) (h : Holding) (ports : Ports) (x : Slot) → Represents m h ports → is_none (hears_at m x) ≡ is_idle h.circuits x
+is_none-hears_at_idle m h ports x holds = one_idle (is_none (hears_at m x)) (is_idle h.circuits x) (λ e. idle_in m h ports x holds (silent (hears_at m x) e)) (λ e. ap is_none (holds.heard x ∙ heard_by_idle_is_deaf h.circuits x e))
 
 pub joins_needed : (m : Connections) (h : Holding) (ports : Ports) (a b : Slot) → Represents m h ports → IsSlot (map_lines m) a → Joins m.layout a b ↔ Needs m.external ports (heard_by h.circuits) a b
 joins_needed m h ports a b holds inside =

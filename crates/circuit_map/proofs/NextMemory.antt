@@ -25,9 +25,9 @@ use Rattle.control_memory.specs.Shown.{heard_as, seated_as, member_at, served_by
 use Rattle.control_memory.proofs.Steps.{same_number}
 use Rattle.circuit_map.specs.Connections.{Connections, hears_in, hears_at, seats, Represents, served_in, room_in, entry_at, IsShown}
 use Rattle.circuit_map.proofs.Rows.{hears_written}
-use Rattle.circuit_map.proofs.Sockets.{given_at, portless, none_counted, count-returned_mine, port_found, port_line}
-use Rattle.circuit_map.proofs.Clearing.{nobody_returns, above_zero}
-use Rattle.circuit_map.proofs.Starting.{none_at, silent_rows}
+use Rattle.circuit_map.proofs.Sockets.{ports_with_given_at, portless, none_counted, count-returned_mine, port_found, port_line}
+use Rattle.circuit_map.proofs.Clearing.{ports_without_nobody_returns, above_zero}
+use Rattle.circuit_map.proofs.Starting.{get_or-replicate_none, hears_in_silent_rows}
 
 -- ---- one entry written
 pub entry_written : {X : Type 0} (lines : ℕ) (missing : X) (rows : List X) (x : Slot) (n : ℕ) (o : X) (at : Slot) → length rows ≡ 30 * lines → IsSlot lines x → IsSlot lines at → n ≡ number_of x
@@ -132,7 +132,7 @@ served_given external ports hears x p k at lowest is place = elim (cases_lt at.l
       ∙ sym (ap (λ b. if b then hears x else served external ports hears at) (not_port external p k at is line))
   | inr line ↦
       serves_member external (ports_with x ports) hears at line
-      ∙ ap (λ (ps : Ports). option_and_then hears (member_at external ps at)) (given_at x ports k lowest)
+      ∙ ap (λ (ps : Ports). option_and_then hears (member_at external ps at)) (ports_with_given_at x ports k lowest)
       ∙ elim (same_slot_cases at p) [
         | inl here ↦
             let same : same_slot at p ≡ true = rw here (same_slot-refl p) in
@@ -161,8 +161,8 @@ seats_once x cs (Is_seated room s e) = let same = same_slot-refl x in let all = 
 seats_once x cs (Is_connected y s apart (inl e)) = let all = seats_by_name x cs ∙ ap (count_by (seats x)) e in omega (arith, all)
 seats_once x cs (Is_connected y s apart (inr e)) = let all = seats_by_name x cs ∙ ap (count_by (seats x)) e in omega (arith, all)
 
-pub one_port : (m : Connections) (h : Holding) (ports : Ports) (x : Slot) → Represents m h ports → count_by (has x) m.ports ≤ 1
-one_port m h ports x holds =
+pub count_by-has_one_port : (m : Connections) (h : Holding) (ports : Ports) (x : Slot) → Represents m h ports → count_by (has x) m.ports ≤ 1
+count_by-has_one_port m h ports x holds =
     let counted = ap (count_by (has x)) holds.members ∙ holds.ported x in
     let once = seats_once x h.circuits (holds.valid.standing x) in
     omega (arith, counted, once)
@@ -238,7 +238,7 @@ shown_silent external bridges n k = record {
   hearers = length-replicate (30 * (external + bridges)) Silent;
   sitters = length-replicate (30 * bridges) None;
   hears = λ at line place. get_or-replicate (30 * (external + bridges)) (number_of at) Silent Silent (omega (arith, line, place)) ∙ sym (ap heard_as (nothing at));
-  sits = λ at line place. no_entry (nat_lt at.line external) _ (none_at (30 * bridges) (port_number external at)) ∙ sym (room_by external at (served_in external (replicate n None) (replicate k None) at) None (λ far. nothing at) ∙ no_room (nat_lt at.line external));
+  sits = λ at line place. no_entry (nat_lt at.line external) _ (get_or-replicate_none (30 * bridges) (port_number external at)) ∙ sym (room_by external at (served_in external (replicate n None) (replicate k None) at) None (λ far. nothing at) ∙ no_room (nat_lt at.line external));
 }
   where
     no_room : (b : Bool) → (if b then None else seated_as None) ≡ None
@@ -251,7 +251,7 @@ shown_silent external bridges n k = record {
 
     silent : (o : Option Slot) → option_and_then (hears_in external (replicate n None)) o ≡ None
     silent None = refl
-    silent (Some z) = silent_rows external n z
+    silent (Some z) = hears_in_silent_rows external n z
 
     nothing : (at : Slot) → served_in external (replicate n None) (replicate k None) at ≡ None
     nothing at = silent (served_by external (replicate k None) at)
@@ -332,8 +332,8 @@ shown_returned external bridges heard ports hearing sitting x p n q old at_p onc
     (λ at place. served_returned external ports (hears_in external heard) x p f.0 at f.1 f.2 once place)
 
 -- ---- who has no port
-pub returned_portless : (external : ℕ) (ports : Ports) (x : Slot) → port_of external (ports_without x ports) x ≡ None
-returned_portless external ports x = portless external (ports_without x ports) x (count-returned_mine x ports)
+pub port_of_returned_portless : (external : ℕ) (ports : Ports) (x : Slot) → port_of external (ports_without x ports) x ≡ None
+port_of_returned_portless external ports x = portless external (ports_without x ports) x (count-returned_mine x ports)
 
-pub unseated_portless : (m : Connections) (h : Holding) (ports : Ports) (x : Slot) → ((room : ℕ) (at : Slot) (s : ℕ) → hears_at m x ≡ Some (Member room at s) → ⊥) → Represents m h ports → port_of m.external m.ports x ≡ None
-unseated_portless m h ports x never holds = ap (λ ps. port_of m.external ps x) (sym (nobody_returns m h ports x never holds)) ∙ returned_portless m.external m.ports x
+pub port_of_unseated_portless : (m : Connections) (h : Holding) (ports : Ports) (x : Slot) → ((room : ℕ) (at : Slot) (s : ℕ) → hears_at m x ≡ Some (Member room at s) → ⊥) → Represents m h ports → port_of m.external m.ports x ≡ None
+port_of_unseated_portless m h ports x never holds = ap (λ ps. port_of m.external ps x) (sym (ports_without_nobody_returns m h ports x never holds)) ∙ port_of_returned_portless m.external m.ports x

@@ -13,10 +13,10 @@ use Rattle.circuit_model.specs.Ports.{has}
 use Rattle.circuit_model.proofs.Slots.{true_or_false, same_slot-false}
 use Rattle.conference_ports.specs.declared.occupant.Occupant.{Occupant}
 use Rattle.conference_ports.specs.Owners.{member_of, owners_with, owners_without}
-use Rattle.conference_ports.proofs.Positions.{owned_at}
+use Rattle.conference_ports.proofs.Positions.{owners_with_owned_at}
 use Rattle.circuit_map.specs.Connections.{AreRoomed}
-use Rattle.circuit_map.proofs.Rows.{kept_row}
-use Rattle.circuit_map.proofs.Starting.{none_at}
+use Rattle.circuit_map.proofs.Rows.{unless_naming_kept_row}
+use Rattle.circuit_map.proofs.Starting.{get_or-replicate_none}
 
 -- members go on hearing as they did
 pub roomed_on : (hears after : Slot → Option Circuit) (owners : List (Option Occupant)) → AreRoomed hears owners → ((z : Slot) (room since : ℕ) → hears z ≡ Some (Member room z since) → after z ≡ Some (Member room z since)) → AreRoomed after owners
@@ -24,7 +24,7 @@ roomed_on hears after owners old kept = λ k owner e. let was = old k owner e in
 
 -- nobody owns a port
 pub roomed_free : (hears : Slot → Option Circuit) (owners : List (Option Occupant)) (n : ℕ) → owners ≡ replicate n None → AreRoomed hears owners
-roomed_free hears owners n free = λ k owner e. let wrong = sym (ap (λ os. get_or os k None) free ∙ none_at n k) ∙ e in absurd (cc)
+roomed_free hears owners n free = λ k owner e. let wrong = sym (ap (λ os. get_or os k None) free ∙ get_or-replicate_none n k) ∙ e in absurd (cc)
 
 some_owner : (a b : Occupant) → Some a ≡ Some b → a ≡ b
 some_owner a b e = cc
@@ -35,7 +35,7 @@ pub roomed_given : (hears after : Slot → Option Circuit) (owners : List (Optio
 roomed_given hears after owners x room since k old lowest mine kept =
     let new : Occupant = record { room = room; member = x } in
     let inside = (position-Some is_none owners k None lowest).0 in
-    subst (AreRoomed after) (sym (owned_at new owners k lowest)) (λ j owner e. elim (cases_eq j k) [
+    subst (AreRoomed after) (sym (owners_with_owned_at new owners k lowest)) (λ j owner e. elim (cases_eq j k) [
       | inl here ↦
           let is = some_owner new owner (sym (ap (λ i. get_or (set owners k (Some new)) i None) here ∙ get_or-set_same owners k (Some new) None inside) ∙ e) in
           subst (λ (o : Occupant). (s : ℕ) × (after o.member ≡ Some (Member o.room o.member s))) is (since, mine)
@@ -49,7 +49,7 @@ roomed_given hears after owners x room since k old lowest mine kept =
 pub others_hear_on : (hears after : Slot → Option Circuit) (x : Slot) → ((z : Slot) → after z ≡ unless_naming x (hears z)) → ((room since : ℕ) → hears x ≡ Some (Member room x since) → ⊥)
     → (z : Slot) (room since : ℕ) → hears z ≡ Some (Member room z since) → after z ≡ Some (Member room z since)
 others_hear_on hears after x cleared never z room since e =
-    cleared z ∙ kept_row x (hears z) (Member room z since) e (same_slot-false x z (λ same. never room since (subst (λ t. hears t ≡ Some (Member room t since)) (sym same) e)))
+    cleared z ∙ unless_naming_kept_row x (hears z) (Member room z since) e (same_slot-false x z (λ same. never room since (subst (λ t. hears t ≡ Some (Member room t since)) (sym same) e)))
 
 still_owned : (x : Slot) (o : Option Occupant) (owner : Occupant) → (if has x (member_of o) then None else o) ≡ Some owner → (o ≡ Some owner) × (same_slot x owner.member ≡ false)
 still_owned x None owner e = absurd (cc)
@@ -63,4 +63,4 @@ pub roomed_returned : (hears after : Slot → Option Circuit) (owners : List (Op
 roomed_returned hears after owners x old cleared = λ k owner e.
     let still = still_owned x (get_or owners k None) owner (sym (get_or-map (λ (port : Option Occupant). if has x (member_of port) then None else port) owners k None) ∙ e) in
     let was = old k owner still.0 in
-    (was.0, cleared owner.member ∙ kept_row x (hears owner.member) (Member owner.room owner.member was.0) was.1 still.1)
+    (was.0, cleared owner.member ∙ unless_naming_kept_row x (hears owner.member) (Member owner.room owner.member was.0) was.1 still.1)

@@ -17,15 +17,15 @@ use Rattle.circuit_map.proofs.Holdings.{joins_needed}
 use Rattle.circuit_map.proofs.Sockets.{port_line}
 
 -- ---- by the layout
-pub no_inlet : (layout : Layout) (x : Slot) → ((b : Slot) → Joins layout x b → ⊥) → hop_of layout x ≡ None
-no_inlet layout x never = go (hop_of layout x) refl
+pub hop_of_no_inlet : (layout : Layout) (x : Slot) → ((b : Slot) → Joins layout x b → ⊥) → hop_of layout x ≡ None
+hop_of_no_inlet layout x never = go (hop_of layout x) refl
   where
     go : (o : Option Route) → hop_of layout x ≡ o → o ≡ None
     go None e = refl
     go (Some hop) e = absurd (never hop.to (hop.slot, e))
 
-pub no_outlet : (lines : ℕ) (layout : Layout) (y : Slot) → length layout ≡ 30 * lines → ((a : Slot) → IsSlot lines a → Joins layout a y → ⊥) → path_to layout y ≡ None
-no_outlet lines layout y size never = go (path_to layout y) refl
+pub path_to_no_outlet : (lines : ℕ) (layout : Layout) (y : Slot) → length layout ≡ 30 * lines → ((a : Slot) → IsSlot lines a → Joins layout a y → ⊥) → path_to layout y ≡ None
+path_to_no_outlet lines layout y size never = go (path_to layout y) refl
   where
     go : (o : Option Path) → path_to layout y ≡ o → o ≡ None
     go None e = refl

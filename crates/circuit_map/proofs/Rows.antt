@@ -29,15 +29,15 @@ hears_inside external heard z line place = grind (arith, nat_tests)
 pub hears_external : (external : ℕ) (heard : List (Option Circuit)) (z : Slot) (c : Circuit) → hears_in external heard z ≡ Some c → (z.line < external) × (z.place < 30)
 hears_external external heard z c e = elim (in_or_out external z) [ inl inside ↦ inside | inr out ↦ let wrong = sym (out heard) ∙ e in absurd (cc) ]
 
-pub row_inside : (external : ℕ) (x : Slot) → x.line < external → x.place < 30 → number_of x < 30 * external
-row_inside external x line place = omega (arith, line, place)
+pub number_of_inside : (external : ℕ) (x : Slot) → x.line < external → x.place < 30 → number_of x < 30 * external
+number_of_inside external x line place = omega (arith, line, place)
 
 row_written : (external : ℕ) (heard : List (Option Circuit)) (x : Slot) (o : Option Circuit) (z : Slot) → length heard ≡ 30 * external → x.line < external → x.place < 30 → z.line < external → z.place < 30
     → get_or (set heard (number_of x) o) (number_of z) None ≡ (if same_slot z x then o else get_or heard (number_of z) None)
 row_written external heard x o z size line place z_line z_place = elim (same_slot_cases z x) [
   | inl here ↦
       let same = same_slot-refl x in
-      rw here (get_or-set_same heard (number_of x) o None (let n = row_inside external x line place in omega (arith, n, size)) ∙ sym (ap (λ b. if b then o else get_or heard (number_of x) None) same))
+      rw here (get_or-set_same heard (number_of x) o None (let n = number_of_inside external x line place in omega (arith, n, size)) ∙ sym (ap (λ b. if b then o else get_or heard (number_of x) None) same))
   | inr away ↦
       get_or-set_other heard (number_of x) (number_of z) o None (λ e. let is = same_number z x z_place place e in let same = same_slot-refl x in let wrong : same_slot x x ≡ false = subst (λ t. same_slot t x ≡ false) is away in absurd (cc))
       ∙ sym (ap (λ b. if b then o else get_or heard (number_of z) None) away)
@@ -50,7 +50,7 @@ hears_written external heard x o z size line place = elim (in_or_out external z)
       hears_inside external (set heard (number_of x) o) z inside.0 inside.1 ∙ row_written external heard x o z size line place inside.0 inside.1
       ∙ ap (λ r. if same_slot z x then o else r) (sym (hears_inside external heard z inside.0 inside.1))
   | inr out ↦
-      let away : same_slot z x ≡ false = same_slot-false z x (λ e. let i = hears_inside external (set heard (number_of x) (Some (Member 0 x 0))) x line place ∙ get_or-set_same heard (number_of x) (Some (Member 0 x 0)) None (let n = row_inside external x line place in omega (arith, n, size)) in let wrong = sym (out (set heard (number_of x) (Some (Member 0 x 0)))) ∙ ap (hears_in external (set heard (number_of x) (Some (Member 0 x 0)))) e ∙ i in absurd (cc)) in
+      let away : same_slot z x ≡ false = same_slot-false z x (λ e. let i = hears_inside external (set heard (number_of x) (Some (Member 0 x 0))) x line place ∙ get_or-set_same heard (number_of x) (Some (Member 0 x 0)) None (let n = number_of_inside external x line place in omega (arith, n, size)) in let wrong = sym (out (set heard (number_of x) (Some (Member 0 x 0)))) ∙ ap (hears_in external (set heard (number_of x) (Some (Member 0 x 0)))) e ∙ i in absurd (cc)) in
       out (set heard (number_of x) o) ∙ sym (ap (λ b. if b then o else hears_in external heard z) away ∙ out heard)
 ]
 
@@ -142,5 +142,5 @@ cleared_row x (Some d) c e = elim (true_or_false (names x d)) [
   | inr other ↦ let is : d ≡ c = grind (arith, common_steps) in (ap (λ t. Some t) is, subst (λ t. names x t ≡ false) is other)
 ]
 
-pub kept_row : (x : Slot) (o : Option Circuit) (c : Circuit) → o ≡ Some c → names x c ≡ false → unless_naming x o ≡ Some c
-kept_row x o c e other = rw e (grind (arith, common_steps))
+pub unless_naming_kept_row : (x : Slot) (o : Option Circuit) (c : Circuit) → o ≡ Some c → names x c ≡ false → unless_naming x o ≡ Some c
+unless_naming_kept_row x o c e other = rw e (grind (arith, common_steps))

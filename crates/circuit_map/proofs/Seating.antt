@@ -22,7 +22,7 @@ use Rattle.circuit_map.specs.Connections.{Connections, map_lines, hears_at, hear
 use Rattle.circuit_map.proofs.Needs.{Needs, Paired, To_port, From_port, needed_is}
 use Rattle.circuit_map.proofs.Rows.{Hearing, adds, Fresh, Fresh_pair, Fresh_to, Fresh_from, needs_kept, needs_split}
 use Rattle.circuit_map.proofs.Holdings.{idle_in, joins_needed}
-use Rattle.circuit_map.proofs.Sockets.{given_other, given_here, count-given, one_free, none_free, portless, port_found, one_number}
+use Rattle.circuit_map.proofs.Sockets.{port_of_given_other, port_of_given_here, count-given, count_by-is_some_one_free, count_by-is_some_none_free, portless, port_found, one_number}
 use Rattle.circuit_map.proofs.Paths.{hearing_in}
 
 -- a member's row is written, the member has the lowest free port, and the layout has two paths more
@@ -56,9 +56,9 @@ seated_is_named x (Pair from to since) cs rest idle = grind (arith, common_steps
 seated_is_named x (Member room at since) cs rest idle = grind (arith, common_steps)
 seated_is_named x (Tone kind to since) cs rest idle = grind (arith, common_steps)
 
-pub idle_seats : (circuits : List Circuit) (x : Slot) → is_idle circuits x ≡ true → count_by (seats x) circuits ≡ 0
-idle_seats [] x idle = refl
-idle_seats (c ∷ cs) x idle = seated_is_named x c cs (idle_seats cs x) idle
+pub count_by-seats_idle : (circuits : List Circuit) (x : Slot) → is_idle circuits x ≡ true → count_by (seats x) circuits ≡ 0
+count_by-seats_idle [] x idle = refl
+count_by-seats_idle (c ∷ cs) x idle = seated_is_named x c cs (count_by-seats_idle cs x) idle
 
 pub holds_seat : (m n : Connections) (x p : Slot) (room k : ℕ) → length m.ports ≡ 30 * m.bridges → hears_at m x ≡ None → Seated m n x p room k → Obeys m n (Seat x room)
 holds_seat m n x p room k sockets none w h ports holds =
@@ -66,14 +66,14 @@ holds_seat m n x p room k sockets none w h ports holds =
     let later : Holding = after h (Seat x room) in
     let lowest : position is_none ports ≡ Some k = subst (λ q. position is_none q ≡ Some k) holds.members w.lowest in
     let long : length ports ≡ 30 * m.bridges = subst (λ (q : Ports). length q ≡ 30 * m.bridges) holds.members sockets in
-    let room_left : count_by is_member h.circuits < 30 * m.bridges = let free = one_free ports k lowest in let taken = holds.taken in omega (arith, free, taken, long) in
+    let room_left : count_by is_member h.circuits < 30 * m.bridges = let free = count_by-is_some_one_free ports k lowest in let taken = holds.taken in omega (arith, free, taken, long) in
     let valid = valid-seat m.bridges h x room holds.valid idle room_left in
     let one : (z : Slot) → heard_by later.circuits z ≡ (if same_slot z x then Some (Member room x h.next) else heard_by h.circuits z) = λ z. heard_by-one h.circuits (Member room x h.next) z idle in
     let silent : heard_by h.circuits x ≡ None = sym (holds.heard x) ∙ none in
     let more = adds (heard_by h.circuits) (heard_by later.circuits) x (Some (Member room x h.next)) one silent in
-    let others : (z : Slot) → (z ≡ x → ⊥) → port_of m.external (ports_with x ports) z ≡ port_of m.external ports z = λ z apart. given_other m.external x z ports k lowest apart in
-    let free_of_x : count_by (has x) ports ≡ 0 = holds.ported x ∙ idle_seats h.circuits x idle in
-    let at_p : port_of m.external (ports_with x ports) x ≡ Some p = given_here m.external x ports k lowest free_of_x ∙ ap (λ q. Some q) (sym w.port) in
+    let others : (z : Slot) → (z ≡ x → ⊥) → port_of m.external (ports_with x ports) z ≡ port_of m.external ports z = λ z apart. port_of_given_other m.external x z ports k lowest apart in
+    let free_of_x : count_by (has x) ports ≡ 0 = holds.ported x ∙ count_by-seats_idle h.circuits x idle in
+    let at_p : port_of m.external (ports_with x ports) x ≡ Some p = port_of_given_here m.external x ports k lowest free_of_x ∙ ap (λ q. Some q) (sym w.port) in
     record {
       next = w.next ∙ holds.next;
       valid = subst (λ b. Valid b later) (sym w.bridges) valid;
@@ -120,35 +120,35 @@ free_found : (owners : List (Option Occupant)) → position_or_len is_none (memb
 free_found [] = refl
 free_found (owner ∷ owners) = free_step owner owners (free_found owners)
 
-pub free_in_members : (owners : List (Option Occupant)) → position is_none (members owners) ≡ position is_none owners
-free_in_members owners =
+pub position-members : (owners : List (Option Occupant)) → position is_none (members owners) ≡ position is_none owners
+position-members owners =
     ap (λ n. cond (ltb n (length (members owners))) (Some n) None) (free_found owners) ∙ ap (λ n. cond (ltb (position_or_len is_none owners) n) (Some (position_or_len is_none owners)) None) (length-map owners member_of)
 
 pub lowest_port : (external : ℕ) (owners : List (Option Occupant)) (p : Slot) → option_map (port_numbered external) (position is_none owners) ≡ Some p → (k : ℕ) × (position is_none (members owners) ≡ Some k) × (p ≡ port_numbered external k)
-lowest_port external owners p e = let f = lowest_found external (position is_none owners) p e in (f.0, free_in_members owners ∙ f.1, f.2)
+lowest_port external owners p e = let f = lowest_found external (position is_none owners) p e in (f.0, position-members owners ∙ f.1, f.2)
 
 pub no_number : (external : ℕ) (o : Option ℕ) → option_map (port_numbered external) o ≡ None → o ≡ None
 no_number external None e = refl
 no_number external (Some k) e = absurd (cc)
 
 pub no_lowest : (external : ℕ) (owners : List (Option Occupant)) → option_map (port_numbered external) (position is_none owners) ≡ None → position is_none (members owners) ≡ None
-no_lowest external owners e = free_in_members owners ∙ no_number external (position is_none owners) e
+no_lowest external owners e = position-members owners ∙ no_number external (position is_none owners) e
 
-pub idle_portless : (m : Connections) (h : Holding) (ports : Ports) (x : Slot) → Represents m h ports → hears_at m x ≡ None → port_of m.external m.ports x ≡ None
-idle_portless m h ports x holds none =
-    ap (λ p. port_of m.external p x) holds.members ∙ portless m.external ports x (holds.ported x ∙ idle_seats h.circuits x (idle_in m h ports x holds none))
+pub port_of_idle_portless : (m : Connections) (h : Holding) (ports : Ports) (x : Slot) → Represents m h ports → hears_at m x ≡ None → port_of m.external m.ports x ≡ None
+port_of_idle_portless m h ports x holds none =
+    ap (λ p. port_of m.external p x) holds.members ∙ portless m.external ports x (holds.ported x ∙ count_by-seats_idle h.circuits x (idle_in m h ports x holds none))
 
 -- as many members as ports where no port is free, and only there
-pub full_where : (m : Connections) (h : Holding) (ports : Ports) → Represents m h ports → length m.ports ≡ 30 * m.bridges → position is_none m.ports ≡ None → count_by is_member h.circuits ≡ 30 * m.bridges
-full_where m h ports holds long none = let full = none_free m.ports none in let same = ap (count_by is_some) holds.members in let taken = holds.taken in omega (arith, full, same, taken, long)
+pub count_by-is_member_full : (m : Connections) (h : Holding) (ports : Ports) → Represents m h ports → length m.ports ≡ 30 * m.bridges → position is_none m.ports ≡ None → count_by is_member h.circuits ≡ 30 * m.bridges
+count_by-is_member_full m h ports holds long none = let full = count_by-is_some_none_free m.ports none in let same = ap (count_by is_some) holds.members in let taken = holds.taken in omega (arith, full, same, taken, long)
 
 pub not_full : (m : Connections) (h : Holding) (ports : Ports) (k : ℕ) → Represents m h ports → length m.ports ≡ 30 * m.bridges → position is_none m.ports ≡ Some k → count_by is_member h.circuits ≡ 30 * m.bridges → ⊥
-not_full m h ports k holds long free full = let left = one_free m.ports k free in let same = ap (count_by is_some) holds.members in let taken = holds.taken in omega (arith, left, same, taken, long, full)
+not_full m h ports k holds long free full = let left = count_by-is_some_one_free m.ports k free in let same = ap (count_by is_some) holds.members in let taken = holds.taken in omega (arith, left, same, taken, long, full)
 
 -- whether any port is free tells whether there are as many members as ports
 pub told_full : (m : Connections) (h : Holding) (ports : Ports) (o : Option ℕ) → Represents m h ports → length m.ports ≡ 30 * m.bridges → position is_none m.ports ≡ o
     → is_none o ≡ (count_by is_member h.circuits == 30 * m.bridges)
-told_full m h ports None holds long none = let full = full_where m h ports holds long none in grind (arith, common_steps, full)
+told_full m h ports None holds long none = let full = count_by-is_member_full m h ports holds long none in grind (arith, common_steps, full)
 told_full m h ports (Some k) holds long free = sym (ne_eqb _ _ (not_full m h ports k holds long free))
 
 -- ---- a free port is joined to nothing
@@ -194,15 +194,15 @@ port_beyond external x p near far same = let line = ap (λ (s : Slot). s.line) s
 -- the member has the port that it was given
 pub seated_port : (m : Connections) (h : Holding) (ports : Ports) (x p : Slot) (k : ℕ) → Represents m h ports → hears_at m x ≡ None → position is_none m.ports ≡ Some k → p ≡ port_numbered m.external k → port_of m.external (ports_with x m.ports) x ≡ Some p
 seated_port m h ports x p k holds none free is =
-    given_here m.external x m.ports k free (ap (count_by (has x)) holds.members ∙ holds.ported x ∙ idle_seats h.circuits x (idle_in m h ports x holds none)) ∙ ap (λ q. Some q) (sym is)
+    port_of_given_here m.external x m.ports k free (ap (count_by (has x)) holds.members ∙ holds.ported x ∙ count_by-seats_idle h.circuits x (idle_in m h ports x holds none)) ∙ ap (λ q. Some q) (sym is)
 
-pub given_full : (x : Slot) (ports : Ports) → ((k : ℕ) → k < length ports → is_none (get_or ports k None) ≡ false) → ports_with x ports ≡ ports
-given_full x [] full = refl
-given_full x (None ∷ ports) full = let wrong = full 0 (omega arith) in absurd (cc)
-given_full x (Some other ∷ ports) full = ap (λ ps. Some other ∷ ps) (given_full x ports (λ k l. full (suc k) (omega (arith, l))))
+pub ports_with_given_full : (x : Slot) (ports : Ports) → ((k : ℕ) → k < length ports → is_none (get_or ports k None) ≡ false) → ports_with x ports ≡ ports
+ports_with_given_full x [] full = refl
+ports_with_given_full x (None ∷ ports) full = let wrong = full 0 (omega arith) in absurd (cc)
+ports_with_given_full x (Some other ∷ ports) full = ap (λ ps. Some other ∷ ps) (ports_with_given_full x ports (λ k l. full (suc k) (omega (arith, l))))
 
-pub none_given : (x : Slot) (ports : Ports) → position is_none ports ≡ None → ports_with x ports ≡ ports
-none_given x ports none = given_full x ports (none_passes is_none ports None none)
+pub ports_with_none_given : (x : Slot) (ports : Ports) → position is_none ports ≡ None → ports_with x ports ≡ ports
+ports_with_none_given x ports none = ports_with_given_full x ports (none_passes is_none ports None none)
 
 pub record FreePort (m : Connections) (p : Slot) : Type 0 where
   pub number : ℕ

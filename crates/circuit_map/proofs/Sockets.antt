@@ -69,31 +69,31 @@ ported external ports x n counted some none = go external (position (has x) port
     go external (Some k) at none = cc
 
 -- ---- a port given
-given_set : (x : Slot) (ports : Ports) (k : ℕ) → k < length ports → is_none (get_or ports k None) ≡ true → ((i : ℕ) → i < k → is_none (get_or ports i None) ≡ false) → ports_with x ports ≡ set ports k (Some x)
-given_set x [] k inside free before = absurd (omega (arith, inside))
-given_set x (None ∷ ports) zero inside free before = refl
-given_set x (None ∷ ports) (suc k) inside free before = let wrong = before 0 (omega arith) in absurd (cc)
-given_set x (Some other ∷ ports) zero inside free before = absurd (cc)
-given_set x (Some other ∷ ports) (suc k) inside free before = ap (λ ps. Some other ∷ ps) (given_set x ports k (omega (arith, inside)) free (λ i l. before (suc i) (omega (arith, l))))
+ports_with_given_set : (x : Slot) (ports : Ports) (k : ℕ) → k < length ports → is_none (get_or ports k None) ≡ true → ((i : ℕ) → i < k → is_none (get_or ports i None) ≡ false) → ports_with x ports ≡ set ports k (Some x)
+ports_with_given_set x [] k inside free before = absurd (omega (arith, inside))
+ports_with_given_set x (None ∷ ports) zero inside free before = refl
+ports_with_given_set x (None ∷ ports) (suc k) inside free before = let wrong = before 0 (omega arith) in absurd (cc)
+ports_with_given_set x (Some other ∷ ports) zero inside free before = absurd (cc)
+ports_with_given_set x (Some other ∷ ports) (suc k) inside free before = ap (λ ps. Some other ∷ ps) (ports_with_given_set x ports k (omega (arith, inside)) free (λ i l. before (suc i) (omega (arith, l))))
 
-pub given_at : (x : Slot) (ports : Ports) (k : ℕ) → position is_none ports ≡ Some k → ports_with x ports ≡ set ports k (Some x)
-given_at x ports k at = let p = position-Some is_none ports k None at in given_set x ports k p.0 p.1 p.2
+pub ports_with_given_at : (x : Slot) (ports : Ports) (k : ℕ) → position is_none ports ≡ Some k → ports_with x ports ≡ set ports k (Some x)
+ports_with_given_at x ports k at = let p = position-Some is_none ports k None at in ports_with_given_set x ports k p.0 p.1 p.2
 
 free_is : (o : Option Slot) → is_none o ≡ true → o ≡ None
 free_is None e = refl
 free_is (Some y) e = absurd (cc)
 
 -- the others' ports stay
-pub given_other : (external : ℕ) (x z : Slot) (ports : Ports) (k : ℕ) → position is_none ports ≡ Some k → (z ≡ x → ⊥) → port_of external (ports_with x ports) z ≡ port_of external ports z
-given_other external x z ports k at apart =
+pub port_of_given_other : (external : ℕ) (x z : Slot) (ports : Ports) (k : ℕ) → position is_none ports ≡ Some k → (z ≡ x → ⊥) → port_of external (ports_with x ports) z ≡ port_of external ports z
+port_of_given_other external x z ports k at apart =
     let p = position-Some is_none ports k None at in
-    ap (λ ps. port_of external ps z) (given_at x ports k at)
+    ap (λ ps. port_of external ps z) (ports_with_given_at x ports k at)
     ∙ ap (option_map (port_numbered external)) (position-set_other (has z) ports k (Some x) None (same_slot-false z x apart ∙ sym (ap (has z) (free_is (get_or ports k None) p.1))))
 
-pub given_here : (external : ℕ) (x : Slot) (ports : Ports) (k : ℕ) → position is_none ports ≡ Some k → count_by (has x) ports ≡ 0 → port_of external (ports_with x ports) x ≡ Some (port_numbered external k)
-given_here external x ports k at none =
+pub port_of_given_here : (external : ℕ) (x : Slot) (ports : Ports) (k : ℕ) → position is_none ports ≡ Some k → count_by (has x) ports ≡ 0 → port_of external (ports_with x ports) x ≡ Some (port_numbered external k)
+port_of_given_here external x ports k at none =
     let p = position-Some is_none ports k None at in
-    ap (λ ps. port_of external ps x) (given_at x ports k at)
+    ap (λ ps. port_of external ps x) (ports_with_given_at x ports k at)
     ∙ ap (option_map (port_numbered external)) (position-set_here (has x) ports k (Some x) None p.0 (no_position (has x) None ports none) (same_slot-refl x))
 
 is_free : (ports : Ports) → position is_none ports ≢ None → 0 < count_by is_none ports
@@ -122,11 +122,11 @@ taken_or_free [] = refl
 taken_or_free (None ∷ ports) = let rest = taken_or_free ports in grind (arith, common_steps)
 taken_or_free (Some x ∷ ports) = let rest = taken_or_free ports in grind (arith, common_steps)
 
-pub one_free : (ports : Ports) (k : ℕ) → position is_none ports ≡ Some k → count_by is_some ports < length ports
-one_free ports k at = let free = is_free ports (λ e. let wrong = sym at ∙ e in cc) in let all = taken_or_free ports in omega (arith, free, all)
+pub count_by-is_some_one_free : (ports : Ports) (k : ℕ) → position is_none ports ≡ Some k → count_by is_some ports < length ports
+count_by-is_some_one_free ports k at = let free = is_free ports (λ e. let wrong = sym at ∙ e in cc) in let all = taken_or_free ports in omega (arith, free, all)
 
-pub none_free : (ports : Ports) → position is_none ports ≡ None → count_by is_some ports ≡ length ports
-none_free ports none = let zero_of = not_counted is_none None ports none in let all = taken_or_free ports in omega (arith, zero_of, all)
+pub count_by-is_some_none_free : (ports : Ports) → position is_none ports ≡ None → count_by is_some ports ≡ length ports
+count_by-is_some_none_free ports none = let zero_of = not_counted is_none None ports none in let all = taken_or_free ports in omega (arith, zero_of, all)
 
 -- ---- a port returned
 pub length-returned : (x : Slot) (ports : Ports) → length (ports_without x ports) ≡ length ports
@@ -144,8 +144,8 @@ still_found : (x z : Slot) (ports : Ports) → same_slot z x ≡ false → posit
 still_found x z [] apart = refl
 still_found x z (port ∷ ports) apart = same_found x z port ports apart (still_found x z ports apart)
 
-pub returned_other : (external : ℕ) (x z : Slot) (ports : Ports) → (z ≡ x → ⊥) → port_of external (ports_without x ports) z ≡ port_of external ports z
-returned_other external x z ports apart =
+pub port_of_returned_other : (external : ℕ) (x z : Slot) (ports : Ports) → (z ≡ x → ⊥) → port_of external (ports_without x ports) z ≡ port_of external ports z
+port_of_returned_other external x z ports apart =
     ap (option_map (port_numbered external))
     (ap (λ n. cond (ltb n (length (ports_without x ports))) (Some n) None) (still_found x z ports (same_slot-false z x apart)) ∙ ap (λ n. cond (ltb (position_or_len (has z) ports) n) (Some (position_or_len (has z) ports)) None) (length-returned x ports))
 
@@ -170,10 +170,10 @@ count-returned_other x z (None ∷ ports) apart = let rest = count-returned_othe
 count-returned_other x z (Some y ∷ ports) apart = returned_step x z y ports apart (count-returned_other x z ports apart) (same_slot x y) refl
 
 -- who has no port returns none
-pub returned_none : (x : Slot) (ports : Ports) → count_by (has x) ports ≡ 0 → ports_without x ports ≡ ports
-returned_none x [] none = refl
-returned_none x (None ∷ ports) none = ap (λ ps. None ∷ ps) (returned_none x ports (grind (arith, common_steps)))
-returned_none x (Some y ∷ ports) none =
+pub ports_without_returned_none : (x : Slot) (ports : Ports) → count_by (has x) ports ≡ 0 → ports_without x ports ≡ ports
+ports_without_returned_none x [] none = refl
+ports_without_returned_none x (None ∷ ports) none = ap (λ ps. None ∷ ps) (ports_without_returned_none x ports (grind (arith, common_steps)))
+ports_without_returned_none x (Some y ∷ ports) none =
     let off : same_slot x y ≡ false = grind (arith, common_steps) in
-    let rest = returned_none x ports (grind (arith, common_steps)) in
+    let rest = ports_without_returned_none x ports (grind (arith, common_steps)) in
     grind (arith, common_steps)

@@ -13,21 +13,21 @@ use Rattle.conference_ports.specs.Owners.{members}
 use Rattle.control_memory.specs.Layout.{Layout, IsBare, hop_of, number_of}
 use Rattle.circuit_map.specs.Connections.{Connections, hears_in, hears_at, Represents}
 
-pub none_at : {X : Type 0} (n k : ℕ) → get_or (replicate n (let x : Option X = None in x)) k None ≡ None
-none_at zero k = refl
-none_at (suc n) zero = refl
-none_at (suc n) (suc k) = none_at n k
+pub get_or-replicate_none : {X : Type 0} (n k : ℕ) → get_or (replicate n (let x : Option X = None in x)) k None ≡ None
+get_or-replicate_none zero k = refl
+get_or-replicate_none (suc n) zero = refl
+get_or-replicate_none (suc n) (suc k) = get_or-replicate_none n k
 
 -- a layout of free inlets
 pub bare_rows : (n : ℕ) (layout : Layout) → layout ≡ replicate n None → IsBare layout
-bare_rows n layout free = λ from. ap (λ l. hop_of l from) free ∙ none_at n (number_of from)
+bare_rows n layout free = λ from. ap (λ l. hop_of l from) free ∙ get_or-replicate_none n (number_of from)
 
 one_or_none : (b : Bool) (o : Option Circuit) → o ≡ None → (if b then o else None) ≡ None
 one_or_none true o e = e
 one_or_none false o e = refl
 
-pub silent_rows : (external n : ℕ) (z : Slot) → hears_in external (replicate n None) z ≡ None
-silent_rows external n z = one_or_none (nat_lt z.line external && nat_lt z.place 30) (get_or (replicate n None) (number_of z) None) (none_at n (number_of z))
+pub hears_in_silent_rows : (external n : ℕ) (z : Slot) → hears_in external (replicate n None) z ≡ None
+hears_in_silent_rows external n z = one_or_none (nat_lt z.line external && nat_lt z.place 30) (get_or (replicate n None) (number_of z) None) (get_or-replicate_none n (number_of z))
 
 pub free_members : (n : ℕ) → members (replicate n None) ≡ replicate n None
 free_members zero = refl

@@ -9,8 +9,8 @@ use Rattle.control_memory.specs.Layout.{Layout, IsSlot, hop_of, path_to}
 use Rattle.control_memory.specs.Connecting.{connect, moved}
 use Rattle.circuit_map.specs.Connections.{Connections, IsExternal, is_pathless, map_lines, hears_at, hears_after, Represents, Obeys, AreMoves, AreRoomed, both_connected, joined_one, joined_both}
 use Rattle.circuit_map.proofs.Holdings.{Heeded}
-use Rattle.circuit_map.proofs.Clearing.{hearing_at, row_of_self}
-use Rattle.circuit_map.proofs.Paths.{own_ports, no_inlet, no_outlet, idle_joins_none, none_joins_idle}
+use Rattle.circuit_map.proofs.Clearing.{hearing_at, unless_naming_row_of_self}
+use Rattle.circuit_map.proofs.Paths.{own_ports, hop_of_no_inlet, path_to_no_outlet, idle_joins_none, none_joins_idle}
 
 -- ---- the same ports
 
@@ -32,8 +32,8 @@ pathless_seen k m x is at pathless = (subst (λ (m : Connections). IsExternal m 
 pub idle_free : (m : Connections) (lines : ℕ) (x : Slot) → lines ≡ map_lines m → length m.layout ≡ 30 * lines → (h : Holding) × Represents m h m.ports → IsExternal m x → hears_at m x ≡ None
     → (hop_of m.layout x ≡ None) × (path_to m.layout x ≡ None)
 idle_free m lines x wide size held at none = (
-  no_inlet m.layout x (λ b j. idle_joins_none m held.0 m.ports x b held.1 at.0 at.1 none j),
-  no_outlet lines m.layout x size (λ a inside j. none_joins_idle m held.0 m.ports a x held.1 (subst (λ w. IsSlot w a) wide inside) at.0 none j),
+  hop_of_no_inlet m.layout x (λ b j. idle_joins_none m held.0 m.ports x b held.1 at.0 at.1 none j),
+  path_to_no_outlet lines m.layout x size (λ a inside j. none_joins_idle m held.0 m.ports a x held.1 (subst (λ w. IsSlot w a) wide inside) at.0 none j),
 )
 
 -- ---- after a command
@@ -74,4 +74,4 @@ port_seen k m x p ports is now port = ap (λ (m : Connections). port_of m.extern
 
 -- who is cleared hears nothing
 pub cleared_idle : (k m : Connections) (x : Slot) (o : Option Circuit) → k ≡ m → (h : Holding) × Represents k h k.ports → o ≡ hears_after m (Clear x) x → o ≡ None
-cleared_idle k m x o is held hears = hears ∙ sym (ap (λ (m : Connections). hears_after m (Clear x) x) is) ∙ row_of_self k.external (hears_at k) x (hearing_at k held.0 k.ports held.1)
+cleared_idle k m x o is held hears = hears ∙ sym (ap (λ (m : Connections). hears_after m (Clear x) x) is) ∙ unless_naming_row_of_self k.external (hears_at k) x (hearing_at k held.0 k.ports held.1)

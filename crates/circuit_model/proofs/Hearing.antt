@@ -9,7 +9,7 @@ use Rattle.circuit_model.specs.declared.circuit.Circuit.{Circuit}
 use Rattle.circuit_model.specs.declared.circuit.Circuit.TheVariants.{Pair}
 use Rattle.circuit_model.specs.Circuits.{same_slot, listener, is_idle, heard_by}
 use Rattle.circuit_model.proofs.Age.{at_head, in_tail}
-use Rattle.circuit_model.proofs.Slots.{true_or_false, same_slot-refl, same_slot-true, same_slot_cases, idle_is_deaf}
+use Rattle.circuit_model.proofs.Slots.{true_or_false, same_slot-refl, same_slot-true, same_slot_cases, heard_by_idle_is_deaf}
 
 -- a slot hears the first of what was there and of what came, in that order
 pub heard_by-append : (circuits new : List Circuit) (z : Slot) → heard_by (circuits ++ new) z ≡ option_or (heard_by circuits z) (heard_by new z)
@@ -17,7 +17,7 @@ heard_by-append circuits new z = find-append (λ c. same_slot z (listener c)) ci
 
 -- what came is heard by a slot that was idle
 pub heard_by-idle : (circuits new : List Circuit) (z : Slot) → is_idle circuits z ≡ true → heard_by (circuits ++ new) z ≡ heard_by new z
-heard_by-idle circuits new z idle = heard_by-append circuits new z ∙ ap (λ o. option_or o (heard_by new z)) (idle_is_deaf circuits z idle)
+heard_by-idle circuits new z idle = heard_by-append circuits new z ∙ ap (λ o. option_or o (heard_by new z)) (heard_by_idle_is_deaf circuits z idle)
 
 -- what came and isn't for a slot leaves it as it was
 pub heard_by-other : (circuits new : List Circuit) (z : Slot) → heard_by new z ≡ None → heard_by (circuits ++ new) z ≡ heard_by circuits z
@@ -27,7 +27,7 @@ heard_by-other circuits new z none = let e = heard_by-append circuits new z in g
 pub heard_by-one : (circuits : List Circuit) (new : Circuit) (z : Slot) → is_idle circuits (listener new) ≡ true → heard_by (circuits ++ new ∷ []) z ≡ (if same_slot z (listener new) then Some new else heard_by circuits z)
 heard_by-one circuits new z idle =
     elim (true_or_false (same_slot z (listener new))) [
-      | inl here ↦ let same = same_slot-true z (listener new) here in let e = heard_by-append circuits (new ∷ []) z in let deaf = idle_is_deaf circuits (listener new) idle in grind (arith, common_steps)
+      | inl here ↦ let same = same_slot-true z (listener new) here in let e = heard_by-append circuits (new ∷ []) z in let deaf = heard_by_idle_is_deaf circuits (listener new) idle in grind (arith, common_steps)
       | inr away ↦ let e = heard_by-append circuits (new ∷ []) z in grind (arith, common_steps)
     ]
 
@@ -36,12 +36,12 @@ pub heard_by-two : (circuits : List Circuit) (x y z : Slot) (n : ℕ) → is_idl
 heard_by-two circuits x y z n idle_x idle_y =
     let e = heard_by-append circuits (Pair x y n ∷ Pair y x n ∷ []) z in
     elim (same_slot_cases z x) [
-      | inl at_x ↦ let deaf : heard_by circuits z ≡ None = rw at_x (idle_is_deaf circuits x idle_x) in let same = same_slot-refl x in elim (same_slot_cases z y) [
+      | inl at_x ↦ let deaf : heard_by circuits z ≡ None = rw at_x (heard_by_idle_is_deaf circuits x idle_x) in let same = same_slot-refl x in elim (same_slot_cases z y) [
         | inl at_y ↦ let both : x ≡ y = sym at_x ∙ at_y in grind (arith, common_steps)
         | inr off_y ↦ grind (arith, common_steps)
       ]
       | inr off_x ↦ elim (same_slot_cases z y) [
-        | inl at_y ↦ let deaf : heard_by circuits z ≡ None = rw at_y (idle_is_deaf circuits y idle_y) in grind (arith, common_steps)
+        | inl at_y ↦ let deaf : heard_by circuits z ≡ None = rw at_y (heard_by_idle_is_deaf circuits y idle_y) in grind (arith, common_steps)
         | inr off_y ↦ grind (arith, common_steps)
       ]
     ]

@@ -61,12 +61,12 @@ given-sum weight x (Some m ∷ ports) free =
     let rest = given-sum weight x ports less in
     omega (arith, ints)
 
-given-kept : (x z : Slot) (ports : Ports) (k : ℕ) → owner_of ports k ≡ Some z → owner_of (ports_with x ports) k ≡ Some z
-given-kept x z [] k has_z = has_z
-given-kept x z (None ∷ ports) zero has_z = let no : None ≡ Some z = has_z in absurd (cc)
-given-kept x z (None ∷ ports) (suc k) has_z = has_z
-given-kept x z (Some m ∷ ports) zero has_z = has_z
-given-kept x z (Some m ∷ ports) (suc k) has_z = given-kept x z ports k has_z
+owner_of_given_kept : (x z : Slot) (ports : Ports) (k : ℕ) → owner_of ports k ≡ Some z → owner_of (ports_with x ports) k ≡ Some z
+owner_of_given_kept x z [] k has_z = has_z
+owner_of_given_kept x z (None ∷ ports) zero has_z = let no : None ≡ Some z = has_z in absurd (cc)
+owner_of_given_kept x z (None ∷ ports) (suc k) has_z = has_z
+owner_of_given_kept x z (Some m ∷ ports) zero has_z = has_z
+owner_of_given_kept x z (Some m ∷ ports) (suc k) has_z = owner_of_given_kept x z ports k has_z
 
 -- ---- a port is returned
 returned-count : (p : Slot → Bool) (x : Slot) (ports : Ports) → count_by (port_is p) (ports_without x ports) ≡ count_by (port_is (but x p)) ports
@@ -84,16 +84,16 @@ returned-sum weight x (Some m ∷ ports) =
       | inr away ↦ rw away (ap (λ (s : ℤ). weight m +ℤ s) rest)
     ]
 
-returned-kept : (x z : Slot) (ports : Ports) (k : ℕ) → same_slot x z ≡ false → owner_of ports k ≡ Some z → owner_of (ports_without x ports) k ≡ Some z
-returned-kept x z [] k apart has_z = has_z
-returned-kept x z (None ∷ ports) zero apart has_z = let no : None ≡ Some z = has_z in absurd (cc)
-returned-kept x z (None ∷ ports) (suc k) apart has_z = returned-kept x z ports k apart has_z
-returned-kept x z (Some m ∷ ports) zero apart has_z =
+owner_of_returned_kept : (x z : Slot) (ports : Ports) (k : ℕ) → same_slot x z ≡ false → owner_of ports k ≡ Some z → owner_of (ports_without x ports) k ≡ Some z
+owner_of_returned_kept x z [] k apart has_z = has_z
+owner_of_returned_kept x z (None ∷ ports) zero apart has_z = let no : None ≡ Some z = has_z in absurd (cc)
+owner_of_returned_kept x z (None ∷ ports) (suc k) apart has_z = owner_of_returned_kept x z ports k apart has_z
+owner_of_returned_kept x z (Some m ∷ ports) zero apart has_z =
     let e : Some m ≡ Some z = has_z in
     let is : m ≡ z = cc in
     let off : same_slot x m ≡ false = ap (same_slot x) is ∙ apart in
     rw off has_z
-returned-kept x z (Some m ∷ ports) (suc k) apart has_z = returned-kept x z ports k apart has_z
+owner_of_returned_kept x z (Some m ∷ ports) (suc k) apart has_z = owner_of_returned_kept x z ports k apart has_z
 
 -- ---- the members that are left
 cleared-count : (p : Slot → Bool) (x : Slot) (circuits : List Circuit) → count_by (seat_is p) (filter (λ c. not (names x c)) circuits) ≡ count_by (seat_is (but x p)) circuits
@@ -183,13 +183,13 @@ matched-frames bridges h ports (Frame ∷ cs) zero m allowed within = m
 matched-frames bridges h ports (Frame ∷ cs) (suc f) m allowed within = matched-frames bridges (after h Frame) ports cs f m allowed.1 (omega (arith, within))
 
 -- as many frames have ports as have circuits
-pub frames_alike : (h : Holding) (ports : Ports) (cs : List Command) → length (port_frames ports cs) ≡ length (frames h cs)
-frames_alike h ports [] = refl
-frames_alike h ports (Connect x y ∷ cs) = frames_alike (after h (Connect x y)) ports cs
-frames_alike h ports (Seat x room ∷ cs) = frames_alike (after h (Seat x room)) (ports_with x ports) cs
-frames_alike h ports (Give_tone x kind ∷ cs) = frames_alike (after h (Give_tone x kind)) ports cs
-frames_alike h ports (Clear x ∷ cs) = frames_alike (after h (Clear x)) (ports_without x ports) cs
-frames_alike h ports (Frame ∷ cs) = ap suc (frames_alike (after h Frame) ports cs)
+pub length-port_frames_alike : (h : Holding) (ports : Ports) (cs : List Command) → length (port_frames ports cs) ≡ length (frames h cs)
+length-port_frames_alike h ports [] = refl
+length-port_frames_alike h ports (Connect x y ∷ cs) = length-port_frames_alike (after h (Connect x y)) ports cs
+length-port_frames_alike h ports (Seat x room ∷ cs) = length-port_frames_alike (after h (Seat x room)) (ports_with x ports) cs
+length-port_frames_alike h ports (Give_tone x kind ∷ cs) = length-port_frames_alike (after h (Give_tone x kind)) ports cs
+length-port_frames_alike h ports (Clear x ∷ cs) = length-port_frames_alike (after h (Clear x)) (ports_without x ports) cs
+length-port_frames_alike h ports (Frame ∷ cs) = ap suc (length-port_frames_alike (after h Frame) ports cs)
 
 -- ---- what the counts tell
 seat_counted : (p : Slot → Bool) (circuits : List Circuit) (room since : ℕ) (x : Slot) → Contains circuits (Member room x since) → p x ≡ true → 0 < count_by (seat_is p) circuits
@@ -260,8 +260,8 @@ seated_among x circuits (Is_seated room since e) = rw e (let same = same_slot-re
 seated_among x circuits (Is_connected y since apart (inl e)) = rw e (omega arith)
 seated_among x circuits (Is_connected y since apart (inr e)) = rw e (omega arith)
 
-pub seated_once : (x : Slot) (circuits : List Circuit) → Stands circuits x → count_by (seat_is (same_slot x)) circuits ≤ 1
-seated_once x circuits s = omega (arith, seated_among x circuits s, count_by-wider (seat_is (same_slot x)) (names x) (names_seated x) circuits)
+pub count_by-seat_is_seated_once : (x : Slot) (circuits : List Circuit) → Stands circuits x → count_by (seat_is (same_slot x)) circuits ≤ 1
+count_by-seat_is_seated_once x circuits s = omega (arith, seated_among x circuits s, count_by-wider (seat_is (same_slot x)) (names x) (names_seated x) circuits)
 
 -- ---- matched ports: each member has one, each has a member, and no two have the same
 pub has_port : (bridges room since : ℕ) (circuits : List Circuit) (ports : Ports) (x : Slot) → Matched bridges circuits ports → Contains circuits (Member room x since) → (k : ℕ) × (k < 30 * bridges) × (owner_of ports k ≡ Some x)
@@ -274,7 +274,7 @@ pub has_member : (bridges k : ℕ) (circuits : List Circuit) (ports : Ports) (x 
 has_member bridges k circuits ports x m owned = member_found x circuits (omega (arith, m.counted (same_slot x), port_counted (same_slot x) ports k x owned (same_slot-refl x)))
 
 pub has_one_port : (bridges j k : ℕ) (circuits : List Circuit) (ports : Ports) (x : Slot) → Matched bridges circuits ports → Stands circuits x → owner_of ports j ≡ Some x → owner_of ports k ≡ Some x → j ≡ k
-has_one_port bridges j k circuits ports x m stands a b = one_port x ports j k (omega (arith, m.counted (same_slot x), seated_once x circuits stands)) a b
+has_one_port bridges j k circuits ports x m stands a b = one_port x ports j k (omega (arith, m.counted (same_slot x), count_by-seat_is_seated_once x circuits stands)) a b
 
 -- ---- a member keeps its port
 not_named : (x : Slot) (circuits : List Circuit) (c : Circuit) → Contains (filter (λ c. not (names x c)) circuits) c → names x c ≡ false
@@ -287,31 +287,31 @@ not_named x (d ∷ ds) c inside =
     ]
 
 -- the member of the first frame that is older than the next one had its port at the beginning
-first_port : (h : Holding) (ports : Ports) (cs : List Command) (k room since : ℕ) (x : Slot) → Contains (circuits_of (frames h cs) 0) (Member room x since) → since < h.next → owner_of ports k ≡ Some x → owner_of (ports_of (port_frames ports cs) 0) k ≡ Some x
-first_port h ports [] k room since x inside older owned = absurd (none_in_nil (Member room x since) inside)
-first_port h ports (Connect y z ∷ cs) k room since x inside older owned = first_port (after h (Connect y z)) ports cs k room since x inside older owned
-first_port h ports (Seat y q ∷ cs) k room since x inside older owned = first_port (after h (Seat y q)) (ports_with y ports) cs k room since x inside older (given-kept y x ports k owned)
-first_port h ports (Give_tone y kind ∷ cs) k room since x inside older owned = first_port (after h (Give_tone y kind)) ports cs k room since x inside older owned
-first_port h ports (Clear y ∷ cs) k room since x inside older owned =
+owner_of-ports_of_first : (h : Holding) (ports : Ports) (cs : List Command) (k room since : ℕ) (x : Slot) → Contains (circuits_of (frames h cs) 0) (Member room x since) → since < h.next → owner_of ports k ≡ Some x → owner_of (ports_of (port_frames ports cs) 0) k ≡ Some x
+owner_of-ports_of_first h ports [] k room since x inside older owned = absurd (none_in_nil (Member room x since) inside)
+owner_of-ports_of_first h ports (Connect y z ∷ cs) k room since x inside older owned = owner_of-ports_of_first (after h (Connect y z)) ports cs k room since x inside older owned
+owner_of-ports_of_first h ports (Seat y q ∷ cs) k room since x inside older owned = owner_of-ports_of_first (after h (Seat y q)) (ports_with y ports) cs k room since x inside older (owner_of_given_kept y x ports k owned)
+owner_of-ports_of_first h ports (Give_tone y kind ∷ cs) k room since x inside older owned = owner_of-ports_of_first (after h (Give_tone y kind)) ports cs k room since x inside older owned
+owner_of-ports_of_first h ports (Clear y ∷ cs) k room since x inside older owned =
     let stood = first_frame (after h (Clear y)) cs (Member room x since) inside older in
     let apart : same_slot y x ≡ false = not_named y h.circuits (Member room x since) stood in
-    first_port (after h (Clear y)) (ports_without y ports) cs k room since x inside older (returned-kept y x ports k apart owned)
-first_port h ports (Frame ∷ cs) k room since x inside older owned = owned
+    owner_of-ports_of_first (after h (Clear y)) (ports_without y ports) cs k room since x inside older (owner_of_returned_kept y x ports k apart owned)
+owner_of-ports_of_first h ports (Frame ∷ cs) k room since x inside older owned = owned
 
-later_port : (h : Holding) (ports : Ports) (cs : List Command) (f k room since : ℕ) (x : Slot) → Contains (circuits_of (frames h cs) (suc f)) (Member room x since) → since < h.next + suc f → owner_of (ports_of (port_frames ports cs) f) k ≡ Some x → owner_of (ports_of (port_frames ports cs) (suc f)) k ≡ Some x
-later_port h ports [] f k room since x inside older owned = absurd (none_in_nil (Member room x since) inside)
-later_port h ports (Connect y z ∷ cs) f k room since x inside older owned = later_port (after h (Connect y z)) ports cs f k room since x inside older owned
-later_port h ports (Seat y q ∷ cs) f k room since x inside older owned = later_port (after h (Seat y q)) (ports_with y ports) cs f k room since x inside older owned
-later_port h ports (Give_tone y kind ∷ cs) f k room since x inside older owned = later_port (after h (Give_tone y kind)) ports cs f k room since x inside older owned
-later_port h ports (Clear y ∷ cs) f k room since x inside older owned = later_port (after h (Clear y)) (ports_without y ports) cs f k room since x inside older owned
-later_port h ports (Frame ∷ cs) zero k room since x inside older owned = first_port (after h Frame) ports cs k room since x inside (omega (arith, older)) owned
-later_port h ports (Frame ∷ cs) (suc f) k room since x inside older owned = later_port (after h Frame) ports cs f k room since x inside (omega (arith, older)) owned
+owner_of-ports_of_later : (h : Holding) (ports : Ports) (cs : List Command) (f k room since : ℕ) (x : Slot) → Contains (circuits_of (frames h cs) (suc f)) (Member room x since) → since < h.next + suc f → owner_of (ports_of (port_frames ports cs) f) k ≡ Some x → owner_of (ports_of (port_frames ports cs) (suc f)) k ≡ Some x
+owner_of-ports_of_later h ports [] f k room since x inside older owned = absurd (none_in_nil (Member room x since) inside)
+owner_of-ports_of_later h ports (Connect y z ∷ cs) f k room since x inside older owned = owner_of-ports_of_later (after h (Connect y z)) ports cs f k room since x inside older owned
+owner_of-ports_of_later h ports (Seat y q ∷ cs) f k room since x inside older owned = owner_of-ports_of_later (after h (Seat y q)) (ports_with y ports) cs f k room since x inside older owned
+owner_of-ports_of_later h ports (Give_tone y kind ∷ cs) f k room since x inside older owned = owner_of-ports_of_later (after h (Give_tone y kind)) ports cs f k room since x inside older owned
+owner_of-ports_of_later h ports (Clear y ∷ cs) f k room since x inside older owned = owner_of-ports_of_later (after h (Clear y)) (ports_without y ports) cs f k room since x inside older owned
+owner_of-ports_of_later h ports (Frame ∷ cs) zero k room since x inside older owned = owner_of-ports_of_first (after h Frame) ports cs k room since x inside (omega (arith, older)) owned
+owner_of-ports_of_later h ports (Frame ∷ cs) (suc f) k room since x inside older owned = owner_of-ports_of_later (after h Frame) ports cs f k room since x inside (omega (arith, older)) owned
 
-pub keeps_port : (ports : Ports) (cs : List Command) (f k room since : ℕ) (x : Slot) → Contains (circuits_of (frames empty cs) f) (Member room x since) → since < f → owner_of (ports_of (port_frames ports cs) (f - 1)) k ≡ Some x → owner_of (ports_of (port_frames ports cs) f) k ≡ Some x
-keeps_port ports cs zero k room since x inside older owned = absurd (omega arith)
-keeps_port ports cs (suc f) k room since x inside older owned =
+pub owner_of-ports_of_keeps : (ports : Ports) (cs : List Command) (f k room since : ℕ) (x : Slot) → Contains (circuits_of (frames empty cs) f) (Member room x since) → since < f → owner_of (ports_of (port_frames ports cs) (f - 1)) k ≡ Some x → owner_of (ports_of (port_frames ports cs) f) k ≡ Some x
+owner_of-ports_of_keeps ports cs zero k room since x inside older owned = absurd (omega arith)
+owner_of-ports_of_keeps ports cs (suc f) k room since x inside older owned =
     let before : owner_of (ports_of (port_frames ports cs) f) k ≡ Some x = rw sub-one at owned in
-    later_port empty ports cs f k room since x inside (omega (arith, older)) before
+    owner_of-ports_of_later empty ports cs f k room since x inside (omega (arith, older)) before
 
 -- ---- the frames of allowed commands
 pub matched-empty : (bridges : ℕ) → Matched bridges empty.circuits (free_ports bridges)
@@ -333,7 +333,7 @@ recorded bridges cs f allowed =
     (λ (there : f < length (frames empty cs)).
     Is_recorded (matched-frames bridges empty (free_ports bridges) cs f (matched-empty bridges) allowed there) (valid-frames bridges empty cs f (valid-empty bridges) allowed there).standing)
     (λ (beyond : length (frames empty cs) ≤ f).
-    Is_beyond (get_or-eq_default (frames empty cs) [] beyond) (get_or-eq_default (port_frames (free_ports bridges) cs) [] (omega (arith, beyond, frames_alike empty (free_ports bridges) cs))))
+    Is_beyond (get_or-eq_default (frames empty cs) [] beyond) (get_or-eq_default (port_frames (free_ports bridges) cs) [] (omega (arith, beyond, length-port_frames_alike empty (free_ports bridges) cs))))
     (below_or_not f (length (frames empty cs)))
 
 -- ---- the law of ports
@@ -364,8 +364,8 @@ module _ (bridges : ℕ) (cs : List Command) where
   sums_in f weight (Is_beyond none empty_ports) = ap (sum_of_owners weight) empty_ports ∙ sym (ap (sum_of_members weight) none)
 
   -- a member older than a frame had its port in the frame before too
-  pub had_port : AreAllowed bridges empty cs → (f k room since : ℕ) (x : Slot) → Contains (circuits_in f) (Member room x since) → since < f → owner_of (ports_in f) k ≡ Some x → owner_of (ports_in (f - 1)) k ≡ Some x
-  had_port allowed f k room since x inside older owned =
+  pub owner_of-ports_in_had : AreAllowed bridges empty cs → (f k room since : ℕ) (x : Slot) → Contains (circuits_in f) (Member room x since) → since < f → owner_of (ports_in f) k ≡ Some x → owner_of (ports_in (f - 1)) k ≡ Some x
+  owner_of-ports_in_had allowed f k room since x inside older owned =
       let before = each_in (f - 1) room since x (recorded bridges cs (f - 1) allowed) (age cs f (Member room x since) inside older) in
-      let now = keeps_port (free_ports bridges) cs f before.0 room since x inside older before.2 in
+      let now = owner_of-ports_of_keeps (free_ports bridges) cs f before.0 room since x inside older before.2 in
       subst (λ j. owner_of (ports_in (f - 1)) j ≡ Some x) (alone_in f before.0 k x (recorded bridges cs f allowed) now owned) before.2

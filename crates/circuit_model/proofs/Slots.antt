@@ -58,5 +58,5 @@ is_idle-naming [] x h = refl
 is_idle-naming (c ∷ cs) x h = let rest = is_idle-naming cs x in grind (arith, common_steps)
 
 -- an idle slot hears nothing
-pub idle_is_deaf : (circuits : List Circuit) (x : Slot) → is_idle circuits x ≡ true → heard_by circuits x ≡ None
-idle_is_deaf circuits x idle = sym (heard_by-naming circuits x) ∙ ap (λ cs. heard_by cs x) (naming-idle circuits x idle)
+pub heard_by_idle_is_deaf : (circuits : List Circuit) (x : Slot) → is_idle circuits x ≡ true → heard_by circuits x ≡ None
+heard_by_idle_is_deaf circuits x idle = sym (heard_by-naming circuits x) ∙ ap (λ cs. heard_by cs x) (naming-idle circuits x idle)

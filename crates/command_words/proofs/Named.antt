@@ -4,9 +4,9 @@ use Rattle.clap.specs.Words.{Text}
 use Rattle.command_words.specs.Words.{asked_as, command_of, flag_of_follow, follow_of, is_follow, name_in}
 use Rattle.command_words.specs.declared.command.Name.{Name}
 
-pub named : (name : Option Name) (words : List Text) → name ≡ name_in words → command_of words ≡ asked_as name words
+pub command_of_named : (name : Option Name) (words : List Text) → name ≡ name_in words → command_of words ≡ asked_as name words
 unfolding command_of
-named name words e = ap (λ n. asked_as n words) (sym e)
+command_of_named name words e = ap (λ n. asked_as n words) (sym e)
 
 pub follow_named : (words : List Text) → is_follow words ≡ true → follow_of words ≡ flag_of_follow words
 unfolding follow_of

@@ -103,10 +103,10 @@ calls_are : (seed calls : Text) → IsPlain seed → IsPlain calls → text_for 
 unfolding gen_app text_for clap_on_literals
 calls_are seed calls p q = ap (first_of (codes "CALLS")) (rows_are seed calls p q)
 
-pub plain_texts : (seed calls : Text) → begins_with_hyphen seed ≡ false → begins_with_hyphen calls ≡ false
+pub command_of_plain_texts : (seed calls : Text) → begins_with_hyphen seed ≡ false → begins_with_hyphen calls ≡ false
     → command_of (words seed calls) ≡ generation (Some seed) (Some calls)
 unfolding command_of
-plain_texts seed calls p q =
+command_of_plain_texts seed calls p q =
     let a = is_plain seed p in
     let b = is_plain calls q in
     ap (λ t. if t then generation (text_for (codes "SEED") gen_app (words seed calls)) (text_for (codes "CALLS") gen_app (words seed calls)) else None)

@@ -8,7 +8,7 @@ use Rattle.std.proofs.lemmas.Bool.{and_parts, ne_eqb, eq-eqb, eqb-true, le-leb, 
 use Rattle.command_words.specs.Numerals.{decimal_value, is_numeral, numeral, numeral_in}
 use Rattle.command_words.specs.Words.{begins_with_hyphen, command_of}
 use Rattle.command_words.specs.declared.command.Command.TheVariants.{Generate}
-use Rattle.command_words.proofs.Plain.{plain_texts}
+use Rattle.command_words.proofs.Plain.{command_of_plain_texts}
 
 own : IsNumeralModel (λ ds. list_all is_ascii_digit ds ≡ true) decimal_value
 own = numerals_by_fold _ tells_all_ascii_digits (fold (λ number digit. number * 10 + (digit - 48))) (record { empty = λ n. refl; more = λ n c cs k. refl })
@@ -35,8 +35,8 @@ is_spelled n h =
     let first = no_zero_in_front n h in
     λ i. some i && most i && digits i && first i
 
-pub spelled : (n : ℕ) → n < 10 ^ 10 → numeral (decimal n) ≡ Some n
-spelled n h =
+pub numeral_spelled : (n : ℕ) → n < 10 ^ 10 → numeral (decimal n) ≡ Some n
+numeral_spelled n h =
     ap (λ b. if b then Some (decimal_value (decimal n)) else None) (is_spelled n h)
     ∙ ap (λ m. Some m) (digits_value-decimal own n (omega arith))
 
@@ -56,8 +56,8 @@ is_decimal text h =
     (λ zero_first. eqb-true (length text) 1 (lone_zero _ _ last.1 (eq-eqb _ 48 zero_first)))
     (omega (arith, short))
 
-pub no_other : (text : List ℕ) (n : ℕ) → numeral text ≡ Some n → text ≡ decimal n
-no_other text n h = go (is_numeral text) refl h
+pub decimal_no_other : (text : List ℕ) (n : ℕ) → numeral text ≡ Some n → text ≡ decimal n
+decimal_no_other text n h = go (is_numeral text) refl h
   where
     go : (b : Bool) → is_numeral text ≡ b → (if b then Some (decimal_value text) else None) ≡ Some n → text ≡ decimal n
     go true is e =
@@ -75,17 +75,17 @@ no_hyphen (c ∷ cs) h =
 
 in_range : (low high n : ℕ) → n < 10 ^ 10 → low ≤ n → n ≤ high → numeral_in low high (decimal n) ≡ Some n
 in_range low high n fits least most =
-    ap (option_and_then (λ m. if nat_le low m && nat_le m high then Some m else None)) (spelled n fits)
+    ap (option_and_then (λ m. if nat_le low m && nat_le m high then Some m else None)) (numeral_spelled n fits)
     ∙ ap₂ (λ a b. if a && b then Some n else None) (le-leb low n least) (le-leb n high most)
 
-pub asked : (seed calls : ℕ) → seed < 2 ^ 32 → 1 ≤ calls → calls ≤ 2000
+pub command_of_asked : (seed calls : ℕ) → seed < 2 ^ 32 → 1 ≤ calls → calls ≤ 2000
     → command_of (codes "gen" ∷ decimal seed ∷ decimal calls ∷ []) ≡ Some (Generate seed calls)
-asked seed calls fits some most =
+command_of_asked seed calls fits some most =
     let seed_fits : seed < 10 ^ 10 = omega arith in
     let calls_fit : calls < 10 ^ 10 = omega arith in
     let seed_plain = no_hyphen (decimal seed) (digits_decimal own seed (omega arith)) in
     let calls_plain = no_hyphen (decimal calls) (digits_decimal own calls (omega arith)) in
-    plain_texts (decimal seed) (decimal calls) seed_plain calls_plain
+    command_of_plain_texts (decimal seed) (decimal calls) seed_plain calls_plain
     ∙ ap₂ (λ (a b : Option ℕ). option_and_then (λ s. option_and_then (λ c. Some (Generate s c)) b) a)
     (in_range 0 4294967295 seed seed_fits (omega arith) (omega arith))
     (in_range 1 2000 calls calls_fit some most)

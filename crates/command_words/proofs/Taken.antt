@@ -9,24 +9,24 @@ use Rattle.clap.specs.Walk.{first_of}
 use Rattle.command_words.specs.Words.{is_faultless, takes_words, text_for}
 
 module _ (app : App) (words : List Text) where
-  spelled : takes_words app words ≡ is_faultless (fault_of app words)
+  takes_words_spelled : takes_words app words ≡ is_faultless (fault_of app words)
   unfolding takes_words
-  spelled = refl
+  takes_words_spelled = refl
 
-  faulty : (kinds : Kinds) → fault_of app words ≡ kinds → (kinds ≢ []) → takes_words app words ≡ false
-  faulty [] e some = absurd (some refl)
-  faulty (k ∷ ks) e some = spelled ∙ ap is_faultless e
+  takes_words_faulty : (kinds : Kinds) → fault_of app words ≡ kinds → (kinds ≢ []) → takes_words app words ≡ false
+  takes_words_faulty [] e some = absurd (some refl)
+  takes_words_faulty (k ∷ ks) e some = takes_words_spelled ∙ ap is_faultless e
 
-  pub taken : (r : Result ArgMatches Error) → FailsBy (fault_of app words) r → IfOk r (λ _. takes_words app words ≡ true)
-  taken (Ok m) h = spelled ∙ ap is_faultless h
-  taken (Err e) h = tt
+  pub takes_words_ok : (r : Result ArgMatches Error) → FailsBy (fault_of app words) r → IfOk r (λ _. takes_words app words ≡ true)
+  takes_words_ok (Ok m) h = takes_words_spelled ∙ ap is_faultless h
+  takes_words_ok (Err e) h = tt
 
-  pub refused : (r : Result ArgMatches Error) → FailsBy (fault_of app words) r
+  pub takes_words_err : (r : Result ArgMatches Error) → FailsBy (fault_of app words) r
       → IfErr r (λ e. kind_of e ≢ OutOfMemory → takes_words app words ≡ false)
-  refused (Ok m) h = tt
-  refused (Err e) h = λ other. elim h [
+  takes_words_err (Ok m) h = tt
+  takes_words_err (Err e) h = λ other. elim h [
     | inl memory ↦ absurd (other memory)
-    | inr among ↦ faulty (fault_of app words) refl (λ none. subst (IsAmong (kind_of e)) none among)
+    | inr among ↦ takes_words_faulty (fault_of app words) refl (λ none. subst (IsAmong (kind_of e)) none among)
   ]
 
   -- the text for a name, in the matches that clap states

@@ -14,9 +14,9 @@ use Rattle.conference_mix.proofs.Sums.{sum_of-cons, sum_of_values-others}
 nothing_more : (x : ℤ) → x ≡ x +ℤ pos 0
 nothing_more x = omega (arith, ints)
 
-pub total-added : (totals : List ℤ) (q : ℕ) (member : RoomMember) (value : ℤ) → member.room < length totals → value ≡ value_of member.octet
+pub get_or-set_total : (totals : List ℤ) (q : ℕ) (member : RoomMember) (value : ℤ) → member.room < length totals → value ≡ value_of member.octet
     → get_or (set totals member.room (get_or totals member.room (pos 0) +ℤ value)) q (pos 0) ≡ get_or totals q (pos 0) +ℤ value_of (counted_in q (Some member))
-total-added totals q member value inside is =
+get_or-set_total totals q member value inside is =
     let room = member.room in
     elim (cases_eq q room) [
       | inl same ↦
@@ -48,18 +48,18 @@ counted-small : (q : ℕ) (place : Option RoomMember) → nat_abs (value_in plac
 counted-small q None small = omega (arith, ints)
 counted-small q (Some member) small = elim (true_or_false (eqb member.room q)) [ inl same ↦ rw same small | inr other ↦ rw other (omega (arith, ints)) ]
 
-pub total-within : (q : ℕ) (places : List (Option RoomMember)) → ((k : ℕ) → k < length places → nat_abs (value_in (get_or places k None)) ≤ 4032) → nat_abs (room_total q places) ≤ 4032 * length places
-total-within q [] small = omega (arith, ints)
-total-within q (place ∷ places) small =
-    let rest = total-within q places (λ k inside. small (suc k) (omega (arith, inside))) in
+pub room_total_within : (q : ℕ) (places : List (Option RoomMember)) → ((k : ℕ) → k < length places → nat_abs (value_in (get_or places k None)) ≤ 4032) → nat_abs (room_total q places) ≤ 4032 * length places
+room_total_within q [] small = omega (arith, ints)
+room_total_within q (place ∷ places) small =
+    let rest = room_total_within q places (λ k inside. small (suc k) (omega (arith, inside))) in
     let first = counted-small q place (small 0 (omega arith)) in
     let whole = sum_of-cons (counted_in q place) (room_row q places) in
     omega (arith, ints, rest, first, whole)
 
 -- a member is given the mix of the others of its room
-pub given_is : (places : List (Option RoomMember)) (total own : ℤ) (k : ℕ) (member : RoomMember) → k < length places → get_or places k None ≡ Some member
+pub compress_given : (places : List (Option RoomMember)) (total own : ℤ) (k : ℕ) (member : RoomMember) → k < length places → get_or places k None ≡ Some member
     → total ≡ room_total member.room places → own ≡ value_of member.octet → compress (total -ℤ own) ≡ given_at k places
-given_is places total own k member inside is whole adds =
+compress_given places total own k member inside is whole adds =
     let row = room_row member.room places in
     let size : length row ≡ length places = length-map places (counted_in member.room) in
     let yes = eq-eqb member.room member.room refl in

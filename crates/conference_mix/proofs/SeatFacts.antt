@@ -8,12 +8,12 @@ use Rattle.std.proofs.lemmas.List.FromFn.{get_or-map-range_with_len, fill_by_all
 use Rattle.circuit_model.specs.ALaw.{decision_values, expand, compress}
 use Rattle.circuit_model.specs.FrameInput.{idle_octet}
 use Rattle.circuit_model.proofs.PortSeats.{below_or_not}
-use Rattle.alaw_codec.proofs.Tables.{round_trip}
+use Rattle.alaw_codec.proofs.Tables.{compress_round_trip}
 use Rattle.conference_mix.specs.declared.mixer.RoomMember.{RoomMember}
 use Rattle.conference_mix.specs.Bridge.{value_of}
 use Rattle.conference_mix.specs.Rooms.{counted_in, room_total, given_to_member, given_at}
 use Rattle.conference_mix.specs.Seats.{octet_kept, seat_kept, seat_at, seats_kept, value_in, IsKept}
-use Rattle.conference_mix.proofs.RoomTotals.{total-added, total-set, total-within, given_is}
+use Rattle.conference_mix.proofs.RoomTotals.{get_or-set_total, total-set, room_total_within, compress_given}
 
 -- ---- a value tells its octet
 
@@ -30,7 +30,7 @@ sounds octet near = agree_below_at sounds_test (λ octet. true) 256 octet every_
 
 pub kept-octet : (octet : Option ℕ) → IfSome octet (λ o. o < 256) → octet_kept (value_of octet) ≡ octet
 kept-octet None near = refl
-kept-octet (Some octet) near = let yes = sounds octet near in rw yes (ap (λ (o : ℕ). Some o) (round_trip octet near))
+kept-octet (Some octet) near = let yes = sounds octet near in rw yes (ap (λ (o : ℕ). Some o) (compress_round_trip octet near))
 
 kept-member : (member : RoomMember) (value : ℤ) → member.room < 256 → IfSome member.octet (λ o. o < 256) → value ≡ value_of member.octet → seat_kept member.room value ≡ Some member
 kept-member member value near octet is =
@@ -42,8 +42,8 @@ kept-member member value near octet is =
 pub seats-length : (ports : ℕ) (rooms : List ℕ) (own : List ℤ) → length (seats_kept ports rooms own) ≡ ports
 seats-length ports rooms own = length-map (range_with_len 0 ports) (seat_at rooms own) ∙ length-range_with_len 0 ports
 
-pub seat-of : (ports : ℕ) (rooms : List ℕ) (own : List ℤ) (k : ℕ) → k < ports → get_or (seats_kept ports rooms own) k None ≡ seat_at rooms own k
-seat-of ports rooms own k near = get_or-map-range_with_len (seat_at rooms own) 0 ports k k None near (omega arith)
+pub get_or-seats_kept : (ports : ℕ) (rooms : List ℕ) (own : List ℤ) (k : ℕ) → k < ports → get_or (seats_kept ports rooms own) k None ≡ seat_at rooms own k
+get_or-seats_kept ports rooms own k near = get_or-map-range_with_len (seat_at rooms own) 0 ports k k None near (omega arith)
 
 -- a port of the bridge is one of those that are kept
 pub port_near : (ports : ℕ) (rooms : List ℕ) (own : List ℤ) (now : List (Option RoomMember)) (port : ℕ) → seats_kept ports rooms own ≡ now → port < length now → port < ports
@@ -51,17 +51,17 @@ port_near ports rooms own now port is inside = let size = ap length is in let lo
 
 -- ---- every port is free
 
-pub one_value : {X : Type 0} (n : ℕ) (x : X) (k : ℕ) → get_or (replicate n x) k x ≡ x
-one_value zero x k = refl
-one_value (suc n) x zero = refl
-one_value (suc n) x (suc k) = one_value n x k
+pub get_or-replicate_same : {X : Type 0} (n : ℕ) (x : X) (k : ℕ) → get_or (replicate n x) k x ≡ x
+get_or-replicate_same zero x k = refl
+get_or-replicate_same (suc n) x zero = refl
+get_or-replicate_same (suc n) x (suc k) = get_or-replicate_same n x k
 
-nobody : (rooms : List ℕ) (own : List ℤ) (k : ℕ) → get_or rooms k 256 ≡ 256 → seat_at rooms own k ≡ None
-nobody rooms own k free = ap (λ (room : ℕ). seat_kept room (get_or own k (pos 0))) free
+seat_at_nobody : (rooms : List ℕ) (own : List ℤ) (k : ℕ) → get_or rooms k 256 ≡ 256 → seat_at rooms own k ≡ None
+seat_at_nobody rooms own k free = ap (λ (room : ℕ). seat_kept room (get_or own k (pos 0))) free
 
 pub seats-free : (ports : ℕ) (rooms : List ℕ) (own : List ℤ) → ((k : ℕ) → get_or rooms k 256 ≡ 256) → seats_kept ports rooms own ≡ replicate ports None
 seats-free ports rooms own free =
-    sym (fill_by_all (seat_at rooms own) (replicate ports None) ports None (length-replicate ports None) (λ k near. get_or-replicate ports k None None near ∙ sym (nobody rooms own k (free k))))
+    sym (fill_by_all (seat_at rooms own) (replicate ports None) ports None (length-replicate ports None) (λ k near. get_or-replicate ports k None None near ∙ sym (seat_at_nobody rooms own k (free k))))
 
 none-total : (q n : ℕ) → room_total q (replicate n None) ≡ pos 0
 none-total q zero = refl
@@ -69,15 +69,15 @@ none-total q (suc n) = none-total q n
 
 pub kept-free : (ports n m r : ℕ) → ports ≤ 60 → IsKept ports (replicate r (pos 0)) (replicate n 256) (replicate m (pos 0))
 kept-free ports n m r few =
-    let free = one_value n 256 in
-    let own = one_value m (pos 0) in
+    let free = get_or-replicate_same n 256 in
+    let own = get_or-replicate_same m (pos 0) in
     record {
       few = few;
       near = λ k near. let e = free k in omega (arith, e);
-      adds = λ k near. own k ∙ sym (ap value_in (nobody (replicate n 256) (replicate m (pos 0)) k (free k)));
+      adds = λ k near. own k ∙ sym (ap value_in (seat_at_nobody (replicate n 256) (replicate m (pos 0)) k (free k)));
       small = λ k near. let e = own k in omega (arith, ints, e);
-      sums = λ room near. one_value r (pos 0) room ∙ sym (ap (room_total room) (seats-free ports (replicate n 256) (replicate m (pos 0)) free) ∙ none-total room ports);
-      none = one_value r (pos 0) 256;
+      sums = λ room near. get_or-replicate_same r (pos 0) room ∙ sym (ap (room_total room) (seats-free ports (replicate n 256) (replicate m (pos 0)) free) ∙ none-total room ports);
+      none = get_or-replicate_same r (pos 0) 256;
     }
 
 -- ---- a port is taken
@@ -99,7 +99,7 @@ seats-taken ports rooms own p member value inside in_rooms in_own near octet is 
       | inl same ↦ subst (λ (j : ℕ). get_or (set seats p (Some member)) j None ≡ after j) (sym same) here
       | inr other ↦
           get_or-set_other seats p k (Some member) None other
-          ∙ seat-of ports rooms own k low
+          ∙ get_or-seats_kept ports rooms own k low
           ∙ sym (ap (λ (room : ℕ). seat_kept room (get_or (set own p value) k (pos 0))) (get_or-set_other rooms p k member.room 256 other)
           ∙ ap (λ (v : ℤ). seat_kept (get_or rooms k 256) v) (get_or-set_other own p k value (pos 0) other))
     ]))
@@ -135,7 +135,7 @@ kept-taken ports totals rooms own p member value kept inside in_totals in_rooms 
         | inr other ↦ subst (λ (v : ℤ). nat_abs v ≤ 4032) (sym (own_there k other)) (kept.small k low)
       ];
       sums = λ room low.
-          total-added totals room member value (omega (arith, near, in_totals)) is
+          get_or-set_total totals room member value (omega (arith, near, in_totals)) is
           ∙ ap (λ (z : ℤ). z +ℤ value_of (counted_in room (Some member))) (kept.sums room low)
           ∙ sym (ap (room_total room) taken ∙ total-set room seats p (Some member) (omega (arith, inside, size)) free);
       none = get_or-set_other totals member.room 256 _ (pos 0) (λ e. omega (arith, e, near)) ∙ kept.none;
@@ -152,21 +152,21 @@ total-small ports totals rooms own room kept near =
     (λ (low : room < 256).
     let each : (k : ℕ) → k < length seats → nat_abs (value_in (get_or seats k None)) ≤ 4032 = λ k inside.
     let here : k < ports = omega (arith, inside, size) in
-    subst (λ (v : ℤ). nat_abs v ≤ 4032) (kept.adds k here ∙ sym (ap value_in (seat-of ports rooms own k here))) (kept.small k here) in
-    let within = total-within room seats each in
+    subst (λ (v : ℤ). nat_abs v ≤ 4032) (kept.adds k here ∙ sym (ap value_in (get_or-seats_kept ports rooms own k here))) (kept.small k here) in
+    let within = room_total_within room seats each in
     subst (λ (z : ℤ). nat_abs z ≤ 241920) (sym (kept.sums room low)) (omega (arith, within, size, few)))
     (λ (last : 256 ≤ room).
     let is : 256 ≡ room = omega (arith, last, near) in
     subst (λ (r : ℕ). nat_abs (get_or totals r (pos 0)) ≤ 241920) is (subst (λ (z : ℤ). nat_abs z ≤ 241920) (sym kept.none) (omega (arith, ints))))
     (below_or_not room 256)
 
-silence : compress (pos 0 -ℤ pos 0) ≡ idle_octet
+compress_silence : compress (pos 0 -ℤ pos 0) ≡ idle_octet
 unfolding decision_values
-silence = refl
+compress_silence = refl
 
-pub given-kept : (ports : ℕ) (totals : List ℤ) (rooms : List ℕ) (own : List ℤ) (k : ℕ) → IsKept ports totals rooms own → k < ports
+pub compress_given_kept : (ports : ℕ) (totals : List ℤ) (rooms : List ℕ) (own : List ℤ) (k : ℕ) → IsKept ports totals rooms own → k < ports
     → compress (get_or totals (get_or rooms k 256) (pos 0) -ℤ get_or own k (pos 0)) ≡ given_at k (seats_kept ports rooms own)
-given-kept ports totals rooms own k kept inside =
+compress_given_kept ports totals rooms own k kept inside =
     let seats = seats_kept ports rooms own in
     let size = seats-length ports rooms own in
     let room = get_or rooms k 256 in
@@ -177,14 +177,14 @@ given-kept ports totals rooms own k kept inside =
     let yes = lt-ltb room 256 low in
     let member : RoomMember = record { room = room; octet = octet_kept value } in
     let seat : seat_at rooms own k ≡ Some member = rw yes refl in
-    given_is seats (get_or totals room (pos 0)) value k member (omega (arith, inside, size)) (seat-of ports rooms own k inside ∙ seat) (kept.sums room low) (kept.adds k inside ∙ ap value_in seat))
+    compress_given seats (get_or totals room (pos 0)) value k member (omega (arith, inside, size)) (get_or-seats_kept ports rooms own k inside ∙ seat) (kept.sums room low) (kept.adds k inside ∙ ap value_in seat))
     (λ (last : 256 ≤ room).
     let is : room ≡ 256 = omega (arith, last, near) in
-    let seat = nobody rooms own k is in
+    let seat = seat_at_nobody rooms own k is in
     let nothing : value ≡ pos 0 = kept.adds k inside ∙ ap value_in seat in
     ap (λ (r : ℕ). compress (get_or totals r (pos 0) -ℤ value)) is
     ∙ ap (λ (z : ℤ). compress (z -ℤ value)) kept.none
     ∙ ap (λ (z : ℤ). compress (pos 0 -ℤ z)) nothing
-    ∙ silence
-    ∙ sym (ap (given_to_member seats k) (seat-of ports rooms own k inside ∙ seat)))
+    ∙ compress_silence
+    ∙ sym (ap (given_to_member seats k) (get_or-seats_kept ports rooms own k inside ∙ seat)))
     (below_or_not room 256)

@@ -11,7 +11,7 @@ use Rattle.std.proofs.Math.ListN.{get_or-map}
 use Rattle.circuit_model.specs.ALaw.{decision_values, expand, compress}
 use Rattle.circuit_model.specs.FrameInput.{idle_octet}
 use Rattle.circuit_model.specs.Hears.{sum_of_values}
-use Rattle.alaw_codec.proofs.Tables.{round_trip}
+use Rattle.alaw_codec.proofs.Tables.{compress_round_trip}
 use Rattle.conference_mix.specs.Bridge.{present_octets, others, value_of, mixed_for}
 
 plus_zero : (x : ℤ) → x ≡ pos 0 +ℤ x
@@ -131,4 +131,4 @@ pub mixed_pair : (ms : List (Option ℕ)) (k octet : ℕ) → octet < 256 → ot
 mixed_pair ms k octet h one =
     ap (λ (octets : List ℕ). compress (sum_of_values octets)) one
     ∙ ap compress (sym (plus_zero_right (expand octet)))
-    ∙ round_trip octet h
+    ∙ compress_round_trip octet h

@@ -23,8 +23,8 @@ some_owner a b e = cc
 some_number : (a b : ℕ) → Some a ≡ Some b → a ≡ b
 some_number a b e = cc
 
-none_at : {X : Type 0} (n k : ℕ) → get_or (replicate n (let x : Option X = None in x)) k None ≡ None
-none_at {X} n k =
+get_or-replicate_none : {X : Type 0} (n k : ℕ) → get_or (replicate n (let x : Option X = None in x)) k None ≡ None
+get_or-replicate_none {X} n k =
     ⊎_elim (λ (l : k < n). get_or-replicate n k None None l) (λ (l : n ≤ k). get_or_past (replicate n None) k None (let m = length-replicate n (let x : Option X = None in x) in omega (arith, m, l))) (cases_lt k n)
 
 -- the owner that x has the port of is no other member
@@ -41,8 +41,8 @@ same_index x y a b e =
 pub index_inside : (external : ℕ) (x : Slot) → x.line < external → x.place < 30 → index_of x < 30 * external
 index_inside external x a b = omega (arith, a, b)
 
-pub member_at : (owners : List (Option Occupant)) (k : ℕ) → k < length owners → get_or (members owners) k None ≡ member_of (get_or owners k None)
-member_at owners k inside = get_or-map member_of owners k None None inside
+pub get_or-members_at : (owners : List (Option Occupant)) (k : ℕ) → k < length owners → get_or (members owners) k None ≡ member_of (get_or owners k None)
+get_or-members_at owners k inside = get_or-map member_of owners k None None inside
 
 members_long : (owners : List (Option Occupant)) → length (members owners) ≡ length owners
 members_long owners = length-map owners member_of
@@ -50,13 +50,13 @@ members_long owners = length-map owners member_of
 -- no port is owned yet
 pub all_free : (external lines : ℕ) → external + lines ≤ 34 → IsIndexed external lines (replicate (lines * 30) None) (replicate (external * 30) None)
 all_free external lines few =
-    let free : (k : ℕ) → get_or (replicate (lines * 30) None) k None ≡ None = λ k. none_at (lines * 30) k in
+    let free : (k : ℕ) → get_or (replicate (lines * 30) None) k None ≡ None = λ k. get_or-replicate_none (lines * 30) k in
     record {
       few = few;
       owned = length-replicate (lines * 30) None ∙ omega arith;
       indexed = length-replicate (external * 30) None ∙ omega arith;
-      named = λ x line place. none_at (external * 30) (index_of x)
-          ∙ sym (position_none (has x) (members (replicate (lines * 30) None)) None (λ k l. ap (has x) (member_at (replicate (lines * 30) None) k (let n = members_long (replicate (lines * 30) None) in omega (arith, n, l)) ∙ ap member_of (free k))));
+      named = λ x line place. get_or-replicate_none (external * 30) (index_of x)
+          ∙ sym (position_none (has x) (members (replicate (lines * 30) None)) None (λ k l. ap (has x) (get_or-members_at (replicate (lines * 30) None) k (let n = members_long (replicate (lines * 30) None) in omega (arith, n, l)) ∙ ap member_of (free k))));
       alone = λ k owner e. let wrong = sym (free k) ∙ e in absurd (cc);
     }
 
@@ -76,7 +76,7 @@ members_set owners k o = map-set member_of owners k o
 others_stay : (external lines : ℕ) (owners : List (Option Occupant)) (ports : List (Option ℕ)) (k : ℕ) (new : Occupant) → Taken external lines owners ports k new → (x : Slot) → x ≢ new.member → position (has x) (members (set owners k (Some new))) ≡ position (has x) (members owners)
 others_stay external lines owners ports k new t x apart =
     ap (position (has x)) (members_set owners k (Some new))
-    ∙ position-set_other (has x) (members owners) k (Some new.member) None (same_slot-false x new.member apart ∙ sym (ap (has x) (member_at owners k t.inside ∙ ap member_of t.free)))
+    ∙ position-set_other (has x) (members owners) k (Some new.member) None (same_slot-false x new.member apart ∙ sym (ap (has x) (get_or-members_at owners k t.inside ∙ ap member_of t.free)))
 
 mine_found : (external lines : ℕ) (owners : List (Option Occupant)) (ports : List (Option ℕ)) (k : ℕ) (new : Occupant) → Taken external lines owners ports k new → position (has new.member) (members (set owners k (Some new))) ≡ Some k
 mine_found external lines owners ports k new t =
@@ -133,7 +133,7 @@ pub named_owner : (external lines : ℕ) (owners : List (Option Occupant)) (port
 named_owner external lines owners ports k x old at =
     let p = position-Some (has x) (members owners) k None at in
     let inside : k < length owners = let i = p.0 in let n = members_long owners in omega (arith, i, n) in
-    (inside, ap (has x) (sym (member_at owners k inside)) ∙ p.1, λ i l apart. other_owner external lines owners ports k x old at i apart (get_or owners i None) refl)
+    (inside, ap (has x) (sym (get_or-members_at owners k inside)) ∙ p.1, λ i l apart. other_owner external lines owners ports k x old at i apart (get_or owners i None) refl)
 
 pub indexed_given : (external lines : ℕ) (owners : List (Option Occupant)) (ports : List (Option ℕ)) (k : ℕ) (x : Slot) → IsIndexed external lines owners ports → x.line < external → x.place < 30 → position (has x) (members owners) ≡ Some k
     → IsIndexed external lines (set owners k None) (set ports (index_of x) None)
@@ -142,7 +142,7 @@ indexed_given external lines owners ports k x old line place at =
     let long = members_long owners in
     let room : index_of x < length ports = let i = index_inside external x line place in let m = old.indexed in omega (arith, i, m) in
     let stays : (y : Slot) → y ≢ x → position (has y) (members (set owners k None)) ≡ position (has y) (members owners) = λ y apart.
-    ap (position (has y)) (members_set owners k None) ∙ position-set_other (has y) (members owners) k None None (sym (ap (has y) (member_at owners k n.0) ∙ not_mine x y (get_or owners k None) n.1 apart)) in
+    ap (position (has y)) (members_set owners k None) ∙ position-set_other (has y) (members owners) k None None (sym (ap (has y) (get_or-members_at owners k n.0) ∙ not_mine x y (get_or owners k None) n.1 apart)) in
     record {
       few = old.few;
       owned = length-set owners k None ∙ old.owned;
@@ -154,7 +154,7 @@ indexed_given external lines owners ports k x old line place at =
           ap (λ m. get_or (set ports (index_of x) None) m None) e.1 ∙ get_or-set_same ports (index_of x) None None room
           ∙ sym (ap (λ z. position (has z) (members (set owners k None))) is ∙ ap (position (has x)) (members_set owners k None)
           ∙ position-set_gone (has x) (members owners) k None None (let i = n.0 in omega (arith, i, long)) refl
-          (λ j l apart. ap (has x) (member_at owners j (omega (arith, l, long))) ∙ n.2 j (omega (arith, l, long)) apart)))
+          (λ j l apart. ap (has x) (get_or-members_at owners j (omega (arith, l, long))) ∙ n.2 j (omega (arith, l, long)) apart)))
           (λ (e : (eqb (index_of y) (index_of x) ≡ false) × (index_of y ≢ index_of x)).
           get_or-set_other ports (index_of x) (index_of y) None None e.1 ∙ old.named y in_line in_place ∙ sym (stays y (λ same. e.1 (ap index_of same))))
           (eqb_tells (index_of y) (index_of x));

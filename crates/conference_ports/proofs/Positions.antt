@@ -51,12 +51,12 @@ position-set_gone p xs i y d inside fails alone =
     (eqb_tells k i))
 
 -- ---- owners
-pub owned_set : (owner : Occupant) (owners : List (Option Occupant)) (k : ℕ) → k < length owners → is_none (get_or owners k None) ≡ true → ((i : ℕ) → i < k → is_none (get_or owners i None) ≡ false) → owners_with owner owners ≡ set owners k (Some owner)
-owned_set owner [] k inside free before = absurd (omega (arith, inside))
-owned_set owner (None ∷ owners) zero inside free before = refl
-owned_set owner (None ∷ owners) (suc k) inside free before = let wrong = before 0 (omega arith) in absurd (cc)
-owned_set owner (Some other ∷ owners) zero inside free before = absurd (cc)
-owned_set owner (Some other ∷ owners) (suc k) inside free before = ap (λ os. Some other ∷ os) (owned_set owner owners k (omega (arith, inside)) free (λ i l. before (suc i) (omega (arith, l))))
+pub owners_with_owned_set : (owner : Occupant) (owners : List (Option Occupant)) (k : ℕ) → k < length owners → is_none (get_or owners k None) ≡ true → ((i : ℕ) → i < k → is_none (get_or owners i None) ≡ false) → owners_with owner owners ≡ set owners k (Some owner)
+owners_with_owned_set owner [] k inside free before = absurd (omega (arith, inside))
+owners_with_owned_set owner (None ∷ owners) zero inside free before = refl
+owners_with_owned_set owner (None ∷ owners) (suc k) inside free before = let wrong = before 0 (omega arith) in absurd (cc)
+owners_with_owned_set owner (Some other ∷ owners) zero inside free before = absurd (cc)
+owners_with_owned_set owner (Some other ∷ owners) (suc k) inside free before = ap (λ os. Some other ∷ os) (owners_with_owned_set owner owners k (omega (arith, inside)) free (λ i l. before (suc i) (omega (arith, l))))
 
 pub members_owned : (owner : Occupant) (owners : List (Option Occupant)) → members (owners_with owner owners) ≡ ports_with owner.member (members owners)
 members_owned owner [] = refl
@@ -74,26 +74,26 @@ members_disowned x (port ∷ owners) = λ i. one_returned x port (has x (member_
 one_disowned : (x : Slot) (port : Option Occupant) → has x (member_of port) ≡ false → cond (has x (member_of port)) None port ≡ port
 one_disowned x port e = ap (λ b. cond b None port) e
 
-all_kept : (x : Slot) (owners : List (Option Occupant)) → ((i : ℕ) → i < length owners → has x (member_of (get_or owners i None)) ≡ false) → owners_without x owners ≡ owners
-all_kept x [] others = refl
-all_kept x (port ∷ owners) others = λ i. one_disowned x port (others 0 (omega arith)) i ∷ all_kept x owners (λ k l. others (suc k) (omega (arith, l))) i
+owners_without_all_kept : (x : Slot) (owners : List (Option Occupant)) → ((i : ℕ) → i < length owners → has x (member_of (get_or owners i None)) ≡ false) → owners_without x owners ≡ owners
+owners_without_all_kept x [] others = refl
+owners_without_all_kept x (port ∷ owners) others = λ i. one_disowned x port (others 0 (omega arith)) i ∷ owners_without_all_kept x owners (λ k l. others (suc k) (omega (arith, l))) i
 
-pub disowned_set : (x : Slot) (owners : List (Option Occupant)) (k : ℕ) → k < length owners → has x (member_of (get_or owners k None)) ≡ true → ((i : ℕ) → i < length owners → i ≢ k → has x (member_of (get_or owners i None)) ≡ false) → owners_without x owners ≡ set owners k None
-disowned_set x [] k inside mine others = absurd (omega (arith, inside))
-disowned_set x (port ∷ owners) zero inside mine others =
-    λ i. ap (λ b. cond b None port) mine i ∷ all_kept x owners (λ k l. others (suc k) (omega (arith, l)) (λ e. omega (arith, e))) i
-disowned_set x (port ∷ owners) (suc k) inside mine others =
-    λ i. one_disowned x port (others 0 (omega arith) (λ e. omega (arith, e))) i ∷ disowned_set x owners k (omega (arith, inside)) mine (λ m l apart. others (suc m) (omega (arith, l)) (λ e. apart (omega (arith, e)))) i
+pub owners_without_disowned_set : (x : Slot) (owners : List (Option Occupant)) (k : ℕ) → k < length owners → has x (member_of (get_or owners k None)) ≡ true → ((i : ℕ) → i < length owners → i ≢ k → has x (member_of (get_or owners i None)) ≡ false) → owners_without x owners ≡ set owners k None
+owners_without_disowned_set x [] k inside mine others = absurd (omega (arith, inside))
+owners_without_disowned_set x (port ∷ owners) zero inside mine others =
+    λ i. ap (λ b. cond b None port) mine i ∷ owners_without_all_kept x owners (λ k l. others (suc k) (omega (arith, l)) (λ e. omega (arith, e))) i
+owners_without_disowned_set x (port ∷ owners) (suc k) inside mine others =
+    λ i. one_disowned x port (others 0 (omega arith) (λ e. omega (arith, e))) i ∷ owners_without_disowned_set x owners k (omega (arith, inside)) mine (λ m l apart. others (suc m) (omega (arith, l)) (λ e. apart (omega (arith, e)))) i
 
 -- no port is left to own
-pub owned_full : (owner : Occupant) (owners : List (Option Occupant)) → ((k : ℕ) → k < length owners → is_none (get_or owners k None) ≡ false) → owners_with owner owners ≡ owners
-owned_full owner [] full = refl
-owned_full owner (None ∷ owners) full = let wrong = full 0 (omega arith) in absurd (cc)
-owned_full owner (Some other ∷ owners) full = ap (λ os. Some other ∷ os) (owned_full owner owners (λ k l. full (suc k) (omega (arith, l))))
+pub owners_with_owned_full : (owner : Occupant) (owners : List (Option Occupant)) → ((k : ℕ) → k < length owners → is_none (get_or owners k None) ≡ false) → owners_with owner owners ≡ owners
+owners_with_owned_full owner [] full = refl
+owners_with_owned_full owner (None ∷ owners) full = let wrong = full 0 (omega arith) in absurd (cc)
+owners_with_owned_full owner (Some other ∷ owners) full = ap (λ os. Some other ∷ os) (owners_with_owned_full owner owners (λ k l. full (suc k) (omega (arith, l))))
 
 -- by the words of `position`
-pub owned_at : (owner : Occupant) (owners : List (Option Occupant)) (k : ℕ) → position is_none owners ≡ Some k → owners_with owner owners ≡ set owners k (Some owner)
-owned_at owner owners k at = let p = position-Some is_none owners k None at in owned_set owner owners k p.0 p.1 p.2
+pub owners_with_owned_at : (owner : Occupant) (owners : List (Option Occupant)) (k : ℕ) → position is_none owners ≡ Some k → owners_with owner owners ≡ set owners k (Some owner)
+owners_with_owned_at owner owners k at = let p = position-Some is_none owners k None at in owners_with_owned_set owner owners k p.0 p.1 p.2
 
-pub owned_none : (owner : Occupant) (owners : List (Option Occupant)) → position is_none owners ≡ None → owners_with owner owners ≡ owners
-owned_none owner owners none = owned_full owner owners (none_passes is_none owners None none)
+pub owners_with_owned_none : (owner : Occupant) (owners : List (Option Occupant)) → position is_none owners ≡ None → owners_with owner owners ≡ owners
+owners_with_owned_none owner owners none = owners_with_owned_full owner owners (none_passes is_none owners None none)

@@ -12,13 +12,13 @@ filled zero i = refl
 filled (suc n) zero = refl
 filled (suc n) (suc i) = filled n i
 
-pub no_entries : (bytes : List ℕ) (n i : ℕ) → bytes ≡ replicate n 255 → get_or (map number_in bytes) i None ≡ None
-no_entries bytes n i all = rw all (filled n i)
+pub get_or-map_no_entries : (bytes : List ℕ) (n i : ℕ) → bytes ≡ replicate n 255 → get_or (map number_in bytes) i None ≡ None
+get_or-map_no_entries bytes n i all = rw all (filled n i)
 
 -- one write changes one entry
-pub entry_set : {X : Type 0} (xs : List X) (rows width row column r c : ℕ) (x d : X) → length xs ≡ rows * width → row < rows → column < width → c < width
+pub get_or-set_entry : {X : Type 0} (xs : List X) (rows width row column r c : ℕ) (x d : X) → length xs ≡ rows * width → row < rows → column < width → c < width
     → get_or (set xs (row * width + column) x) (r * width + c) d ≡ (if (r == row) && (c == column) then x else get_or xs (r * width + c) d)
-entry_set xs rows width row column r c x d size inside near at = elim (cases_eq r row) [
+get_or-set_entry xs rows width row column r c x d size inside near at = elim (cases_eq r row) [
   | inl same_row ↦ elim (cases_eq c column) [
     | inl same_column ↦
         let here : row * width + column < length xs = grind (arith, mul-add-lt row width column rows inside near, mul_comm rows width) in
@@ -34,15 +34,15 @@ entry_set xs rows width row column r c x d size inside near at = elim (cases_eq 
 ]
 
 -- one byte written changes one entry of a table
-pub byte_set : (bytes : List ℕ) (rows columns row column byte r c : ℕ) (value : Option ℕ) → length bytes ≡ rows * columns → row < rows → column < columns → c < columns → number_in byte ≡ value
+pub entry_in_byte_set : (bytes : List ℕ) (rows columns row column byte r c : ℕ) (value : Option ℕ) → length bytes ≡ rows * columns → row < rows → column < columns → c < columns → number_in byte ≡ value
     → entry_in columns (map number_in (set bytes (row * columns + column) byte)) r c ≡ written row column value (entry_in columns (map number_in bytes)) r c
-byte_set bytes rows columns row column byte r c value size inside near at is =
+entry_in_byte_set bytes rows columns row column byte r c value size inside near at is =
     ap (λ (ys : List (Option ℕ)). get_or ys (r * columns + c) None) (map-set number_in bytes (row * columns + column) byte)
-    ∙ rw is (entry_set (map number_in bytes) rows columns row column r c value None (length-map bytes number_in ∙ size) inside near at)
+    ∙ rw is (get_or-set_entry (map number_in bytes) rows columns row column r c value None (length-map bytes number_in ∙ size) inside near at)
 
 pub number_in-below : (byte limit : ℕ) → byte < limit → limit < 256 → number_in byte ≡ Some byte
 number_in-below byte limit below small = cond-false (eqb byte 255) None (Some byte) (ne_eqb byte 255 (omega arith))
 
 -- a table without numbers has none in rows of its width
-pub none_in : (t : Table) (rows columns limit : ℕ) → HasSize t rows columns limit → Agree rows columns (entry t) nothing → Agree rows columns (entry_in columns t.entries) nothing
-none_in t rows columns limit size empty row column inside near = ap (λ w. entry_in w t.entries row column) (sym size.columns) ∙ empty row column inside near
+pub Agree_none : (t : Table) (rows columns limit : ℕ) → HasSize t rows columns limit → Agree rows columns (entry t) nothing → Agree rows columns (entry_in columns t.entries) nothing
+Agree_none t rows columns limit size empty row column inside near = ap (λ w. entry_in w t.entries row column) (sym size.columns) ∙ empty row column inside near

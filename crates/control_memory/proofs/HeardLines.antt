@@ -11,10 +11,10 @@ use Rattle.control_memory.specs.declared.heard.Heard.{Heard}
 use Rattle.control_memory.specs.declared.heard.Heard.TheVariants.{Silent}
 use Rattle.control_memory.specs.HeardRows.{heard_on, AreHeardOn}
 
-pub nothing_heard : (n k : ℕ) → get_or (replicate n Silent) k Silent ≡ Silent
-nothing_heard zero k = refl
-nothing_heard (suc n) zero = refl
-nothing_heard (suc n) (suc k) = nothing_heard n k
+pub get_or-replicate_nothing_heard : (n k : ℕ) → get_or (replicate n Silent) k Silent ≡ Silent
+get_or-replicate_nothing_heard zero k = refl
+get_or-replicate_nothing_heard (suc n) zero = refl
+get_or-replicate_nothing_heard (suc n) (suc k) = get_or-replicate_nothing_heard n k
 
 -- one slot written, and the mark of its line
 pub heard_set : (lines : ℕ) (heard : List Heard) (marks line n : ℕ) (h : Heard) → AreHeardOn lines heard marks → line ≡ n / 30 → AreHeardOn lines (set heard n h) (bit_or marks (1 * 2 ^ (line % 64) % 2 ^ 64))

@@ -57,10 +57,10 @@ found_here test n hop hops p true passes later_on e =
     )
 found_here test n hop hops p false passes later_on e = let rest = later_on e in (later n (Some hop) hops p rest.0, rest.1)
 
-pub found : (test : Path → Bool) (n : ℕ) (hops : Layout) (p : Path) → find test (paths_from n hops) ≡ Some p → IsListed n hops p × (test p ≡ true)
-found test n [] p e = absurd (none_some p e)
-found test n (None ∷ hops) p e = let rest = found test (n + 1) hops p e in (later n None hops p rest.0, rest.1)
-found test n (Some hop ∷ hops) p e = found_here test n hop hops p (test (path_at n hop)) refl (found test (n + 1) hops p) e
+pub IsListed_found : (test : Path → Bool) (n : ℕ) (hops : Layout) (p : Path) → find test (paths_from n hops) ≡ Some p → IsListed n hops p × (test p ≡ true)
+IsListed_found test n [] p e = absurd (none_some p e)
+IsListed_found test n (None ∷ hops) p e = let rest = IsListed_found test (n + 1) hops p e in (later n None hops p rest.0, rest.1)
+IsListed_found test n (Some hop ∷ hops) p e = found_here test n hop hops p (test (path_at n hop)) refl (IsListed_found test (n + 1) hops p) e
 
 -- a path of the layout that passes is found, or another one is
 some_here : (test : Path → Bool) (n : ℕ) (hop : Route) (hops : Layout) (b : Bool) → ((q : Path) × (find test (paths_from (n + 1) hops) ≡ Some q)) ⊎ (b ≡ true)
@@ -68,15 +68,15 @@ some_here : (test : Path → Bool) (n : ℕ) (hop : Route) (hops : Layout) (b : 
 some_here test n hop hops true either = (path_at n hop, refl)
 some_here test n hop hops false either = ⊎_elim (λ (q : (q : Path) × (find test (paths_from (n + 1) hops) ≡ Some q)). q) (λ (no : false ≡ true). absurd (cc)) either
 
-pub finds : (test : Path → Bool) (n : ℕ) (hops : Layout) (k : ℕ) (hop : Route) → slice_index_or hops k None ≡ Some hop → test (path_at (n + k) hop) ≡ true → (q : Path) × (find test (paths_from n hops) ≡ Some q)
-finds test n [] k hop there passes = absurd (none_some hop there)
-finds test n (None ∷ hops) zero hop there passes = absurd (none_some hop there)
-finds test n (Some first ∷ hops) zero hop there passes =
+pub find-paths_from : (test : Path → Bool) (n : ℕ) (hops : Layout) (k : ℕ) (hop : Route) → slice_index_or hops k None ≡ Some hop → test (path_at (n + k) hop) ≡ true → (q : Path) × (find test (paths_from n hops) ≡ Some q)
+find-paths_from test n [] k hop there passes = absurd (none_some hop there)
+find-paths_from test n (None ∷ hops) zero hop there passes = absurd (none_some hop there)
+find-paths_from test n (Some first ∷ hops) zero hop there passes =
     let is : first ≡ hop = some_same first hop there in
     some_here test n first hops (test (path_at n first)) (inr (ap (λ h. test (path_at n h)) is ∙ ap (λ m. test (path_at m hop)) (omega arith) ∙ passes))
-finds test n (None ∷ hops) (suc k) hop there passes = finds test (n + 1) hops k hop there (ap (λ m. test (path_at m hop)) (omega arith) ∙ passes)
-finds test n (Some first ∷ hops) (suc k) hop there passes =
-    some_here test n first hops (test (path_at n first)) (inl (finds test (n + 1) hops k hop there (ap (λ m. test (path_at m hop)) (omega arith) ∙ passes)))
+find-paths_from test n (None ∷ hops) (suc k) hop there passes = find-paths_from test (n + 1) hops k hop there (ap (λ m. test (path_at m hop)) (omega arith) ∙ passes)
+find-paths_from test n (Some first ∷ hops) (suc k) hop there passes =
+    some_here test n first hops (test (path_at n first)) (inl (find-paths_from test (n + 1) hops k hop there (ap (λ m. test (path_at m hop)) (omega arith) ∙ passes)))
 
 -- ---- the three lookups
 both : (a b : Bool) → (a && b) ≡ true → (a ≡ true) × (b ≡ true)
@@ -103,11 +103,11 @@ stands_path lines layout p size s =
     }
 
 pub found_path : (test : Path → Bool) (lines : ℕ) (layout : Layout) (p : Path) → length layout ≡ 30 * lines → find test (paths layout) ≡ Some p → IsPathOf lines layout p × (test p ≡ true)
-found_path test lines layout p size e = let f = found test 0 layout p e in (stands_path lines layout p size f.0, f.1)
+found_path test lines layout p size e = let f = IsListed_found test 0 layout p e in (stands_path lines layout p size f.0, f.1)
 
 pub finds_path : (test : Path → Bool) (layout : Layout) (from to : Slot) (slot : ℕ) → from.place < 30 → HasPath layout from to slot → test (record { from = from; to = to; slot = slot }) ≡ true → (q : Path) × (find test (paths layout) ≡ Some q)
 finds_path test layout from to slot within has passes =
-    finds test 0 layout (number_of from) (record { to = to; slot = slot }) has
+    find-paths_from test 0 layout (number_of from) (record { to = to; slot = slot }) has
     (ap (λ (f : Slot). test (record { from = f; to = to; slot = slot })) (ap slot_numbered (omega arith) ∙ numbered_number from within) ∙ passes)
 
 pub hops_agree : (h k : Route) → Some h ≡ Some k → (h.to ≡ k.to) × (h.slot ≡ k.slot)

@@ -54,11 +54,11 @@ new_or_old lines layout from to slot size inside x y s within has =
 abbrev pub OneBy : ℕ → Layout → (Slot → Slot → ℕ → Slot → Slot → ℕ → Type 0) → Type 0
 OneBy lines layout Shares = (x z y t : Slot) (s r : ℕ) → IsSlot lines x → IsSlot lines z → HasPath layout x y s → HasPath layout z t r → Shares x y s z t r → x ≡ z
 
-pub one_more : (lines : ℕ) (layout : Layout) (from to : Slot) (slot : ℕ) (Shares : Slot → Slot → ℕ → Slot → Slot → ℕ → Type 0) → length layout ≡ 30 * lines → IsSlot lines from
+pub OneBy-with_path : (lines : ℕ) (layout : Layout) (from to : Slot) (slot : ℕ) (Shares : Slot → Slot → ℕ → Slot → Slot → ℕ → Type 0) → length layout ≡ 30 * lines → IsSlot lines from
     → ((x y : Slot) (s : ℕ) → IsSlot lines x → HasPath layout x y s → Shares x y s from to slot → ⊥)
     → ((x y : Slot) (s : ℕ) → IsSlot lines x → HasPath layout x y s → Shares from to slot x y s → ⊥)
     → OneBy lines layout Shares → OneBy lines (with_path layout from to slot) Shares
-one_more lines layout from to slot Shares size inside clash clash_back old x z y t s r in_x in_z has_x has_z shares =
+OneBy-with_path lines layout from to slot Shares size inside clash clash_back old x z y t s r in_x in_z has_x has_z shares =
     ⊎_elim
     (λ (new_x : IsNew from to slot x y s).
     ⊎_elim (λ (new_z : IsNew from to slot z t r). new_x.0 ∙ sym new_z.0)
@@ -86,15 +86,15 @@ pub legal_with : (lines slots : ℕ) (layout : Layout) (from to : Slot) (slot : 
 legal_with lines slots layout from to slot legal inside inside_to below free =
     let size = legal.inlets in
     let split = new_or_old lines layout from to slot size inside in
-    let outlet = one_more lines layout from to slot shares_outlet size inside
+    let outlet = OneBy-with_path lines layout from to slot shares_outlet size inside
     (λ x y s in_x has e. free.outlet x s in_x (subst (λ a. HasPath layout x a s) e has))
     (λ x y s in_x has e. free.outlet x s in_x (subst (λ a. HasPath layout x a s) (sym e) has))
     (λ x z y t s r in_x in_z has_x has_z e. legal.one_inlet x z y s r in_x in_z has_x (subst (λ a. HasPath layout z a r) (sym e) has_z)) in
-    let incoming = one_more lines layout from to slot shares_incoming size inside
+    let incoming = OneBy-with_path lines layout from to slot shares_incoming size inside
     (λ x y s in_x has e. free.sent x y in_x (subst (λ a. HasPath layout x y a) e.0 has) e.1)
     (λ x y s in_x has e. free.sent x y in_x (subst (λ a. HasPath layout x y a) (sym e.0) has) (sym e.1))
     (λ x z y t s r in_x in_z has_x has_z e. legal.one_sent x z y t s in_x in_z has_x (subst (λ a. HasPath layout z t a) (sym e.0) has_z) e.1) in
-    let outgoing = one_more lines layout from to slot shares_outgoing size inside
+    let outgoing = OneBy-with_path lines layout from to slot shares_outgoing size inside
     (λ x y s in_x has e. free.received x y in_x (subst (λ a. HasPath layout x y a) e.0 has) e.1)
     (λ x y s in_x has e. free.received x y in_x (subst (λ a. HasPath layout x y a) (sym e.0) has) (sym e.1))
     (λ x z y t s r in_x in_z has_x has_z e. legal.one_received x z y t s in_x in_z has_x (subst (λ a. HasPath layout z t a) (sym e.0) has_z) e.1) in

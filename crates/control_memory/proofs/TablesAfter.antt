@@ -72,15 +72,15 @@ tables_without lines slots layout from to slot p c r p' c' r' legal inside has t
     }
 
 -- ---- no path at all
-none_at : {X : Type 0} (n k : ℕ) → get_or (replicate n (let x : Option X = None in x)) k None ≡ None
-none_at {X} n k =
+get_or-replicate_none : {X : Type 0} (n k : ℕ) → get_or (replicate n (let x : Option X = None in x)) k None ≡ None
+get_or-replicate_none {X} n k =
     ⊎_elim (λ (l : k < n). get_or-replicate n k None None l) (λ (l : n ≤ k). get_or_past (replicate n None) k None (let m = length-replicate n (let x : Option X = None in x) in omega (arith, m, l))) (cases_lt k n)
 
 abbrev pub bare : ℕ → Layout
 bare lines = replicate (30 * lines) None
 
 no_path : (lines : ℕ) (x y : Slot) (s : ℕ) → HasPath (bare lines) x y s → ⊥
-no_path lines x y s has = let wrong = sym (none_at (30 * lines) (number_of x)) ∙ has in cc
+no_path lines x y s has = let wrong = sym (get_or-replicate_none (30 * lines) (number_of x)) ∙ has in cc
 
 pub legal_bare : (lines slots : ℕ) → Legal lines slots (bare lines)
 legal_bare lines slots = record {

@@ -10,19 +10,19 @@ use Rattle.circuit_model.specs.Circuits.{heard_by, is_idle, is_member}
 use Rattle.circuit_model.specs.Extent.{IsExternal}
 use Rattle.circuit_model.specs.Holding.{Holding, Connect, Seat, Give_tone, Clear, Frame, after}
 use Rattle.circuit_model.specs.Ports.{Ports, free_ports, port_numbered, port_of, ports_with, ports_without}
-use Rattle.circuit_model.proofs.Slots.{idle_is_deaf}
+use Rattle.circuit_model.proofs.Slots.{heard_by_idle_is_deaf}
 use Rattle.control_memory.specs.Layout.{Layout, hop_of, path_to, number_of, IsSlot, Joins}
 use Rattle.control_memory.specs.Connecting.{without_path}
 use Rattle.control_memory.specs.Shown.{partner, without_both}
 use Rattle.control_memory.proofs.TablesAfter.{legal_bare}
 use Rattle.circuit_map.specs.Connections.{Connections, Represents, hears_in, hears_at, is_pathless}
-use Rattle.circuit_map.proofs.Clearing.{clears, clear_pathless, clear_paths, connected_to, hearing_at, joined_back, joined_port, joined_there, less_two, member_partner, member_ported, pair_partner, port_apart, port_joined, port_slot, rows_one, rows_two, seated_in, still_joined}
+use Rattle.circuit_map.proofs.Clearing.{clears, clear_pathless, clear_paths, hears_at_connected_to, hearing_at, joined_back, joined_port, joined_there, less_two, member_partner, member_ported, pair_partner, port_apart, port_joined, port_slot, rows_one, rows_two, hears_at_seated_in, still_joined}
 use Rattle.circuit_map.proofs.Holdings.{Heeded, holds_frame, holds_pair, holds_tone, swapped}
-use Rattle.circuit_map.proofs.Paths.{external_slot, idle_joins_none, joins_no_outlet, no_inlet, no_inlet_joins, no_outlet, none_joins_idle, two_more}
+use Rattle.circuit_map.proofs.Paths.{external_slot, idle_joins_none, joins_no_outlet, hop_of_no_inlet, no_inlet_joins, path_to_no_outlet, none_joins_idle, two_more}
 use Rattle.circuit_map.proofs.Rows.{Hearing, hears_set, hears_two}
-use Rattle.circuit_map.proofs.Seating.{free_port_slot, full_where, holds_seat, none_joins_port, port_beyond, port_joins_none, seated_port}
+use Rattle.circuit_map.proofs.Seating.{free_port_slot, count_by-is_member_full, holds_seat, none_joins_port, port_beyond, port_joins_none, seated_port}
 use Rattle.circuit_map.proofs.Sockets.{length-given, length-returned}
-use Rattle.circuit_map.proofs.Starting.{bare_rows, holds_empty, silent_rows}
+use Rattle.circuit_map.proofs.Starting.{bare_rows, holds_empty, hears_in_silent_rows}
 use Rattle.paull_matrix.specs.Matrix.{no_paths}
 use Rattle.paull_matrix.proofs.Laws.{legal_empty}
 use Rattle.path_memory.proofs.MatrixOfLayout.{bare_matches}
@@ -37,7 +37,7 @@ use Rattle.call_profile.proofs.KeptWorldLemmas.{Keeps, run_keeps}
 use Rattle.call_profile.proofs.StandingLegLemmas.{start_stands}
 use Rattle.exchange_core.specs.LaidOut.{IsLegalAfter, JoinsCircuitsAfter}
 use Rattle.exchange_core.specs.Working.{world_after}
-use Rattle.exchange_core.proofs.LegalPathLemmas.{IsMatched, connected, parted}
+use Rattle.exchange_core.proofs.LegalPathLemmas.{IsMatched, IsJoined-connect, IsMatched-without_path}
 use Rattle.exchange_core.proofs.StepLemmas.{fits_all}
 
 -- ---- circuits and paths
@@ -67,17 +67,17 @@ both_joined : (d : Dimensions) (layout : Layout) (x y : Slot) → 30 ≤ d.slots
     → hop_of layout x ≡ None → path_to layout x ≡ None → hop_of layout y ≡ None → path_to layout y ≡ None → AreBothJoined d layout x y
 both_joined d layout x y enough matched in_x in_y apart inlet_x outlet_x inlet_y outlet_y =
     let lines : ℕ = exchange_lines d in
-    let there = connected lines d.slots layout x y enough matched in_x in_y inlet_x outlet_y in
+    let there = IsJoined-connect lines d.slots layout x y enough matched in_x in_y inlet_x outlet_y in
     let between : Layout = one_way d layout x y in
-    let inlet : hop_of between y ≡ None = no_inlet between y (λ b j. elim ((there.joins y b in_y).0 j) [
+    let inlet : hop_of between y ≡ None = hop_of_no_inlet between y (λ b j. elim ((there.joins y b in_y).0 j) [
       | inl old ↦ no_inlet_joins layout y b inlet_y old
       | inr new ↦ apart (sym new.0)
     ]) in
-    let outlet : path_to between x ≡ None = no_outlet lines between x there.matched.holds.legal.inlets (λ a in_a j. elim ((there.joins a x in_a).0 j) [
+    let outlet : path_to between x ≡ None = path_to_no_outlet lines between x there.matched.holds.legal.inlets (λ a in_a j. elim ((there.joins a x in_a).0 j) [
       | inl old ↦ joins_no_outlet layout a x in_a.1 outlet_x old
       | inr new ↦ apart new.1
     ]) in
-    let back = connected lines d.slots between y x enough there.matched in_y in_x inlet outlet in
+    let back = IsJoined-connect lines d.slots between y x enough there.matched in_y in_x inlet outlet in
     record { matched = back.matched; joins = λ a b in_a. two_more (there.joins a b in_a) (back.joins a b in_a) }
 
 -- ---- a command
@@ -92,14 +92,14 @@ module _ (d : Dimensions) (h : Holding) (ports : Ports) (layout : Layout) (enoug
   size : length layout ≡ 30 * lines
   size = laid.matched.holds.legal.inlets
 
-  deaf : (x : Slot) → is_idle h.circuits x ≡ true → hears_at m x ≡ None
-  deaf x idle = laid.holds.heard x ∙ idle_is_deaf h.circuits x idle
+  hears_at_deaf : (x : Slot) → is_idle h.circuits x ≡ true → hears_at m x ≡ None
+  hears_at_deaf x idle = laid.holds.heard x ∙ heard_by_idle_is_deaf h.circuits x idle
 
   inlet_of : (x : Slot) → IsExternal d.external x → hears_at m x ≡ None → hop_of layout x ≡ None
-  inlet_of x in_x none = no_inlet layout x (λ b j. idle_joins_none m h ports x b laid.holds in_x.0 in_x.1 none j)
+  inlet_of x in_x none = hop_of_no_inlet layout x (λ b j. idle_joins_none m h ports x b laid.holds in_x.0 in_x.1 none j)
 
   outlet_of : (x : Slot) → IsExternal d.external x → hears_at m x ≡ None → path_to layout x ≡ None
-  outlet_of x in_x none = no_outlet lines layout x size (λ a in_a j. none_joins_idle m h ports a x laid.holds in_a in_x.0 none j)
+  outlet_of x in_x none = path_to_no_outlet lines layout x size (λ a in_a j. none_joins_idle m h ports a x laid.holds in_a in_x.0 none j)
 
   in_all : (x : Slot) → IsExternal d.external x → IsSlot lines x
   in_all x in_x = external_slot m x in_x.0 in_x.1
@@ -112,8 +112,8 @@ module _ (d : Dimensions) (h : Holding) (ports : Ports) (layout : Layout) (enoug
   pair_laid : (x y : Slot) → IsExternal d.external x → IsExternal d.external y → x ≢ y → is_idle h.circuits x ≡ true → is_idle h.circuits y ≡ true
       → AreLaid d (after h (Connect x y)) ports (both_ways d layout x y)
   pair_laid x y in_x in_y apart idle_x idle_y =
-      let none_x = deaf x idle_x in
-      let none_y = deaf y idle_y in
+      let none_x = hears_at_deaf x idle_x in
+      let none_y = hears_at_deaf y idle_y in
       let both = both_joined d layout x y enough laid.matched (in_all x in_x) (in_all y in_y) apart (inlet_of x in_x none_x) (outlet_of x in_x none_x) (inlet_of y in_y none_y) (outlet_of y in_y none_y) in
       let one : Option Circuit = Some (Pair y x h.next) in
       let two : Option Circuit = Some (Pair x y h.next) in
@@ -152,7 +152,7 @@ module _ (d : Dimensions) (h : Holding) (ports : Ports) (layout : Layout) (enoug
         heard = now;
         listeners = length-set laid.heard (number_of x) one ∙ laid.listeners;
         sockets = laid.sockets;
-        holds = holds_tone m n x kind (deaf x idle) heeded refl h ports laid.holds;
+        holds = holds_tone m n x kind (hears_at_deaf x idle) heeded refl h ports laid.holds;
         matched = laid.matched;
       }
 
@@ -161,12 +161,12 @@ module _ (d : Dimensions) (h : Holding) (ports : Ports) (layout : Layout) (enoug
   module _ (x : Slot) (room : ℕ) (in_x : IsExternal d.external x) (idle : is_idle h.circuits x ≡ true) where
     at_port : (k : ℕ) → position is_none ports ≡ Some k → AreLaid d (after h (Seat x room)) (ports_with x ports) (both_ways d layout x (port_numbered d.external k))
     at_port k lowest =
-        let none = deaf x idle in
+        let none = hears_at_deaf x idle in
         let p : Slot = port_numbered d.external k in
         let inside = free_port_slot d.external d.bridges ports p k lowest laid.sockets refl in
         let both = both_joined d layout x p enough laid.matched (in_all x in_x) inside.0 (λ e. port_beyond d.external x p in_x.0 inside.1 (sym e)) (inlet_of x in_x none) (outlet_of x in_x none)
-        (no_inlet layout p (λ b j. port_joins_none m h ports p b k laid.holds inside.0 inside.1 lowest refl j))
-        (no_outlet lines layout p size (λ a in_a j. none_joins_port m h ports a p k laid.holds in_a inside.1 lowest refl j)) in
+        (hop_of_no_inlet layout p (λ b j. port_joins_none m h ports p b k laid.holds inside.0 inside.1 lowest refl j))
+        (path_to_no_outlet lines layout p size (λ a in_a j. none_joins_port m h ports a p k laid.holds in_a inside.1 lowest refl j)) in
         let one : Option Circuit = Some (Member room x h.next) in
         let now : List (Option Circuit) = set laid.heard (number_of x) one in
         let n : Connections = map_of d now h.next (ports_with x ports) (both_ways d layout x p) in
@@ -189,9 +189,9 @@ module _ (d : Dimensions) (h : Holding) (ports : Ports) (layout : Layout) (enoug
 
     seat_by : (o : Option ℕ) → position is_none ports ≡ o → count_by is_member h.circuits < 30 * d.bridges
         → AreLaid d (after h (Seat x room)) (ports_with x ports) (with_port d layout x (port_of d.external (ports_with x ports) x))
-    seat_by None lowest free = let full = full_where m h ports laid.holds laid.sockets lowest in absurd (omega (arith, full, free))
+    seat_by None lowest free = let full = count_by-is_member_full m h ports laid.holds laid.sockets lowest in absurd (omega (arith, full, free))
     seat_by (Some k) lowest free =
-        let has = seated_port m h ports x (port_numbered d.external k) k laid.holds (deaf x idle) lowest refl in
+        let has = seated_port m h ports x (port_numbered d.external k) k laid.holds (hears_at_deaf x idle) lowest refl in
         subst (λ (o : Option Slot). AreLaid d (after h (Seat x room)) (ports_with x ports) (with_port d layout x o)) (sym has) (at_port k lowest)
 
   -- ---- a slot is cleared
@@ -231,7 +231,7 @@ module _ (d : Dimensions) (h : Holding) (ports : Ports) (layout : Layout) (enoug
 
     pair_cleared : (y to : Slot) (s : ℕ) → hears_at m x ≡ Some (Pair y to s) → Cleared (without_path (without_path layout x) y)
     pair_cleared y to s is =
-        let hx = connected_to m h ports x y to s laid.holds is in
+        let hx = hears_at_connected_to m h ports x y to s laid.holds is in
         let hy = known.both_ways x y s hx in
         let in_y = known.inside y _ hy in
         let apart = known.apart x y s hx in
@@ -240,8 +240,8 @@ module _ (d : Dimensions) (h : Holding) (ports : Ports) (layout : Layout) (enoug
         let first : Layout = without_path layout x in
         let last : Layout = without_path first y in
         let back = still_joined lines layout first x y size refl slot_x slot_y apart (joined_back m h ports x y s laid.holds slot_y hx) in
-        let one = parted lines d.slots layout x y laid.matched slot_x (joined_there m h ports x y s laid.holds slot_x hx) in
-        let two = parted lines d.slots first y x one slot_y back in
+        let one = IsMatched-without_path lines d.slots layout x y laid.matched slot_x (joined_there m h ports x y s laid.holds slot_x hx) in
+        let two = IsMatched-without_path lines d.slots first y x one slot_y back in
         let now : List (Option Circuit) = set silenced (number_of y) None in
         let n : Connections = map_of d now h.next (ports_without x ports) last in
         let heeded : Heeded m n (Clear x) = record {
@@ -269,8 +269,8 @@ module _ (d : Dimensions) (h : Holding) (ports : Ports) (layout : Layout) (enoug
         let first : Layout = without_path layout x in
         let last : Layout = without_path first p in
         let back = still_joined lines layout first x p size refl slot_x slot_p apart (port_joined m h ports x p room s laid.holds slot_p hx has) in
-        let one = parted lines d.slots layout x p laid.matched slot_x (joined_port m h ports x p room s laid.holds slot_x hx has) in
-        let two = parted lines d.slots first p x one slot_p back in
+        let one = IsMatched-without_path lines d.slots layout x p laid.matched slot_x (joined_port m h ports x p room s laid.holds slot_x hx has) in
+        let two = IsMatched-without_path lines d.slots first p x one slot_p back in
         let n : Connections = map_of d silenced h.next (ports_without x ports) last in
         record {
           heard = silenced;
@@ -285,7 +285,7 @@ module _ (d : Dimensions) (h : Holding) (ports : Ports) (layout : Layout) (enoug
     cleared_by None is = quiet None is (λ z s e. cc) refl
     cleared_by (Some (Pair y to s)) is = pair_cleared y to s is
     cleared_by (Some (Member room at s)) is =
-        let hx = seated_in m h ports x at room s laid.holds is in
+        let hx = hears_at_seated_in m h ports x at room s laid.holds is in
         subst Cleared_by (sym hx ∙ is) (member_by room s hx (port_of d.external ports x) refl)
     cleared_by (Some (Tone kind to s)) is = quiet (Some (Tone kind to s)) is (λ z t e. cc) refl
 
@@ -313,7 +313,7 @@ start_laid d few within =
       heard = replicate (30 * d.external) none;
       listeners = length-replicate (30 * d.external) none;
       sockets = length-replicate (30 * d.bridges) free;
-      holds = holds_empty (map_of d (replicate (30 * d.external) none) 0 (free_ports d.bridges) (start d).layout) refl (λ z. silent_rows d.external (30 * d.external) z) refl (bare_rows (30 * exchange_lines d) (start d).layout refl);
+      holds = holds_empty (map_of d (replicate (30 * d.external) none) 0 (free_ports d.bridges) (start d).layout) refl (λ z. hears_in_silent_rows d.external (30 * d.external) z) refl (bare_rows (30 * exchange_lines d) (start d).layout refl);
       matched = record {
         matrix = no_paths (exchange_lines d) d.slots;
         holds = record {

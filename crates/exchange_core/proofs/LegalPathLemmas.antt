@@ -12,8 +12,8 @@ use Rattle.rearrange_chain.specs.Chain.{exchanged, is_shorter, moves_by, moves_f
 use Rattle.rearrange_chain.proofs.Freed.{rearranges_shorter, ways}
 use Rattle.path_memory.specs.Memory.{IsPathMemory}
 use Rattle.path_memory.proofs.Added.{pairs_after}
-use Rattle.path_memory.proofs.CommonSlot.{Beside, unsent_is, unreceived_is}
-use Rattle.path_memory.proofs.Kept.{kept_with, kept_without}
+use Rattle.path_memory.proofs.CommonSlot.{Beside, is_free_in_row_unsent, is_free_in_column_unreceived}
+use Rattle.path_memory.proofs.Kept.{IsPathMemory-with_path, IsPathMemory-without_path}
 use Rattle.path_memory.proofs.Places.{Occupies, one_is_left, place_received, has_place, occupies_row, occupies_column}
 use Rattle.fabric_map.proofs.Connected.{readied, free_in}
 use Rattle.fabric_map.proofs.RuleOnTheMap.{made}
@@ -38,7 +38,7 @@ module _ (lines slots : ℕ) (m : Matrix) (layout : Layout) (enough : 30 ≤ slo
       by_lowest None e =
           absurd (one_is_left 29 from.place (place_sent layout from.line) (fewer 29 from.place slots 30 (place_sent layout from.line) enough (occupies_row lines slots layout from beside.legal inside free))
           (λ s l. has_place (path_in layout from.line s) (λ p. p.from.place)
-          (sym (unsent_is m layout beside.is from.line s) ∙ lowest_none (is_free_in_row m from.line) m.slots s e (omega (arith, l, enough, of_slots)))))
+          (sym (is_free_in_row_unsent m layout beside.is from.line s) ∙ lowest_none (is_free_in_row m from.line) m.slots s e (omega (arith, l, enough, of_slots)))))
 
   column_room : (to : Slot) → IsSlot lines to → path_to layout to ≡ None → paths_of_column m to.line < m.slots
   column_room to inside free = by_lowest (lowest_in_column m to.line) refl
@@ -48,7 +48,7 @@ module _ (lines slots : ℕ) (m : Matrix) (layout : Layout) (enough : 30 ≤ slo
       by_lowest None e =
           absurd (one_is_left 29 to.place (place_received layout to.line) (fewer 29 to.place slots 30 (place_received layout to.line) enough (occupies_column lines slots layout to beside.legal inside free))
           (λ s l. has_place (path_out layout to.line s) (λ p. p.to.place)
-          (sym (unreceived_is lines slots m layout beside to.line s) ∙ lowest_none (is_free_in_column m to.line) m.slots s e (omega (arith, l, enough, of_slots)))))
+          (sym (is_free_in_column_unreceived lines slots m layout beside to.line s) ∙ lowest_none (is_free_in_column m to.line) m.slots s e (omega (arith, l, enough, of_slots)))))
 
 -- the slot of the rule is free in both lines once the moves of the rule are done
 record HasRoom (m : Matrix) (i j : ℕ) (moves : List Move) (slot : ℕ) : Type 0 where
@@ -86,9 +86,9 @@ pub record IsJoined (lines slots : ℕ) (before after : Layout) (from to : Slot)
   pub matched : IsMatched lines slots after
   pub joins : (x y : Slot) → IsSlot lines x → Joins after x y ↔ (Joins before x y ⊎ ((x ≡ from) × (y ≡ to)))
 
-pub connected : (lines slots : ℕ) (layout : Layout) (from to : Slot) → 30 ≤ slots → IsMatched lines slots layout → IsSlot lines from → IsSlot lines to → hop_of layout from ≡ None → path_to layout to ≡ None
+pub IsJoined-connect : (lines slots : ℕ) (layout : Layout) (from to : Slot) → 30 ≤ slots → IsMatched lines slots layout → IsSlot lines from → IsSlot lines to → hop_of layout from ≡ None → path_to layout to ≡ None
     → IsJoined lines slots layout (connect lines slots layout from to) from to
-connected lines slots layout from to enough matched in_from in_to inlet outlet =
+IsJoined-connect lines slots layout from to enough matched in_from in_to inlet outlet =
     let m : Matrix = matched.matrix in
     let kept = matched.holds in
     let beside : Beside lines slots m layout = record { legal_matrix = kept.legal_matrix; legal = kept.legal; is = kept.is } in
@@ -104,7 +104,7 @@ connected lines slots layout from to enough matched in_from in_to inlet outlet =
     let ready : Layout = readied layout moves in
     let free = free_in lines slots later layout from to moves slot beside.legal inlet outlet in_from is.beside is.joins room.row room.column in
     let legal = legal_matrix_with later from.line to.line slot is.beside.legal_matrix (subst (λ n. from.line < n) (sym room.sizes.0) wide) (subst (λ n. to.line < n) (sym room.sizes.0) wide_to) room.within room.column in
-    let grown = kept_with lines slots later ready from to slot (with_entry later from.line to.line slot) (record { lines = lines; slots = slots; layout = with_path ready from to slot })
+    let grown = IsPathMemory-with_path lines slots later ready from to slot (with_entry later from.line to.line slot) (record { lines = lines; slots = slots; layout = with_path ready from to slot })
     (room.sizes.0 ∙ kept.lines) (room.sizes.1 ∙ kept.slots) is.beside in_from in_to room.within free refl legal refl refl refl in
     subst (λ (after : Layout). IsJoined lines slots layout after from to) is.joined (record {
       matched = record { matrix = with_entry later from.line to.line slot; holds = grown };
@@ -113,9 +113,9 @@ connected lines slots layout from to enough matched in_from in_to inlet outlet =
 
 -- ---- a path less
 
-pub parted : (lines slots : ℕ) (layout : Layout) (from to : Slot) → IsMatched lines slots layout → IsSlot lines from → Joins layout from to → IsMatched lines slots (without_path layout from)
-parted lines slots layout from to matched in_from joined = record {
+pub IsMatched-without_path : (lines slots : ℕ) (layout : Layout) (from to : Slot) → IsMatched lines slots layout → IsSlot lines from → Joins layout from to → IsMatched lines slots (without_path layout from)
+IsMatched-without_path lines slots layout from to matched in_from joined = record {
   matrix = without_entry matched.matrix from.line joined.0;
-  holds = kept_without matched.matrix (record { lines = lines; slots = slots; layout = layout }) from (record { to = to; slot = joined.0 }) (without_entry matched.matrix from.line joined.0)
+  holds = IsPathMemory-without_path matched.matrix (record { lines = lines; slots = slots; layout = layout }) from (record { to = to; slot = joined.0 }) (without_entry matched.matrix from.line joined.0)
       (record { lines = lines; slots = slots; layout = without_path layout from }) matched.holds in_from joined.1 refl refl refl refl;
 }

@@ -26,7 +26,7 @@ use Rattle.exchange_core.specs.Working.{Entry, Working, IsWorking, IsNumbered, I
 use Rattle.exchange_events.specs.Sizes.{Dimensions}
 use Rattle.call_profile.specs.World.{World, exchange_lines, start}
 use Rattle.call_profile.proofs.StandingLegLemmas.{start_stands, run_stands}
-use Rattle.call_profile.proofs.RunLemmas.{world-snoc, events_of-snoc, world_next, few_events}
+use Rattle.call_profile.proofs.RunLemmas.{world-snoc, events_of-snoc, world_next, length-events_of-le}
 
 -- ---- one event more
 
@@ -44,11 +44,11 @@ world_more x by n e is =
 
 -- ---- a core before its first event
 
-pub begins : (trace : Trace) (map : Connections) (legs : Legs) (journal : List Entry) (room : ℕ) → IsSound trace → Represents map empty (free_ports trace.bridges)
+pub IsWorking_begins : (trace : Trace) (map : Connections) (legs : Legs) (journal : List Entry) (room : ℕ) → IsSound trace → Represents map empty (free_ports trace.bridges)
     → map.external ≡ trace.external → map.bridges ≡ trace.bridges → map.layout ≡ (start (setting_of map.slots trace).dimensions).layout → legs ≡ no_legs trace.external
     → journal ≡ [] → length trace.events ≤ room
     → IsWorking (record { trace = trace; slots = map.slots; bound = map.bound; journal = journal }) map legs room
-begins trace map legs journal room sound represents external bridges layout none nothing reserved =
+IsWorking_begins trace map legs journal room sound represents external bridges layout none nothing reserved =
     subst (λ (j : List Entry). IsWorking (record { trace = trace; slots = map.slots; bound = map.bound; journal = j }) map legs room) (sym nothing) (record {
       sound = sound;
       known = All-nil (IsEvent trace);
@@ -110,18 +110,18 @@ pub next_few : (x : Working) (map : Connections) (legs : Legs) (room : ℕ) → 
 next_few x map legs room works left =
     let s = setting x in
     let count = world_next s (start s.dimensions) (events_of x.trace.events (order_of x.journal)) in
-    let events = few_events x.trace.events (order_of x.journal) in
+    let events = length-events_of-le x.trace.events (order_of x.journal) in
     let same = works.holds.circuits.holds.next in
     let most = works.sound.count in
     omega (arith, count, events, long_order x.journal, same, most, left)
 
 -- ---- after a step
 
-pub stepped : (x : Working) (map : Connections) (legs : Legs) (room by n : ℕ) (e : Event) (map_after : Connections) (legs_after : Legs) (journal : List Entry)
+pub IsWorking_stepped : (x : Working) (map : Connections) (legs : Legs) (room by n : ℕ) (e : Event) (map_after : Connections) (legs_after : Legs) (journal : List Entry)
     → IsWorking x map legs room → IsEvent x.trace n → IsNumbered x.trace n e → journal ≡ x.journal ++ (by, n) ∷ []
     → Holds (setting x).dimensions map_after legs_after (next (setting x) (world_of x) e) → map_after.bound ≡ map.bound → map_after.slots ≡ map.slots → map.slots ≡ x.slots
     → IsWorking (record { trace = x.trace; slots = map_after.slots; bound = map_after.bound; journal = journal }) map_after legs_after room
-stepped x map legs room by n e map_after legs_after journal works known is more holds bound slots own =
+IsWorking_stepped x map legs room by n e map_after legs_after journal works known is more holds bound slots own =
     let y : Working = record x { journal = x.journal ++ (by, n) ∷ [] } in
     let grown : IsWorking y map_after legs_after room = record {
       sound = works.sound;
@@ -161,9 +161,9 @@ of_each x y n e P same number holds =
 -- ---- what was read of it ahead
 
 -- it is of the event that has the number
-pub read_of : (x y : Working) (n : ℕ) (e : Event) (ahead : Option PreparsedMessage) → x ≡ y → IsNumbered x.trace n e → IsReadAt y.trace n ahead → IfSome ahead (IsReadOf x.trace.plan e)
-read_of x y n e None same number reads = tt
-read_of x y n e (Some known) same number reads = subst (λ (z : Working). IsReadAt z.trace n (Some known)) (sym same) reads e number
+pub IsReadOf_ahead : (x y : Working) (n : ℕ) (e : Event) (ahead : Option PreparsedMessage) → x ≡ y → IsNumbered x.trace n e → IsReadAt y.trace n ahead → IfSome ahead (IsReadOf x.trace.plan e)
+IsReadOf_ahead x y n e None same number reads = tt
+IsReadOf_ahead x y n e (Some known) same number reads = subst (λ (z : Working). IsReadAt z.trace n (Some known)) (sym same) reads e number
 
 pub read_at : (trace : Trace) (n : ℕ) (e : Event) (ahead : Option PreparsedMessage) → IsNumbered trace n e → IfSome ahead (IsReadOf trace.plan e) → IsReadAt trace n ahead
 read_at trace n e None number reads = tt

@@ -13,8 +13,8 @@ event_at-is events zero some = absurd (omega (arith, some))
 event_at-is events (suc n) some = ap (slice_get events) (omega arith)
 
 -- and what is read there is the one with the number
-pub number_is : (events : List Event) (n : ℕ) (e : Event) → (1 ≤ n) × (n ≤ length events) → e ≡ get_or events (n - 1) e → event_at events n ≡ Some e
-number_is events n e known is = event_at-is events n known.0 ∙ slice_get-get_or events (n - 1) e (omega (arith, known.0, known.1)) ∙ ap (λ (one : Event). Some one) (sym is)
+pub event_at_number : (events : List Event) (n : ℕ) (e : Event) → (1 ≤ n) × (n ≤ length events) → e ≡ get_or events (n - 1) e → event_at events n ≡ Some e
+event_at_number events n e known is = event_at-is events n known.0 ∙ slice_get-get_or events (n - 1) e (omega (arith, known.0, known.1)) ∙ ap (λ (one : Event). Some one) (sym is)
 
 there : (events : List Event) (n : ℕ) → 1 ≤ n → n ≤ length events → (e : Event) × (event_at events n ≡ Some e)
 unfolding event_at

@@ -30,7 +30,7 @@ use Rattle.report_check.specs.Refusals.{Says, Told_so, Untold, line_of}
 use Rattle.exchange_top.specs.Commands.{max_read, max_read_by, IsCheck, IsCheckOn, IsReading, IsRun, IsGeneration, IsNoCommand, fabric_of}
 use Rattle.exchange_top.specs.Endings.{IsTraceRead, IsTraceGenerated, IsFound, For_run, For_check, Reported, Summed, Found_valid, In_line, In_report, In_generation, In_summary, At_once, In_run, In_generated, Before_summary, HasEnded, IsDue, Arguments_decide, Trace_decides, Line_decides, Seed_decides, Report_decides, EndsAs}
 use Rattle.trace_text.proofs.TraceReadings.{never_both}
-use Rattle.report_check.proofs.Dues.{finds_one}
+use Rattle.report_check.proofs.Dues.{status_of_finds_one}
 use Rattle.exchange_top.proofs.Underway.{party}
 
 -- ---- words ask for one thing
@@ -129,9 +129,9 @@ pub stops_by : (words : List (List ℕ)) (asked : Option Command) (old new : Opt
     → ConsumesAtMost (max_read words) old new
 stops_by words asked old new is stops = subst (λ (o : Option Command). ConsumesAtMost (max_read_by o) old new) (sym is) stops
 
-pub nothing_read : (most : ℕ) (known : Option (List ℕ)) → ConsumesAtMost most known known
-nothing_read most None = ([], omega arith, search rules)
-nothing_read most (Some bytes) = ([], omega arith, search rules)
+pub ConsumesAtMost_none : (most : ℕ) (known : Option (List ℕ)) → ConsumesAtMost most known known
+ConsumesAtMost_none most None = ([], omega arith, search rules)
+ConsumesAtMost_none most (Some bytes) = ([], omega arith, search rules)
 
 -- ---- a run ends
 
@@ -248,7 +248,7 @@ module _ (arguments : List (List ℕ)) (input : Stream) (x : Parties) where
       → Finds flag bytes found → Finds strict known due → EndsAs due (status_of found)
   found_due strict flag bytes known found due asked is read left one other =
       let here = subst (λ (b : Bool). Finds b bytes found) (same_check arguments flag strict asked is) one in
-      inl (finds_one strict bytes found due here (finds_now known bytes input.old input.new left read strict due other))
+      inl (status_of_finds_one strict bytes found due here (finds_now known bytes input.old input.new left read strict due other))
 
   pub ends_due : (ending due : Ending) → HasEnded arguments input x ending → IsDue arguments input.old due → EndsAs due (status_of ending)
   ends_due ended.ReadFailed due ends is = inr (inl refl)

@@ -99,10 +99,10 @@ module _ (plays : Plays) (slots : ℕ) (told : List Said) where
 
   module _ (said : Said) (more : with_said (so_far told) said ≡ so_far (told ++ said ∷ [])) where
     -- if the setting stays
-    stays : (sizes : Sizes) → sizes_in told ≡ Some sizes → (with_said (so_far told) said).sizes ≡ Some sizes
+    story_said_stays : (sizes : Sizes) → sizes_in told ≡ Some sizes → (with_said (so_far told) said).sizes ≡ Some sizes
         → setting_by slots sizes (with_said (so_far told) said) ≡ setting_said slots sizes told
         → story_said plays slots (told ++ said ∷ []) ≡ story_said plays slots told ++ due_steps said
-    stays sizes known still same =
+    story_said_stays sizes known still same =
         let all = told ++ said ∷ [] in
         let s = setting_said slots sizes told in
         let header : sizes_in all ≡ Some sizes = ap (λ (k : SoFar). k.sizes) (sym more) ∙ still in
@@ -115,10 +115,10 @@ module _ (plays : Plays) (slots : ℕ) (told : List Said) where
         ∙ (λ i. story_by plays slots (sym known i) told ++ due_by (sym known i) said))))
 
     -- if the setting changes before the first event
-    early : (sizes : Sizes) → sizes_in told ≡ Some sizes → (with_said (so_far told) said).sizes ≡ Some sizes → events_in told ≡ []
+    story_said_early : (sizes : Sizes) → sizes_in told ≡ Some sizes → (with_said (so_far told) said).sizes ≡ Some sizes → events_in told ≡ []
         → ((p : Played) (s : Setting) (w : World) (n : ℕ) → steps_said p s w n (said ∷ []) ≡ [])
         → story_said plays slots (told ++ said ∷ []) ≡ story_said plays slots told ++ due_steps said
-    early sizes known still none silent =
+    story_said_early sizes known still none silent =
         let all = told ++ said ∷ [] in
         let s = setting_said slots sizes told in
         let t = setting_said slots sizes all in
@@ -131,27 +131,27 @@ module _ (plays : Plays) (slots : ℕ) (told : List Said) where
         ∙ (λ i. story_by plays slots (sym known i) told ++ due_by (sym known i) said)))
 
     -- before the header nothing happens
-    unheard : sizes_in told ≡ None → (with_said (so_far told) said).sizes ≡ None → story_said plays slots (told ++ said ∷ []) ≡ story_said plays slots told ++ due_steps said
-    unheard none still =
+    story_said_unheard : sizes_in told ≡ None → (with_said (so_far told) said).sizes ≡ None → story_said plays slots (told ++ said ∷ []) ≡ story_said plays slots told ++ due_steps said
+    story_said_unheard none still =
         let all = told ++ said ∷ [] in
         let header : sizes_in all ≡ None = ap (λ (k : SoFar). k.sizes) (sym more) ∙ still in
         ap (λ (o : Option Sizes). story_by plays slots o all) header ∙ (λ i. story_by plays slots (sym none i) told ++ due_by (sym none i) said)
 
-  by_header : (said : Said) (o : Option Sizes) → sizes_in told ≡ o → with_said (so_far told) said ≡ so_far (told ++ said ∷ [])
+  story_said_by_header : (said : Said) (o : Option Sizes) → sizes_in told ≡ o → with_said (so_far told) said ≡ so_far (told ++ said ∷ [])
       → ((sizes : Sizes) → sizes_in told ≡ Some sizes → story_said plays slots (told ++ said ∷ []) ≡ story_said plays slots told ++ due_steps said)
       → (with_said (so_far told) said).sizes ≡ sizes_in told → story_said plays slots (told ++ said ∷ []) ≡ story_said plays slots told ++ due_steps said
-  by_header said None is more some still = unheard said more is (still ∙ is)
-  by_header said (Some sizes) is more some still = some sizes is
+  story_said_by_header said None is more some still = story_said_unheard said more is (still ∙ is)
+  story_said_by_header said (Some sizes) is more some still = some sizes is
 
   pub story_more : (said : Said) → with_said (so_far told) said ≡ so_far (told ++ said ∷ []) → IsPlaced (so_far told) said → (sizes_in told ≡ None → AreQuiet told)
       → story_said plays slots (told ++ said ∷ []) ≡ story_said plays slots told ++ due_steps said
-  story_more Nothing more placed quiet = by_header Nothing (sizes_in told) refl more (λ sizes known. stays Nothing more sizes known known refl) refl
-  story_more Sync more placed quiet = by_header Sync (sizes_in told) refl more (λ sizes known. stays Sync more sizes known known refl) refl
-  story_more (Happens e) more placed quiet = stays (Happens e) more placed.0 placed.1 placed.1 refl
-  story_more Change more placed quiet = stays Change more placed.0 placed.1 placed.1 refl
-  story_more (Numbered n) more placed quiet = by_header (Numbered n) (sizes_in told) refl more (λ sizes known. early (Numbered n) more sizes known known (no_events (events_in told) placed) (λ p s w k. refl)) refl
-  story_more (Toned given) more placed quiet = by_header (Toned given) (sizes_in told) refl more (λ sizes known. early (Toned given) more sizes known known (no_events (events_in told) placed) (λ p s w k. refl)) refl
-  story_more (Timed given) more placed quiet = by_header (Timed given) (sizes_in told) refl more (λ sizes known. early (Timed given) more sizes known known (no_events (events_in told) placed) (λ p s w k. refl)) refl
+  story_more Nothing more placed quiet = story_said_by_header Nothing (sizes_in told) refl more (λ sizes known. story_said_stays Nothing more sizes known known refl) refl
+  story_more Sync more placed quiet = story_said_by_header Sync (sizes_in told) refl more (λ sizes known. story_said_stays Sync more sizes known known refl) refl
+  story_more (Happens e) more placed quiet = story_said_stays (Happens e) more placed.0 placed.1 placed.1 refl
+  story_more Change more placed quiet = story_said_stays Change more placed.0 placed.1 placed.1 refl
+  story_more (Numbered n) more placed quiet = story_said_by_header (Numbered n) (sizes_in told) refl more (λ sizes known. story_said_early (Numbered n) more sizes known known (no_events (events_in told) placed) (λ p s w k. refl)) refl
+  story_more (Toned given) more placed quiet = story_said_by_header (Toned given) (sizes_in told) refl more (λ sizes known. story_said_early (Toned given) more sizes known known (no_events (events_in told) placed) (λ p s w k. refl)) refl
+  story_more (Timed given) more placed quiet = story_said_by_header (Timed given) (sizes_in told) refl more (λ sizes known. story_said_early (Timed given) more sizes known known (no_events (events_in told) placed) (λ p s w k. refl)) refl
   story_more (Header z) more placed quiet =
       let all = told ++ Header z ∷ [] in
       let t = setting_said slots z all in

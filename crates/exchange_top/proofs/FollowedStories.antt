@@ -53,8 +53,8 @@ from_here front (e ∷ es) =
     ap (λ (o : Option Event). cons_option o (events_of all (range_with_len next (length es)))) here
     ∙ ap (λ (l : List Event). e ∷ l) rest
 
-pub in_file_order : (es : List Event) → events_of es (file_order (length es)) ≡ es
-in_file_order es = from_here [] es
+pub events_of-file_order : (es : List Event) → events_of es (file_order (length es)) ≡ es
+events_of-file_order es = from_here [] es
 
 -- ---- changes
 
@@ -130,7 +130,7 @@ module _ (plays : Plays) (slots : ℕ) (t : Trace) (told : List Said) (what : Is
       let played = plays (table_of s.tones) in
       let events : events_in told ≡ t.events = sym what.events in
       let order : file_order (length (events_in told)) ≡ file_order (length t.events) = ap (λ (es : List Event). file_order (length es)) events in
-      let all : events_in told ≡ events_of t.events (file_order (length t.events)) = events ∙ sym (in_file_order t.events) in
+      let all : events_in told ≡ events_of t.events (file_order (length t.events)) = events ∙ sym (events_of-file_order t.events) in
       ap (λ (o : Option Sizes). story_by plays slots o told) what.sizes
       ∙ (ap (λ (at : Setting). steps_said (plays (table_of at.tones)) at (start at.dimensions) 0 told) same_setting
       ∙ (said_steps played s w 0 told

@@ -128,8 +128,8 @@ module _ {M P E : Type 0} (stands : M → List CallRecord → Type 0) (text : M 
       abbrev pub all : List Said
       all = h.told ++ r.said ∷ []
 
-      pub followed : follows h.told line ≡ Ok r.said
-      followed = follows_here ∙ r.meets
+      pub follows_said : follows h.told line ≡ Ok r.said
+      follows_said = follows_here ∙ r.meets
 
       pub more : with_said (so_far h.told) r.said ≡ so_far all
       more = ap (λ (k : SoFar). with_said k r.said) (sym h.known) ∙ (sym r.known ∙ r.behind h.told h.known)
@@ -152,7 +152,7 @@ module _ {M P E : Type 0} (stands : M → List CallRecord → Type 0) (text : M 
           let story = story_said plays slots h.told in
           record {
             told = all;
-            meets = each_push [] h.told ls line r.said h.meets followed;
+            meets = each_push [] h.told ls line r.said h.meets follows_said;
             text = added
                 ∙ (ap (λ (t : List ℕ). t ++ steps_text text dues (after_steps story (handed_in old old_spare))) h.text
                 ∙ (sym (text-append text story dues (handed_in old old_spare)) ∙ ap (λ (steps : List Step). steps_text text steps (handed_in old old_spare)) (sym story_is)));
@@ -173,7 +173,7 @@ module _ {M P E : Type 0} (stands : M → List CallRecord → Type 0) (text : M 
         others = dues;
         parts = refl;
         meets = h.meets;
-        next = Read line r.said dues followed story_is;
+        next = Read line r.said dues follows_said story_is;
         text = h.text;
         meters = both_beyond stands text (after_steps (story_said plays slots h.told) (handed_in old old_spare)) on on' spare (records_of dues) h.meters front;
       }

@@ -40,16 +40,16 @@ use Rattle.exchange_top.proofs.FollowedSteps.{due_by, setting_by}
 use Rattle.exchange_top.proofs.Handled.{Handled, driven_more, few_same, handled_more, interrupted_more, line_is, more, refused_long, refused_more}
 use Rattle.exchange_top.proofs.PlacedLines.{IsKnown, IsPlaced}
 
-pub events_few : (told : List Said) → length (events_in told) ≤ length told
-events_few [] = omega arith
-events_few (Happens e ∷ told) = let rest = events_few told in omega (arith, rest)
-events_few (Nothing ∷ told) = let rest = events_few told in omega (arith, rest)
-events_few (Header sizes ∷ told) = let rest = events_few told in omega (arith, rest)
-events_few (Numbered n ∷ told) = let rest = events_few told in omega (arith, rest)
-events_few (Toned given ∷ told) = let rest = events_few told in omega (arith, rest)
-events_few (Timed given ∷ told) = let rest = events_few told in omega (arith, rest)
-events_few (Sync ∷ told) = let rest = events_few told in omega (arith, rest)
-events_few (Change ∷ told) = let rest = events_few told in omega (arith, rest)
+pub length-events_in-le : (told : List Said) → length (events_in told) ≤ length told
+length-events_in-le [] = omega arith
+length-events_in-le (Happens e ∷ told) = let rest = length-events_in-le told in omega (arith, rest)
+length-events_in-le (Nothing ∷ told) = let rest = length-events_in-le told in omega (arith, rest)
+length-events_in-le (Header sizes ∷ told) = let rest = length-events_in-le told in omega (arith, rest)
+length-events_in-le (Numbered n ∷ told) = let rest = length-events_in-le told in omega (arith, rest)
+length-events_in-le (Toned given ∷ told) = let rest = length-events_in-le told in omega (arith, rest)
+length-events_in-le (Timed given ∷ told) = let rest = length-events_in-le told in omega (arith, rest)
+length-events_in-le (Sync ∷ told) = let rest = length-events_in-le told in omega (arith, rest)
+length-events_in-le (Change ∷ told) = let rest = length-events_in-le told in omega (arith, rest)
 
 -- ---- the steps of a line, by what happens
 
@@ -114,11 +114,11 @@ module _ {M P E : Type 0} (stands : M → List CallRecord → Type 0) (text : M 
     abbrev pub now : Metering M
     now = after_steps (story_said plays slots h.told) (handed_in old old_spare)
 
-    abbrev pub more_is : with_said (so_far h.told) r.said ≡ so_far (h.told ++ r.said ∷ [])
-    more_is = more stands text carries frames sizes plays slots moves old old_spare on spare before after count exchange ls (front ++ t) line h short few hap r
+    abbrev pub with_said-so_far : with_said (so_far h.told) r.said ≡ so_far (h.told ++ r.said ∷ [])
+    with_said-so_far = more stands text carries frames sizes plays slots moves old old_spare on spare before after count exchange ls (front ++ t) line h short few hap r
 
-    abbrev pub checked : IsPlaced (so_far h.told) r.said
-    checked = (line_is stands text carries frames sizes plays slots moves old old_spare on spare before after count exchange ls (front ++ t) line h short few hap r).placed
+    abbrev pub IsPlaced_checked : IsPlaced (so_far h.told) r.said
+    IsPlaced_checked = (line_is stands text carries frames sizes plays slots moves old old_spare on spare before after count exchange ls (front ++ t) line h short few hap r).placed
 
     abbrev pub fine : IsFine (so_far h.told) r.said
     fine = (line_is stands text carries frames sizes plays slots moves old old_spare on spare before after count exchange ls (front ++ t) line h short few hap r).fine
@@ -131,20 +131,20 @@ module _ {M P E : Type 0} (stands : M → List CallRecord → Type 0) (text : M 
         handled_more stands text carries frames sizes plays slots moves old old_spare on spare before after count exchange ls (front ++ t) line h short few hap r on spare exchange (front ++ t)
         (subst (λ (steps : List Step). AreMetered stands text (after_steps steps now) on spare) (sym none) h.meters)
         (sym (append-nil (front ++ t)) ∙ ap (λ (steps : List Step). (front ++ t) ++ steps_text text steps now) (sym none))
-        (driven_more carries frames sizes slots moves h.told r.said more_is checked (quiet_event r.said still) exchange h.driven)
+        (driven_more carries frames sizes slots moves h.told r.said with_said-so_far IsPlaced_checked (quiet_event r.said still) exchange h.driven)
 
     -- a change of meters
     pub handled_change : hap ≡ happening.Change → (on' spare' : List M) (t' : List ℕ) → AreChangedBy stands text 1 on spare t on' spare' t'
         → HandledBy on' spare' after (count + 1) exchange (ls ++ line ∷ []) (front ++ t')
     handled_change is on' spare' t' changed =
         let change : r.said ≡ Change = is_change r.said (sym is ∙ r.happens) in
-        let known : IsKnown (so_far h.told) = subst (IsPlaced (so_far h.told)) change checked in
+        let known : IsKnown (so_far h.told) = subst (IsPlaced (so_far h.told)) change IsPlaced_checked in
         let one : due_by plays slots h.told (sizes_in h.told) r.said ≡ Meters_changed ∷ [] = λ i. due_by plays slots h.told (known.1 i) (change i) in
         handled_more stands text carries frames sizes plays slots moves old old_spare on spare before after count exchange ls (front ++ t) line h short few hap r on' spare' exchange (front ++ t')
         (subst (λ (steps : List Step). AreMetered stands text (after_steps steps now) on' spare') (sym one) (changed.left now h.meters))
         (ap (λ (l : List ℕ). front ++ l) (changed.said_is now h.meters)
         ∙ (sym (append_assoc front t (steps_text text (Meters_changed ∷ []) now)) ∙ ap (λ (steps : List Step). (front ++ t) ++ steps_text text steps now) (sym one)))
-        (driven_more carries frames sizes slots moves h.told r.said more_is checked (ap event_said change) exchange h.driven)
+        (driven_more carries frames sizes slots moves h.told r.said with_said-so_far IsPlaced_checked (ap event_said change) exchange h.driven)
 
     -- an event
     module _ (e : Event) (is : hap ≡ happening.Event e) where
@@ -152,7 +152,7 @@ module _ {M P E : Type 0} (stands : M → List CallRecord → Type 0) (text : M 
       event_is = is_event r.said e (sym is ∙ r.happens)
 
       abbrev pub known_here : IsKnown (so_far h.told)
-      known_here = subst (IsPlaced (so_far h.told)) event_is checked
+      known_here = subst (IsPlaced (so_far h.told)) event_is IsPlaced_checked
 
       abbrev pub header : Sizes
       header = known_here.0
@@ -180,7 +180,7 @@ module _ {M P E : Type 0} (stands : M → List CallRecord → Type 0) (text : M 
           driven = h.driven;
         };
         fits = fits_here;
-        few = let same = each_length [] h.told ls h.meets in let is_count = h.counted in let most = events_few h.told in omega (arith, same, is_count, most, few);
+        few = let same = each_length [] h.told ls h.meets in let is_count = h.counted in let most = length-events_in-le h.told in omega (arith, same, is_count, most, few);
       }
 
       number_is : after.events ≡ length (events_in h.told) + 1
@@ -203,14 +203,14 @@ module _ {M P E : Type 0} (stands : M → List CallRecord → Type 0) (text : M 
           let all = h.told ++ r.said ∷ [] in
           let s = setting_said slots header h.told in
           let grown : events_in all ≡ events_in h.told ++ e ∷ [] = (λ i. events_in (h.told ++ event_is i ∷ [])) ∙ events_more h.told (Happens e) in
-          let setting : setting_said slots header all ≡ s = ap (λ (k : SoFar). setting_by slots header k) (sym more_is) ∙ ap (λ (v : Said). setting_by slots header (with_said (so_far h.told) v)) event_is in
+          let setting : setting_said slots header all ≡ s = ap (λ (k : SoFar). setting_by slots header k) (sym with_said-so_far) ∙ ap (λ (v : Said). setting_by slots header (with_said (so_far h.told) v)) event_is in
           let world : world_said slots header all ≡ next s (world_said slots header h.told) e =
           (λ i. world_after_all (setting i) (start (setting i).dimensions) (grown i)) ∙ world-snoc s (start s.dimensions) (events_in h.told) e in
           let long : length (events_in all) ≡ length (events_in h.told) + 1 = ap length grown ∙ length-append (events_in h.told) (e ∷ []) in (
             omega (arith, long),
             record {
               header = header;
-              given = ap (λ (k : SoFar). k.sizes) (sym more_is) ∙ (ap (λ (v : Said). (with_said (so_far h.told) v).sizes) event_is ∙ known_here.1);
+              given = ap (λ (k : SoFar). k.sizes) (sym with_said-so_far) ∙ (ap (λ (v : Said). (with_said (so_far h.told) v).sizes) event_is ∙ known_here.1);
               at = subst (λ (v : Setting). IsAt carries frames sizes y v (world_said slots header all)) (sym setting)
                   (subst (λ (w : World). IsAt carries frames sizes y s w) (sym world) at);
               bound = bound;

@@ -6,7 +6,7 @@ use Rattle.std.proofs.lemmas.Bool.{cases_eq, eq-eqb, ne_eqb}
 use Rattle.exchange_events.specs.declared.record.CallRecord.{CallRecord}
 use Rattle.meters.specs.Changing.{AreChangedBy, AreMetered, IsAt, IsPast, Metering, Meters_changed, after_step, after_steps, changes_at, steps_text}
 use Rattle.meters.proofs.Changes.{metered-change, says-change}
-use Rattle.meters.proofs.Cursor.{all_done, past_these}
+use Rattle.meters.proofs.Cursor.{changes_at_all_done, past_these}
 use Rattle.exchange_top.specs.Changes.{AreChangesDone, AreMoved, IsRow, leaving}
 
 -- ---- the first few of two lists
@@ -135,7 +135,7 @@ module _ {M : Type 0} (stands : M → List CallRecord → Type 0) (text : M → 
         (past_these changes start (end - start) place rising at (rw up_to row.within) (λ k above below. row.same k above (rw up_to at below)) (rw up_to row.last))
 
     row_are : changes_at changes place ≡ replicate (end - start) Meters_changed
-    row_are = all_done changes start (end - start) place (rw up_to row.within) at.early (λ k above below. row.same k above (rw up_to at below))
+    row_are = changes_at_all_done changes start (end - start) place (rw up_to row.within) at.early (λ k above below. row.same k above (rw up_to at below))
         (λ k above inside. row_past.late k (rw up_to at above) inside)
 
     module _ (meters spare : List M) (said : List ℕ) where

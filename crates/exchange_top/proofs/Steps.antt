@@ -17,7 +17,7 @@ use Rattle.line_list.specs.declared.listing.Listing.{Listing}
 use Rattle.line_list.specs.Lines.{Line, listed, text_of}
 use Rattle.segment_run.specs.Segment.{IsChief, Ran, RanWhole, new_events}
 use Rattle.segment_run.specs.Segments.{IsDoneBelow}
-use Rattle.segment_run.proofs.OrderLemmas.{count_done, grown_known, one_more, order_grown}
+use Rattle.segment_run.proofs.OrderLemmas.{count_done, grown_known, IsDoneBelow_one_more, order_grown}
 use Rattle.meters.specs.Changing.{Step, Meters_changed, Metering, IsAt, IsPast, AreMetered, after_steps, changes_at, handed_in, records_of, steps_text, with_changes}
 use Rattle.meters.proofs.Changes.{after-append, law_of_lines, metered-events, metered-first, records-append, text-append}
 use Rattle.meters.proofs.Cursor.{at_next, next_above, none_between}
@@ -28,9 +28,9 @@ use Rattle.exchange_top.specs.Running.{GrewFew, GrowthIsTold, IsAdded, grown_cal
 use Rattle.exchange_top.specs.Story.{story}
 use Rattle.report_check.specs.Streams.{AppendsFront}
 use Rattle.exchange_top.specs.Telling.{AreLeft, AreMeteredBeyond, AreTold, AreToldFront, meter_story}
-use Rattle.exchange_top.proofs.Stories.{grown_are_events, grown_length, grown_records, grown_steps, grown_text, lines-append, lines-at, story_grown, story_records}
+use Rattle.exchange_top.proofs.Stories.{grown_are_events, grown_length, grown_records, grown_steps, lines_of-grown_steps_text, lines-append, lines-at, story_grown, story_records}
 use Rattle.exchange_top.proofs.Tellings.{beyond_none, both_beyond, none_beyond}
-use Rattle.exchange_top.proofs.Underway.{IsUnderway, begun_flush, begun_none, begun_segment, party, underway_first, underway_more}
+use Rattle.exchange_top.proofs.Underway.{IsUnderway, begun_flush, IsRunInterrupted_none, begun_segment, party, underway_first, underway_more}
 
 -- the place of a segment's beginning: how many events come before it
 abbrev pub place_of : List ℕ → ℕ → ℕ
@@ -70,8 +70,8 @@ module _ {M : Type 0} (stands : M → List CallRecord → Type 0) (text : M → 
           past = d.past;
         }
 
-    pub said_first : (cursor : ℕ) → AreChangesDone stands text board.trace.changes 0 old spare [] now now_spare all cursor → steps_text text (story plays l board.slots board.trace []) first ≡ all
-    said_first cursor d =
+    pub steps_text_said_first : (cursor : ℕ) → AreChangesDone stands text board.trace.changes 0 old spare [] now now_spare all cursor → steps_text text (story plays l board.slots board.trace []) first ≡ all
+    steps_text_said_first cursor d =
         ap (λ (steps : List Step). steps_text text steps first) (append-nil (changes_at board.trace.changes 0) ∙ d.are) ∙ sym (d.made.said_is first (metered-first stands text old spare))
 
   -- ---- a segment more
@@ -123,7 +123,7 @@ module _ {M : Type 0} (stands : M → List CallRecord → Type 0) (text : M → 
 
       there_is : length (order_of v.seen) + length grown ≡ there
       there_is =
-          let all = count_done board.trace (k + 1) (order_of w.seen) sound (omega (arith, within)) (one_more board.trace k v w done ran whole) in
+          let all = count_done board.trace (k + 1) (order_of w.seen) sound (omega (arith, within)) (IsDoneBelow_one_more board.trace k v w done ran whole) in
           let long = ap (λ (xs : List ℕ). length xs) (order_grown v w ran.begins) ∙ length-append (order_of v.seen) (new_events v w) in
           ap (λ (n : ℕ). length (order_of v.seen) + n) (grown_length plays l board v w known) ∙ (sym long ∙ (all ∙ ap (λ (n : ℕ). place_of board.trace.segments n) (add-one k)))
 
@@ -133,12 +133,12 @@ module _ {M : Type 0} (stands : M → List CallRecord → Type 0) (text : M → 
           (subst (λ (m : ℕ). NoneBetween (place_of board.trace.segments k) m changes) (sym there_is)
           (none_between board.trace.segments changes (length board.trace.events) k sound.segments sound.changes within cursor on.past))
 
-      rises : place_of board.trace.segments k < there
-      rises = next_above board.trace.segments changes (length board.trace.events) k sound.segments sound.changes within
+      place_of_rises : place_of board.trace.segments k < there
+      place_of_rises = next_above board.trace.segments changes (length board.trace.events) k sound.segments sound.changes within
 
       whole_story : story_of w ≡ story_of v ++ (grown ++ changes_at changes there)
       whole_story =
-          let some : 1 ≤ length grown = omega (arith, here_is, there_is, rises) in
+          let some : 1 ≤ length grown = omega (arith, here_is, there_is, place_of_rises) in
           is_grown ∙ ap (λ (steps : List Step). story_of v ++ steps) (with-segment changes (length (order_of v.seen)) grown some none ∙ ap (λ (n : ℕ). grown ++ changes_at changes n) there_is)
 
       abbrev then : Metering M
@@ -162,8 +162,8 @@ module _ {M : Type 0} (stands : M → List CallRecord → Type 0) (text : M → 
 
       -- they were made
       module _ (now now_spare : List M) (all : List ℕ) (cursor_now : ℕ) (d : AreChangesDone stands text changes there mid spares [] now now_spare all cursor_now) where
-        pub on_more : AreOn (k + 1) w now now_spare cursor_now
-        on_more =
+        pub AreOn_more : AreOn (k + 1) w now now_spare cursor_now
+        AreOn_more =
             let at : after_steps (story_of w) first ≡ after_steps (replicate d.count Meters_changed) then =
             ap (λ (steps : List Step). after_steps steps first) whole_story
             ∙ (after-append (story_of v) (grown ++ changes_at changes there) first ∙ (after-append grown (changes_at changes there) here ∙ ap (λ (steps : List Step). after_steps steps then) d.are)) in
@@ -178,7 +178,7 @@ module _ {M : Type 0} (stands : M → List CallRecord → Type 0) (text : M → 
             ∙ (text-append text (story_of v) (grown ++ changes_at changes there) first
             ∙ ap (λ (t : List ℕ). steps_text text (story_of v) first ++ t)
             (text-append text grown (changes_at changes there) here
-            ∙ (λ i. (law_of_lines text grown here (grown_are_events plays l board v w) ∙ grown_text plays l board v w) i
+            ∙ (λ i. (law_of_lines text grown here (grown_are_events plays l board v w) ∙ lines_of-grown_steps_text plays l board v w) i
             ++ (ap (λ (steps : List Step). steps_text text steps then) d.are ∙ sym (d.made.said_is then on_then)) i)))
 
         pub underway_changed : (before then_written : Option (List ℕ)) (pending said after : List ℕ) → IsUnderway plays l board (λ steps. steps_text text steps first) k v before then_written pending said → said ≡ []
@@ -187,7 +187,7 @@ module _ {M : Type 0} (stands : M → List CallRecord → Type 0) (text : M → 
         underway_changed before then_written pending said after so_far silent chief few is =
             underway_more plays l board (λ steps. steps_text text steps first) k v before then_written pending said so_far w (grown ++ changes_at changes there) after (listed l (grown_lines plays board v w) ++ all) all silent chief ran whole
             whole_story text_more is
-            (λ none. (λ i. sym (grown_text plays l board v w) i ++ (none ∙ sym (lines-at changes there)) i) ∙ sym (lines-append grown (changes_at changes there))) few
+            (λ none. (λ i. sym (lines_of-grown_steps_text plays l board v w) i ++ (none ∙ sym (lines-at changes there)) i) ∙ sym (lines-append grown (changes_at changes there))) few
 
 -- what is pending with the lines of a segment, and with what meters said behind it
 pub joined : (before grown all said after : List ℕ) → said ≡ [] → after ≡ before ++ grown → after ++ all ≡ (before ++ said) ++ (grown ++ all)
@@ -212,7 +212,7 @@ module _ {M : Type 0} (stands : M → List CallRecord → Type 0) (text : M → 
       → {handed : Dimensions → World → Type 0} {no_engine : Type 0} {known : Option (List ℕ)} {errors after : ℕ} → no_engine
       → IsRunInterrupted (party plays handed no_engine (meter_story stands text old spare now now_spare) (order_of v.seen) known known errors after) l board.slots board.trace
   interrupted_first {v} fresh {now} {now_spare} kept {handed} {no_engine} {known} {errors} {after} engine =
-      begun_none plays l board.slots handed no_engine (meter_story stands text old spare now now_spare) board.trace (order_of v.seen) known errors after (ap (λ (s : SeatKnowledge). order_of s.seen) fresh) refl
+      IsRunInterrupted_none plays l board.slots handed no_engine (meter_story stands text old spare now now_spare) board.trace (order_of v.seen) known errors after (ap (λ (s : SeatKnowledge). order_of s.seen) fresh) refl
       (rw (kept.0, kept.1) (none_beyond stands text old spare)) engine
 
   module _ (trace : Trace) (changes : List ℕ) (same : trace ≡ board.trace) (changes_are : changes ≡ trace.changes) where
@@ -225,14 +225,14 @@ module _ {M : Type 0} (stands : M → List CallRecord → Type 0) (text : M → 
       changed : AreChangesDone stands text board.trace.changes 0 old spare [] now now_spare all cursor
       changed = done_moved changes board.trace.changes 0 0 said same_changes refl silent d
 
-      pub first_on : AreOn stands text old spare plays l board 0 v now now_spare cursor
-      first_on = changed_first stands text old spare plays l board v fresh now now_spare all cursor changed
+      pub AreOn_first : AreOn stands text old spare plays l board 0 v now now_spare cursor
+      AreOn_first = changed_first stands text old spare plays l board v fresh now now_spare all cursor changed
 
       pub first_underway : {known : Option (List ℕ)} {lines : List Line} → lines ≡ [] → IsUnderway plays l board (λ steps. steps_text text steps (handed_in old spare)) 0 v known known (text_of lines ++ all) all
       first_underway {known} {lines} none =
           let only : text_of lines ++ all ≡ all = ap (λ (ls : List Line). text_of ls ++ all) none in
           underway_first plays l board (λ steps. steps_text text steps (handed_in old spare)) v known (text_of lines ++ all) all fresh
-          (said_first stands text old spare plays l board v fresh now now_spare all cursor changed ∙ sym only) refl (λ quiet. only ∙ quiet)
+          (steps_text_said_first stands text old spare plays l board v fresh now now_spare all cursor changed ∙ sym only) refl (λ quiet. only ∙ quiet)
 
     -- a segment more
     module _ (ends : List ℕ) (ends_are : ends ≡ trace.segments) (sound : IsSound trace) (k : ℕ) (v : SeatKnowledge) (meters spares : List M) (cursor : ℕ) (before then : Option (List ℕ)) (pending said : List ℕ) (inside : k < length ends)
@@ -283,8 +283,8 @@ module _ {M : Type 0} (stands : M → List CallRecord → Type 0) (text : M → 
             changed_then : AreChangesDone stands text board.trace.changes (place_of board.trace.segments (suc k)) mid spares [] now now_spare all cursor_now
             changed_then = done_moved changes board.trace.changes (get_or ends k 0) (place_of board.trace.segments (suc k)) said same_changes same_place silent d
 
-            pub then_on : AreOn stands text old spare plays l board (k + 1) w now now_spare cursor_now
-            then_on = on_more stands text old spare plays l board k v w meters spares cursor sound_there within so_far.done on ran_there whole_there mid told now now_spare all cursor_now changed_then
+            pub AreOn_then : AreOn stands text old spare plays l board (k + 1) w now now_spare cursor_now
+            AreOn_then = AreOn_more stands text old spare plays l board k v w meters spares cursor sound_there within so_far.done on ran_there whole_there mid told now now_spare all cursor_now changed_then
 
             pub then_underway : {lines after : List Line} → pending ≡ text_of lines ++ said → IsChief (turns_of board) w → IsAdded plays l board v w lines after
                 → IsUnderway plays l board (λ steps. steps_text text steps (handed_in old spare)) (k + 1) w before then (text_of after ++ all) all

@@ -92,8 +92,8 @@ module _ (plays : Plays) (l : Listing) (board : Board) (v w : SeatKnowledge) whe
   pub grown_are_events : AreEvents grown_steps
   grown_are_events = are_events (plays (table_of board.trace.tones)) l (setting_at board) (world_at board v.seen) (new_events v w) (events_of board.trace.events (new_events v w))
 
-  pub grown_text : lines_of grown_steps ≡ listed l (grown_lines plays board v w)
-  grown_text = steps-lines (plays (table_of board.trace.tones)) l (setting_at board) (world_at board v.seen) (new_events v w) (events_of board.trace.events (new_events v w))
+  pub lines_of-grown_steps_text : lines_of grown_steps ≡ listed l (grown_lines plays board v w)
+  lines_of-grown_steps_text = steps-lines (plays (table_of board.trace.tones)) l (setting_at board) (world_at board v.seen) (new_events v w) (events_of board.trace.events (new_events v w))
 
   module _ (known : All (IsEvent board.trace) (new_events v w)) where
     pub grown_records : records_of grown_steps ≡ grown_calls board v w

@@ -16,7 +16,7 @@ use Rattle.call_profile.specs.World.{World}
 use Rattle.call_processor.specs.Frames.{Plays}
 use Rattle.segment_run.specs.Segment.{IsChief, Ran, RanWhole, new_events}
 use Rattle.segment_run.specs.Segments.{IsDoneBelow}
-use Rattle.segment_run.proofs.OrderLemmas.{none as none_done, one_more, cut_short, all_done, first_chief, order_grown}
+use Rattle.segment_run.proofs.OrderLemmas.{IsDoneBelow_none as none_done, IsDoneBelow_one_more, cut_short, IsLawful_all_done, first_chief, order_grown}
 use Rattle.line_list.specs.declared.listing.Listing.{Listing}
 use Rattle.report_check.specs.declared.ending.Ending.TheVariants as ended
 use Rattle.exchange_top.specs.Outcomes.{AreOfSegments, No_segments, Some_segments, IsFlushed, IsRunInterrupted, IsRunUnwritten, IsRunWritten, MovesFew, Parties}
@@ -75,8 +75,8 @@ party plays handed no_engine m order old new before after = record {
 
 -- no event was done, and no change was made
 module _ (plays : Plays) (l : Listing) (slots : ℕ) (handed : Dimensions → World → Type 0) (no_engine : Type 0) (m : MeterStory) (trace : Trace) (order : List ℕ) (known : Option (List ℕ)) (before after : ℕ) where
-  pub begun_none : order ≡ [] → m.written [] ≡ [] → m.left_beyond [] [] → no_engine → IsRunInterrupted (party plays handed no_engine m order known known before after) l slots trace
-  begun_none empty silent told engine = rw empty (record {
+  pub IsRunInterrupted_none : order ≡ [] → m.written [] ≡ [] → m.left_beyond [] [] → no_engine → IsRunInterrupted (party plays handed no_engine m order known known before after) l slots trace
+  IsRunInterrupted_none empty silent told engine = rw empty (record {
     lawful = (none_done trace).lawful;
     segments = 0;
     whole = [];
@@ -130,7 +130,7 @@ module _ (plays : Plays) (l : Listing) (board : Board) (written : Writing) where
         record {
           chief = chief;
           numbers = let before = so_far.numbers in let made = ran.few in omega (arith, before, made);
-          done = one_more board.trace k v w so_far.done ran whole;
+          done = IsDoneBelow_one_more board.trace k v w so_far.done ran whole;
           text = record {
             front = p.front;
             more = p.more ++ steps;
@@ -232,7 +232,7 @@ module _ (plays : Plays) (l : Listing) (board : Board) (handed : Dimensions → 
       → IsRunWritten (party plays handed no_engine m (order_of v.seen) old new before after) l (fabric_at board) board.trace
   run_whole sound all left new written engine = record {
     whole = record {
-      lawful = all_done board.trace (order_of v.seen) sound (subst (λ n. IsDoneBelow board.trace n (order_of v.seen)) all so_far.done);
+      lawful = IsLawful_all_done board.trace (order_of v.seen) sound (subst (λ n. IsDoneBelow board.trace n (order_of v.seen)) all so_far.done);
       few = so_far.few;
       meters = left;
     };

@@ -27,9 +27,9 @@ seen : (lines slots : ℕ) (m : Matrix) (layout : Layout) (side : Side) (line s 
 seen lines slots m layout Incoming line s b = b.is line s
 seen lines slots m layout Outgoing line s b = column_matches lines slots m layout b.legal_matrix b.legal b.is line s
 
-pub found_at : (lines slots : ℕ) (layout : Layout) (side : Side) (line s : ℕ) (p : Path) → Legal lines slots layout → path_at layout side line s ≡ Some p → IsPathOf lines layout p × (p.slot ≡ s)
-found_at lines slots layout Incoming line s p legal e = let f = path_in_found lines layout line s p legal.inlets e in (f.0, f.2)
-found_at lines slots layout Outgoing line s p legal e = let f = path_out_found lines layout line s p legal.inlets e in (f.0, f.2)
+pub IsPathOf_found : (lines slots : ℕ) (layout : Layout) (side : Side) (line s : ℕ) (p : Path) → Legal lines slots layout → path_at layout side line s ≡ Some p → IsPathOf lines layout p × (p.slot ≡ s)
+IsPathOf_found lines slots layout Incoming line s p legal e = let f = path_in_found lines layout line s p legal.inlets e in (f.0, f.2)
+IsPathOf_found lines slots layout Outgoing line s p legal e = let f = path_out_found lines layout line s p legal.inlets e in (f.0, f.2)
 
 near_line : (lines slots : ℕ) (layout : Layout) (side : Side) (line s : ℕ) (p : Path) → Legal lines slots layout → path_at layout side line s ≡ Some p → (a b : ℕ) (y : ℕ) → y ≡ other a b s → move_of (end_on side line) (far_line side p) s y ≡ moved_by a b p
 near_line lines slots layout Incoming line s p legal e a b y is =

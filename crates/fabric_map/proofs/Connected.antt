@@ -27,8 +27,8 @@ has_row_room m f from to kept thirty can = row_room f.lines m f.layout from (kep
 pub has_column_room : (m : Matrix) (f : Fabric) (from to : Slot) → IsPathMemory m f → f.slots ≡ 30 → CanConnect f from to → paths_of_column m to.line < m.slots
 has_column_room m f from to kept thirty can = column_room f.lines m f.layout to kept.legal_matrix (kept.slots ∙ thirty) (legal_thirty m f kept thirty) kept.is can.to_inside can.outlet
 
-pub connects : (m : Matrix) (f : Fabric) (from to : Slot) → IsPathMemory m f → f.slots ≡ 30 → CanConnect f from to → Made f.lines f.slots m f.layout from to (moves_for m from.line to.line) (slot_for m from.line to.line)
-connects m f from to kept thirty can =
+pub Made_connected : (m : Matrix) (f : Fabric) (from to : Slot) → IsPathMemory m f → f.slots ≡ 30 → CanConnect f from to → Made f.lines f.slots m f.layout from to (moves_for m from.line to.line) (slot_for m from.line to.line)
+Made_connected m f from to kept thirty can =
     made f.lines f.slots m f.layout from to kept.lines kept.slots (beside_of m f kept) can.from_inside can.to_inside can.inlet (has_row_room m f from to kept thirty can) (has_column_room m f from to kept thirty can)
 
 -- the layout before the new path joins
@@ -75,7 +75,7 @@ pub is_readied : (m : Matrix) (f now : Fabric) (from to : Slot) (after : Matrix)
     → row_slot after from.line slot ≡ None → column_slot after to.line slot ≡ None → IsReadied m f from to after layout slot
 is_readied m f now from to after lifted_layout layout moves first second es slot is kept thirty in_from in_to inlet outlet exchanges found of_first of_second of_es of_lifted of_laid row column =
     let can = can_of f now is from to in_from in_to inlet outlet in
-    let made = connects m f from to kept (ap (λ (x : Fabric). x.slots) is ∙ thirty) can in
+    let made = Made_connected m f from to kept (ap (λ (x : Fabric). x.slots) is ∙ thirty) can in
     let beside = subst (λ x. Beside f.lines f.slots x (readied f.layout (moves_for m from.line to.line))) (sym (exchanges ∙ ap (exchanged m) found)) made.beside in
     record {
       can = can;

@@ -12,9 +12,9 @@ use Rattle.control_memory.proofs.Steps.{same_number, number_inside, was_there, h
 use Rattle.control_memory.specs.declared.path_ends.PathEnds.{PathEnds}
 use Rattle.fabric_map.specs.Rearranging.{without_all, AreTaken, laid}
 use Rattle.control_memory.specs.Paths.{ends_of}
-use Rattle.path_memory.proofs.Added.{same_hop, not_moved, moved_set}
+use Rattle.path_memory.proofs.Added.{is_moved_same_hop, not_moved, moved_set}
 use Rattle.fabric_map.proofs.Rearranged.{AllSlots, Apart}
-use Rattle.fabric_map.proofs.Chained.{other, moved_by, found_at}
+use Rattle.fabric_map.proofs.Chained.{other, moved_by, IsPathOf_found}
 
 -- ---- the paths of a chain are in the layout
 abbrev pub AllStand : ℕ → Layout → List Path → Type 0
@@ -25,7 +25,7 @@ link_stands : (lines slots : ℕ) (layout : Layout) → Legal lines slots layout
     → ((p : Path) → AllStand lines layout (chain n layout (across side) (far_line side p) y x))
     → AllStand lines layout (elim o as (λ _. List Path) [ None ↦ [] | Some p ↦ p ∷ chain n layout (across side) (far_line side p) y x ])
 link_stands lines slots layout legal n side line x y None e tail = tt
-link_stands lines slots layout legal n side line x y (Some p) e tail = ((found_at lines slots layout side line x p legal e).0, tail p)
+link_stands lines slots layout legal n side line x y (Some p) e tail = ((IsPathOf_found lines slots layout side line x p legal e).0, tail p)
 
 pub chain_stands : (lines slots : ℕ) (layout : Layout) → Legal lines slots layout → (n : ℕ) (side : Side) (line x y : ℕ) → AllStand lines layout (chain n layout side line x y)
 chain_stands lines slots layout legal zero side line x y = tt
@@ -99,7 +99,7 @@ not_equal : (s t : ℕ) → s ≢ t → (s == t) ≡ false
 not_equal s t apart = ⊎_elim (λ (e : (eqb s t ≡ true) × (s ≡ t)). absurd (apart e.1)) (λ (e : (eqb s t ≡ false) × (s ≢ t)). e.0) (eqb_tells s t)
 
 turned_hop : (to : Slot) (s t : ℕ) → s ≢ t → is_moved (Some (record { to = to; slot = s })) (Some (record { to = to; slot = t })) ≡ 1
-turned_hop to s t apart = same_hop (record { to = to; slot = s }) (record { to = to; slot = t }) true false (same_slot-refl to) (not_equal s t apart)
+turned_hop to s t apart = is_moved_same_hop (record { to = to; slot = s }) (record { to = to; slot = t }) true false (same_slot-refl to) (not_equal s t apart)
 
 pub chain_moved : (lines a b : ℕ) (before : Layout) (ps : List Path) (after : Layout) → length before ≡ 30 * lines → length after ≡ 30 * lines → AllSlots lines (map ends_of ps) → AllApart (map ends_of ps) → AllTurn a b ps → AllWere before ps → AllWere after ps
     → moved before (exchanged after a b ps) ≡ moved before after + length ps
@@ -115,9 +115,9 @@ chain_moved lines a b before (p ∷ ps) after size_b size_a slots apart turn wer
     omega (arith, step, was, is, rest)
 
 -- ---- which slots are joined
-pub exchanged_long : (a b : ℕ) (ps : List Path) (layout : Layout) → length (exchanged layout a b ps) ≡ length layout
-exchanged_long a b [] layout = refl
-exchanged_long a b (p ∷ ps) layout = exchanged_long a b ps (with_path layout p.from p.to (other a b p.slot)) ∙ length-set layout (number_of p.from) _
+pub length-exchanged : (a b : ℕ) (ps : List Path) (layout : Layout) → length (exchanged layout a b ps) ≡ length layout
+length-exchanged a b [] layout = refl
+length-exchanged a b (p ∷ ps) layout = length-exchanged a b ps (with_path layout p.from p.to (other a b p.slot)) ∙ length-set layout (number_of p.from) _
 
 -- a path that changes its slot joins what it joined
 turn_joins : (lines : ℕ) (layout : Layout) (from to : Slot) (slot new : ℕ) → length layout ≡ 30 * lines → IsSlot lines from → HasPath layout from to slot → (x y : Slot) → IsSlot lines x → (Joins (with_path layout from to new) x y → Joins layout x y) × (Joins layout x y → Joins (with_path layout from to new) x y)

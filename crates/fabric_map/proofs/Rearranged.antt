@@ -35,10 +35,10 @@ size_without : (layout : Layout) (from : Slot) → length (without_path layout f
 size_without layout from = length-set layout (number_of from) None
 
 -- paths that are left by lifting were there before
-pub stood : (lines : ℕ) (es : List PathEnds) (layout : Layout) → length layout ≡ 30 * lines → AllSlots lines es → (x y : Slot) (s : ℕ) → IsSlot lines x → HasPath (without_all layout es) x y s → HasPath layout x y s
-stood lines [] layout size slots x y s inside has = has
-stood lines (e ∷ es) layout size slots x y s inside has =
-    (was_there lines layout e.from size slots.0.0 x y s inside (stood lines es (without_path layout e.from) (size_without layout e.from ∙ size) slots.1 x y s inside has)).1
+pub HasPath_stood : (lines : ℕ) (es : List PathEnds) (layout : Layout) → length layout ≡ 30 * lines → AllSlots lines es → (x y : Slot) (s : ℕ) → IsSlot lines x → HasPath (without_all layout es) x y s → HasPath layout x y s
+HasPath_stood lines [] layout size slots x y s inside has = has
+HasPath_stood lines (e ∷ es) layout size slots x y s inside has =
+    (was_there lines layout e.from size slots.0.0 x y s inside (HasPath_stood lines es (without_path layout e.from) (size_without layout e.from ∙ size) slots.1 x y s inside has)).1
 
 -- what a path asks of the layout that it comes back to: its move's row and column, a free inlet and a free outlet
 pub record Fits (lines : ℕ) (layout : Layout) (e : PathEnds) (v : Move) : Type 0 where
@@ -105,7 +105,7 @@ lifts lines slots (v ∷ moves) m layout b can =
     let rest = lifts lines slots moves (without_entry m v.row v.old) (without_path layout path.from) next can.1 in
     let e = ends_of path in
     let before = was_there lines layout path.from b.legal.inlets f.0.inlet in
-    let left = stood lines rest.ends (without_path layout path.from) (size_without layout path.from ∙ b.legal.inlets) rest.within in
+    let left = HasPath_stood lines rest.ends (without_path layout path.from) (size_without layout path.from ∙ b.legal.inlets) rest.within in
     let fits : Fits lines (without_all layout (e ∷ rest.ends)) e v = record {
       row = sym f.1;
       column = some_line v.column path.to.line (sym can.0 ∙ b.is v.row v.old ∙ ap (option_map (λ q. q.to.line)) p.1);

@@ -17,11 +17,11 @@ use Rattle.rearrange_chain.proofs.Closed.{turned_round}
 use Rattle.control_memory.specs.declared.path_ends.PathEnds.{PathEnds}
 use Rattle.fabric_map.specs.Rearranging.{without_all, AreTaken, taken_by, laid, CanLay}
 use Rattle.control_memory.specs.Paths.{ends_of}
-use Rattle.path_memory.proofs.CommonSlot.{Beside, common_is}
-use Rattle.path_memory.proofs.Added.{moved_same, new_unmoved}
+use Rattle.path_memory.proofs.CommonSlot.{Beside, lowest_in_both_common}
+use Rattle.path_memory.proofs.Added.{moved_same, moved_new_unmoved}
 use Rattle.fabric_map.proofs.Rearranged.{AllSlots, Ready, lifts, lays}
 use Rattle.fabric_map.proofs.Chained.{other, moved_by, chains_match}
-use Rattle.fabric_map.proofs.Exchanged.{AllStand, chain_stands, taken_chain, AllApart, laid_is, AllTurn, AllWere, chain_moved, exchanged_long, exchange_joins}
+use Rattle.fabric_map.proofs.Exchanged.{AllStand, chain_stands, taken_chain, AllApart, laid_is, AllTurn, AllWere, chain_moved, length-exchanged, exchange_joins}
 use Rattle.fabric_map.proofs.SlotsOfTheRule.{unsent_slot, unreceived_slot, taken_is}
 
 -- the layout after the moves of the rule, before the new path joins
@@ -46,7 +46,7 @@ made_common lines slots m layout from to c b inside free common = record {
   beside = b;
   joins = λ x y in_x. (λ j. j, λ j. j);
   joined = sym (ap (connect_in lines slots layout from to) common);
-  count = new_unmoved lines layout layout from to c b.legal.inlets b.legal.inlets inside free ∙ moved_same layout;
+  count = moved_new_unmoved lines layout layout from to c b.legal.inlets b.legal.inlets inside free ∙ moved_same layout;
 }
 
 -- ---- where none is
@@ -120,7 +120,7 @@ made_by lines slots m layout from to a b t moves ps of_lines of_slots beside ins
           (λ q. j.0 (subst (λ l. Joins l x y) after q), λ q. subst (λ l. Joins l x y) (sym after) (j.1 q));
       joined = ap (λ l. with_path l from to t) after ∙ sym rule;
       count = ap (λ l. moved layout (with_path l from to t)) after
-          ∙ new_unmoved lines layout (exchanged layout a b ps) from to t beside.legal.inlets (exchanged_long a b ps layout ∙ beside.legal.inlets) inside free
+          ∙ moved_new_unmoved lines layout (exchanged layout a b ps) from to t beside.legal.inlets (length-exchanged a b ps layout ∙ beside.legal.inlets) inside free
           ∙ chain_moved lines a b layout ps layout beside.legal.inlets beside.legal.inlets slots_in apart turn were were
           ∙ ap (λ n. n + length ps) (moved_same layout) ∙ zero-add (length ps) ∙ sym (ap length are ∙ length-map ps (moved_by a b));
     }))
@@ -150,7 +150,7 @@ made_chain lines slots m layout from to of_lines of_slots b inside inside_to fre
 
     rule : connect lines slots layout from to ≡ joined_after lines layout from to (slot_a m from.line) (slot_b m to.line) (is_shorter (row_chain m from.line to.line) (column_chain m from.line to.line))
     rule =
-        ap (connect_in lines slots layout from to) (sym (common_is lines slots m layout of_slots b from.line to.line) ∙ none)
+        ap (connect_in lines slots layout from to) (sym (lowest_in_both_common lines slots m layout of_slots b from.line to.line) ∙ none)
         ∙ ap (λ s. joined_after lines layout from to s (first_unreceived slots layout to.line) (takes_row lines layout from.line to.line s (first_unreceived slots layout to.line))) (sym (unsent_slot lines slots m layout of_slots b from.line))
         ∙ ap (λ s. joined_after lines layout from to (slot_a m from.line) s (takes_row lines layout from.line to.line (slot_a m from.line) s)) (sym (unreceived_slot lines slots m layout of_slots b to.line))
         ∙ ap (joined_after lines layout from to (slot_a m from.line) (slot_b m to.line)) (sym same_choice)
@@ -174,5 +174,5 @@ made lines slots m layout from to of_lines of_slots b inside inside_to free row 
     by_common (lowest_in_both m from.line to.line) refl
   where
     by_common : (o : Option ℕ) → lowest_in_both m from.line to.line ≡ o → Made lines slots m layout from to (moves_by m from.line to.line o) (slot_by m from.line to.line o)
-    by_common (Some c) e = made_common lines slots m layout from to c b inside free (sym (common_is lines slots m layout of_slots b from.line to.line) ∙ e)
+    by_common (Some c) e = made_common lines slots m layout from to c b inside free (sym (lowest_in_both_common lines slots m layout of_slots b from.line to.line) ∙ e)
     by_common None e = made_chain lines slots m layout from to of_lines of_slots b inside inside_to free row column e

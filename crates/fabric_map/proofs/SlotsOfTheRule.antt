@@ -10,15 +10,15 @@ use Rattle.rearrange_chain.specs.Chain.{slot_a, slot_b}
 use Rattle.control_memory.specs.declared.path_ends.PathEnds.{PathEnds}
 use Rattle.fabric_map.specs.Rearranging.{AreTaken, taken_by}
 use Rattle.control_memory.specs.Paths.{ends_of}
-use Rattle.path_memory.proofs.CommonSlot.{Beside, unsent_is, unreceived_is, find_same}
+use Rattle.path_memory.proofs.CommonSlot.{Beside, is_free_in_row_unsent, is_free_in_column_unreceived, find_same}
 
 pub unsent_slot : (lines slots : ℕ) (m : Matrix) (layout : Layout) → m.slots ≡ slots → Beside lines slots m layout → (i : ℕ) → slot_a m i ≡ first_unsent slots layout i
 unsent_slot lines slots m layout of b i =
-    ap (λ o. unwrap_or o 0) (find_same (is_free_in_row m i) (is_unsent layout i) (unsent_is m layout b.is i) (range_with_len 0 m.slots) ∙ ap (λ n. find (is_unsent layout i) (range_with_len 0 n)) of)
+    ap (λ o. unwrap_or o 0) (find_same (is_free_in_row m i) (is_unsent layout i) (is_free_in_row_unsent m layout b.is i) (range_with_len 0 m.slots) ∙ ap (λ n. find (is_unsent layout i) (range_with_len 0 n)) of)
 
 pub unreceived_slot : (lines slots : ℕ) (m : Matrix) (layout : Layout) → m.slots ≡ slots → Beside lines slots m layout → (j : ℕ) → slot_b m j ≡ first_unreceived slots layout j
 unreceived_slot lines slots m layout of b j =
-    ap (λ o. unwrap_or o 0) (find_same (is_free_in_column m j) (is_unreceived layout j) (unreceived_is lines slots m layout b j) (range_with_len 0 m.slots) ∙ ap (λ n. find (is_unreceived layout j) (range_with_len 0 n)) of)
+    ap (λ o. unwrap_or o 0) (find_same (is_free_in_column m j) (is_unreceived layout j) (is_free_in_column_unreceived lines slots m layout b j) (range_with_len 0 m.slots) ∙ ap (λ n. find (is_unreceived layout j) (range_with_len 0 n)) of)
 
 -- ---- what is taken is determined
 pub taken_is : (moves : List Move) (layout : Layout) (es : List PathEnds) → AreTaken layout moves es → es ≡ taken_by layout moves

@@ -8,7 +8,7 @@ use Rattle.std.proofs.lemmas.Slice.{take-put_mid}
 use borrow.Rule.Slice.PartMut.{put_mid, same_len_mid}
 use Rattle.circuit_model.specs.FrameInput.{idle_octet}
 use Rattle.frame_buffer.specs.Highways.{IsPart, RowsHold}
-use Rattle.frame_buffer.proofs.Rows.{put_row-below, put_row-beyond}
+use Rattle.frame_buffer.proofs.Rows.{get_or-put_mid_below, get_or-put_mid_beyond}
 
 -- a row that begins inside a part is a whole row of it
 pub row_within : (octets rows width row : ℕ) → octets ≡ rows * width → row * width < octets → row < rows
@@ -46,7 +46,7 @@ module _ (width : ℕ) (octet : ℕ → ℕ → ℕ) (first line : ℕ) (part : 
     written_there row at reached begins near = elim (cases_lt (first + row) line) [
       | inl earlier ↦
           let above : row * width + at < a = omega (arith, starts, mul-add-lt row width at (line - first) (omega (arith, earlier)) near, mul_comm width (line - first)) in
-          put_row-below a k part row_now room fits (row * width + at) above
+          get_or-put_mid_below a k part row_now room fits (row * width + at) above
           ∙ before row at earlier (omega (arith, above, room)) near
       | inr last ↦
           let this : row ≡ line - first = omega (arith, from, reached, last) in
@@ -105,7 +105,7 @@ module _ (width : ℕ) (octet : ℕ → ℕ → ℕ) (first line : ℕ) (part : 
     idle = λ i behind inside.
         let past : a + k ≤ i = omega (arith, starts, wide, next_row, behind) in
         let size : length (put_mid a k part row_now) ≡ length part = same_len_mid a k part row_now (fits ∙ sym (length-take-le k (drop a part) (omega (arith, room, length-drop a part)))) in
-        put_row-beyond a k part row_now room fits i past ∙ is.idle i (omega (arith, starts, past)) (omega (arith, inside, size));
+        get_or-put_mid_beyond a k part row_now room fits i past ∙ is.idle i (omega (arith, starts, past)) (omega (arith, inside, size));
   }
 
 -- all rows of a part belong to lines that exist

@@ -21,7 +21,7 @@ use Rattle.circuit_model.proofs.Age.{age, at_head, in_tail, none_in_nil}
 use Rattle.circuit_model.proofs.Validity.{heard_by-listener, valid-empty}
 use Rattle.circuit_model.proofs.FrameRecords.{valid-frames}
 use Rattle.circuit_model.proofs.Extents.{frames_within}
-use Rattle.circuit_model.proofs.PortSeats.{recorded, each_in, owned_in, alone_in, sums_in, had_port, matched-frames, matched-empty}
+use Rattle.circuit_model.proofs.PortSeats.{recorded, each_in, owned_in, alone_in, sums_in, owner_of-ports_in_had, matched-frames, matched-empty}
 use Rattle.frame_buffer.specs.Speech.{octet_in_half}
 use Rattle.frame_buffer.specs.Highways.{Highways, octet_on}
 use Rattle.control_memory.specs.Layout.{Layout, Legal, IsSlot, Joins}
@@ -39,7 +39,7 @@ use Rattle.frame_engine.proofs.PortRows.{added, added_at, row_of, mixed_to, row_
 use Rattle.frame_engine.proofs.EarlierFrames.{counted-more, length-push, arrives-earlier, arrives-last, circuits-earlier, circuits-last, ports-earlier, ports-last, mix-earlier, brought_before-earlier}
 use Rattle.frame_engine.proofs.MemberPorts.{not-below, heard_is, member_at-number, numbered-member_at, port_of-owner}
 use Rattle.frame_engine.proofs.RoomSums.{entry, mixed_is}
-use Rattle.frame_engine.proofs.ReadOut.{read_joined, crosses_alike}
+use Rattle.frame_engine.proofs.ReadOut.{fetched_read_joined, crosses_alike}
 
 -- an engine and its control memory of the next frame, as `frame` gets them, and what was read out
 pub record IsAt (e : Stages) (m : Control) (out : List ℕ) : Type 0 where
@@ -110,15 +110,15 @@ module _ (e : Stages) (m : Control) (out : List ℕ) (is : IsAt e m out) (inputs
   abbrev last_of : ℕ → Type 0
   last_of k = CarriesLast e inputs held ports (suc k)
 
-  reads : (k : ℕ) → last_of k → (x y : Slot) → IsSlot lines x → IsSlot lines y → IsNeeded e.external (circuits_of held (suc k)) (ports_of ports (suc k)) x y → octet_in_half out y ≡ octet_brought e.external inputs held ports k x
-  reads k last x y from to needed =
+  octet_in_half_reads : (k : ℕ) → last_of k → (x y : Slot) → IsSlot lines x → IsSlot lines y → IsNeeded e.external (circuits_of held (suc k)) (ports_of ports (suc k)) x y → octet_in_half out y ≡ octet_brought e.external inputs held ports k x
+  octet_in_half_reads k last x y from to needed =
       let same_lines : lines_of e.kept ≡ lines = let a = is.kept_external in let b = is.kept_bridges in omega (arith, a, b) in
       let from_kept : IsSlot (lines_of e.kept) x = subst (λ l. IsSlot l x) (sym same_lines) from in
       let to_kept : IsSlot (lines_of e.kept) y = subst (λ l. IsSlot l y) (sym same_lines) to in
       let needed_kept = subst (λ l. IsNeeded l (circuits_of held (suc k)) (ports_of ports (suc k)) x y) (sym is.kept_external) needed in
       let joins : Joins last.layout x y = (last.shows.paths x y from_kept).1 needed_kept in
       let holds = subst (λ s. HoldsCrossing (lines_of e.kept) s last.layout (brought_before e.external inputs held ports (suc k)) (octet_on e.crossed)) (sym is.kept_slots) (subst (λ l. HoldsCrossing l e.slots last.layout (brought_before e.external inputs held ports (suc k)) (octet_on e.crossed)) (sym same_lines) last.crossed) in
-      is.read_out y to.0 to.1 ∙ read_joined (lines_of e.kept) e.kept.slots last.layout (sent e.kept) (received e.kept) (read e.kept) (brought_before e.external inputs held ports (suc k)) (octet_on e.crossed) last.shows.legal last.shows.tables holds x y from_kept to_kept joins
+      is.read_out y to.0 to.1 ∙ fetched_read_joined (lines_of e.kept) e.kept.slots last.layout (sent e.kept) (received e.kept) (read e.kept) (brought_before e.external inputs held ports (suc k)) (octet_on e.crossed) last.shows.legal last.shows.tables holds x y from_kept to_kept joins
 
   -- before frame 2 nothing is through
   record Through : Type 0 where
@@ -138,8 +138,8 @@ module _ (e : Stages) (m : Control) (out : List ℕ) (is : IsAt e m out) (inputs
   inside_line x external = (let l = external.0 in omega (arith, l), external.1)
 
   -- the octet of an external slot two frames before
-  arrived : (k : ℕ) (x : Slot) → n ≡ suc (suc k) → IsExternal e.external x → octet_brought e.external inputs held ports k x ≡ arrives (inputs ++ input ∷ []) (n - 2) x
-  arrived k x now external =
+  octet_brought_arrived : (k : ℕ) (x : Slot) → n ≡ suc (suc k) → IsExternal e.external x → octet_brought e.external inputs held ports k x ≡ arrives (inputs ++ input ∷ []) (n - 2) x
+  octet_brought_arrived k x now external =
       let two : k ≡ n - 2 = omega (arith, now) in
       let before : k < length inputs = let i = carries.counted.inputs_counted in omega (arith, now, i) in
       cond-true (nat_lt x.line e.external) _ _ (lt-ltb x.line e.external external.0)
@@ -158,13 +158,13 @@ module _ (e : Stages) (m : Control) (out : List ℕ) (is : IsAt e m out) (inputs
       subst (λ (ds : List Circuit). Contains ds c) (ap (λ f. circuits_of (frames empty cs) f) one ∙ sym (circuits_then (suc t.k) (omega (arith, now)))) inside
 
   -- what a slot reads by a connection that is two frames old
-  pub pair_reads : (x y : Slot) (since : ℕ) → Contains circuits (Pair x y since) → is_through since n ≡ true → octet_in_half out y ≡ arrives (inputs ++ input ∷ []) (n - 2) x
-  pair_reads x y since inside old =
+  pub octet_in_half_pair_reads : (x y : Slot) (since : ℕ) → Contains circuits (Pair x y since) → is_through since n ≡ true → octet_in_half out y ≡ arrives (inputs ++ input ∷ []) (n - 2) x
+  octet_in_half_pair_reads x y since inside old =
       let t = through since old in
       let named = named_within (Pair x y since) inside in
       let stands = at_last t (Pair x y since) (stood_then t (Pair x y since) inside old).0 in
-      reads t.k t.last x y (inside_line x named.0) (inside_line y named.1) (Pair x y since, stands, at_head (x, y) [] (x, y) refl)
-      ∙ arrived t.k x t.now named.0
+      octet_in_half_reads t.k t.last x y (inside_line x named.0) (inside_line y named.1) (Pair x y since, stands, at_head (x, y) [] (x, y) refl)
+      ∙ octet_brought_arrived t.k x t.now named.0
 
   -- ---- members and their ports
   abbrev ports_at : ℕ → Ports
@@ -174,8 +174,8 @@ module _ (e : Stages) (m : Control) (out : List ℕ) (is : IsAt e m out) (inputs
   port_slot k low = (omega (arith, low), omega arith)
 
   -- the port of a member is joined to it while the member exists
-  joined : (f k room since : ℕ) (y : Slot) → owner_of (ports_at f) k ≡ Some y → port_of e.external (ports_at f) y ≡ Some (port_numbered e.external k)
-  joined f k room since y owned = port_of-owner e.external (ports_at f) k y owned (λ j other. alone_in e.bridges cs f j k y (recorded e.bridges cs f come.allowed) other owned)
+  port_of_joined : (f k room since : ℕ) (y : Slot) → owner_of (ports_at f) k ≡ Some y → port_of e.external (ports_at f) y ≡ Some (port_numbered e.external k)
+  port_of_joined f k room since y owned = port_of-owner e.external (ports_at f) k y owned (λ j other. alone_in e.bridges cs f j k y (recorded e.bridges cs f come.allowed) other owned)
 
   -- the member of a port that is two frames old, in the two frames before
   record RoomMember (t : Through) (k room since : ℕ) (y : Slot) : Type 0 where
@@ -196,18 +196,18 @@ module _ (e : Stages) (m : Control) (out : List ℕ) (is : IsAt e m out) (inputs
       let owned_now : owner_of (ports_at n) k ≡ Some y = subst (λ (ps : Ports). owner_of ps k ≡ Some y) seats_now owned in
       let each = each_in e.bridges cs n room since y (recorded e.bridges cs n come.allowed) in_now in
       let same = alone_in e.bridges cs n each.0 k y (recorded e.bridges cs n come.allowed) each.2 owned_now in
-      let owned_last : owner_of (ports_at (n - 1)) k ≡ Some y = had_port e.bridges cs come.allowed n k room since y in_now (omega (arith, young, now)) owned_now in
+      let owned_last : owner_of (ports_at (n - 1)) k ≡ Some y = owner_of-ports_in_had e.bridges cs come.allowed n k room since y in_now (omega (arith, young, now)) owned_now in
       let in_last : Contains (circuits_of (frames empty cs) (suc t.k)) c = subst (λ f. Contains (circuits_of (frames empty cs) f) c) one before.0 in
       let owned_suc : owner_of (ports_at (suc t.k)) k ≡ Some y = subst (λ f. owner_of (ports_at f) k ≡ Some y) one owned_last in
       let less : suc t.k - 1 ≡ t.k = omega arith in
       let in_then : Contains (circuits_of (frames empty cs) t.k) c = subst (λ f. Contains (circuits_of (frames empty cs) f) c) less (stood (suc t.k) c in_last (omega (arith, young))) in
-      let owned_then : owner_of (ports_at t.k) k ≡ Some y = subst (λ f. owner_of (ports_at f) k ≡ Some y) less (had_port e.bridges cs come.allowed (suc t.k) k room since y in_last (omega (arith, young)) owned_suc) in
+      let owned_then : owner_of (ports_at t.k) k ≡ Some y = subst (λ f. owner_of (ports_at f) k ≡ Some y) less (owner_of-ports_in_had e.bridges cs come.allowed (suc t.k) k room since y in_last (omega (arith, young)) owned_suc) in
       let held_then = circuits_then t.k (omega (arith, now)) in
       let standing_then : (x : Slot) → Stands (circuits_of (frames empty cs) t.k) x = (valid-frames e.bridges empty cs t.k (valid-empty e.bridges) come.allowed (let long = recorded_now in omega (arith, long, now))).standing in
       record {
         low = (let l = each.1 in omega (arith, l, same));
         last = at_last t c before.0;
-        port = ap (λ (ps : Ports). port_of e.external ps y) (ports_then (suc t.k) (omega (arith, now))) ∙ joined (suc t.k) k room since y owned_suc;
+        port = ap (λ (ps : Ports). port_of e.external ps y) (ports_then (suc t.k) (omega (arith, now))) ∙ port_of_joined (suc t.k) k room since y owned_suc;
         had = ap (λ (ps : Ports). owner_of ps k) (ports_then t.k (omega (arith, now))) ∙ owned_then;
         heard = ap (λ (ds : List Circuit). heard_by ds y) held_then ∙ heard_by-listener (circuits_of (frames empty cs) t.k) c (standing_then y) in_then;
       }
@@ -219,17 +219,17 @@ module _ (e : Stages) (m : Control) (out : List ℕ) (is : IsAt e m out) (inputs
   to_port_second : (z p : Slot) (o : Option Slot) → o ≡ Some p → Contains (to_port z o) (p, z)
   to_port_second z p o found = rw found (in_tail (z, p) ((p, z) ∷ []) (p, z) (at_head (p, z) [] (p, z) refl))
 
-  pub port_reads : (k room since : ℕ) (y : Slot) → Contains circuits (Member room y since) → is_through since n ≡ true → owner_of seats k ≡ Some y → octet_in_half out (port_numbered e.external k) ≡ arrives (inputs ++ input ∷ []) (n - 2) y
-  port_reads k room since y inside old owned =
+  pub octet_in_half-port_numbered_reads : (k room since : ℕ) (y : Slot) → Contains circuits (Member room y since) → is_through since n ≡ true → owner_of seats k ≡ Some y → octet_in_half out (port_numbered e.external k) ≡ arrives (inputs ++ input ∷ []) (n - 2) y
+  octet_in_half-port_numbered_reads k room since y inside old owned =
       let t = through since old in
       let s = seated t k room since y inside old owned in
       let named = named_within (Member room y since) inside in
-      reads t.k t.last y (port_numbered e.external k) (inside_line y named) (port_slot k s.low) (Member room y since, s.last, to_port_first y (port_numbered e.external k) _ s.port)
-      ∙ arrived t.k y t.now named
+      octet_in_half_reads t.k t.last y (port_numbered e.external k) (inside_line y named) (port_slot k s.low) (Member room y since, s.last, to_port_first y (port_numbered e.external k) _ s.port)
+      ∙ octet_brought_arrived t.k y t.now named
 
   -- what was brought to the port of a member two frames before
-  mixed_then : (t : Through) (k room since : ℕ) (y : Slot) → RoomMember t k room since y → octet_brought e.external inputs held ports t.k (port_numbered e.external k) ≡ mix (inputs ++ input ∷ []) (circuits_of (held ++ circuits ∷ []) (n - 2)) room y (n - 2)
-  mixed_then t k room since y s =
+  octet_brought_mixed_then : (t : Through) (k room since : ℕ) (y : Slot) → RoomMember t k room since y → octet_brought e.external inputs held ports t.k (port_numbered e.external k) ≡ mix (inputs ++ input ∷ []) (circuits_of (held ++ circuits ∷ []) (n - 2)) room y (n - 2)
+  octet_brought_mixed_then t k room since y s =
       let now = t.now in
       let two : t.k ≡ n - 2 = omega (arith, now) in
       let behind : nat_lt (port_numbered e.external k).line e.external ≡ false = not-below (port_numbered e.external k).line e.external (omega arith) in
@@ -243,15 +243,15 @@ module _ (e : Stages) (m : Control) (out : List ℕ) (is : IsAt e m out) (inputs
       ∙ ap (λ f. mix (inputs ++ input ∷ []) (circuits_of (held ++ circuits ∷ []) f) room y f) two
 
   -- and a member of its port
-  pub member_reads : (room since : ℕ) (y : Slot) → Contains circuits (Member room y since) → is_through since n ≡ true → octet_in_half out y ≡ mix (inputs ++ input ∷ []) (circuits_of (held ++ circuits ∷ []) (n - 2)) room y (n - 2)
-  member_reads room since y inside old =
+  pub octet_in_half_member_reads : (room since : ℕ) (y : Slot) → Contains circuits (Member room y since) → is_through since n ≡ true → octet_in_half out y ≡ mix (inputs ++ input ∷ []) (circuits_of (held ++ circuits ∷ []) (n - 2)) room y (n - 2)
+  octet_in_half_member_reads room since y inside old =
       let t = through since old in
       let each = each_in e.bridges cs n room since y (recorded e.bridges cs n come.allowed) (subst (λ (ds : List Circuit). Contains ds (Member room y since)) circuits_now inside) in
       let owned = subst (λ (ps : Ports). owner_of ps each.0 ≡ Some y) (sym seats_now) each.2 in
       let s = seated t each.0 room since y inside old owned in
       let named = named_within (Member room y since) inside in
-      reads t.k t.last (port_numbered e.external each.0) y (port_slot each.0 s.low) (inside_line y named) (Member room y since, s.last, to_port_second y (port_numbered e.external each.0) _ s.port)
-      ∙ mixed_then t each.0 room since y s
+      octet_in_half_reads t.k t.last (port_numbered e.external each.0) y (port_slot each.0 s.low) (inside_line y named) (Member room y since, s.last, to_port_second y (port_numbered e.external each.0) _ s.port)
+      ∙ octet_brought_mixed_then t each.0 room since y s
 
   -- ---- what is played
   abbrev hears_by : (Kind → List ℕ) → Option Circuit → ℕ
@@ -262,19 +262,19 @@ module _ (e : Stages) (m : Control) (out : List ℕ) (is : IsAt e m out) (inputs
   played_by tones y (Some (Pair x z since)) found =
       let f = found (Pair x z since) refl in
       elim (true_or_false (is_through since n)) [
-        | inl old ↦ rw old (ap (octet_in_half out) f.1 ∙ pair_reads x z since f.0 old)
+        | inl old ↦ rw old (ap (octet_in_half out) f.1 ∙ octet_in_half_pair_reads x z since f.0 old)
         | inr young ↦ rw young refl
       ]
   played_by tones y (Some (Member room z since)) found =
       let f = found (Member room z since) refl in
       elim (true_or_false (is_through since n)) [
-        | inl old ↦ rw old (ap (octet_in_half out) f.1 ∙ member_reads room since z f.0 old)
+        | inl old ↦ rw old (ap (octet_in_half out) f.1 ∙ octet_in_half_member_reads room since z f.0 old)
         | inr young ↦ rw young refl
       ]
   played_by tones y (Some (Tone kind z since)) found = refl
 
-  pub plays : (tones : Kind → List ℕ) (y : Slot) → y.line < e.external → y.place < 30 → played_as tones m.frame (octet_in_half out y) (heard_at m y) ≡ hears tones (inputs ++ input ∷ []) (held ++ circuits ∷ []) n y
-  plays tones y here near =
+  pub played_as-hears : (tones : Kind → List ℕ) (y : Slot) → y.line < e.external → y.place < 30 → played_as tones m.frame (octet_in_half out y) (heard_at m y) ≡ hears tones (inputs ++ input ∷ []) (held ++ circuits ∷ []) n y
+  played_as-hears tones y here near =
       let external_m : y.line < m.external = let a = is.external in omega (arith, here, a) in
       let serves : served_by m.external seats y ≡ Some y = cond-true (nat_lt y.line m.external) (Some y) _ (lt-ltb y.line m.external external_m) in
       let by : circuit_of m.external circuits seats y ≡ heard_by circuits y = ap (option_and_then (heard_by circuits)) serves in
@@ -312,7 +312,7 @@ module _ (e : Stages) (m : Control) (out : List ℕ) (is : IsAt e m out) (inputs
       let by_seat = λ (octet : ℕ). ap (added n room octet) seat in
       by_seat (octet_in_half out (port_numbered e.external k))
       ∙ elim (true_or_false (is_through member.1 n)) [
-        | inl old ↦ ap (λ octet. added n room octet (Some (member.0, member.1))) (port_reads k member.0 member.1 z inside old owned)
+        | inl old ↦ ap (λ octet. added n room octet (Some (member.0, member.1))) (octet_in_half-port_numbered_reads k member.0 member.1 z inside old owned)
         | inr young ↦ rw young refl
       ]
       ∙ sym (by_seat (sent_before z))
@@ -352,15 +352,15 @@ module _ (e : Stages) (m : Control) (out : List ℕ) (is : IsAt e m out) (inputs
       ∙ mixed_is (inputs ++ input ∷ []) circuits n member.0 seats k y owned alone (omega (arith, low, size)) heard_alone sums
       ∙ sym (ap (mixed_through (inputs ++ input ∷ []) circuits n) heard)
 
-  pub mixes : (k : ℕ) → k < 30 * e.bridges → given_to m (octet_in_half out) k ≡ mixed_at (inputs ++ input ∷ []) circuits n (owner_of seats k)
-  mixes k low = given_to-seat m (octet_in_half out) k (let b = is.bridges in omega (arith, low, b)) ∙ ap (mixed_to m (octet_in_half out) k) (room_is k low) ∙ mixed_by k (owner_of seats k) low refl
+  pub given_to_mixes : (k : ℕ) → k < 30 * e.bridges → given_to m (octet_in_half out) k ≡ mixed_at (inputs ++ input ∷ []) circuits n (owner_of seats k)
+  given_to_mixes k low = given_to-seat m (octet_in_half out) k (let b = is.bridges in omega (arith, low, b)) ∙ ap (mixed_to m (octet_in_half out) k) (room_is k low) ∙ mixed_by k (owner_of seats k) low refl
 
   -- ---- what is taken in, and what crosses
   abbrev brought_now : ℕ → Slot → ℕ
   brought_now f at = octet_brought e.external (inputs ++ input ∷ []) (held ++ circuits ∷ []) (ports ++ seats ∷ []) f at
 
-  pub takes_in : (highway crossed : Highways) (taken : List ℕ) → Did e m input out taken highway crossed → (at : Slot) → at.line < lines → at.place < 30 → octet_in_half taken at ≡ brought_now n at
-  takes_in highway crossed taken did at inside near =
+  pub octet_in_half_taken : (highway crossed : Highways) (taken : List ℕ) → Did e m input out taken highway crossed → (at : Slot) → at.line < lines → at.place < 30 → octet_in_half taken at ≡ brought_now n at
+  octet_in_half_taken highway crossed taken did at inside near =
       elim (leb_tells (suc at.line) e.external) [
         | inl here ↦
             did.takes at (omega (arith, here.1)) near
@@ -375,24 +375,24 @@ module _ (e : Stages) (m : Control) (out : List ℕ) (is : IsAt e m out) (inputs
             ap (octet_in_half taken) (sym is_port)
             ∙ ap (λ x. octet_in_half taken (port_numbered x k)) (sym is.external)
             ∙ did.mixes k low
-            ∙ mixes k low
+            ∙ given_to_mixes k low
             ∙ ap (mixed_at (inputs ++ input ∷ []) circuits n) owner
             ∙ ap (λ (ds : List Circuit). mixed_at (inputs ++ input ∷ []) ds n (member_at e.external seats at)) (sym (circuits-last held circuits n carries.counted.held_counted))
             ∙ ap (λ (ps : Ports). mixed_at (inputs ++ input ∷ []) (circuits_of (held ++ circuits ∷ []) n) n (member_at e.external ps at)) (sym (ports-last ports seats n carries.counted.ports_counted))
             ∙ sym (cond-false (nat_lt at.line e.external) _ _ behind.0)
       ]
 
-  took : (f : ℕ) → CarriesAt e inputs held ports f → (x : Slot) → IsSlot lines x → octet_in_half e.taken x ≡ brought_before e.external inputs held ports f x
-  took zero fresh x inside = fresh.taken x inside.0 inside.1
-  took (suc f) last x inside = last.taken x inside.0 inside.1
+  octet_in_half_took : (f : ℕ) → CarriesAt e inputs held ports f → (x : Slot) → IsSlot lines x → octet_in_half e.taken x ≡ brought_before e.external inputs held ports f x
+  octet_in_half_took zero fresh x inside = fresh.taken x inside.0 inside.1
+  octet_in_half_took (suc f) last x inside = last.taken x inside.0 inside.1
 
-  pub crosses : (highway crossed : Highways) (taken : List ℕ) → Did e m input out taken highway crossed → HoldsCrossing lines e.slots layout (brought_before e.external (inputs ++ input ∷ []) (held ++ circuits ∷ []) (ports ++ seats ∷ []) n) (octet_on crossed)
-  crosses highway crossed taken did =
+  pub HoldsCrossing-brought_before : (highway crossed : Highways) (taken : List ℕ) → Did e m input out taken highway crossed → HoldsCrossing lines e.slots layout (brought_before e.external (inputs ++ input ∷ []) (held ++ circuits ∷ []) (ports ++ seats ∷ []) n) (octet_on crossed)
+  HoldsCrossing-brought_before highway crossed taken did =
       let same_lines : lines_of m ≡ lines = let a = is.external in let b = is.bridges in omega (arith, a, b) in
       let legal = subst (λ s. Legal lines s layout) is.slots (subst (λ l. Legal l m.slots layout) same_lines shows.legal) in
       let tables = subst (λ s. HasTables lines s layout (sent m) (received m) (read m)) is.slots (subst (λ l. HasTables l m.slots layout (sent m) (received m) (read m)) same_lines shows.tables) in
       crosses_alike lines e.slots layout (octet_in_half e.taken) (brought_before e.external (inputs ++ input ∷ []) (held ++ circuits ∷ []) (ports ++ seats ∷ []) n) (octet_on crossed) legal
-      (λ x inside. took n carries.last x inside ∙ sym (brought_before-earlier e.external inputs held ports input circuits seats n carries.counted n x refl))
+      (λ x inside. octet_in_half_took n carries.last x inside ∙ sym (brought_before-earlier e.external inputs held ports input circuits seats n carries.counted n x refl))
       (λ line slot here near. did.crosses line slot here near ∙ crossing_is lines e.slots layout (sent m) (received m) (read m) (octet_in_half e.taken) legal tables (octet_on highway) did.sends line slot here near)
 
   -- the engine afterwards
@@ -405,8 +405,8 @@ module _ (e : Stages) (m : Control) (out : List ℕ) (is : IsAt e m out) (inputs
         layout = layout;
         shows = subst (λ (ps : Ports). ShowsBy layout m (circuits_of (held ++ circuits ∷ []) n) ps n) (sym (ports-last ports seats n carries.counted.ports_counted))
             (subst (λ (ds : List Circuit). ShowsBy layout m ds seats n) (sym (circuits-last held circuits n carries.counted.held_counted)) shows);
-        taken = takes_in highway crossed taken did;
-        crossed = crosses highway crossed taken did;
+        taken = octet_in_half_taken highway crossed taken did;
+        crossed = HoldsCrossing-brought_before highway crossed taken did;
       } in
       record {
         sizes = record { kept_external = is.external; kept_bridges = is.bridges; kept_slots = is.slots; crossed_lines = did.lines; crossed_slots = did.slots };

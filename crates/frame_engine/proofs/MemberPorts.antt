@@ -63,8 +63,8 @@ port_of-owner external ports k x owned alone =
 
 -- ---- ports in the order of their numbers
 -- the seat of a port is the one with its number
-pub seat-numbered : (m : Control) (k : ℕ) → room_at m (port_numbered m.external k) ≡ get_or m.rooms k None
-seat-numbered m k =
+pub room_at-port_numbered : (m : Control) (k : ℕ) → room_at m (port_numbered m.external k) ≡ get_or m.rooms k None
+room_at-port_numbered m k =
     let number : 30 * ((m.external + k / 30) - m.external) + k % 30 ≡ k = omega arith in
     cond-false (nat_lt (m.external + k / 30) m.external) None _ (not-below (m.external + k / 30) m.external (omega arith))
     ∙ ap (λ i. get_or m.rooms i None) number

@@ -5,12 +5,12 @@ use Rattle.control_memory.specs.Layout.{Path, Layout, Legal, IsSlot, Joins, path
 use Rattle.control_memory.specs.Tables.{HasTables}
 use Rattle.control_memory.specs.Carrying.{fetched, from_inlet, HoldsCrossing}
 use Rattle.control_memory.proofs.Lookups.{path_to_is, path_out_found}
-use Rattle.control_memory.proofs.Carrying.{carried_is}
+use Rattle.control_memory.proofs.Carrying.{fetched_carried}
 
-pub read_joined : (lines slots : ℕ) (layout : Layout) (places crossed read : ℕ → ℕ → Option ℕ) (octet : Slot → ℕ) (held : ℕ → ℕ → ℕ) → Legal lines slots layout → HasTables lines slots layout places crossed read → HoldsCrossing lines slots layout octet held
+pub fetched_read_joined : (lines slots : ℕ) (layout : Layout) (places crossed read : ℕ → ℕ → Option ℕ) (octet : Slot → ℕ) (held : ℕ → ℕ → ℕ) → Legal lines slots layout → HasTables lines slots layout places crossed read → HoldsCrossing lines slots layout octet held
     → (x y : Slot) → IsSlot lines x → IsSlot lines y → Joins layout x y → fetched (read y.line y.place) (held y.line) ≡ octet x
-read_joined lines slots layout places crossed read octet held legal tables holds x y from to joins =
-    carried_is lines slots layout places crossed read octet legal tables held holds y to.0 to.1
+fetched_read_joined lines slots layout places crossed read octet held legal tables holds x y from to joins =
+    fetched_carried lines slots layout places crossed read octet legal tables held holds y to.0 to.1
     ∙ ap (λ (o : Option Path). from_inlet o octet) (path_to_is lines slots layout x y joins.0 legal from joins.1)
 
 -- the octets of the slots are all that crosses

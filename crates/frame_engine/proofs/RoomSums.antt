@@ -23,26 +23,26 @@ abbrev without : Slot → (Slot → ℤ) → Slot → ℤ
 without y weight z = if same_slot z y then pos 0 else weight z
 
 -- ---- the owner of one port is left out
-unowned : (weight : Slot → ℤ) (y : Slot) (ports : Ports) → ((j : ℕ) → owner_of ports j ≡ Some y → ⊥) → sum_of_owners weight ports ≡ sum_of_owners (without y weight) ports
-unowned weight y [] none = refl
-unowned weight y (None ∷ ports) none = unowned weight y ports (λ j e. none (suc j) e)
-unowned weight y (Some z ∷ ports) none =
-    let rest = unowned weight y ports (λ j e. none (suc j) e) in
+sum_of_owners_unowned : (weight : Slot → ℤ) (y : Slot) (ports : Ports) → ((j : ℕ) → owner_of ports j ≡ Some y → ⊥) → sum_of_owners weight ports ≡ sum_of_owners (without y weight) ports
+sum_of_owners_unowned weight y [] none = refl
+sum_of_owners_unowned weight y (None ∷ ports) none = sum_of_owners_unowned weight y ports (λ j e. none (suc j) e)
+sum_of_owners_unowned weight y (Some z ∷ ports) none =
+    let rest = sum_of_owners_unowned weight y ports (λ j e. none (suc j) e) in
     let other : same_slot z y ≡ false = same_slot-false z y (λ e. none 0 (ap (λ (x : Slot). Some x) e)) in
     rw other (ap (λ (s : ℤ). weight z +ℤ s) rest)
 
-owned_once : (weight : Slot → ℤ) (y : Slot) (ports : Ports) (k : ℕ) → owner_of ports k ≡ Some y → ((j : ℕ) → owner_of ports j ≡ Some y → j ≡ k) → sum_of_owners weight ports ≡ weight y +ℤ sum_of_owners (without y weight) ports
-owned_once weight y [] k owned alone = absurd (cc)
-owned_once weight y (None ∷ ports) zero owned alone = absurd (cc)
-owned_once weight y (None ∷ ports) (suc k) owned alone = owned_once weight y ports k owned (λ j e. let same = alone (suc j) e in omega (arith, same))
-owned_once weight y (Some z ∷ ports) zero owned alone =
+sum_of_owners_owned_once : (weight : Slot → ℤ) (y : Slot) (ports : Ports) (k : ℕ) → owner_of ports k ≡ Some y → ((j : ℕ) → owner_of ports j ≡ Some y → j ≡ k) → sum_of_owners weight ports ≡ weight y +ℤ sum_of_owners (without y weight) ports
+sum_of_owners_owned_once weight y [] k owned alone = absurd (cc)
+sum_of_owners_owned_once weight y (None ∷ ports) zero owned alone = absurd (cc)
+sum_of_owners_owned_once weight y (None ∷ ports) (suc k) owned alone = sum_of_owners_owned_once weight y ports k owned (λ j e. let same = alone (suc j) e in omega (arith, same))
+sum_of_owners_owned_once weight y (Some z ∷ ports) zero owned alone =
     let first : Some z ≡ Some y = owned in
     let is : z ≡ y = cc in
-    let rest = unowned weight y ports (λ j e. let same = alone (suc j) e in omega (arith, same)) in
+    let rest = sum_of_owners_unowned weight y ports (λ j e. let same = alone (suc j) e in omega (arith, same)) in
     let same = ap (λ (x : Slot). same_slot x y) is ∙ same_slot-refl y in
     rw same (rw is (omega (arith, ints, rest)))
-owned_once weight y (Some z ∷ ports) (suc k) owned alone =
-    let rest = owned_once weight y ports k owned (λ j e. let same = alone (suc j) e in omega (arith, same)) in
+sum_of_owners_owned_once weight y (Some z ∷ ports) (suc k) owned alone =
+    let rest = sum_of_owners_owned_once weight y ports k owned (λ j e. let same = alone (suc j) e in omega (arith, same)) in
     let other : same_slot z y ≡ false = same_slot-false z y (λ e. let same = alone 0 (ap (λ (x : Slot). Some x) e) in omega (arith, same)) in
     rw other (omega (arith, ints, rest))
 
@@ -100,6 +100,6 @@ module _ (inputs : List Input) (circuits : List Circuit) (f room : ℕ) where
       let long : k < length (map e ports) = omega (arith, inside, length-map ports e) in
       let own : value_of (get_or (map e ports) k None) ≡ w y = ap value_of (get_or-map e ports k None None inside ∙ ap e owned) in
       let left = sum_of_values-others (map e ports) k None long in
-      let whole = row_sum sent_before circuits f room ports ∙ owned_once w y ports k owned alone in
+      let whole = row_sum sent_before circuits f room ports ∙ sum_of_owners_owned_once w y ports k owned alone in
       let out : sum_of_values (others k (map e ports)) ≡ sum_of_owners (without y w) ports = omega (arith, ints, left, whole, own) in
       ap compress (out ∙ sums (without y w) ∙ sym (mix_sum y circuits heard))

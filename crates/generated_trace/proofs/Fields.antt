@@ -12,7 +12,7 @@ use Rattle.traffic_gen.specs.Lines.{channel_at, slot_text}
 use Rattle.traffic_gen.proofs.Spelling.{both_have, decimal_has, number_has, octets_have}
 use Rattle.trace_text.specs.TraceWords.{cut_at, is_empty, numeral}
 use Rattle.trace_text.specs.TraceFields.{digit_value, external_line, octets_written, slash, slot}
-use Rattle.trace_text.proofs.TraceOctets.{behind, pair_then}
+use Rattle.trace_text.proofs.TraceOctets.{behind, octets_written_pair_then}
 use Rattle.generated_trace.specs.Told.{slot_at}
 use Rattle.generated_trace.proofs.Cutting.{IsWord, is_solid}
 
@@ -92,7 +92,7 @@ octets_read (octet ∷ octets) each =
     let high = octet / 16 in
     let low = octet % 16 in
     let whole : high * 16 + low ≡ octet = omega arith in
-    pair_then (slice_index upper_digits high) (slice_index upper_digits low) (encode_upper octets) high low (glyph_read high (omega arith)) (glyph_read low (omega arith))
+    octets_written_pair_then (slice_index upper_digits high) (slice_index upper_digits low) (encode_upper octets) high low (glyph_read high (omega arith)) (glyph_read low (omega arith))
     ∙ ap (behind ((high * 16 + low) ∷ [])) (octets_read octets parts.1)
     ∙ ap (λ (first : ℕ). Some (first ∷ octets)) whole
 

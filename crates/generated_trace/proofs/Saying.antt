@@ -96,9 +96,9 @@ line_words line are = ap words (line_spelled line) ∙ words_of (first_of line) 
 abbrev pub eight : Sizes
 eight = record { external = 8; bridges = 1; processors = 4 }
 
-spoken : (s : SoFar) (line : Line) (others : List (List ℕ)) (told : Said) → Fits line → s.sizes ≡ Some eight → words (line_text line) ≡ first_of line ∷ others
+says_spoken : (s : SoFar) (line : Line) (others : List (List ℕ)) (told : Said) → Fits line → s.sizes ≡ Some eight → words (line_text line) ≡ first_of line ∷ others
     → by_kind s 8 (kind_of (first_of line)) others ≡ Ok told → joins trace_limits s told ≡ Ok told → says trace_limits s (line_text line) ≡ Ok told
-spoken s line others told fits known cut kind joined =
+says_spoken s line others told fits known cut kind joined =
     says_both trace_limits s (line_text line) told (reads_by_kind s eight (line_text line) (first_of line) others known (no_comment line) cut (line_prints line fits) ∙ kind) joined
 
 event_joins : (s : SoFar) (e : Event) → s.events + 1 ≤ 65535 → joins trace_limits s (said.Happens e) ≡ Ok (said.Happens e)
@@ -120,7 +120,7 @@ nail_says s one other place fits known few =
     let here = fits.place_is.1 in
     let low : one < 8 = omega (arith, fits.one_is) in
     let apart : one ≢ other = λ same. omega (arith, fits.one_is, fits.other_is.0, same) in
-    spoken s (Nail one other place) (others_of (Nail one other place)) (said_by (Nail one other place)) fits known
+    says_spoken s (Nail one other place) (others_of (Nail one other place)) (said_by (Nail one other place)) fits known
     (line_words (Nail one other place) (slot_word one place low least here, (slot_word other place fits.other_is.1 least here, tt)))
     (ap happens (nail_given 8 (slot_text one place) (slot_text other place) (slot_at one place) (slot_at other place) (slot_read one place low least here) (slot_read other place fits.other_is.1 least here) (slots_apart one other place apart)))
     (event_joins s (event.Nail (slot_at one place) (slot_at other place)) few)
@@ -139,13 +139,13 @@ message_says : (s : SoFar) (line : ℕ) (octets : List ℕ) → FitsMessage line
 message_says s line [] fits known few =
     let word = digit_word line (omega (arith, fits.line_is)) in
     let none : others_of (Message line []) ≡ decimal line ∷ [] ∷ [] = ap (λ (digits : List ℕ). decimal line ∷ digits ∷ []) no_octets in
-    spoken s (Message line []) (decimal line ∷ []) (said_by (Message line [])) fits known
+    says_spoken s (Message line []) (decimal line ∷ []) (said_by (Message line [])) fits known
     (ap words (line_spelled (Message line [])) ∙ ap (λ (others : List (List ℕ)). words (codes "M" ++ spaced others)) none ∙ words_before_space (codes "M") (decimal line) (first_is (Message line [])) word)
     (ap happens (empty_message_given 8 (decimal line) line (line_read line fits.line_is)))
     (event_joins s (event.Message line []) few)
 message_says s line (octet ∷ octets) fits known few =
     let word = digit_word line (omega (arith, fits.line_is)) in
-    spoken s (Message line (octet ∷ octets)) (others_of (Message line (octet ∷ octets))) (said_by (Message line (octet ∷ octets))) fits known
+    says_spoken s (Message line (octet ∷ octets)) (others_of (Message line (octet ∷ octets))) (said_by (Message line (octet ∷ octets))) fits known
     (line_words (Message line (octet ∷ octets)) (word, (octets_word octet octets fits.each, tt)))
     (ap happens (message_given 8 (decimal line) (encode_upper (octet ∷ octets)) line (octet ∷ octets) (line_read line fits.line_is) (octets_read (octet ∷ octets) fits.each) (le-leb (length (octet ∷ octets)) 260 (omega (arith, fits.most)))))
     (event_joins s (event.Message line (octet ∷ octets)) few)
@@ -203,7 +203,7 @@ parts_are (one ∷ other ∷ third ∷ parts) fits = absurd fits
 frame_says : (s : SoFar) (parts : List Part) → FitsParts parts → s.sizes ≡ Some eight → s.events + 1 ≤ 65535
     → says trace_limits s (line_text (Frame parts)) ≡ Ok (said_by (Frame parts))
 frame_says s parts fits known few =
-    spoken s (Frame parts) (map part_word parts) (said_by (Frame parts)) fits known (line_words (Frame parts) (parts_are parts fits))
+    says_spoken s (Frame parts) (map part_word parts) (said_by (Frame parts)) fits known (line_words (Frame parts) (parts_are parts fits))
     (ap happens (frame_given 8 (map part_word parts) (input_of parts) (parts_read parts fits)))
     (event_joins s (event.Frame (input_of parts)) few)
 
@@ -236,16 +236,16 @@ running_says s Sync fits runs known few = sync_says s known
 
 -- ---- the header and the numbers
 
-header_given : (s : SoFar) (line first : List ℕ) (others : List (List ℕ)) (sizes : Sizes) → s.sizes ≡ None → is_comment line ≡ false → words line ≡ first ∷ others → header (first ∷ others) ≡ Some sizes
+says_header_given : (s : SoFar) (line first : List ℕ) (others : List (List ℕ)) (sizes : Sizes) → s.sizes ≡ None → is_comment line ≡ false → words line ≡ first ∷ others → header (first ∷ others) ≡ Some sizes
     → says trace_limits s line ≡ Ok (said.Header sizes)
-header_given s line first others sizes none a b c = rw (a, b, none, b, c) refl
+says_header_given s line first others sizes none a b c = rw (a, b, none, b, c) refl
 
 pub header_says : (s : SoFar) → s.sizes ≡ None → says trace_limits s (line_text (Header 8 1 4)) ≡ Ok (said_by (Header 8 1 4))
 header_says s none =
     let external : 8 < 10 = omega arith in
     let bridges : 1 < 10 = omega arith in
     let processors : 4 < 10 = omega arith in
-    header_given s (line_text (Header 8 1 4)) (codes "exchange") (others_of (Header 8 1 4)) eight none refl
+    says_header_given s (line_text (Header 8 1 4)) (codes "exchange") (others_of (Header 8 1 4)) eight none refl
     (line_words (Header 8 1 4) (record { solid = refl; filled = refl }, (digit_word 8 external, (digit_word 1 bridges, (digit_word 4 processors, tt)))))
     (rw (decimal_digit 8, decimal_digit 1, decimal_digit 4) refl)
 
@@ -273,7 +273,7 @@ pub record HasRoom (s : SoFar) (digits : List ℕ) : Type 0 where
 
 pub to_line_says : (s : SoFar) (digits : List ℕ) (line : ℕ) → Fits (ToLine digits line) → HasRoom s digits → says trace_limits s (line_text (ToLine digits line)) ≡ Ok (said_by (ToLine digits line))
 to_line_says s digits line fits has =
-    spoken s (ToLine digits line) (others_of (ToLine digits line)) (said_by (ToLine digits line)) fits has.known
+    says_spoken s (ToLine digits line) (others_of (ToLine digits line)) (said_by (ToLine digits line)) fits has.known
     (line_words (ToLine digits line) (number_word digits fits.0.each fits.0.some, (record { solid = refl; filled = refl }, (digit_word line (omega (arith, fits.1)), tt))))
     (number_given s _ (record { digits = digits; target = target.Line line }) has.early (to_line_given 8 digits (decimal line) line has.is (line_read line fits.1)))
     (number_joins s (record { digits = digits; target = target.Line line }) has.free has.few)
@@ -282,7 +282,7 @@ pub to_room_says : (s : SoFar) (digits : List ℕ) → Fits (ToRoom digits 0) �
 to_room_says s digits fits has =
     let none : 0 < 10 = omega arith in
     let first : room (decimal 0) ≡ Some 0 = rw (decimal_digit 0) refl in
-    spoken s (ToRoom digits 0) (others_of (ToRoom digits 0)) (said_by (ToRoom digits 0)) fits has.known
+    says_spoken s (ToRoom digits 0) (others_of (ToRoom digits 0)) (said_by (ToRoom digits 0)) fits has.known
     (line_words (ToRoom digits 0) (number_word digits fits.0.each fits.0.some, (record { solid = refl; filled = refl }, (digit_word 0 none, tt))))
     (number_given s _ (record { digits = digits; target = target.Room 0 }) has.early (to_room_given 8 digits (decimal 0) 0 has.is first))
     (number_joins s (record { digits = digits; target = target.Room 0 }) has.free has.few)

@@ -235,8 +235,8 @@ some_trace seed calls few = (trace_of (traffic_told seed calls), is_traffic seed
 pub one_told : (seed calls : ℕ) (t u : Trace) → IsTrafficOf seed calls t → IsTrafficOf seed calls u → t ≡ u
 one_told seed calls t u is other = one_trace (traffic seed calls) t u is other
 
-pub told_so : (seed calls : ℕ) (t : Trace) → calls ≤ 2000 → IsTrafficOf seed calls t → IsWhatLinesSay t (traffic_told seed calls)
-told_so seed calls t few is =
+pub IsWhatLinesSay_told : (seed calls : ℕ) (t : Trace) → calls ≤ 2000 → IsTrafficOf seed calls t → IsWhatLinesSay t (traffic_told seed calls)
+IsWhatLinesSay_told seed calls t few is =
     subst (λ u. IsWhatLinesSay u (traffic_told seed calls)) (one_told seed calls (trace_of (traffic_told seed calls)) t (is_traffic seed calls few) is) (is_told seed calls)
 
 pub has_sizes : (seed calls : ℕ) (t : Trace) → calls ≤ 2000 → IsTrafficOf seed calls t → HasExchangeSizes t 8 1 4
@@ -252,7 +252,7 @@ all_events (line ∷ ls) =
     ∙ (let first = event_counts line in let rest = all_events ls in omega arith)
 
 pub events_counted : (seed calls : ℕ) (t : Trace) → calls ≤ 2000 → IsTrafficOf seed calls t → length t.events ≡ event_count (traffic_lines seed calls)
-events_counted seed calls t few is = ap length (told_so seed calls t few is).events ∙ all_events (traffic_lines seed calls)
+events_counted seed calls t few is = ap length (IsWhatLinesSay_told seed calls t few is).events ∙ all_events (traffic_lines seed calls)
 
 -- octets that were generated are a trace
 pub are_trace : (seed calls : ℕ) (bytes : List ℕ) → calls ≤ 2000 → bytes ≡ traffic seed calls → (t : Trace) × IsTrace bytes t
@@ -269,5 +269,5 @@ no_changes n (Message line octets ∷ ls) = no_changes (n + 1) ls
 no_changes n (Frame parts ∷ ls) = no_changes (n + 1) ls
 no_changes n (Sync ∷ ls) = no_changes n ls
 
-pub unchanged : (seed calls : ℕ) (t : Trace) → calls ≤ 2000 → IsTrafficOf seed calls t → t.changes ≡ []
-unchanged seed calls t few is = (told_so seed calls t few is).changes ∙ no_changes 0 (traffic_lines seed calls)
+pub changes_none : (seed calls : ℕ) (t : Trace) → calls ≤ 2000 → IsTrafficOf seed calls t → t.changes ≡ []
+changes_none seed calls t few is = (IsWhatLinesSay_told seed calls t few is).changes ∙ no_changes 0 (traffic_lines seed calls)

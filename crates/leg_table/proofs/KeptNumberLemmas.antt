@@ -21,17 +21,17 @@ use Rattle.call_profile.proofs.KeptMessageLemmas.{digits_keep_none}
 
 -- ---- which states count
 
-pub quiet : (leg : Leg) (note : SlotData) → leg.state ≢ overlap_sending → counting (Some leg) note ≡ None
-quiet leg note apart = rw (ne_eqb leg.state overlap_sending apart) refl
+pub counting_quiet : (leg : Leg) (note : SlotData) → leg.state ≢ overlap_sending → counting (Some leg) note ≡ None
+counting_quiet leg note apart = rw (ne_eqb leg.state overlap_sending apart) refl
 
-pub waiting : (leg : Leg) (note : SlotData) → leg.state ≡ overlap_sending → counting (Some leg) note ≡ number_in note
-waiting leg note is = rw (eq-eqb leg.state overlap_sending is) refl
+pub counting_waiting : (leg : Leg) (note : SlotData) → leg.state ≡ overlap_sending → counting (Some leg) note ≡ number_in note
+counting_waiting leg note is = rw (eq-eqb leg.state overlap_sending is) refl
 
-pub unkept : (leg : Leg) (note : SlotData) → is_among awaiting_answer leg.state ≡ false → keeping (Some leg) note ≡ None
-unkept leg note none = rw none refl
+pub keeping_unkept : (leg : Leg) (note : SlotData) → is_among awaiting_answer leg.state ≡ false → keeping (Some leg) note ≡ None
+keeping_unkept leg note none = rw none refl
 
-pub keeps : (leg : Leg) (note : SlotData) → is_among awaiting_answer leg.state ≡ true → keeping (Some leg) note ≡ message_in note
-keeps leg note is = rw is refl
+pub keeping_message : (leg : Leg) (note : SlotData) → is_among awaiting_answer leg.state ≡ true → keeping (Some leg) note ≡ message_in note
+keeping_message leg note is = rw is refl
 
 -- no leg is in both
 answer_no_digits : (state : ℕ) → is_among awaiting_answer state ≡ true → state ≢ overlap_sending
@@ -127,35 +127,35 @@ module _ (legs : List (Option Leg)) (notes : List SlotData) (down : List Bool) (
   kept_shown = sym (ap (λ (k : ℕ). get_or (keeping_all legs notes) k None) at ∙ ap (λ (ls : Legs). kept_at ls x) view)
 
   -- nothing counts there any more
-  dropped : (o : Option Leg) → ((note : SlotData) → counting o note ≡ None) → ((note : SlotData) → keeping o note ≡ None) → legs_kept (set legs n o) notes down ≡ entry now.held now.pending now.kept now.down o None None (number_of x)
-  dropped o no_number no_message =
+  legs_kept_dropped : (o : Option Leg) → ((note : SlotData) → counting o note ≡ None) → ((note : SlotData) → keeping o note ≡ None) → legs_kept (set legs n o) notes down ≡ entry now.held now.pending now.kept now.down o None None (number_of x)
+  legs_kept_dropped o no_number no_message =
       (λ i. record { held = set legs n o; pending = counts_quiet Pending counting legs notes n o no_number i; kept = counts_quiet (List ℕ) keeping legs notes n o no_message i; down = down })
       ∙ ap (entry legs (counting_all legs notes) (keeping_all legs notes) down o None None) at
       ∙ ap (λ (ls : Legs). entry ls.held ls.pending ls.kept ls.down o None None (number_of x)) view
 
   -- something else is kept there
-  noted : (leg : Leg) (note : SlotData) → length notes ≡ length legs
+  legs_kept_noted : (leg : Leg) (note : SlotData) → length notes ≡ length legs
       → legs_kept (set legs n (Some leg)) (set notes n note) down ≡ entry now.held now.pending now.kept now.down (Some leg) (counting (Some leg) note) (keeping (Some leg) note) (number_of x)
-  noted leg note size =
+  legs_kept_noted leg note size =
       (λ i. record { held = set legs n (Some leg); pending = counts_noted Pending counting legs notes n (Some leg) note size i; kept = counts_noted (List ℕ) keeping legs notes n (Some leg) note size i; down = down })
       ∙ ap (entry legs (counting_all legs notes) (keeping_all legs notes) down (Some leg) (counting (Some leg) note) (keeping (Some leg) note)) at
       ∙ ap (λ (ls : Legs). entry ls.held ls.pending ls.kept ls.down (Some leg) (counting (Some leg) note) (keeping (Some leg) note) (number_of x)) view
 
   pub kept_put : (leg : Leg) → leg.state ≢ overlap_sending → is_among awaiting_answer leg.state ≡ false → legs_kept (set legs n (Some leg)) notes down ≡ with_leg now x leg
-  kept_put leg apart unanswered = dropped (Some leg) (λ note. quiet leg note apart) (λ note. unkept leg note unanswered)
+  kept_put leg apart unanswered = legs_kept_dropped (Some leg) (λ note. counting_quiet leg note apart) (λ note. keeping_unkept leg note unanswered)
 
   pub kept_remove : legs_kept (set legs n None) notes down ≡ without_leg now x
-  kept_remove = dropped None (λ note. refl) (λ note. refl)
+  kept_remove = legs_kept_dropped None (λ note. refl) (λ note. refl)
 
   pub kept_wait : (leg : Leg) (p : Pending) → leg.state ≡ overlap_sending → length notes ≡ length legs → legs_kept (set legs n (Some leg)) (set notes n (Number p)) down ≡ with_waiting now x leg p
   kept_wait leg p is size =
-      noted leg (Number p) size
-      ∙ (λ i. entry now.held now.pending now.kept now.down (Some leg) (waiting leg (Number p) is i) (unkept leg (Number p) (digits_keep_none leg.state is) i) (number_of x))
+      legs_kept_noted leg (Number p) size
+      ∙ (λ i. entry now.held now.pending now.kept now.down (Some leg) (counting_waiting leg (Number p) is i) (keeping_unkept leg (Number p) (digits_keep_none leg.state is) i) (number_of x))
 
   pub kept_expect : (leg : Leg) (octets : List ℕ) → is_among awaiting_answer leg.state ≡ true → length notes ≡ length legs → legs_kept (set legs n (Some leg)) (set notes n (Message octets)) down ≡ with_kept now x leg octets
   kept_expect leg octets is size =
-      noted leg (Message octets) size
-      ∙ (λ i. entry now.held now.pending now.kept now.down (Some leg) (quiet leg (Message octets) (answer_no_digits leg.state is) i) (keeps leg (Message octets) is i) (number_of x))
+      legs_kept_noted leg (Message octets) size
+      ∙ (λ i. entry now.held now.pending now.kept now.down (Some leg) (counting_quiet leg (Message octets) (answer_no_digits leg.state is) i) (keeping_message leg (Message octets) is i) (number_of x))
 
   -- the message that was kept there is kept on
   pub kept_still : (leg : Leg) (octets : List ℕ) → is_among awaiting_answer leg.state ≡ true → length notes ≡ length legs → kept_at now x ≡ Some octets → legs_kept (set legs n (Some leg)) notes down ≡ with_kept now x leg octets

@@ -11,10 +11,10 @@ use Rattle.call_states.specs.declared.leg.Side.TheVariants.{Caller, Called}
 use Rattle.call_states.specs.declared.leg.HeldLeg.{HeldLeg}
 use Rattle.call_states.specs.Status.{FitsMessages}
 use Rattle.call_profile.specs.Legs.{Legs, held_at, leg_named, is_unused, lowest_free_reference}
-use Rattle.call_profile.proofs.LineLemmas.{unused_from, unused_all, unused_end, unused_here, unused_other}
+use Rattle.call_profile.proofs.LineLemmas.{unused_from, lowest_free_reference_unused_all, unused_end, unused_here, unused_other}
 use Rattle.call_profile.proofs.VacantSlotLemmas.{none_named}
 use Rattle.leg_table.specs.LegKeys.{key_named, key_by, key_of, leg_on, hit, IsRowOf, HasKey, LacksKey}
-use Rattle.leg_table.proofs.LegKeyLemmas.{named_nowhere, named_first, told_at}
+use Rattle.leg_table.proofs.LegKeyLemmas.{named_nowhere, named_first, FitsMessages_at}
 
 hit_same : (key here : ℕ) → here ≡ key → hit key here ≡ 1
 hit_same key here same = rw (eq-eqb here key same) refl
@@ -65,8 +65,8 @@ module _ (legs : Legs) (line : ℕ) (row : List ℕ) (of : IsRowOf legs.held lin
   lacks_at : (place : ℕ) → place < 32 → bit_at word place ≡ 0 → slice_index row place ≢ key_named flag reference
   lacks_at place near clear = hit_not (key_named flag reference) (slice_index row place) (sym (bits place near) ∙ clear)
 
-  pub word_none : word ≡ 0 → leg_named legs line flag reference ≡ None
-  word_none empty = named_nowhere legs line row of told flag reference small (λ place below. lacks_at place (omega (arith, below)) (ap (λ n. bit_at n place) empty ∙ bit_at-zero place))
+  pub leg_named_word_none : word ≡ 0 → leg_named legs line flag reference ≡ None
+  leg_named_word_none empty = named_nowhere legs line row of told flag reference small (λ place below. lacks_at place (omega (arith, below)) (ap (λ n. bit_at n place) empty ∙ bit_at-zero place))
 
   pub word_first : 0 < word → (trailing_zeros w32 word < 32) × (leg_named legs line flag reference ≡ held_at legs (record { line = line; place = trailing_zeros w32 word }))
   word_first some =
@@ -141,12 +141,12 @@ module _ (legs : Legs) (line : ℕ) (row : List ℕ) (of : IsRowOf legs.held lin
   is_used reference few has = elim (cases_lt has.0 30) [
     | inl within ↦
         not_none reference (leg_named legs line true reference)
-        (names reference has.0 within (leg_on legs.held line has.0) refl (told_at legs.held (30 * line + has.0) told) (sym (of.each has.0 within) ∙ has.2) few)
+        (names reference has.0 within (leg_on legs.held line has.0) refl (FitsMessages_at legs.held (30 * line + has.0) told) (sym (of.each has.0 within) ∙ has.2) few)
     | inr far ↦ absurd (let nobody = of.behind has.0 far has.1 in let is = has.2 in omega (arith, nobody, is, few))
   ]
 
-  pub is_left : (reference : ℕ) → reference < 32 → LacksKey row (2 ^ 16 + reference) → is_unused legs line reference ≡ true
-  is_left reference few lacks =
+  pub is_unused_left : (reference : ℕ) → reference < 32 → LacksKey row (2 ^ 16 + reference) → is_unused legs line reference ≡ true
+  is_unused_left reference few lacks =
       ap is_none (named_nowhere legs line row of told true reference (omega (arith, few)) (λ place below. lacks place (omega (arith, below))))
 
   -- ---- the lowest that is not used
@@ -186,11 +186,11 @@ module _ (legs : Legs) (line : ℕ) (row : List ℕ) (of : IsRowOf legs.held lin
     not_zero : bit_at (bit_or used 1) 0 ≡ 1
     not_zero = bit_at_set_same w32 used 0 (omega arith)
 
-    walk : (count : ℕ) → count < 31 → ((reference : ℕ) → 1 ≤ reference → reference ≤ count → is_unused legs line reference ≡ false) → unused_from legs line 1 ≡ count + unused_from legs line (1 + count)
-    walk zero below taken = let same : 1 + 0 ≡ 1 = omega arith in omega (arith, ap (unused_from legs line) same)
-    walk (suc count) below taken =
+    unused_from_walk : (count : ℕ) → count < 31 → ((reference : ℕ) → 1 ≤ reference → reference ≤ count → is_unused legs line reference ≡ false) → unused_from legs line 1 ≡ count + unused_from legs line (1 + count)
+    unused_from_walk zero below taken = let same : 1 + 0 ≡ 1 = omega arith in omega (arith, ap (unused_from legs line) same)
+    unused_from_walk (suc count) below taken =
         let here = unused_other legs line (1 + count) (omega (arith, below)) (taken (1 + count) (omega arith) (omega arith)) in
-        let before = walk count (omega (arith, below)) (λ reference some within. taken reference some (omega (arith, within))) in
+        let before = unused_from_walk count (omega (arith, below)) (λ reference some within. taken reference some (omega (arith, within))) in
         let next : 1 + count + 1 ≡ 1 + suc count = omega arith in
         omega (arith, here, before, ap (unused_from legs line) next)
 
@@ -209,12 +209,12 @@ module _ (legs : Legs) (line : ℕ) (row : List ℕ) (of : IsRowOf legs.held lin
         is_used reference (omega (arith, below, near)) (uses reference (omega (arith, below, near))
         (let clear = lowest.2 reference (omega (arith, below, from)) in
         omega (arith, clear, free_at reference (omega (arith, below, near)), with_zero reference from, bit_at-lt used reference))) in
-        let before = walk (first - 1) (omega (arith, near)) taken in
+        let before = unused_from_walk (first - 1) (omega (arith, near)) taken in
         let last : unused_from legs line first ≡ 0 = elim (cases_lt first 31) [
           | inl within ↦
-              unused_here legs line first within (is_left first near (leaves first near (let set = lowest.1 in omega (arith, set, free_at first within, with_zero first some, bit_at-lt used first))))
+              unused_here legs line first within (is_unused_left first near (leaves first near (let set = lowest.1 in omega (arith, set, free_at first within, with_zero first some, bit_at-lt used first))))
           | inr end ↦ let is : first ≡ 31 = omega (arith, end, near) in ap (unused_from legs line) is ∙ unused_end legs line
         ] in
         let same : 1 + (first - 1) ≡ first = omega (arith, some) in
         let after : unused_from legs line (1 + (first - 1)) ≡ 0 = ap (unused_from legs line) same ∙ last in
-        (near, omega (arith, unused_all legs line, before, after, some))
+        (near, omega (arith, lowest_free_reference_unused_all legs line, before, after, some))

@@ -230,30 +230,30 @@ all_written why due heard said text none has = subst (HasFollowed why due heard)
 -- ---- reads
 
 -- octets were read behind those that the buffer held
-pub read_more : (old now : List ℕ → List ℕ → Type 0) (answers : Due) (heard before after text : List ℕ) (held n count : ℕ)
+pub IsUnderway_read_more : (old now : List ℕ → List ℕ → Type 0) (answers : Due) (heard before after text : List ℕ) (held n count : ℕ)
     → IsUnderway old answers heard (take held before) text count → take held after ≡ take held before
     → ((said : List ℕ) → old heard said → now (heard ++ take n (drop held after)) said)
     → IsUnderway now answers (heard ++ take n (drop held after)) (take (held + n) after) text count
-read_more old now answers heard before after text held n count u same step =
+IsUnderway_read_more old now answers heard before after text held n count u same step =
     subst (λ (l : List ℕ). IsUnderway now answers (heard ++ take n (drop held after)) l text count)
     (ap (λ (l : List ℕ). l ++ take n (drop held after)) (sym same) ∙ sym (take-add held n after))
     (underway_heard old now answers heard (take held before) (take n (drop held after)) text count u step)
 
 -- nothing was read
-pub read_none : (old now : List ℕ → List ℕ → Type 0) (answers : Due) (heard before after text : List ℕ) (held n count : ℕ) → n ≡ 0
+pub IsUnderway_read_none : (old now : List ℕ → List ℕ → Type 0) (answers : Due) (heard before after text : List ℕ) (held n count : ℕ) → n ≡ 0
     → IsUnderway old answers heard (take held before) text count → take held after ≡ take held before
     → ((said : List ℕ) → old heard said → now (heard ++ take n (drop held after)) said)
     → IsUnderway now answers (heard ++ take n (drop held after)) (take held after) text count
-read_none old now answers heard before after text held n count none u same step =
+IsUnderway_read_none old now answers heard before after text held n count none u same step =
     let end : held + n ≡ held = omega (arith, none) in
     subst (λ (k : ℕ). IsUnderway now answers (heard ++ take n (drop held after)) (take k after) text count) end
-    (read_more old now answers heard before after text held n count u same step)
+    (IsUnderway_read_more old now answers heard before after text held n count u same step)
 
 -- the octets that were written, and those that are held, were moved
-pub held_next : (old now : List ℕ → List ℕ → Type 0) (answers : Due) (heard rest held text blank : List ℕ) (count : ℕ)
+pub IsUnderway_held_next : (old now : List ℕ → List ℕ → Type 0) (answers : Due) (heard rest held text blank : List ℕ) (count : ℕ)
     → IsUnderway old answers heard rest text count → ((said : List ℕ) → old heard said → now heard (said ++ text)) → held ≡ rest → blank ≡ []
     → IsUnderway now answers heard held blank count
-held_next old now answers heard rest held text blank count u step same none =
+IsUnderway_held_next old now answers heard rest held text blank count u step same none =
     subst (λ (l : List ℕ). IsUnderway now answers heard l blank count) (sym same)
     (subst (λ (l : List ℕ). IsUnderway now answers heard rest l count) (sym none) (underway_written old now answers heard rest text count u step))
 

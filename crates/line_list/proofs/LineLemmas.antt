@@ -15,9 +15,9 @@ use Rattle.line_list.specs.Entries.{AreAppended, AreBefore, AreMarked, AreUnchan
 
 -- ---- sums over lines
 
-pub lines_long : (t : List ℕ) (r : List CallRecord) (ms : List LineEntry) → length (lines_in t r ms) ≡ length ms
-lines_long t r [] = refl
-lines_long t r (m ∷ ms) = ap suc (lines_long (drop m.octets t) (drop m.records r) ms)
+pub length-lines_in : (t : List ℕ) (r : List CallRecord) (ms : List LineEntry) → length (lines_in t r ms) ≡ length ms
+length-lines_in t r [] = refl
+length-lines_in t r (m ∷ ms) = ap suc (length-lines_in (drop m.octets t) (drop m.records r) ms)
 
 pub octets_append : (ms ns : List LineEntry) → octets_in (ms ++ ns) ≡ octets_in ms + octets_in ns
 octets_append [] ns = omega arith
@@ -130,8 +130,8 @@ module _ (text : List ℕ) (records : List CallRecord) (entries : List LineEntry
   pub left_many : length (drop handed.records records) ≡ records_in left
   left_many = let c = are.calls in omega (arith, c, length-drop handed.records records)
 
-  pub left_count : length (lines_left text records entries handed) ≡ length entries - handed.lines
-  left_count = lines_long (drop handed.octets text) (drop handed.records records) left ∙ length-drop handed.lines entries
+  pub length-lines_left : length (lines_left text records entries handed) ≡ length entries - handed.lines
+  length-lines_left = length-lines_in (drop handed.octets text) (drop handed.records records) left ∙ length-drop handed.lines entries
 
   pub text_left : drop handed.octets text ≡ text_of (lines_left text records entries handed)
   text_left = sym (text_whole (drop handed.octets text) (drop handed.records records) left left_long)
@@ -220,7 +220,7 @@ module _ (text : List ℕ) (records : List CallRecord) (entries : List LineEntry
           ((sym (ap (λ (k : ℕ). drop k records) records_are ∙ sym (drop-drop (records_in (take n l)) handed.records records))) i) (sym rest_is i))
 
       run_long : length run ≡ n
-      run_long = lines_long _ _ (take n l) ∙ length-take-le n l within
+      run_long = length-lines_in _ _ (take n l) ∙ length-take-le n l within
 
       -- others get them
       pub hands_run : (below : ℕ) (others to : List Line) (t : List ℕ) (r : List CallRecord) → t ≡ take (end.octets - handed.octets) (drop handed.octets text)
@@ -229,7 +229,7 @@ module _ (text : List ℕ) (records : List CallRecord) (entries : List LineEntry
       hands_run below others to t r t_is r_is some low far got =
           let octets : end.octets - handed.octets ≡ octets_in (take n l) = omega (arith, octets_are) in
           let calls : end.records - handed.records ≡ records_in (take n l) = omega (arith, records_are) in
-          let count = lines_long (drop handed.octets text) (drop handed.records records) left in
+          let count = length-lines_in (drop handed.octets text) (drop handed.records records) left in
           let size = ap length is in
           record {
             run = run;
@@ -264,9 +264,9 @@ module _ (text : List ℕ) (records : List CallRecord) (entries : List LineEntry
           ∙ sym (ap (take n) handed_left ∙ take_at run (lines_left text records entries end) n run_long)
 
     -- none are cut off where there are no more
-    pub kept_all : length l ≤ n → lines_left text records entries handed ≡ take n (lines_left text records entries handed)
-    kept_all few =
-        let count = lines_long (drop handed.octets text) (drop handed.records records) left in
+    pub lines_left_kept_all : length l ≤ n → lines_left text records entries handed ≡ take n (lines_left text records entries handed)
+    lines_left_kept_all few =
+        let count = length-lines_in (drop handed.octets text) (drop handed.records records) left in
         let size = ap length is in
         sym (take_all n (lines_left text records entries handed) (omega (arith, few, count, size)))
 

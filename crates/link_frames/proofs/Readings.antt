@@ -47,35 +47,35 @@ supervisory_back command Rr pf nr = rw (half_with nr pf, bit_back nr pf) refl
 supervisory_back command Rnr pf nr = rw (half_with nr pf, bit_back nr pf) refl
 supervisory_back command Rej pf nr = rw (half_with nr pf, bit_back nr pf) refl
 
-frame_back : (s : Sender) (command : Bool) (c : Control) (first : ℕ) (rest : List ℕ) → Reads command c first rest → reading s (address_octet s command ∷ 1 ∷ first ∷ rest) ≡ framed command (Some c)
-frame_back s command c first rest reads = ap (λ (o : Option Bool). frame_with o first rest) (command_back s command) ∙ ap (λ (x : Option Control). framed command x) reads
+reading_frame_back : (s : Sender) (command : Bool) (c : Control) (first : ℕ) (rest : List ℕ) → Reads command c first rest → reading s (address_octet s command ∷ 1 ∷ first ∷ rest) ≡ framed command (Some c)
+reading_frame_back s command c first rest reads = ap (λ (o : Option Bool). frame_with o first rest) (command_back s command) ∙ ap (λ (x : Option Control). framed command x) reads
 
-pub control_back : (s : Sender) (command : Bool) (c : Control) → IsWritable command c → reading s (address_octet s command ∷ 1 ∷ fields_of c) ≡ framed command (Some c)
-control_back s true (control.Information poll ns nr information) h = frame_back s true _ _ _ (information_back poll ns nr information h.2)
-control_back s false (control.Information poll ns nr information) h = absurd h
-control_back s true (control.Supervisory kind pf nr) h = frame_back s true _ _ _ (supervisory_back true kind pf nr)
-control_back s false (control.Supervisory kind pf nr) h = frame_back s false _ _ _ (supervisory_back false kind pf nr)
-control_back s true (control.Sabme true) h = frame_back s true (control.Sabme true) (sabme + 16) [] refl
-control_back s true (control.Sabme false) h = frame_back s true (control.Sabme false) sabme [] refl
-control_back s false (control.Sabme pf) h = absurd h
-control_back s true (control.Disc true) h = frame_back s true (control.Disc true) (disc + 16) [] refl
-control_back s true (control.Disc false) h = frame_back s true (control.Disc false) disc [] refl
-control_back s false (control.Disc pf) h = absurd h
-control_back s false (control.Ua true) h = frame_back s false (control.Ua true) (ua + 16) [] refl
-control_back s false (control.Ua false) h = frame_back s false (control.Ua false) ua [] refl
-control_back s true (control.Ua pf) h = absurd h
-control_back s false (control.Dm true) h = frame_back s false (control.Dm true) (dm + 16) [] refl
-control_back s false (control.Dm false) h = frame_back s false (control.Dm false) dm [] refl
-control_back s true (control.Dm pf) h = absurd h
-control_back s true control.Frmr h = absurd h
-control_back s false control.Frmr h = absurd h
-control_back s true control.Ui h = absurd h
-control_back s false control.Ui h = absurd h
-control_back s true control.Xid h = absurd h
-control_back s false control.Xid h = absurd h
-control_back s true control.Invalid h = absurd h
-control_back s false control.Invalid h = absurd h
+pub reading_control_back : (s : Sender) (command : Bool) (c : Control) → IsWritable command c → reading s (address_octet s command ∷ 1 ∷ fields_of c) ≡ framed command (Some c)
+reading_control_back s true (control.Information poll ns nr information) h = reading_frame_back s true _ _ _ (information_back poll ns nr information h.2)
+reading_control_back s false (control.Information poll ns nr information) h = absurd h
+reading_control_back s true (control.Supervisory kind pf nr) h = reading_frame_back s true _ _ _ (supervisory_back true kind pf nr)
+reading_control_back s false (control.Supervisory kind pf nr) h = reading_frame_back s false _ _ _ (supervisory_back false kind pf nr)
+reading_control_back s true (control.Sabme true) h = reading_frame_back s true (control.Sabme true) (sabme + 16) [] refl
+reading_control_back s true (control.Sabme false) h = reading_frame_back s true (control.Sabme false) sabme [] refl
+reading_control_back s false (control.Sabme pf) h = absurd h
+reading_control_back s true (control.Disc true) h = reading_frame_back s true (control.Disc true) (disc + 16) [] refl
+reading_control_back s true (control.Disc false) h = reading_frame_back s true (control.Disc false) disc [] refl
+reading_control_back s false (control.Disc pf) h = absurd h
+reading_control_back s false (control.Ua true) h = reading_frame_back s false (control.Ua true) (ua + 16) [] refl
+reading_control_back s false (control.Ua false) h = reading_frame_back s false (control.Ua false) ua [] refl
+reading_control_back s true (control.Ua pf) h = absurd h
+reading_control_back s false (control.Dm true) h = reading_frame_back s false (control.Dm true) (dm + 16) [] refl
+reading_control_back s false (control.Dm false) h = reading_frame_back s false (control.Dm false) dm [] refl
+reading_control_back s true (control.Dm pf) h = absurd h
+reading_control_back s true control.Frmr h = absurd h
+reading_control_back s false control.Frmr h = absurd h
+reading_control_back s true control.Ui h = absurd h
+reading_control_back s false control.Ui h = absurd h
+reading_control_back s true control.Xid h = absurd h
+reading_control_back s false control.Xid h = absurd h
+reading_control_back s true control.Invalid h = absurd h
+reading_control_back s false control.Invalid h = absurd h
 
 pub reading_of_encoding : (s : Sender) (f : Frame) → IsWritable f.command f.control → reading s (encoding s f) ≡ Some f
 unfolding encoding
-reading_of_encoding s f h = control_back s f.command f.control h
+reading_of_encoding s f h = reading_control_back s f.command f.control h

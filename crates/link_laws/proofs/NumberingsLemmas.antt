@@ -24,7 +24,7 @@ use Rattle.link_procedures.specs.Establishment.{Outcome, establishes, establishe
 use Rattle.link_procedures.specs.Receiving.{on_sabme, on_ua, answered, is_solicited, is_new, retimed, acknowledge, has_moved, supervised_by, recovering_by, busy_by, supervisory_applied, on_valid, answers_enquiry, on_supervisory, in_sequence, acknowledges_later, by_number, numbered_by, by_acknowledgement, on_information, on_control, received}
 use Rattle.link_procedures.specs.Timing.{is_due, calls_again, enquiring, enquires_at, calls_or_releases, on_expiry, first_retries, turned}
 use Rattle.link_procedures.specs.AnyPeer.{IsShort, IsLink, IsQueue}
-use Rattle.link_procedures.proofs.AnyPeerLemmas.{acknowledges_quiet, enquires_quiet, rejects_quiet, establishes_quiet, busied_quiet, valid_quiet, acknowledgement_quiet, next_flushed, enquires_at_quiet, may_send_is, free_is, number_is, received_processed, submitted_taken, turned_turned, initial_link}
+use Rattle.link_procedures.proofs.AnyPeerLemmas.{acknowledges_quiet, enquires_quiet, rejects_quiet, establishes_quiet, busied_quiet, valid_quiet, acknowledgement_quiet, next_flushed, enquires_at_quiet, may_send_is, may_send_free, number_is, received_processed, submitted_taken, turned_turned, initial_link}
 use Rattle.link_laws.specs.Handshake.{Signal, Sabme, Ua, Numbered, Side, Off, Calling, On, Pair as Handshake, Call, Expire, GiveUp, Send, Arrive as HandArrive, Lose as HandLose, Event as HandEvent, First as HandFirst, Second as HandSecond, start, sabmes, uas, is_over, calls, calls_again as hand_calls_again, gives_up, sends as hand_sends, sabme_comes, ua_comes, arrives as hand_arrives, loses as hand_loses, happens, mirror as hand_mirror, next as hand_next, run as shake}
 use Rattle.link_laws.specs.TwoLinks.{Pair, mirror, Act, Submit, Turn, Arrive, Lose, Event, First, Second, stepped, as_step, submits, turns, takes, arrives, loses, acts, next}
 use Rattle.link_laws.specs.Numberings.{begun as at_start, IsStart, run, is_sabme, is_ua, is_in, Without, IsTimelyAct, IsTimelyEvent, IsTimely, IsSide, HasNumbers, HasNumbersIn, IsSignal, Carries, Follows, FollowsSome}
@@ -173,7 +173,7 @@ unfolding sends_next
 next_emits now s a side link = cases (is_free s.link) refl ((next_flushed now s).ranges link)
   where
     cases : (b : Bool) → is_free s.link ≡ b → IsLink (if b then step (after_frame now s.link) (sends (next_frame s.link) s).out else s).link → Emits s (if b then step (after_frame now s.link) (sends (next_frame s.link) s).out else s) a a
-    cases true e k = emits_numbered s (after_frame now s.link) a (next_frame s.link) (next_frame_writable s.link link (may_send_is s.link.queue (free_is s.link e)).1) link.next (free_runs s.link e) refl side k
+    cases true e k = emits_numbered s (after_frame now s.link) a (next_frame s.link) (next_frame_writable s.link link (may_send_is s.link.queue (may_send_free s.link e)).1) link.next (free_runs s.link e) refl side k
     cases false e k = emits_none s s.link a side link
 
 waiting_emits : (n now : ℕ) (s : Step) (a : Side) → IsSide s.link a → IsLink s.link → Emits s (sends_waiting n now s) a a

@@ -21,7 +21,7 @@ use Rattle.link_laws.specs.Handshake.{Signal, Sabme, Side, Off, Calling, On, Los
 use Rattle.link_laws.specs.TwoLinks.{Pair, stepped, as_step, message_of}
 use Rattle.link_laws.specs.Numberings.{IsSide}
 use Rattle.link_laws.specs.Epochs.{after_indication, with_message}
-use Rattle.link_laws.proofs.WindowLemmas.{Holds, keeps}
+use Rattle.link_laws.proofs.WindowLemmas.{Holds, Holds-happens}
 use Rattle.link_laws.proofs.HandshakeLemmas.{Holds as HandHolds, mode_of, E_of, S_of, told, mine, end_of, next_keeps}
 use Rattle.link_laws.proofs.NumberingsLemmas.{enquiry_state, numbered_runs, applied_runs, number_state, begun_runs}
 use Rattle.link_laws.proofs.TwoLinksLemmas.{by_test, clash, Item, Info, Sup, frame, counts, acks, Genuine, Sim, finished_plain, finished_shut, finished_state, next_shut, drop_longer, running_is_up, valid_always, enquiry_queue, by_queue, information_sim, supervisory_sim, Full, ready, ready_same, full_from}
@@ -234,7 +234,7 @@ queued_goes p s l m rest sub sub' ret es fs a b ts bs d e short up same asked ne
       back = h.back;
       lanes = record {
         one = record {
-          holds = keeps d (WindowSubmit m) k.holds;
+          holds = Holds-happens d (WindowSubmit m) k.holds;
           next = k.next;
           underway = k.underway;
           replies = k.replies;

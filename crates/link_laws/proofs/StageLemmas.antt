@@ -7,7 +7,7 @@ use Rattle.link_procedures.specs.AnyPeer.{IsShort}
 use Rattle.link_laws.specs.Window.{Direction, drops, moved}
 use Rattle.link_laws.specs.Handshake.{Side, On, Lose as HandLose, Second as HandSecond}
 use Rattle.link_laws.specs.TwoLinks.{Pair, stepped}
-use Rattle.link_laws.proofs.WindowLemmas.{Holds, Acknowledgements, missed, dropped_one}
+use Rattle.link_laws.proofs.WindowLemmas.{Holds, Acknowledgements, Holds-moved_missed, dropped_one}
 use Rattle.link_laws.proofs.HandshakeLemmas.{mine, next_keeps}
 use Rattle.link_laws.proofs.TwoLinksLemmas.{Item, Info, Sup, counts, acks, Full, full_same}
 use Rattle.link_laws.proofs.WireLemmas.{Token, Calls, Answers, Data, octets, infos, acks_of, infos_append, acks_of_append, count_same, count_other, ack_same, ack_other, AllGood, good_append, good_same, good_beside, ahead, good_begun, none_infos, none_acks, ahead_holds}
@@ -74,7 +74,7 @@ unheard d g h k i bs holds at = cases (k == g) refl
     cases true same = (
       moved d 0 (acks_of g bs),
       record {
-        holds = missed d (ack_number i) (acks_of g bs) (at ∙ ap (λ x. x ++ acks_of g bs) (ack_same h k g i (eqb-true k g same) ∙ acks_one i)) holds;
+        holds = Holds-moved_missed d (ack_number i) (acks_of g bs) (at ∙ ap (λ x. x ++ acks_of g bs) (ack_same h k g i (eqb-true k g same) ∙ acks_one i)) holds;
         told = refl;
         submitted = refl;
         delivered = refl;

@@ -21,7 +21,7 @@ use Rattle.link_procedures.specs.Receiving.{retimed, acknowledge, has_moved, sup
 use Rattle.link_procedures.specs.Timing.{is_due, enquires_at, on_expiry, first_retries, turned}
 use Rattle.link_procedures.specs.AnyPeer.{IsShort, IsRenumbered}
 use Rattle.link_laws.specs.Window.{Direction, Submit as WindowSubmit, GoBack, Answer, with_next, takes as window_takes, drops, beyond, moved, happens}
-use Rattle.link_laws.proofs.WindowLemmas.{Acknowledgements, told_exactly, Holds, keeps, sends_one, both_true, one_more, heard, missed, taken_one, dropped_one, fresh, fresh_holds}
+use Rattle.link_laws.proofs.WindowLemmas.{Acknowledgements, told_exactly, Holds, Holds-happens, sends_one, both_true, length-append_one, Holds-moved_heard, Holds-moved_missed, Holds-taken_one, dropped_one, fresh, fresh_holds}
 use Rattle.link_laws.specs.TwoLinks.{Pair, mirror, Act, Submit, Turn, Arrive, Lose, Event, First, Second, stepped, as_step, message_of, submits, turns, takes, arrives, loses, acts, next, is_running, run, IsFresh, IsDelivered, IsDeliveredBothWays, WaitsBothWays}
 
 pub by_test : {A : Type 0} (P : A → Type 0) (b : Bool) (x y : A) → (b ≡ true → P x) → (b ≡ false → P y) → P (if b then x else y)
@@ -92,7 +92,7 @@ index_longer (x ∷ sub) xs (suc c) lt = index_longer sub xs c (omega (arith, lt
 
 pub genuine_longer : (sub : List (List ℕ)) (m : List ℕ) (is : List Item) → Genuine sub is → Genuine (sub ++ m ∷ []) is
 genuine_longer sub m [] h = tt
-genuine_longer sub m (Info c a x ∷ is) h = let long = one_more sub m in let lt = h.0 in (omega (arith, long, lt), h.1 ∙ index_longer sub (m ∷ []) c lt, genuine_longer sub m is h.2)
+genuine_longer sub m (Info c a x ∷ is) h = let long = length-append_one sub m in let lt = h.0 in (omega (arith, long, lt), h.1 ∙ index_longer sub (m ∷ []) c lt, genuine_longer sub m is h.2)
 genuine_longer sub m (Sup cmd kind pf a ∷ is) h = (h.0, genuine_longer sub m is h.1)
 
 rr_is_ready : is_not_ready Rr ≡ false
@@ -239,7 +239,7 @@ plain_none s w v h = plain_alike s s.link w v refl refl h.sure h
 
 -- an S frame is sent
 answered_window : (v : Direction) → Holds v → Holds (happens v Answer)
-answered_window v h = keeps v Answer h
+answered_window v h = Holds-happens v Answer h
 
 answered_local : (l : DataLink) (w v : Direction) → Local l w v → Local l w (happens v Answer)
 answered_local l w v h = record { number = h.number; sent = h.sent; waiting = h.waiting; next = h.next; sure = h.sure; one = h.one; other = answered_window v h.other }
@@ -393,7 +393,7 @@ taken_local l m w v a r at valid queue next same h =
       waiting = ap (λ q. q.waiting) queue ∙ ap (λ n. drop n l.queue.waiting) d ∙ ap (λ ms. drop (beyond w.acknowledged a) ms) h.waiting ∙ drop-drop (beyond w.acknowledged a) w.acknowledged w.submitted;
       next = next ∙ h.next;
       sure = λ e. moved_full w (beyond w.acknowledged a) r (leb-true (beyond w.acknowledged a) w.sent (valid_is l w v a h valid)) (h.sure (sym same ∙ e));
-      one = heard w a r at (valid_is l w v a h valid) h.one;
+      one = Holds-moved_heard w a r at (valid_is l w v a h valid) h.one;
       other = h.other;
     }
 
@@ -405,7 +405,7 @@ back_local l m w v queue next free h = record {
   waiting = ap (λ q. q.waiting) queue ∙ h.waiting;
   next = next ∙ h.next;
   sure = λ e. clash (ready m) free e;
-  one = keeps w GoBack h.one;
+  one = Holds-happens w GoBack h.one;
   other = h.other;
 }
 
@@ -522,7 +522,7 @@ supervisory_sim cmd kind pf now s w v a r prompt running at full h =
 -- ---- N(S)
 
 next_is : (n m : ℕ) (delivered : List (List ℕ)) (x : List ℕ) → n ≡ length delivered % 128 → (n + 1) % 128 ≡ length (delivered ++ x ∷ []) % 128
-next_is n m delivered x e = let long = one_more delivered x in omega (arith, e, long)
+next_is n m delivered x e = let long = length-append_one delivered x in omega (arith, e, long)
 
 in_sequence_local : (l m : DataLink) (w v : Direction) (c : ℕ) (u : List ℕ) → v.underway ≡ c ∷ u → (c % 128 == l.received) ≡ true → m.queue ≡ l.queue → m.received ≡ (l.received + 1) % 128 → ready m ≡ ready l → Local l w v → Local m w (window_takes v c u)
 in_sequence_local l m w v c u at equal queue next same h = record {
@@ -532,7 +532,7 @@ in_sequence_local l m w v c u at equal queue next same h = record {
   next = next ∙ next_is l.received 0 v.delivered (slice_index_or v.submitted c []) h.next;
   sure = λ e. h.sure (sym same ∙ e);
   one = h.one;
-  other = taken_one v c u at (ap (λ n. c % 128 == n) (sym h.next) ∙ equal) h.other;
+  other = Holds-taken_one v c u at (ap (λ n. c % 128 == n) (sym h.next) ∙ equal) h.other;
 }
 
 dropped_local : (l : DataLink) (w v : Direction) (c : ℕ) (u : List ℕ) → v.underway ≡ c ∷ u → Local l w v → Local l w (drops v u)
@@ -822,7 +822,7 @@ queued_local l m w v x queue next same h =
       waiting = ap (λ q. q.waiting) queue ∙ ap (λ ms. ms ++ x ∷ []) h.waiting ∙ sym (drop_longer w.acknowledged w.submitted (x ∷ []) (omega (arith, a, b, c)));
       next = next ∙ h.next;
       sure = λ e. h.sure (sym same ∙ e);
-      one = keeps w (WindowSubmit x) h.one;
+      one = Holds-happens w (WindowSubmit x) h.one;
       other = h.other;
     }
 
@@ -842,7 +842,7 @@ added_inv : (p : Pair) (w v : Direction) (m : List ℕ) → length m ≤ 112 →
 unfolding added
 added_inv p w v m short h = record {
   one = queued_local p.first _ w v m refl refl refl h.one;
-  two = let t = h.two in record { number = t.number; sent = t.sent; waiting = t.waiting; next = t.next; sure = t.sure; one = t.one; other = keeps w (WindowSubmit m) h.one.one };
+  two = let t = h.two in record { number = t.number; sent = t.sent; waiting = t.waiting; next = t.next; sure = t.sure; one = t.one; other = Holds-happens w (WindowSubmit m) h.one.one };
   there = h.there;
   there_wire = h.there_wire;
   there_counts = h.there_counts;
@@ -950,7 +950,7 @@ lost_sim s (Info c a m) rest w v x y h = changed s s.link w v (moved w 0 (acks r
       waiting = h.waiting ∙ ap (λ n. drop n w.submitted) (sym (plus_none w.acknowledged));
       next = h.next;
       sure = λ e. moved_full w 0 (acks rest) (omega arith) (h.sure e);
-      one = missed w a (acks rest) y h.one;
+      one = Holds-moved_missed w a (acks rest) y h.one;
       other = dropped_one v c (counts rest) x h.other;
     }) refl refl refl refl refl refl refl refl refl refl refl
 lost_sim s (Sup cmd kind pf a) rest w v x y h = changed s s.link w v (moved w 0 (acks rest)) v _ _ _
@@ -960,7 +960,7 @@ lost_sim s (Sup cmd kind pf a) rest w v x y h = changed s s.link w v (moved w 0 
       waiting = h.waiting ∙ ap (λ n. drop n w.submitted) (sym (plus_none w.acknowledged));
       next = h.next;
       sure = λ e. moved_full w 0 (acks rest) (omega arith) (h.sure e);
-      one = missed w a (acks rest) y h.one;
+      one = Holds-moved_missed w a (acks rest) y h.one;
       other = h.other;
     }) refl refl refl refl refl refl refl refl x refl refl
 

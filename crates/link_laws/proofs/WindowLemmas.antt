@@ -106,13 +106,13 @@ take_longer zero xs ys h = refl
 take_longer (suc n) [] ys h = absurd (omega (arith, h))
 take_longer (suc n) (x ∷ xs) ys h = ap (λ zs. x ∷ zs) (take_longer n xs ys (omega (arith, h)))
 
-pub one_more : (xs : List (List ℕ)) (x : List ℕ) → length (xs ++ x ∷ []) ≡ length xs + 1
-one_more [] x = refl
-one_more (y ∷ xs) x = let e = one_more xs x in omega (arith, e)
+pub length-append_one : (xs : List (List ℕ)) (x : List ℕ) → length (xs ++ x ∷ []) ≡ length xs + 1
+length-append_one [] x = refl
+length-append_one (y ∷ xs) x = let e = length-append_one xs x in omega (arith, e)
 
-pub submits : (w : Direction) (x : List ℕ) → Holds w → Holds (happens w (Submit x))
-submits w x h =
-    let long = one_more w.submitted x in
+pub Holds-Submit : (w : Direction) (x : List ℕ) → Holds w → Holds (happens w (Submit x))
+Holds-Submit w x h =
+    let long = length-append_one w.submitted x in
     let enough = h.reached_submitted in
     let reached = h.delivered_reached in record {
       delivered_acknowledged = h.delivered_acknowledged;
@@ -139,14 +139,14 @@ sends_one w h ajar waits =
       acknowledgements = h.acknowledgements;
     }
 
-sends : (w : Direction) → Holds w → Holds (happens w Send)
-sends w h = keep_if (may_send w) (with_next w) w
+Holds-Send : (w : Direction) → Holds w → Holds (happens w Send)
+Holds-Send w h = keep_if (may_send w) (with_next w) w
     (λ yes. let b = both_true (nat_lt w.sent 7) (nat_lt (w.acknowledged + w.sent) (length w.submitted)) yes in
     sends_one w h (ltb-true w.sent 7 b.0) (ltb-true (w.acknowledged + w.sent) (length w.submitted) b.1))
     (λ no. h)
 
-pub goes_back : (w : Direction) → Holds w → Holds (happens w GoBack)
-goes_back w h = let a = h.delivered_acknowledged in let b = h.delivered_reached in record {
+pub Holds-GoBack : (w : Direction) → Holds w → Holds (happens w GoBack)
+Holds-GoBack w h = let a = h.delivered_acknowledged in let b = h.delivered_reached in record {
   delivered_acknowledged = h.delivered_acknowledged;
   delivered_reached = h.delivered_reached;
   reached_acknowledged = h.reached_acknowledged;
@@ -162,13 +162,13 @@ goes_back w h = let a = h.delivered_acknowledged in let b = h.delivered_reached 
 taken_prefix : (submitted delivered : List (List ℕ)) (c : ℕ) → delivered ≡ take (length delivered) submitted → c ≡ length delivered → c < length submitted → (delivered ++ slice_index_or submitted c [] ∷ []) ≡ take (length (delivered ++ slice_index_or submitted c [] ∷ [])) submitted
 taken_prefix submitted delivered c same at below =
     let more : take (c + 1) submitted ≡ take c submitted ++ slice_index_or submitted c [] ∷ [] = take_more submitted c [] below in
-    let long : length (delivered ++ slice_index_or submitted c [] ∷ []) ≡ c + 1 = one_more delivered (slice_index_or submitted c []) ∙ ap (λ n. n + 1) (sym at) in
+    let long : length (delivered ++ slice_index_or submitted c [] ∷ []) ≡ c + 1 = length-append_one delivered (slice_index_or submitted c []) ∙ ap (λ n. n + 1) (sym at) in
     let front : delivered ≡ take c submitted = same ∙ ap (λ n. take n submitted) (sym at) in
     ap (λ ys. ys ++ slice_index_or submitted c [] ∷ []) front ∙ sym more ∙ ap (λ n. take n submitted) (sym long)
 
-pub takes_one : (w : Direction) (c : ℕ) (rest : List ℕ) → Holds w → Frames w.acknowledged w.reached (length w.delivered) (c ∷ rest) → c ≡ length w.delivered → Holds (takes w c rest)
-takes_one w c rest h f at =
-    let long : length (w.delivered ++ slice_index_or w.submitted c [] ∷ []) ≡ c + 1 = one_more w.delivered (slice_index_or w.submitted c []) ∙ ap (λ n. n + 1) (sym at) in
+pub Holds-takes_one : (w : Direction) (c : ℕ) (rest : List ℕ) → Holds w → Frames w.acknowledged w.reached (length w.delivered) (c ∷ rest) → c ≡ length w.delivered → Holds (takes w c rest)
+Holds-takes_one w c rest h f at =
+    let long : length (w.delivered ++ slice_index_or w.submitted c [] ∷ []) ≡ c + 1 = length-append_one w.delivered (slice_index_or w.submitted c []) ∙ ap (λ n. n + 1) (sym at) in
     let a = h.delivered_acknowledged in let sent = f.1 in let d = h.reached_submitted in record {
       delivered_acknowledged = omega (arith, long, a, at);
       delivered_reached = omega (arith, long, sent);
@@ -196,7 +196,7 @@ pub arrives_keeps : (w : Direction) (underway : List ℕ) → Holds w → Frames
 arrives_keeps w [] h f = h
 arrives_keeps w (c ∷ rest) h f = keep_if (c % 128 == length w.delivered % 128) (takes w c rest) (drops w rest)
     (λ yes. let first = f.0 in let low = h.delivered_acknowledged in let third = f.2 in
-    takes_one w c rest h f (same_count c (length w.delivered) (omega (arith, first, low)) third (eqb-true (c % 128) (length w.delivered % 128) yes)))
+    Holds-takes_one w c rest h f (same_count c (length w.delivered) (omega (arith, first, low)) third (eqb-true (c % 128) (length w.delivered % 128) yes)))
     (λ no. drops_one w c rest h f)
 
 pub loses_keeps : (w : Direction) (underway : List ℕ) → Holds w → Frames w.acknowledged w.reached (length w.delivered) underway → Holds (loses w underway)
@@ -205,8 +205,8 @@ loses_keeps w (c ∷ rest) h f = drops_one w c rest h f
 
 -- an acknowledgement
 
-pub answers : (w : Direction) → Holds w → Holds (happens w Answer)
-answers w h = record {
+pub Holds-Answer : (w : Direction) → Holds w → Holds (happens w Answer)
+Holds-Answer w h = record {
   delivered_acknowledged = h.delivered_acknowledged;
   delivered_reached = h.delivered_reached;
   reached_acknowledged = h.reached_acknowledged;
@@ -231,8 +231,8 @@ hears_one w a d rest h f at within =
       acknowledgements = subst (λ n. Acknowledgements n (length w.delivered) rest) (sym now) (acknowledgements_heard w.acknowledged a (length w.delivered) rest f.2 f.3);
     }
 
-passes : (w : Direction) (a : ℕ) (rest : List ℕ) → Holds w → Acknowledgements w.acknowledged (length w.delivered) (a ∷ rest) → Holds (moved w 0 rest)
-passes w a rest h f = let b = h.reached_acknowledged in let e = h.sent_reached in let g = h.delivered_acknowledged in record {
+Holds-moved_passes : (w : Direction) (a : ℕ) (rest : List ℕ) → Holds w → Acknowledgements w.acknowledged (length w.delivered) (a ∷ rest) → Holds (moved w 0 rest)
+Holds-moved_passes w a rest h f = let b = h.reached_acknowledged in let e = h.sent_reached in let g = h.delivered_acknowledged in record {
   delivered_acknowledged = omega (arith, g);
   delivered_reached = h.delivered_reached;
   reached_acknowledged = omega (arith, b);
@@ -251,28 +251,28 @@ hears_keeps w [] h f = h
 hears_keeps w (a ∷ rest) h f = keep_if (nat_le (beyond w.acknowledged a) w.sent) (moved w (beyond w.acknowledged a) rest) (moved w 0 rest)
     (λ yes. let low = f.0 in let high = f.1 in let b = h.delivered_reached in let c = h.reached_acknowledged in
     hears_one w a (beyond w.acknowledged a) rest h f (told_exactly w.acknowledged a low (omega (arith, high, b, c))) (leb-true (beyond w.acknowledged a) w.sent yes))
-    (λ no. passes w a rest h f)
+    (λ no. Holds-moved_passes w a rest h f)
 
 pub misses_keeps : (w : Direction) (replies : List ℕ) → Holds w → Acknowledgements w.acknowledged (length w.delivered) replies → Holds (loses_acknowledgement w replies)
 misses_keeps w [] h f = h
-misses_keeps w (a ∷ rest) h f = passes w a rest h f
+misses_keeps w (a ∷ rest) h f = Holds-moved_passes w a rest h f
 
-pub keeps : (w : Direction) (e : Event) → Holds w → Holds (happens w e)
-keeps w (Submit x) h = submits w x h
-keeps w Send h = sends w h
-keeps w GoBack h = goes_back w h
-keeps w Arrive h = arrives_keeps w w.underway h h.frames
-keeps w Lose h = loses_keeps w w.underway h h.frames
-keeps w Answer h = answers w h
-keeps w Acknowledge h = hears_keeps w w.replies h h.acknowledgements
-keeps w Miss h = misses_keeps w w.replies h h.acknowledgements
+pub Holds-happens : (w : Direction) (e : Event) → Holds w → Holds (happens w e)
+Holds-happens w (Submit x) h = Holds-Submit w x h
+Holds-happens w Send h = Holds-Send w h
+Holds-happens w GoBack h = Holds-GoBack w h
+Holds-happens w Arrive h = arrives_keeps w w.underway h h.frames
+Holds-happens w Lose h = loses_keeps w w.underway h h.frames
+Holds-happens w Answer h = Holds-Answer w h
+Holds-happens w Acknowledge h = hears_keeps w w.replies h h.acknowledgements
+Holds-happens w Miss h = misses_keeps w w.replies h h.acknowledgements
 
-pub all_keep : (es : List Event) (w : Direction) → Holds w → Holds (run es w)
-all_keep [] w h = h
-all_keep (e ∷ es) w h = all_keep es (happens w e) (keeps w e h)
+pub Holds-run : (es : List Event) (w : Direction) → Holds w → Holds (run es w)
+Holds-run [] w h = h
+Holds-run (e ∷ es) w h = Holds-run es (happens w e) (Holds-happens w e h)
 
 pub holds_always : (es : List Event) → Holds (run es start)
-holds_always es = all_keep es start (record {
+holds_always es = Holds-run es start (record {
   delivered_acknowledged = omega arith;
   delivered_reached = omega arith;
   reached_acknowledged = omega arith;
@@ -293,14 +293,14 @@ pub if_false : (b : Bool) (x y : Direction) → b ≡ false → Holds (if b then
 if_false true x y e h = absurd (cc)
 if_false false x y e h = h
 
-pub heard : (w : Direction) (a : ℕ) (rest : List ℕ) → w.replies ≡ a ∷ rest → nat_le (beyond w.acknowledged a) w.sent ≡ true → Holds w → Holds (moved w (beyond w.acknowledged a) rest)
-heard w a rest e valid h = if_true (nat_le (beyond w.acknowledged a) w.sent) _ _ valid (hears_keeps w (a ∷ rest) h (subst (λ rs. Acknowledgements w.acknowledged (length w.delivered) rs) e h.acknowledgements))
+pub Holds-moved_heard : (w : Direction) (a : ℕ) (rest : List ℕ) → w.replies ≡ a ∷ rest → nat_le (beyond w.acknowledged a) w.sent ≡ true → Holds w → Holds (moved w (beyond w.acknowledged a) rest)
+Holds-moved_heard w a rest e valid h = if_true (nat_le (beyond w.acknowledged a) w.sent) _ _ valid (hears_keeps w (a ∷ rest) h (subst (λ rs. Acknowledgements w.acknowledged (length w.delivered) rs) e h.acknowledgements))
 
-pub missed : (w : Direction) (a : ℕ) (rest : List ℕ) → w.replies ≡ a ∷ rest → Holds w → Holds (moved w 0 rest)
-missed w a rest e h = misses_keeps w (a ∷ rest) h (subst (λ rs. Acknowledgements w.acknowledged (length w.delivered) rs) e h.acknowledgements)
+pub Holds-moved_missed : (w : Direction) (a : ℕ) (rest : List ℕ) → w.replies ≡ a ∷ rest → Holds w → Holds (moved w 0 rest)
+Holds-moved_missed w a rest e h = misses_keeps w (a ∷ rest) h (subst (λ rs. Acknowledgements w.acknowledged (length w.delivered) rs) e h.acknowledgements)
 
-pub taken_one : (w : Direction) (c : ℕ) (rest : List ℕ) → w.underway ≡ c ∷ rest → (c % 128 == length w.delivered % 128) ≡ true → Holds w → Holds (takes w c rest)
-taken_one w c rest e equal h = if_true (c % 128 == length w.delivered % 128) _ _ equal (arrives_keeps w (c ∷ rest) h (subst (λ cs. Frames w.acknowledged w.reached (length w.delivered) cs) e h.frames))
+pub Holds-taken_one : (w : Direction) (c : ℕ) (rest : List ℕ) → w.underway ≡ c ∷ rest → (c % 128 == length w.delivered % 128) ≡ true → Holds w → Holds (takes w c rest)
+Holds-taken_one w c rest e equal h = if_true (c % 128 == length w.delivered % 128) _ _ equal (arrives_keeps w (c ∷ rest) h (subst (λ cs. Frames w.acknowledged w.reached (length w.delivered) cs) e h.frames))
 
 pub dropped_one : (w : Direction) (c : ℕ) (rest : List ℕ) → w.underway ≡ c ∷ rest → Holds w → Holds (drops w rest)
 dropped_one w c rest e h = loses_keeps w (c ∷ rest) h (subst (λ cs. Frames w.acknowledged w.reached (length w.delivered) cs) e h.frames)

@@ -461,9 +461,9 @@ pub may_send_is : (q : SendQueue) → may_send q ≡ true → (q.sent < 7) × (q
 unfolding may_send
 may_send_is q e = let b = both_true (nat_lt q.sent 7) (nat_lt q.sent (length q.waiting)) e in (ltb-true q.sent 7 b.0, ltb-true q.sent (length q.waiting) b.1)
 
-pub free_is : (l : DataLink) → is_free l ≡ true → may_send l.queue ≡ true
+pub may_send_free : (l : DataLink) → is_free l ≡ true → may_send l.queue ≡ true
 unfolding is_free
-free_is l e = (both_true (is_established l.state && not l.busy) (may_send l.queue) e).1
+may_send_free l e = (both_true (is_established l.state && not l.busy) (may_send l.queue) e).1
 
 one_more_queue : (q : SendQueue) → q.sent < 7 → q.sent < length q.waiting → IsQueue q → IsQueue (one_more_sent q)
 unfolding one_more_sent
@@ -488,7 +488,7 @@ one_number q = refl
 
 pub next_flushed : (at : ℕ) (s : Step) → Flushed s (sends_next at s)
 unfolding sends_next
-next_flushed at s = by_test (Flushed s) (is_free s.link) _ _ (λ e. sent (may_send_is s.link.queue (free_is s.link e))) (λ e. flushed_none s)
+next_flushed at s = by_test (Flushed s) (is_free s.link) _ _ (λ e. sent (may_send_is s.link.queue (may_send_free s.link e))) (λ e. flushed_none s)
   where
     sent : (s.link.queue.sent < 7) × (s.link.queue.sent < length s.link.queue.waiting) → Flushed s (step (after_frame at s.link) (sends (next_frame s.link) s).out)
     sent e = record {

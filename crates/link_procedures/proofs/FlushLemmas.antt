@@ -10,8 +10,8 @@ more_waiting (suc n) m now s e = let same : n ≡ m = omega (arith, e) in ap (λ
 pub same_step : (s : Step) (l : DataLink) (o : List (List ℕ)) → l ≡ s.link → o ≡ s.out → step l o ≡ s
 same_step s l o link out = rw (link, out) refl
 
-pub one_sent : (n m now : ℕ) (s : Step) (l : DataLink) (o : List (List ℕ)) → n ≡ m + 1 → l ≡ (sends_next now s).link → o ≡ (sends_next now s).out → sends_waiting m now (step l o) ≡ sends_waiting n now s
-one_sent n m now s l o e link out = ap (λ (t : Step). sends_waiting m now t) (same_step (sends_next now s) l o link out) ∙ sym (more_waiting n m now s e)
+pub sends_waiting_one_sent : (n m now : ℕ) (s : Step) (l : DataLink) (o : List (List ℕ)) → n ≡ m + 1 → l ≡ (sends_next now s).link → o ≡ (sends_next now s).out → sends_waiting m now (step l o) ≡ sends_waiting n now s
+sends_waiting_one_sent n m now s l o e link out = ap (λ (t : Step). sends_waiting m now t) (same_step (sends_next now s) l o link out) ∙ sym (more_waiting n m now s e)
 
 pub all_sent : (n now : ℕ) (s : Step) (l : DataLink) (o : List (List ℕ)) → n ≡ 0 → sends_waiting n now (step l o) ≡ sends_waiting 7 now s → (l ≡ (flushes now s).link) × (o ≡ (flushes now s).out)
 unfolding flushes

@@ -13,7 +13,7 @@ use Rattle.link_procedures.specs.Links.{DataLink, SendQueue, Step, step, initial
 use Rattle.link_procedures.specs.Sending.{command, response, receive_ready, sends, acknowledges, acknowledging, enquires, one_more_sent, is_free, after_frame, next_frame, sends_next, sends_waiting, flushes, acknowledges_pending, finished}
 use Rattle.link_procedures.specs.Establishment.{Outcome, establishes, overflows, queued, submitted, lost, released}
 use Rattle.link_procedures.specs.Timing.{is_due, enquires_at, calls_or_releases, on_expiry, first_retries, turned}
-use Rattle.link_procedures.proofs.AnyPeerLemmas.{may_send_is, free_is}
+use Rattle.link_procedures.proofs.AnyPeerLemmas.{may_send_is, may_send_free}
 use Rattle.link_table.specs.Rest.{in_window, sendable, IsAtRest}
 
 by_test : {A : Type 0} (P : A → Type 0) (b : Bool) (x y : A) → (b ≡ true → P x) → (b ≡ false → P y) → P (if b then x else y)
@@ -85,7 +85,7 @@ record Falls (n : ℕ) (s t : Step) : Type 0 where
 sent_one : (at : ℕ) (l : DataLink) → is_free l ≡ true → sendable l ≡ sendable (after_frame at l) + 1
 unfolding one_more_sent
 sent_one at l e =
-    let w = may_send_is l.queue (free_is l e) in
+    let w = may_send_is l.queue (may_send_free l e) in
     let on = free_on l e in
     let a = sendable_on l on in
     let b = sendable_on (after_frame at l) on in

@@ -21,7 +21,7 @@ use Rattle.call_profile.specs.Legs.{Legs}
 use Rattle.call_profile.specs.Step.{next}
 use Rattle.call_profile.specs.World.{World, pass, start}
 use Rattle.call_profile.proofs.HistoryLemmas.{made, made_pass}
-use Rattle.call_profile.proofs.QuietEventLemmas.{quiet, passed_same}
+use Rattle.call_profile.proofs.QuietEventLemmas.{SameFrames-next, passed_same}
 use Rattle.call_profile.proofs.RunLemmas.{world-snoc}
 use Rattle.call_profile.proofs.StandingLegLemmas.{run_stands}
 use Rattle.call_control.specs.AtWork.{IsAtWork}
@@ -65,7 +65,7 @@ pub command_at : {P E : Type 0} (carries : Carrying E) (frames : E → ℕ) (siz
     → Holds s.dimensions y.control.map y.control.legs (next s w e) → y.engine ≡ x.engine → y.context.tool ≡ x.context.tool → y.octets ≡ x.octets
     → IsAt carries frames sizes y s (next s w e)
 command_at carries frames sizes x y s w e at fits other holds engine tools octets =
-    let same = quiet s w e other in
+    let same = SameFrames-next s w e other in
     let carried : carries x.engine (next s w e).inputs (next s w e).held (next s w e).seated = rw (same.inputs, same.held, same.seated) at.carried in
     record {
       few = at.few;

@@ -28,9 +28,9 @@ module _ (plays : Plays) (s : Setting) (w : World) (e : Event) (n : ℕ) (octets
   sent f = sent_at (plays (table_of s.tones)) s w f
 
   -- a frame has the octets that are due
-  frame_rows : (input : Input) → e ≡ Frame input
+  report_line-rows_frame : (input : Input) → e ≡ Frame input
       → report_line rows n (kept_of (reply s w (Frame input))) ≡ report_line (sent (Frame input)) n (kept_of (reply s w (Frame input)))
-  frame_rows input is =
+  report_line-rows_frame input is =
       let p = played input is in
       let same = passed_same s w input in
       let tones = table_of s.tones in
@@ -41,12 +41,12 @@ module _ (plays : Plays) (s : Setting) (w : World) (e : Event) (n : ℕ) (octets
       ∙ sent_same (octet_of octets) octet external (λ line place below inside. p.played (record { line = line; place = place }) below inside)
       ∙ (λ i. lines_sent (λ y. plays tones (sym same.inputs i) (sym same.held i) w.holding.next y) external))
 
-  due : (r : Reply) → r ≡ reply s w e → report_line rows n (kept_of r) ≡ event_line (plays (table_of s.tones)) s w n e
-  due r is = ap (λ (q : Reply). report_line rows n (kept_of q)) is ∙ same_line rows n s w sent (λ f. e ≡ f) frame_rows e refl
+  report_line_due : (r : Reply) → r ≡ reply s w e → report_line rows n (kept_of r) ≡ event_line (plays (table_of s.tones)) s w n e
+  report_line_due r is = ap (λ (q : Reply). report_line rows n (kept_of q)) is ∙ same_line rows n s w sent (λ f. e ≡ f) report_line-rows_frame e refl
 
 pub line_is : {P E : Type 0} (plays : Plays) (s : Setting) (w : World) (e : Event) (n : ℕ) (response : Response) (y : LoneExchange P E) → HasReplied s w e response y → HasPlayed plays s w e y
     → response_line y.octets.items n response y.context.out ≡ event_line (plays (table_of s.tones)) s w n e
-line_is plays s w e n response y replied played = due plays s w e n y.octets.items played (reply_of response y.context.out) replied
+line_is plays s w e n response y replied played = report_line_due plays s w e n y.octets.items played (reply_of response y.context.out) replied
 
 -- what was appended, if memory lasts
 pub appended : {E : Type 0} (r : Result (Unit {0}) E) (before after line due : List ℕ) → line ≡ due → OnOk r (after ≡ before ++ line) → OnOk r (after ≡ before ++ due)

@@ -41,25 +41,25 @@ some_done (c ∷ changes) zero (suc count) place within early here =
     (rest.0, rw (eq-eqb c place first) (ap (λ (l : List Step). Meters_changed ∷ l) rest.1))
 
 -- all of them were
-pub all_done : (changes : List ℕ) (start count place : ℕ) → start + count ≤ length changes → ((k : ℕ) → k < start → get_or changes k 0 < place)
+pub changes_at_all_done : (changes : List ℕ) (start count place : ℕ) → start + count ≤ length changes → ((k : ℕ) → k < start → get_or changes k 0 < place)
     → ((k : ℕ) → start ≤ k → k < start + count → get_or changes k 0 ≡ place) → ((k : ℕ) → start + count ≤ k → k < length changes → place < get_or changes k 0)
     → changes_at changes place ≡ replicate count Meters_changed
-all_done [] zero zero place within early here late = refl
-all_done [] (suc start) count place within early here late = absurd (omega (arith, within))
-all_done [] zero (suc count) place within early here late = absurd (omega (arith, within))
-all_done (c ∷ changes) zero zero place within early here late =
+changes_at_all_done [] zero zero place within early here late = refl
+changes_at_all_done [] (suc start) count place within early here late = absurd (omega (arith, within))
+changes_at_all_done [] zero (suc count) place within early here late = absurd (omega (arith, within))
+changes_at_all_done (c ∷ changes) zero zero place within early here late =
     let first : place < c = late 0 (omega arith) (omega arith) in
     rw (ne_eqb c place (λ same. omega (arith, first, same)))
-    (all_done changes zero zero place (omega arith) (λ k below. absurd (omega (arith, below))) (λ k above below. absurd (omega (arith, below))) (λ k above inside. late (suc k) (omega arith) (omega (arith, inside))))
-all_done (c ∷ changes) (suc start) count place within early here late =
+    (changes_at_all_done changes zero zero place (omega arith) (λ k below. absurd (omega (arith, below))) (λ k above below. absurd (omega (arith, below))) (λ k above inside. late (suc k) (omega arith) (omega (arith, inside))))
+changes_at_all_done (c ∷ changes) (suc start) count place within early here late =
     let first : c < place = early 0 (omega arith) in
     rw (ne_eqb c place (λ same. omega (arith, first, same)))
-    (all_done changes start count place (omega (arith, within)) (λ k below. early (suc k) (omega (arith, below))) (λ k above below. here (suc k) (omega (arith, above)) (omega (arith, below)))
+    (changes_at_all_done changes start count place (omega (arith, within)) (λ k below. early (suc k) (omega (arith, below))) (λ k above below. here (suc k) (omega (arith, above)) (omega (arith, below)))
     (λ k above inside. late (suc k) (omega (arith, above)) (omega (arith, inside))))
-all_done (c ∷ changes) zero (suc count) place within early here late =
+changes_at_all_done (c ∷ changes) zero (suc count) place within early here late =
     let first : c ≡ place = here 0 (omega arith) (omega arith) in
     rw (eq-eqb c place first) (ap (λ (l : List Step). Meters_changed ∷ l)
-    (all_done changes zero count place (omega (arith, within)) (λ k below. absurd (omega (arith, below))) (λ k above below. here (suc k) (omega arith) (omega (arith, below)))
+    (changes_at_all_done changes zero count place (omega (arith, within)) (λ k below. absurd (omega (arith, below))) (λ k above below. here (suc k) (omega arith) (omega (arith, below)))
     (λ k above inside. late (suc k) (omega (arith, above)) (omega (arith, inside)))))
 
 -- ---- where the cursor is

@@ -16,8 +16,8 @@ module _ {A : Type 0} where
   last-short keep xs short = let none : length xs - keep ≡ 0 = omega (arith, short) in ap (λ n. drop n xs) none
 
   -- what goes from a list in front of others may go before they come
-  pub drop-front : (keep j : ℕ) (xs more : List A) → j ≤ length xs → j + keep ≤ length xs + length more → last_of keep (drop j xs ++ more) ≡ last_of keep (xs ++ more)
-  drop-front keep j xs more inside within =
+  pub last_of-drop_front : (keep j : ℕ) (xs more : List A) → j ≤ length xs → j + keep ≤ length xs + length more → last_of keep (drop j xs ++ more) ≡ last_of keep (xs ++ more)
+  last_of-drop_front keep j xs more inside within =
       let long = length-append xs more in
       ap (last_of keep) (sym (drop-append-le j xs more inside)) ∙ last-drop keep j (xs ++ more) (omega (arith, long, within))
 
@@ -26,7 +26,7 @@ module _ {A : Type 0} where
   last-append keep spare xs more room = at_least (length xs - (keep - spare)) refl where
     at_least : (j : ℕ) → j ≡ length xs - (keep - spare) → last_of keep (drop j xs ++ more) ≡ last_of keep (xs ++ more)
     at_least zero is = refl
-    at_least (suc j) is = drop-front keep (suc j) xs more (omega (arith, is)) (omega (arith, is, room))
+    at_least (suc j) is = last_of-drop_front keep (suc j) xs more (omega (arith, is)) (omega (arith, is, room))
 
   -- with room made, one more is taken in
   pub last_more : (keep : ℕ) (xs more : List A) (x : A) → last_of keep ((last_of (keep - 1) xs ++ x ∷ []) ++ more) ≡ last_of keep (xs ++ x ∷ more)

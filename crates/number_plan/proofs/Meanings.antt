@@ -107,8 +107,8 @@ exact plan d apart answer.Nothing answer.More p q = absurd (both_ways (is_number
 exact plan d apart answer.Nothing answer.Nothing p q = refl
 
 -- a look answers so exactly where it is so
-pub means : (plan : List Number) (d : List ℕ) (r f : Found) → r ≡ found_for plan d → AreApart plan → (r ≡ f) ↔ IsFound plan d f
-means plan d r f e apart = (λ is. subst (IsFound plan d) (sym e ∙ is) (is_found plan d), λ fact. e ∙ exact plan d apart (found_for plan d) f (is_found plan d) fact)
+pub IsFound_means : (plan : List Number) (d : List ℕ) (r f : Found) → r ≡ found_for plan d → AreApart plan → (r ≡ f) ↔ IsFound plan d f
+IsFound_means plan d r f e apart = (λ is. subst (IsFound plan d) (sym e ∙ is) (is_found plan d), λ fact. e ∙ exact plan d apart (found_for plan d) f (is_found plan d) fact)
 
 -- ---- targets
 

@@ -11,7 +11,7 @@ use Rattle.std.proofs.lemmas.Option.{same_Some}
 use Rattle.number_plan.specs.declared.plan.Number.{Number}
 use Rattle.number_plan.specs.Plan.{begins, side_by_side, precedes, in_order, with_number, is_number_taken, AreApart}
 use Rattle.number_plan.specs.Search.{IsBesideAt, IsPlaceFor}
-use Rattle.number_plan.proofs.Side.{reversed, begins_equal, begun_equal, one_begins, not_both, rising, precedes_on, is_less}
+use Rattle.number_plan.proofs.Side.{side_by_side_reversed, side_by_side_begins_equal, side_by_side_begun_equal, one_begins, not_both, side_by_side_rising, side_by_side_precedes_on, is_less}
 
 pub all_get : (p : Number → Bool) (xs : List Number) → list_all p xs ≡ true → (k : ℕ) (x : Number) → k < length xs → p (get_or xs k x) ≡ true
 all_get p [] all k x lt = absurd (omega arith)
@@ -25,7 +25,7 @@ ascending [] d order i j x le lt = absurd (omega arith)
 ascending (n ∷ ns) d order zero zero x le lt = omega arith
 ascending (n ∷ ns) d order zero (suc j) x le lt =
     let parts = and_parts (list_all (precedes n) ns) (in_order ns) order in
-    rising n.digits (get_or ns j x).digits d (is_less _ (all_get (precedes n) ns parts.0 j x (omega arith)))
+    side_by_side_rising n.digits (get_or ns j x).digits d (is_less _ (all_get (precedes n) ns parts.0 j x (omega arith)))
 ascending (n ∷ ns) d order (suc i) zero x le lt = absurd (omega arith)
 ascending (n ∷ ns) d order (suc i) (suc j) x le lt = ascending ns d (and_parts (list_all (precedes n) ns) (in_order ns) order).1 i j x (omega arith) (omega arith)
 
@@ -37,20 +37,20 @@ searched xs d (Err i) order range is =
 
 -- ---- one more number
 
-pub in_place : (xs : List Number) (y : Number) (i : ℕ) → IsPlaceFor xs y.digits i → insert xs i y ≡ with_number xs y
-in_place [] y zero p = refl
-in_place [] y (suc i) p = absurd (omega (arith, p.in_range))
-in_place (n ∷ ns) y zero p =
+pub insert_in_place : (xs : List Number) (y : Number) (i : ℕ) → IsPlaceFor xs y.digits i → insert xs i y ≡ with_number xs y
+insert_in_place [] y zero p = refl
+insert_in_place [] y (suc i) p = absurd (omega (arith, p.in_range))
+insert_in_place (n ∷ ns) y zero p =
     let above : side_by_side n.digits y.digits ≡ Greater = p.after zero n (omega arith) (omega arith) in
-    sym (cond-true (precedes y n) (y ∷ n ∷ ns) (n ∷ with_number ns y) (ap is_lt (reversed n.digits y.digits ∙ ap ordering_reverse above)))
-in_place (n ∷ ns) y (suc i) p =
+    sym (cond-true (precedes y n) (y ∷ n ∷ ns) (n ∷ with_number ns y) (ap is_lt (side_by_side_reversed n.digits y.digits ∙ ap ordering_reverse above)))
+insert_in_place (n ∷ ns) y (suc i) p =
     let below : side_by_side n.digits y.digits ≡ Less = p.before zero n (omega arith) (omega arith) in
-    ap (λ (w : List Number). n ∷ w) (in_place ns y i (record {
+    ap (λ (w : List Number). n ∷ w) (insert_in_place ns y i (record {
       in_range = omega (arith, p.in_range);
       before = λ k x le lt. p.before (suc k) x (omega arith) (omega arith);
       after = λ k x le lt. p.after (suc k) x (omega arith) (omega arith);
     }))
-    ∙ sym (cond-false (precedes y n) (y ∷ n ∷ ns) (n ∷ with_number ns y) (ap is_lt (reversed n.digits y.digits ∙ ap ordering_reverse below)))
+    ∙ sym (cond-false (precedes y n) (y ∷ n ∷ ns) (n ∷ with_number ns y) (ap is_lt (side_by_side_reversed n.digits y.digits ∙ ap ordering_reverse below)))
 
 pub length-with_number : (xs : List Number) (y : Number) → length (with_number xs y) ≡ suc (length xs)
 length-with_number [] y = refl
@@ -79,7 +79,7 @@ before_unless m d p q after = by_order (side_by_side m d) refl
     by_order : (o : Ordering) → side_by_side m d ≡ o → o ≡ Less
     by_order Less e = refl
     by_order Equal e = absurd (one_begins m d p q e)
-    by_order Greater e = absurd (clash (is_lt (side_by_side d m)) after (ap is_lt (reversed m d ∙ ap ordering_reverse e)))
+    by_order Greater e = absurd (clash (is_lt (side_by_side d m)) after (ap is_lt (side_by_side_reversed m d ∙ ap ordering_reverse e)))
       where
         clash : (b : Bool) → b ≡ false → b ≡ true → ⊥
         clash b p q = cc
@@ -93,7 +93,7 @@ order_with (n ∷ ns) y order free =
     elim (cases_Bool (precedes y n)) [
       | inl before ↦
           ap in_order (cond-true (precedes y n) (y ∷ n ∷ ns) (n ∷ with_number ns y) before)
-          ∙ and_from (list_all (precedes y) (n ∷ ns)) (in_order (n ∷ ns)) (and_from (precedes y n) (list_all (precedes y) ns) before (all_more (precedes n) (precedes y) ns (λ z later. ap is_lt (precedes_on y.digits n.digits z.digits (is_less _ before) (is_less _ later))) parts.0)) order
+          ∙ and_from (list_all (precedes y) (n ∷ ns)) (in_order (n ∷ ns)) (and_from (precedes y n) (list_all (precedes y) ns) before (all_more (precedes n) (precedes y) ns (λ z later. ap is_lt (side_by_side_precedes_on y.digits n.digits z.digits (is_less _ before) (is_less _ later))) parts.0)) order
       | inr after ↦
           ap in_order (cond-false (precedes y n) (y ∷ n ∷ ns) (n ∷ with_number ns y) after)
           ∙ and_from (list_all (precedes n) (with_number ns y)) (in_order (with_number ns y)) (all_with (precedes n) ns y parts.0 (ap is_lt (before_unless n.digits y.digits ways.0 ways.1 after))) (order_with ns y parts.1 apart.1)
@@ -112,9 +112,9 @@ order_apart (x ∷ xs) order zero zero m n jm kn b = refl
 order_apart (x ∷ xs) order zero (suc k) m n jm kn b =
     let parts = and_parts (list_all (precedes x) xs) (in_order xs) order in
     let is : side_by_side m.digits n.digits ≡ Less = is_less _ (subst (λ w. precedes w n ≡ true) (same_Some x m jm) (all_at (precedes x) xs parts.0 k n kn)) in
-    absurd (not_both (side_by_side m.digits n.digits) is (begins_equal m.digits n.digits b))
+    absurd (not_both (side_by_side m.digits n.digits) is (side_by_side_begins_equal m.digits n.digits b))
 order_apart (x ∷ xs) order (suc j) zero m n jm kn b =
     let parts = and_parts (list_all (precedes x) xs) (in_order xs) order in
     let is : side_by_side n.digits m.digits ≡ Less = is_less _ (subst (λ w. precedes w m ≡ true) (same_Some x n kn) (all_at (precedes x) xs parts.0 j m jm)) in
-    absurd (not_both (side_by_side n.digits m.digits) is (begun_equal n.digits m.digits b))
+    absurd (not_both (side_by_side n.digits m.digits) is (side_by_side_begun_equal n.digits m.digits b))
 order_apart (x ∷ xs) order (suc j) (suc k) m n jm kn b = ap suc (order_apart xs (and_parts (list_all (precedes x) xs) (in_order xs) order).1 j k m n jm kn b)

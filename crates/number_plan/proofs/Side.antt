@@ -21,47 +21,47 @@ same x y e = rw (le-ltb x y (omega arith), eq-eqb x y e) refl
 higher : (x y : ℕ) → y < x → nat_cmp x y ≡ Greater
 higher x y lt = rw (le-ltb x y (omega arith), ne_eqb x y (λ e. absurd (omega arith))) refl
 
-first_lower : (x y : ℕ) (m n : List ℕ) → x < y → side_by_side (x ∷ m) (y ∷ n) ≡ Less
-first_lower x y m n lt = ap (λ o. ordering_then o (side_by_side m n)) (lower x y lt)
+side_by_side_first_lower : (x y : ℕ) (m n : List ℕ) → x < y → side_by_side (x ∷ m) (y ∷ n) ≡ Less
+side_by_side_first_lower x y m n lt = ap (λ o. ordering_then o (side_by_side m n)) (lower x y lt)
 
-first_same : (x y : ℕ) (m n : List ℕ) → x ≡ y → side_by_side (x ∷ m) (y ∷ n) ≡ side_by_side m n
-first_same x y m n e = ap (λ o. ordering_then o (side_by_side m n)) (same x y e)
+side_by_side_first_same : (x y : ℕ) (m n : List ℕ) → x ≡ y → side_by_side (x ∷ m) (y ∷ n) ≡ side_by_side m n
+side_by_side_first_same x y m n e = ap (λ o. ordering_then o (side_by_side m n)) (same x y e)
 
-first_higher : (x y : ℕ) (m n : List ℕ) → y < x → side_by_side (x ∷ m) (y ∷ n) ≡ Greater
-first_higher x y m n lt = ap (λ o. ordering_then o (side_by_side m n)) (higher x y lt)
+side_by_side_first_higher : (x y : ℕ) (m n : List ℕ) → y < x → side_by_side (x ∷ m) (y ∷ n) ≡ Greater
+side_by_side_first_higher x y m n lt = ap (λ o. ordering_then o (side_by_side m n)) (higher x y lt)
 
 -- comparing as far as the shorter goes
-pub fronts : (n : ℕ) (xs ys : List ℕ) → n ≤ length xs → n ≤ length ys → (n ≡ length xs) ⊎ (n ≡ length ys) → slice_cmp nat_cmp (take n xs) (take n ys) ≡ side_by_side xs ys
-fronts zero [] ys p q end = refl
-fronts zero (x ∷ xs) [] p q end = refl
-fronts zero (x ∷ xs) (y ∷ ys) p q end = elim end [ inl e ↦ absurd (omega arith) | inr e ↦ absurd (omega arith) ]
-fronts (suc n) [] ys p q end = absurd (omega arith)
-fronts (suc n) (x ∷ xs) [] p q end = absurd (omega arith)
-fronts (suc n) (x ∷ xs) (y ∷ ys) p q end =
-    ap (ordering_then (nat_cmp x y)) (fronts n xs ys (omega arith) (omega arith) (elim end [ inl e ↦ inl (omega arith) | inr e ↦ inr (omega arith) ]))
+pub slice_cmp-take : (n : ℕ) (xs ys : List ℕ) → n ≤ length xs → n ≤ length ys → (n ≡ length xs) ⊎ (n ≡ length ys) → slice_cmp nat_cmp (take n xs) (take n ys) ≡ side_by_side xs ys
+slice_cmp-take zero [] ys p q end = refl
+slice_cmp-take zero (x ∷ xs) [] p q end = refl
+slice_cmp-take zero (x ∷ xs) (y ∷ ys) p q end = elim end [ inl e ↦ absurd (omega arith) | inr e ↦ absurd (omega arith) ]
+slice_cmp-take (suc n) [] ys p q end = absurd (omega arith)
+slice_cmp-take (suc n) (x ∷ xs) [] p q end = absurd (omega arith)
+slice_cmp-take (suc n) (x ∷ xs) (y ∷ ys) p q end =
+    ap (ordering_then (nat_cmp x y)) (slice_cmp-take n xs ys (omega arith) (omega arith) (elim end [ inl e ↦ inl (omega arith) | inr e ↦ inr (omega arith) ]))
 
-pub reversed : (m n : List ℕ) → side_by_side n m ≡ ordering_reverse (side_by_side m n)
-reversed [] [] = refl
-reversed [] (y ∷ n) = refl
-reversed (x ∷ m) [] = refl
-reversed (x ∷ m) (y ∷ n) =
+pub side_by_side_reversed : (m n : List ℕ) → side_by_side n m ≡ ordering_reverse (side_by_side m n)
+side_by_side_reversed [] [] = refl
+side_by_side_reversed [] (y ∷ n) = refl
+side_by_side_reversed (x ∷ m) [] = refl
+side_by_side_reversed (x ∷ m) (y ∷ n) =
     elim (cases_order x y) [
-      | inl e ↦ first_same y x n m (sym e) ∙ reversed m n ∙ ap ordering_reverse (sym (first_same x y m n e))
-      | inr (inl lt) ↦ first_higher y x n m lt ∙ ap ordering_reverse (sym (first_lower x y m n lt))
-      | inr (inr lt) ↦ first_lower y x n m lt ∙ ap ordering_reverse (sym (first_higher x y m n lt))
+      | inl e ↦ side_by_side_first_same y x n m (sym e) ∙ side_by_side_reversed m n ∙ ap ordering_reverse (sym (side_by_side_first_same x y m n e))
+      | inr (inl lt) ↦ side_by_side_first_higher y x n m lt ∙ ap ordering_reverse (sym (side_by_side_first_lower x y m n lt))
+      | inr (inr lt) ↦ side_by_side_first_lower y x n m lt ∙ ap ordering_reverse (sym (side_by_side_first_higher x y m n lt))
     ]
 
 -- ---- where one begins the other
 
-pub begins_equal : (m d : List ℕ) → begins m d ≡ true → side_by_side m d ≡ Equal
-begins_equal [] d b = refl
-begins_equal (x ∷ m) [] b = refl
-begins_equal (x ∷ m) (z ∷ d) b =
+pub side_by_side_begins_equal : (m d : List ℕ) → begins m d ≡ true → side_by_side m d ≡ Equal
+side_by_side_begins_equal [] d b = refl
+side_by_side_begins_equal (x ∷ m) [] b = refl
+side_by_side_begins_equal (x ∷ m) (z ∷ d) b =
     let parts = and_parts (eqb x z) (begins m d) b in
-    first_same x z m d (eqb-true x z parts.0) ∙ begins_equal m d parts.1
+    side_by_side_first_same x z m d (eqb-true x z parts.0) ∙ side_by_side_begins_equal m d parts.1
 
-pub begun_equal : (m d : List ℕ) → begins d m ≡ true → side_by_side m d ≡ Equal
-begun_equal m d b = reversed d m ∙ ap ordering_reverse (begins_equal d m b)
+pub side_by_side_begun_equal : (m d : List ℕ) → begins d m ≡ true → side_by_side m d ≡ Equal
+side_by_side_begun_equal m d b = side_by_side_reversed d m ∙ ap ordering_reverse (side_by_side_begins_equal d m b)
 
 pub begins_shorter : (m d : List ℕ) → begins m d ≡ true → length m ≤ length d
 begins_shorter [] d b = omega arith
@@ -75,9 +75,9 @@ equal_begins [] d e short = refl
 equal_begins (x ∷ m) [] e short = absurd (omega arith)
 equal_begins (x ∷ m) (z ∷ d) e short =
     elim (cases_order x z) [
-      | inl is ↦ and_from (eqb x z) (begins m d) (eq-eqb x z is) (equal_begins m d (sym (first_same x z m d is) ∙ e) (omega arith))
-      | inr (inl lt) ↦ absurd (not_both (side_by_side (x ∷ m) (z ∷ d)) (first_lower x z m d lt) e)
-      | inr (inr lt) ↦ absurd (not_equal (side_by_side (x ∷ m) (z ∷ d)) (first_higher x z m d lt) e)
+      | inl is ↦ and_from (eqb x z) (begins m d) (eq-eqb x z is) (equal_begins m d (sym (side_by_side_first_same x z m d is) ∙ e) (omega arith))
+      | inr (inl lt) ↦ absurd (not_both (side_by_side (x ∷ m) (z ∷ d)) (side_by_side_first_lower x z m d lt) e)
+      | inr (inr lt) ↦ absurd (not_equal (side_by_side (x ∷ m) (z ∷ d)) (side_by_side_first_higher x z m d lt) e)
     ]
   where
     not_equal : (o : Ordering) → o ≡ Greater → o ≡ Equal → ⊥
@@ -85,7 +85,7 @@ equal_begins (x ∷ m) (z ∷ d) e short =
 
 -- the one of two equal ones that isn't longer begins the other
 pub equal_begun : (m d : List ℕ) → side_by_side m d ≡ Equal → length d ≤ length m → begins d m ≡ true
-equal_begun m d e short = equal_begins d m (reversed m d ∙ ap ordering_reverse e) short
+equal_begun m d e short = equal_begins d m (side_by_side_reversed m d ∙ ap ordering_reverse e) short
 
 pub begins_begins : (a b c : List ℕ) → begins a b ≡ true → begins b c ≡ true → begins a c ≡ true
 begins_begins [] b c p q = refl
@@ -97,28 +97,28 @@ begins_begins (x ∷ a) (y ∷ b) (z ∷ c) p q =
     and_from (eqb x z) (begins a c) (eq-eqb x z (eqb-true x y l.0 ∙ eqb-true y z r.0)) (begins_begins a b c l.1 r.1)
 
 -- two that begin the same digits are equal
-pub both_begin : (a b c : List ℕ) → begins a c ≡ true → begins b c ≡ true → side_by_side a b ≡ Equal
-both_begin [] b c p q = refl
-both_begin (x ∷ a) [] c p q = refl
-both_begin (x ∷ a) (y ∷ b) [] p q = absurd cc
-both_begin (x ∷ a) (y ∷ b) (z ∷ c) p q =
+pub side_by_side_both_begin : (a b c : List ℕ) → begins a c ≡ true → begins b c ≡ true → side_by_side a b ≡ Equal
+side_by_side_both_begin [] b c p q = refl
+side_by_side_both_begin (x ∷ a) [] c p q = refl
+side_by_side_both_begin (x ∷ a) (y ∷ b) [] p q = absurd cc
+side_by_side_both_begin (x ∷ a) (y ∷ b) (z ∷ c) p q =
     let l = and_parts (eqb x z) (begins a c) p in
     let r = and_parts (eqb y z) (begins b c) q in
-    first_same x y a b (eqb-true x z l.0 ∙ sym (eqb-true y z r.0)) ∙ both_begin a b c l.1 r.1
+    side_by_side_first_same x y a b (eqb-true x z l.0 ∙ sym (eqb-true y z r.0)) ∙ side_by_side_both_begin a b c l.1 r.1
 
 -- one of two that begin the same digits begins the other
 pub begins_one : (a b d : List ℕ) → begins a d ≡ true → begins b d ≡ true → (begins a b ≡ true) ⊎ (begins b a ≡ true)
 begins_one a b d p q =
     elim (cases_lt (length b) (length a)) [
-      | inl lt ↦ inr (equal_begun a b (both_begin a b d p q) (omega arith))
-      | inr le ↦ inl (equal_begins a b (both_begin a b d p q) le)
+      | inl lt ↦ inr (equal_begun a b (side_by_side_both_begin a b d p q) (omega arith))
+      | inr le ↦ inl (equal_begins a b (side_by_side_both_begin a b d p q) le)
     ]
 
 pub not_begins : (m d : List ℕ) → side_by_side m d ≡ Less → begins m d ≡ false
-not_begins m d e = false_from_ne_true _ (λ b. not_both (side_by_side m d) e (begins_equal m d b))
+not_begins m d e = false_from_ne_true _ (λ b. not_both (side_by_side m d) e (side_by_side_begins_equal m d b))
 
 pub not_begun : (m d : List ℕ) → side_by_side m d ≡ Less → begins d m ≡ false
-not_begun m d e = false_from_ne_true _ (λ b. not_both (side_by_side m d) e (begun_equal m d b))
+not_begun m d e = false_from_ne_true _ (λ b. not_both (side_by_side m d) e (side_by_side_begun_equal m d b))
 
 -- one of two equal ones begins the other
 pub one_begins : (m d : List ℕ) → begins m d ≡ false → begins d m ≡ false → side_by_side m d ≡ Equal → ⊥
@@ -148,24 +148,24 @@ between : (o p s t : Ordering) → o ≡ s → p ≡ t → ordering_index s ≤ 
 between o p s t e f le = subst (λ w. ordering_index w ≤ ordering_index p) (sym e) (subst (λ w. ordering_index s ≤ ordering_index w) (sym f) le)
 
 -- what comes before another comes before it beside any digits
-pub rising : (m n d : List ℕ) → side_by_side m n ≡ Less → ordering_index (side_by_side m d) ≤ ordering_index (side_by_side n d)
-rising [] n d e = absurd cc
-rising (x ∷ m) [] d e = absurd cc
-rising (x ∷ m) (y ∷ n) [] e = omega arith
-rising (x ∷ m) (y ∷ n) (z ∷ d) e =
+pub side_by_side_rising : (m n d : List ℕ) → side_by_side m n ≡ Less → ordering_index (side_by_side m d) ≤ ordering_index (side_by_side n d)
+side_by_side_rising [] n d e = absurd cc
+side_by_side_rising (x ∷ m) [] d e = absurd cc
+side_by_side_rising (x ∷ m) (y ∷ n) [] e = omega arith
+side_by_side_rising (x ∷ m) (y ∷ n) (z ∷ d) e =
     elim (cases_order x y) [
       | inl is ↦
           elim (cases_order x z) [
-            | inl xz ↦ between _ _ _ _ (first_same x z m d xz) (first_same y z n d (sym is ∙ xz)) (rising m n d (sym (first_same x y m n is) ∙ e))
-            | inr (inl lt) ↦ at_most _ _ (first_lower x z m d lt)
-            | inr (inr lt) ↦ at_least _ _ (first_higher y z n d (omega arith))
+            | inl xz ↦ between _ _ _ _ (side_by_side_first_same x z m d xz) (side_by_side_first_same y z n d (sym is ∙ xz)) (side_by_side_rising m n d (sym (side_by_side_first_same x y m n is) ∙ e))
+            | inr (inl lt) ↦ at_most _ _ (side_by_side_first_lower x z m d lt)
+            | inr (inr lt) ↦ at_least _ _ (side_by_side_first_higher y z n d (omega arith))
           ]
       | inr (inl lt) ↦
           elim (cases_lt x z) [
-            | inl below ↦ at_most _ _ (first_lower x z m d below)
-            | inr above ↦ at_least _ _ (first_higher y z n d (omega arith))
+            | inl below ↦ at_most _ _ (side_by_side_first_lower x z m d below)
+            | inr above ↦ at_least _ _ (side_by_side_first_higher y z n d (omega arith))
           ]
-      | inr (inr lt) ↦ absurd (not_less (side_by_side (x ∷ m) (y ∷ n)) (first_higher x y m n lt) e)
+      | inr (inr lt) ↦ absurd (not_less (side_by_side (x ∷ m) (y ∷ n)) (side_by_side_first_higher x y m n lt) e)
     ]
   where
     not_less : (o : Ordering) → o ≡ Greater → o ≡ Less → ⊥
@@ -176,8 +176,8 @@ least Less p e le = refl
 least Equal p e le = absurd (omega (arith, ap ordering_index e))
 least Greater p e le = absurd (omega (arith, ap ordering_index e))
 
-pub precedes_on : (m n d : List ℕ) → side_by_side m n ≡ Less → side_by_side n d ≡ Less → side_by_side m d ≡ Less
-precedes_on m n d p q = least (side_by_side m d) (side_by_side n d) q (rising m n d p)
+pub side_by_side_precedes_on : (m n d : List ℕ) → side_by_side m n ≡ Less → side_by_side n d ≡ Less → side_by_side m d ≡ Less
+side_by_side_precedes_on m n d p q = least (side_by_side m d) (side_by_side n d) q (side_by_side_rising m n d p)
 
 pub is_less : (o : Ordering) → is_lt o ≡ true → o ≡ Less
 is_less Less e = refl

@@ -12,11 +12,11 @@ use Rattle.control_memory.specs.Paths.{Fabric}
 use Rattle.control_memory.proofs.Steps.{number_inside, IsNew, new_or_old, hop_here, hop_else}
 
 -- ---- how many paths have moved
-pub same_hop : (h k : Route) (b c : Bool) → same_slot h.to k.to ≡ b → (h.slot == k.slot) ≡ c → is_moved (Some h) (Some k) ≡ cond (b && not c) 1 0
-same_hop h k b c to slot = ap (λ t. cond (t && not (h.slot == k.slot)) 1 0) to ∙ ap (λ t. cond (b && not t) 1 0) slot
+pub is_moved_same_hop : (h k : Route) (b c : Bool) → same_slot h.to k.to ≡ b → (h.slot == k.slot) ≡ c → is_moved (Some h) (Some k) ≡ cond (b && not c) 1 0
+is_moved_same_hop h k b c to slot = ap (λ t. cond (t && not (h.slot == k.slot)) 1 0) to ∙ ap (λ t. cond (b && not t) 1 0) slot
 
 pub not_moved : (h : Route) → is_moved (Some h) (Some h) ≡ 0
-not_moved h = same_hop h h true true (same_slot-refl h.to) (eq-eqb h.slot h.slot refl)
+not_moved h = is_moved_same_hop h h true true (same_slot-refl h.to) (eq-eqb h.slot h.slot refl)
 
 pub moved_same : (layout : Layout) → moved layout layout ≡ 0
 moved_same [] = refl
@@ -32,8 +32,8 @@ moved_set (b ∷ bs) (a ∷ rest) zero v same inside = omega arith
 moved_set (b ∷ bs) (a ∷ rest) (suc n) v same inside = let later = moved_set bs rest n v (omega (arith, same)) (omega (arith, inside)) in omega (arith, later)
 
 -- a new path has not moved
-pub new_unmoved : (lines : ℕ) (before after : Layout) (from to : Slot) (slot : ℕ) → length before ≡ 30 * lines → length after ≡ 30 * lines → IsSlot lines from → hop_of before from ≡ None → moved before (with_path after from to slot) ≡ moved before after
-new_unmoved lines before after from to slot size_b size_a inside free =
+pub moved_new_unmoved : (lines : ℕ) (before after : Layout) (from to : Slot) (slot : ℕ) → length before ≡ 30 * lines → length after ≡ 30 * lines → IsSlot lines from → hop_of before from ≡ None → moved before (with_path after from to slot) ≡ moved before after
+moved_new_unmoved lines before after from to slot size_b size_a inside free =
     let step = moved_set before after (number_of from) (Some (record { to = to; slot = slot })) (size_b ∙ sym size_a) (let n = number_inside lines from inside in omega (arith, n, size_a)) in
     let was = ap (λ h. is_moved h (get_or after (number_of from) None)) free in
     let is = ap (λ h. is_moved h (Some (record { to = to; slot = slot }))) free in
@@ -64,7 +64,7 @@ pub added_in_common : (f : Fabric) (from to : Slot) (slot : ℕ) → length f.la
 added_in_common f from to slot size inside free common = record {
   joined = sym (ap (connect_in f.lines f.slots f.layout from to) common);
   pairs = pairs_after f.lines f.layout f.layout from to slot size inside free (λ x y in_x. (λ j. j, λ j. j));
-  none_moved = new_unmoved f.lines f.layout f.layout from to slot size size inside free ∙ moved_same f.layout;
+  none_moved = moved_new_unmoved f.lines f.layout f.layout from to slot size size inside free ∙ moved_same f.layout;
 }
 
 -- the same for a call that added it: what it was called on, and what it left

@@ -13,7 +13,7 @@ use Rattle.paull_matrix.proofs.Laws.{lowest_in_both_is, legal_without as legal_m
 use Rattle.path_memory.specs.Matching.{IsMatrixOf}
 use Rattle.path_memory.specs.Memory.{IsPathMemory, CanConnect}
 use Rattle.path_memory.proofs.MatrixOfLayout.{matrix_with, matrix_without, free_by_matrix}
-use Rattle.path_memory.proofs.CommonSlot.{Beside, common_is}
+use Rattle.path_memory.proofs.CommonSlot.{Beside, lowest_in_both_common}
 
 -- what a call asks, of the fields
 pub can_of : (f now : Fabric) → f ≡ now → (from to : Slot) → IsSlot now.lines from → IsSlot now.lines to → hop_of now.layout from ≡ None → path_to now.layout to ≡ None → CanConnect f from to
@@ -31,8 +31,8 @@ pub record InCommon (m : Matrix) (f : Fabric) (from to : Slot) (slot : ℕ) : Ty
   pub free : IsFree f.lines f.layout from to slot
   pub common : common_slot f.slots f.layout from.line to.line ≡ Some slot
 
-pub common_of : (m : Matrix) (f : Fabric) (from to : Slot) → IsPathMemory m f → lowest_in_both m from.line to.line ≡ common_slot f.slots f.layout from.line to.line
-common_of m f from to kept = common_is f.lines f.slots m f.layout kept.slots (beside_of m f kept) from.line to.line
+pub lowest_in_both_common_of : (m : Matrix) (f : Fabric) (from to : Slot) → IsPathMemory m f → lowest_in_both m from.line to.line ≡ common_slot f.slots f.layout from.line to.line
+lowest_in_both_common_of m f from to kept = lowest_in_both_common f.lines f.slots m f.layout kept.slots (beside_of m f kept) from.line to.line
 
 pub in_common : (m : Matrix) (f : Fabric) (from to : Slot) (slot : ℕ) → IsPathMemory m f → CanConnect f from to → Some slot ≡ lowest_in_both m from.line to.line → InCommon m f from to slot
 in_common m f from to slot kept can lowest =
@@ -44,12 +44,12 @@ in_common m f from to slot kept can lowest =
       within = subst (λ n. slot < n) kept.slots is.2;
       free = free_by_matrix f.lines f.slots m f.layout from to slot kept.legal_matrix kept.legal kept.is can.inlet
           (λ x s in_x has. let wrong = sym (path_to_is f.lines f.slots f.layout x to s kept.legal in_x has) ∙ can.outlet in absurd (cc)) is.0 is.1;
-      common = sym (common_of m f from to kept) ∙ sym lowest;
+      common = sym (lowest_in_both_common_of m f from to kept) ∙ sym lowest;
     }
 
-pub kept_with : (lines slots : ℕ) (m : Matrix) (layout : Layout) (from to : Slot) (slot : ℕ) (m' : Matrix) (f' : Fabric) → m.lines ≡ lines → m.slots ≡ slots → Beside lines slots m layout → IsSlot lines from → IsSlot lines to → slot < m.slots → IsFree lines layout from to slot
+pub IsPathMemory-with_path : (lines slots : ℕ) (m : Matrix) (layout : Layout) (from to : Slot) (slot : ℕ) (m' : Matrix) (f' : Fabric) → m.lines ≡ lines → m.slots ≡ slots → Beside lines slots m layout → IsSlot lines from → IsSlot lines to → slot < m.slots → IsFree lines layout from to slot
     → m' ≡ with_entry m from.line to.line slot → IsLegal m' → f'.layout ≡ with_path layout from to slot → f'.lines ≡ lines → f'.slots ≡ slots → IsPathMemory m' f'
-kept_with lines slots m layout from to slot m' f' lines_are slots_are beside from_inside to_inside below free of_m legal_m of_layout of_lines of_slots =
+IsPathMemory-with_path lines slots m layout from to slot m' f' lines_are slots_are beside from_inside to_inside below free of_m legal_m of_layout of_lines of_slots =
     let within : slot < slots = subst (λ n. slot < n) slots_are below in
     record {
       lines = ap (λ (x : Matrix). x.lines) of_m ∙ lines_are ∙ sym of_lines;
@@ -65,8 +65,8 @@ lifts_entry m f from to hop kept inside joined at =
     let same = one_hop f.layout from hop.to to hop.slot joined.0 at joined.1 in
     (same.0, kept.is from.line hop.slot ∙ ap (option_map (λ (p : Path). p.to.line)) (path_in_is f.lines f.slots f.layout from hop.to hop.slot kept.legal inside at) ∙ ap (λ (t : Slot). Some t.line) same.0)
 
-pub kept_without : (m : Matrix) (f : Fabric) (from : Slot) (hop : Route) (m' : Matrix) (f' : Fabric) → IsPathMemory m f → IsSlot f.lines from → hop_of f.layout from ≡ Some hop → m' ≡ without_entry m from.line hop.slot → f'.layout ≡ without_path f.layout from → f'.lines ≡ f.lines → f'.slots ≡ f.slots → IsPathMemory m' f'
-kept_without m f from hop m' f' kept inside at of_m of_layout of_lines of_slots = record {
+pub IsPathMemory-without_path : (m : Matrix) (f : Fabric) (from : Slot) (hop : Route) (m' : Matrix) (f' : Fabric) → IsPathMemory m f → IsSlot f.lines from → hop_of f.layout from ≡ Some hop → m' ≡ without_entry m from.line hop.slot → f'.layout ≡ without_path f.layout from → f'.lines ≡ f.lines → f'.slots ≡ f.slots → IsPathMemory m' f'
+IsPathMemory-without_path m f from hop m' f' kept inside at of_m of_layout of_lines of_slots = record {
   lines = ap (λ (x : Matrix). x.lines) of_m ∙ kept.lines ∙ sym of_lines;
   slots = ap (λ (x : Matrix). x.slots) of_m ∙ kept.slots ∙ sym of_slots;
   legal_matrix = subst IsLegal (sym of_m) (legal_matrix_without m from.line hop.slot kept.legal_matrix);

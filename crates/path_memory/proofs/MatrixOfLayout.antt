@@ -7,7 +7,7 @@ use Rattle.control_memory.specs.Connecting.{with_path, without_path, IsFree}
 use Rattle.control_memory.proofs.Lookups.{path_in_found, path_in_is, path_out_found, path_out_is}
 use Rattle.control_memory.proofs.LookupsAfter.{looks_in, sent_in, path_of, found_with_new, found_with_old, found_without_old, found_without_other}
 use Rattle.paull_matrix.specs.Matrix.{Matrix, by_row_and_slot, no_paths, row_slot, column_slot, IsLegal, with_path as with_entry, without_path as without_entry}
-use Rattle.paull_matrix.proofs.Laws.{with_path_here, with_path_other, without_path_here, without_path_other, here_or_other, column_of_row, no_column, no_row}
+use Rattle.paull_matrix.proofs.Laws.{row_slot-with_path_here, row_slot-with_path_other, row_slot-without_path_here, row_slot-without_path_other, here_or_other, column_of_row, no_column, no_row}
 use Rattle.path_memory.specs.Matching.{IsMatrixOf}
 use Rattle.control_memory.proofs.TablesAfter.{bare, finds_nothing}
 use Rattle.std.specs.FinMap.{get-empty}
@@ -49,10 +49,10 @@ pub matrix_with : (lines slots : ℕ) (m : Matrix) (layout : Layout) (from to : 
 matrix_with lines slots m layout from to slot legal inside inside_to below free is i s =
     ⊎_elim
     (λ (e : (i ≡ from.line) × (s ≡ slot)).
-    ap (λ n. row_slot (with_entry m from.line to.line slot) n s) e.0 ∙ ap (λ n. row_slot (with_entry m from.line to.line slot) from.line n) e.1 ∙ with_path_here m from.line to.line slot
+    ap (λ n. row_slot (with_entry m from.line to.line slot) n s) e.0 ∙ ap (λ n. row_slot (with_entry m from.line to.line slot) from.line n) e.1 ∙ row_slot-with_path_here m from.line to.line slot
     ∙ sym (ap (option_map (λ p. p.to.line)) (found_with_new lines slots layout from to slot (λ x. path_in x i s) (sent_in i s) (looks_in lines slots i s) legal inside inside_to below free (sym e.0, sym e.1))))
     (λ (other : i ≡ from.line → s ≡ slot → ⊥).
-    with_path_other m from.line to.line slot i s other ∙ is i s
+    row_slot-with_path_other m from.line to.line slot i s other ∙ is i s
     ∙ sym (ap (option_map (λ p. p.to.line)) (found_with_old lines slots layout from to slot (λ x. path_in x i s) (sent_in i s) (looks_in lines slots i s) legal inside inside_to below free (λ this. other (sym this.0) (sym this.1)))))
     (here_or_other from.line slot i s)
 
@@ -61,10 +61,10 @@ pub matrix_without : (lines slots : ℕ) (m : Matrix) (layout : Layout) (from to
 matrix_without lines slots m layout from to slot legal inside has is i s =
     ⊎_elim
     (λ (e : (i ≡ from.line) × (s ≡ slot)).
-    ap (λ n. row_slot (without_entry m from.line slot) n s) e.0 ∙ ap (λ n. row_slot (without_entry m from.line slot) from.line n) e.1 ∙ without_path_here m from.line slot
+    ap (λ n. row_slot (without_entry m from.line slot) n s) e.0 ∙ ap (λ n. row_slot (without_entry m from.line slot) from.line n) e.1 ∙ row_slot-without_path_here m from.line slot
     ∙ sym (ap (option_map (λ p. p.to.line)) (found_without_old lines slots layout from to slot (λ x. path_in x i s) (sent_in i s) (looks_in lines slots i s) legal inside has (sym e.0, sym e.1))))
     (λ (other : i ≡ from.line → s ≡ slot → ⊥).
-    without_path_other m from.line slot i s other ∙ is i s
+    row_slot-without_path_other m from.line slot i s other ∙ is i s
     ∙ sym (ap (option_map (λ p. p.to.line)) (found_without_other lines slots layout from to slot (λ x. path_in x i s) (sent_in i s) (looks_in lines slots i s) legal inside has (λ this. other (sym this.0) (sym this.1)))))
     (here_or_other from.line slot i s)
 

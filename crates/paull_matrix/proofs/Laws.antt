@@ -31,9 +31,9 @@ tied_apart i s k t apart = false_unless _ (λ tied.
     apart (ap (λ (p : ℕ × ℕ). p.0) same) (ap (λ (p : ℕ × ℕ). p.1) same))
 
 -- what a name says
-pub named : (o : Option ℕ) (j : ℕ) → names o j ≡ true → o ≡ Some j
-named None j e = absurd (cc)
-named (Some k) j e = ap Some (exact_unsigned_eq k j e)
+pub names_some : (o : Option ℕ) (j : ℕ) → names o j ≡ true → o ≡ Some j
+names_some None j e = absurd (cc)
+names_some (Some k) j e = ap Some (exact_unsigned_eq k j e)
 
 pub names_it : (o : Option ℕ) (j : ℕ) → o ≡ Some j → names o j ≡ true
 names_it None j e = absurd (cc)
@@ -41,7 +41,7 @@ names_it (Some k) j e = eq-eqb k j (same_Some k j e)
 
 -- a column has in a slot the row that has the column there
 pub row_of_column : (m : Matrix) (i s j : ℕ) → column_slot m j s ≡ Some i → row_slot m i s ≡ Some j
-row_of_column m i s j e = named (row_slot m i s) j (lowest_passes (λ k. has_path m k j s) m.lines i e).0
+row_of_column m i s j e = names_some (row_slot m i s) j (lowest_passes (λ k. has_path m k j s) m.lines i e).0
 
 pub row_inside : (m : Matrix) (i s j : ℕ) → column_slot m j s ≡ Some i → i < m.lines
 row_inside m i s j e = (lowest_passes (λ k. has_path m k j s) m.lines i e).1
@@ -49,27 +49,27 @@ row_inside m i s j e = (lowest_passes (λ k. has_path m k j s) m.lines i e).1
 pub column_of_row : (m : Matrix) (i s j : ℕ) → IsLegal m → row_slot m i s ≡ Some j → column_slot m j s ≡ Some i
 column_of_row m i s j legal e =
     lowest_only (λ k. has_path m k j s) m.lines i (names_it (row_slot m i s) j e) (legal.row_within i s j e)
-    (λ k t. legal.column_once k i s j (named (row_slot m k s) j t) e)
+    (λ k t. legal.column_once k i s j (names_some (row_slot m k s) j t) e)
 
 -- where a column lacks a slot, no row has the column there
 pub no_row : (m : Matrix) (i s j : ℕ) → IsLegal m → column_slot m j s ≡ None → row_slot m i s ≡ Some j → ⊥
 no_row m i s j legal none e = let f = column_of_row m i s j legal e in cc
 
 pub no_column : (m : Matrix) (j s : ℕ) → ((i : ℕ) → row_slot m i s ≡ Some j → ⊥) → column_slot m j s ≡ None
-no_column m j s none = lowest_of_none (λ k. has_path m k j s) m.lines (λ k below t. none k (named (row_slot m k s) j t))
+no_column m j s none = lowest_of_none (λ k. has_path m k j s) m.lines (λ k below t. none k (names_some (row_slot m k s) j t))
 
 -- the row and the slot of a new path, and the others
-pub with_path_here : (m : Matrix) (i j s : ℕ) → row_slot (with_path m i j s) i s ≡ Some j
-with_path_here m i j s = get-insert places_total m.columns (i, s) j (i, s) ∙ rw (tied_here (i, s)) refl
+pub row_slot-with_path_here : (m : Matrix) (i j s : ℕ) → row_slot (with_path m i j s) i s ≡ Some j
+row_slot-with_path_here m i j s = get-insert places_total m.columns (i, s) j (i, s) ∙ rw (tied_here (i, s)) refl
 
-pub with_path_other : (m : Matrix) (i j s k t : ℕ) → (k ≡ i → t ≡ s → ⊥) → row_slot (with_path m i j s) k t ≡ row_slot m k t
-with_path_other m i j s k t apart = get-insert places_total m.columns (i, s) j (k, t) ∙ rw (tied_apart i s k t apart) refl
+pub row_slot-with_path_other : (m : Matrix) (i j s k t : ℕ) → (k ≡ i → t ≡ s → ⊥) → row_slot (with_path m i j s) k t ≡ row_slot m k t
+row_slot-with_path_other m i j s k t apart = get-insert places_total m.columns (i, s) j (k, t) ∙ rw (tied_apart i s k t apart) refl
 
-pub without_path_here : (m : Matrix) (i s : ℕ) → row_slot (without_path m i s) i s ≡ None
-without_path_here m i s = get-remove places_total m.columns (i, s) (i, s) ∙ rw (tied_here (i, s)) refl
+pub row_slot-without_path_here : (m : Matrix) (i s : ℕ) → row_slot (without_path m i s) i s ≡ None
+row_slot-without_path_here m i s = get-remove places_total m.columns (i, s) (i, s) ∙ rw (tied_here (i, s)) refl
 
-pub without_path_other : (m : Matrix) (i s k t : ℕ) → (k ≡ i → t ≡ s → ⊥) → row_slot (without_path m i s) k t ≡ row_slot m k t
-without_path_other m i s k t apart = get-remove places_total m.columns (i, s) (k, t) ∙ rw (tied_apart i s k t apart) refl
+pub row_slot-without_path_other : (m : Matrix) (i s k t : ℕ) → (k ≡ i → t ≡ s → ⊥) → row_slot (without_path m i s) k t ≡ row_slot m k t
+row_slot-without_path_other m i s k t apart = get-remove places_total m.columns (i, s) (k, t) ∙ rw (tied_apart i s k t apart) refl
 
 -- a place is the one or another
 pub here_or_other : (i s k t : ℕ) → ((k ≡ i) × (t ≡ s)) ⊎ (k ≡ i → t ≡ s → ⊥)
@@ -81,22 +81,22 @@ here_or_other i s k t = elim (cases_eq k i) [
 -- a path of the new matrix is the new one or one of the old
 pub new_or_old : (m : Matrix) (i j s k t l : ℕ) → row_slot (with_path m i j s) k t ≡ Some l → ((k ≡ i) × (t ≡ s) × (l ≡ j)) ⊎ (row_slot m k t ≡ Some l)
 new_or_old m i j s k t l e = elim (here_or_other i s k t) [
-  | inl here ↦ inl (here.0, here.1, same_Some l j (sym e ∙ rw (here.0, here.1) (with_path_here m i j s)))
-  | inr other ↦ inr (sym (with_path_other m i j s k t other) ∙ e)
+  | inl here ↦ inl (here.0, here.1, same_Some l j (sym e ∙ rw (here.0, here.1) (row_slot-with_path_here m i j s)))
+  | inr other ↦ inr (sym (row_slot-with_path_other m i j s k t other) ∙ e)
 ]
 
-pub stood_before : (m : Matrix) (i s k t l : ℕ) → row_slot (without_path m i s) k t ≡ Some l → row_slot m k t ≡ Some l
-stood_before m i s k t l e = elim (here_or_other i s k t) [
-  | inl here ↦ let lifted : row_slot (without_path m i s) k t ≡ None = rw (here.0, here.1) (without_path_here m i s) in absurd (cc)
-  | inr other ↦ sym (without_path_other m i s k t other) ∙ e
+pub row_slot_stood_before : (m : Matrix) (i s k t l : ℕ) → row_slot (without_path m i s) k t ≡ Some l → row_slot m k t ≡ Some l
+row_slot_stood_before m i s k t l e = elim (here_or_other i s k t) [
+  | inl here ↦ let lifted : row_slot (without_path m i s) k t ≡ None = rw (here.0, here.1) (row_slot-without_path_here m i s) in absurd (cc)
+  | inr other ↦ sym (row_slot-without_path_other m i s k t other) ∙ e
 ]
 
 pub legal_without : (m : Matrix) (i s : ℕ) → IsLegal m → IsLegal (without_path m i s)
 legal_without m i s legal = record {
-  column_once = λ k l t j e f. legal.column_once k l t j (stood_before m i s k t j e) (stood_before m i s l t j f);
-  row_within = λ k t j e. legal.row_within k t j (stood_before m i s k t j e);
-  column_within = λ k t j e. legal.column_within k t j (stood_before m i s k t j e);
-  slot_within = λ k t j e. legal.slot_within k t j (stood_before m i s k t j e);
+  column_once = λ k l t j e f. legal.column_once k l t j (row_slot_stood_before m i s k t j e) (row_slot_stood_before m i s l t j f);
+  row_within = λ k t j e. legal.row_within k t j (row_slot_stood_before m i s k t j e);
+  column_within = λ k t j e. legal.column_within k t j (row_slot_stood_before m i s k t j e);
+  slot_within = λ k t j e. legal.slot_within k t j (row_slot_stood_before m i s k t j e);
   lines_within = legal.lines_within;
   slots_within = legal.slots_within;
 }
@@ -194,7 +194,7 @@ same_column m n l t one other there back = found (column_slot n l t) refl
 
 -- the column and the slot of a new path, and the others
 pub column_with_here : (m : Matrix) (i j s : ℕ) → IsLegal (with_path m i j s) → column_slot (with_path m i j s) j s ≡ Some i
-column_with_here m i j s legal = column_of_row (with_path m i j s) i s j legal (with_path_here m i j s)
+column_with_here m i j s legal = column_of_row (with_path m i j s) i s j legal (row_slot-with_path_here m i j s)
 
 pub column_with_other : (m : Matrix) (i j s l t : ℕ) → IsLegal m → IsLegal (with_path m i j s) → row_slot m i s ≡ None → (l ≡ j → t ≡ s → ⊥) → column_slot (with_path m i j s) l t ≡ column_slot m l t
 column_with_other m i j s l t before after missing apart = same_column (with_path m i j s) m l t after before there back
@@ -205,7 +205,7 @@ column_with_other m i j s l t before after missing apart = same_column (with_pat
     back : (k : ℕ) → row_slot m k t ≡ Some l → row_slot (with_path m i j s) k t ≡ Some l
     back k e = elim (here_or_other i s k t) [
       | inl here ↦ let at : row_slot m i s ≡ Some l = rw (here.0, here.1) at e in absurd (cc)
-      | inr other ↦ with_path_other m i j s k t other ∙ e
+      | inr other ↦ row_slot-with_path_other m i j s k t other ∙ e
     ]
 
 pub column_without_here : (m : Matrix) (i j s : ℕ) → IsLegal m → row_slot m i s ≡ Some j → column_slot (without_path m i s) j s ≡ None
@@ -213,12 +213,12 @@ column_without_here m i j s legal stands = no_column (without_path m i s) j s no
   where
     none : (k : ℕ) → row_slot (without_path m i s) k s ≡ Some j → ⊥
     none k e =
-        let same = legal.column_once k i s j (stood_before m i s k s j e) stands in
-        let lifted : row_slot (without_path m i s) k s ≡ None = rw same (without_path_here m i s) in
+        let same = legal.column_once k i s j (row_slot_stood_before m i s k s j e) stands in
+        let lifted : row_slot (without_path m i s) k s ≡ None = rw same (row_slot-without_path_here m i s) in
         cc
 
 pub column_without_other : (m : Matrix) (i j s l t : ℕ) → IsLegal m → row_slot m i s ≡ Some j → (l ≡ j → t ≡ s → ⊥) → column_slot (without_path m i s) l t ≡ column_slot m l t
-column_without_other m i j s l t legal stands apart = same_column (without_path m i s) m l t (legal_without m i s legal) legal (λ k. stood_before m i s k t l) back
+column_without_other m i j s l t legal stands apart = same_column (without_path m i s) m l t (legal_without m i s legal) legal (λ k. row_slot_stood_before m i s k t l) back
   where
     back : (k : ℕ) → row_slot m k t ≡ Some l → row_slot (without_path m i s) k t ≡ Some l
     back k e = elim (here_or_other i s k t) [
@@ -226,7 +226,7 @@ column_without_other m i j s l t legal stands apart = same_column (without_path 
           let at : row_slot m i s ≡ Some l = rw (here.0, here.1) at e in
           let same : Some l ≡ Some j = sym at ∙ stands in
           absurd (apart (same_Some l j same) here.1)
-      | inr other ↦ without_path_other m i s k t other ∙ e
+      | inr other ↦ row_slot-without_path_other m i s k t other ∙ e
     ]
 
 -- ---- the lowest free slots are free

@@ -116,8 +116,8 @@ lacks_lowest word slots fits few below =
     lowest_is (lacks word) slots (trailing_zeros w64 (bit_not w64 word)) (eq-eqb _ 0 (clear_at word fits (omega arith))) below
     (λ t less. lacks_not word t (set_below word t fits (omega arith) less))
 
-pub lacks_nowhere : (word slots : ℕ) → word < 2 ^ 64 → slots ≤ 59 → slots ≤ trailing_zeros w64 (bit_not w64 word) → lowest (lacks word) slots ≡ None
-lacks_nowhere word slots fits few beyond =
+pub lowest-lacks_nowhere : (word slots : ℕ) → word < 2 ^ 64 → slots ≤ 59 → slots ≤ trailing_zeros w64 (bit_not w64 word) → lowest (lacks word) slots ≡ None
+lowest-lacks_nowhere word slots fits few beyond =
     lowest_of_none (lacks word) slots (λ t less clear. let full = lacks_not word t (set_below word t fits (omega arith) (omega arith)) in cc)
 
 -- the lowest slot that a line's word lacks, and the lowest that two lines' words lack: n is the line as it was read

@@ -104,16 +104,16 @@ lowest_stays p (suc n) k e below = elim (to_last k n below) [
 ]
 
 -- a number that passes, where none below it did
-pub found_at : (p : ℕ → Bool) (n k : ℕ) → lowest p k ≡ None → p k ≡ true → k < n → lowest p n ≡ Some k
-found_at p n k none t below = lowest_stays p n k (lowest_step p k ∙ or_this_last (lowest p k) (p k) k none t) below
+pub lowest_found_at : (p : ℕ → Bool) (n k : ℕ) → lowest p k ≡ None → p k ≡ true → k < n → lowest p n ≡ Some k
+lowest_found_at p n k none t below = lowest_stays p n k (lowest_step p k ∙ or_this_last (lowest p k) (p k) k none t) below
 
-none_lower : (p : ℕ → Bool) (n : ℕ) → ((m : ℕ) → m < n → p m ≡ false) → lowest p n ≡ None
-none_lower p zero none = refl
-none_lower p (suc n) none = lowest_step p n ∙ or_this_past (lowest p n) (p n) n (none_lower p n (λ m below. none m (omega arith))) (none n (omega arith))
+lowest_none_lower : (p : ℕ → Bool) (n : ℕ) → ((m : ℕ) → m < n → p m ≡ false) → lowest p n ≡ None
+lowest_none_lower p zero none = refl
+lowest_none_lower p (suc n) none = lowest_step p n ∙ or_this_past (lowest p n) (p n) n (lowest_none_lower p n (λ m below. none m (omega arith))) (none n (omega arith))
 
 -- a number that passes, where none below it does, is the lowest
 pub lowest_is : (p : ℕ → Bool) (n k : ℕ) → p k ≡ true → k < n → ((m : ℕ) → m < k → p m ≡ false) → lowest p n ≡ Some k
-lowest_is p n k t below none = found_at p n k (none_lower p k none) t below
+lowest_is p n k t below none = lowest_found_at p n k (lowest_none_lower p k none) t below
 
 -- the only number that passes is the lowest
 pub lowest_only : (p : ℕ → Bool) (n k : ℕ) → p k ≡ true → k < n → ((m : ℕ) → p m ≡ true → m ≡ k) → lowest p n ≡ Some k
@@ -121,7 +121,7 @@ lowest_only p n k t below only = lowest_is p n k t below (λ m less. false_unles
 
 -- where none passes there is no lowest
 pub lowest_of_none : (p : ℕ → Bool) (n : ℕ) → ((m : ℕ) → m < n → p m ≡ true → ⊥) → lowest p n ≡ None
-lowest_of_none p n none = none_lower p n (λ m below. false_unless (p m) (none m below))
+lowest_of_none p n none = lowest_none_lower p n (λ m below. false_unless (p m) (none m below))
 
 -- where none is left over, each counts
 pub count_full : (p left : ℕ → Bool) (n : ℕ) → ((k : ℕ) → left k ≡ false → p k ≡ true) → lowest left n ≡ None → count_below p n ≡ n

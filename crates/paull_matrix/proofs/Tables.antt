@@ -9,7 +9,7 @@ use Rattle.paull_matrix.specs.Numbers.{lowest}
 use Rattle.paull_matrix.specs.Marks.{marked, unmarked, lacks, IsMarked}
 use Rattle.paull_matrix.specs.Tabled.{held, with_held, with_row, rows_below, tabled, IsKept}
 use Rattle.paull_matrix.proofs.Marks.{marks_taken, marks_left, marks_none, word_lowest}
-use Rattle.paull_matrix.proofs.Laws.{places_total, places_exact, tied_here, tied_apart, no_column, legal_with, legal_without, legal_empty, here_or_other, with_path_here, with_path_other, without_path_here, without_path_other, column_with_here, column_with_other, column_without_here, column_without_other}
+use Rattle.paull_matrix.proofs.Laws.{places_total, places_exact, tied_here, tied_apart, no_column, legal_with, legal_without, legal_empty, here_or_other, row_slot-with_path_here, row_slot-with_path_other, row_slot-without_path_here, row_slot-without_path_other, column_with_here, column_with_other, column_without_here, column_without_other}
 
 -- what a place holds is in the map there, and the others stay
 held_here : (m : FinMap by_row_and_slot ℕ) (i s : ℕ) (o : Option ℕ) → get m (i, s) ≡ None → get (with_held m i s o) (i, s) ≡ o
@@ -76,13 +76,13 @@ pub place_within : (table : List (Option ℕ)) (lines slots i s n : ℕ) → len
 place_within table lines slots i s n places row slot at = let inside = mul-add-lt i slots s lines row slot in omega arith
 
 -- a place that is written, and the others
-pub written_here : (table : List (Option ℕ)) (lines slots i s : ℕ) (o : Option ℕ) → length table ≡ lines * slots → i < lines → s < slots → held (set table (i * slots + s) o) slots i s ≡ o
-written_here table lines slots i s o places row slot =
+pub held_written_here : (table : List (Option ℕ)) (lines slots i s : ℕ) (o : Option ℕ) → length table ≡ lines * slots → i < lines → s < slots → held (set table (i * slots + s) o) slots i s ≡ o
+held_written_here table lines slots i s o places row slot =
     let inside = mul-add-lt i slots s lines row slot in
     get_or-set_same table (i * slots + s) o None (omega arith)
 
-pub written_other : (table : List (Option ℕ)) (slots i s k t : ℕ) (o : Option ℕ) → s < slots → t < slots → (k ≡ i → t ≡ s → ⊥) → held (set table (i * slots + s) o) slots k t ≡ held table slots k t
-written_other table slots i s k t o slot below apart =
+pub held_written_other : (table : List (Option ℕ)) (slots i s k t : ℕ) (o : Option ℕ) → s < slots → t < slots → (k ≡ i → t ≡ s → ⊥) → held (set table (i * slots + s) o) slots k t ≡ held table slots k t
+held_written_other table slots i s k t o slot below apart =
     get_or-set_other table (i * slots + s) (k * slots + t) o None
     (λ same. let parts = same_from_place k t i s slots below slot same in apart parts.0 parts.1)
 
@@ -90,7 +90,7 @@ other_tabled : (lines slots : ℕ) (table : List (Option ℕ)) (i s k t : ℕ) (
 other_tabled lines slots table i s k t o slot apart = elim (within_or_beyond lines slots k t) [
   | inl within ↦
       row_slot_tabled lines slots (set table (i * slots + s) o) k t within.0 within.1
-      ∙ written_other table slots i s k t o slot within.1 apart
+      ∙ held_written_other table slots i s k t o slot within.1 apart
       ∙ sym (row_slot_tabled lines slots table k t within.0 within.1)
   | inr beyond ↦ beyond_tabled lines slots (set table (i * slots + s) o) k t beyond ∙ sym (beyond_tabled lines slots table k t beyond)
 ]
@@ -109,7 +109,7 @@ tabled_written lines slots table i s o m places row slot written others = same_m
   where
     each : (k t : ℕ) → row_slot (tabled lines slots (set table (i * slots + s) o)) k t ≡ get m (k, t)
     each k t = elim (here_or_other i s k t) [
-      | inl here ↦ rw (here.0, here.1) (row_slot_tabled lines slots (set table (i * slots + s) o) i s row slot ∙ written_here table lines slots i s o places row slot ∙ sym written)
+      | inl here ↦ rw (here.0, here.1) (row_slot_tabled lines slots (set table (i * slots + s) o) i s row slot ∙ held_written_here table lines slots i s o places row slot ∙ sym written)
       | inr other ↦ other_tabled lines slots table i s k t o slot other ∙ sym (others k t other)
     ]
 
@@ -117,22 +117,22 @@ tabled_written lines slots table i s o m places row slot written others = same_m
 pub tabled_place : (lines slots : ℕ) (table : List (Option ℕ)) (i j s : ℕ) → length table ≡ lines * slots → i < lines → s < slots → tabled lines slots (set table (i * slots + s) (Some j)) ≡ with_path (tabled lines slots table) i j s
 tabled_place lines slots table i j s places row slot =
     let m = tabled lines slots table in
-    tabled_written lines slots table i s (Some j) (with_path m i j s).columns places row slot (with_path_here m i j s) (with_path_other m i j s)
+    tabled_written lines slots table i s (Some j) (with_path m i j s).columns places row slot (row_slot-with_path_here m i j s) (row_slot-with_path_other m i j s)
 
 pub tabled_lift : (lines slots : ℕ) (table : List (Option ℕ)) (i s : ℕ) → length table ≡ lines * slots → i < lines → s < slots → tabled lines slots (set table (i * slots + s) None) ≡ without_path (tabled lines slots table) i s
 tabled_lift lines slots table i s places row slot =
     let m = tabled lines slots table in
-    tabled_written lines slots table i s None (without_path m i s).columns places row slot (without_path_here m i s) (without_path_other m i s)
+    tabled_written lines slots table i s None (without_path m i s).columns places row slot (row_slot-without_path_here m i s) (row_slot-without_path_other m i s)
 
 -- a table that has what each line has, after one place is written
-indexed_after : (lines slots : ℕ) (rows : List (Option ℕ)) (before after : ℕ → ℕ → Option ℕ) (j s : ℕ) (o : Option ℕ) → length rows ≡ lines * slots
+held_indexed_after : (lines slots : ℕ) (rows : List (Option ℕ)) (before after : ℕ → ℕ → Option ℕ) (j s : ℕ) (o : Option ℕ) → length rows ≡ lines * slots
     → ((l t : ℕ) → l < lines → t < slots → held rows slots l t ≡ before l t)
     → j < lines → s < slots → after j s ≡ o
     → ((l t : ℕ) → (l ≡ j → t ≡ s → ⊥) → after l t ≡ before l t)
     → (l t : ℕ) → l < lines → t < slots → held (set rows (j * slots + s) o) slots l t ≡ after l t
-indexed_after lines slots rows before after j s o places indexed column slot here others l t below within = elim (here_or_other j s l t) [
-  | inl one ↦ rw (one.0, one.1) (written_here rows lines slots j s o places column slot ∙ sym here)
-  | inr other ↦ written_other rows slots j s l t o slot within other ∙ indexed l t below within ∙ sym (others l t other)
+held_indexed_after lines slots rows before after j s o places indexed column slot here others l t below within = elim (here_or_other j s l t) [
+  | inl one ↦ rw (one.0, one.1) (held_written_here rows lines slots j s o places column slot ∙ sym here)
+  | inr other ↦ held_written_other rows slots j s l t o slot within other ∙ indexed l t below within ∙ sym (others l t other)
 ]
 
 -- what holds of the tables and the words holds with a path more
@@ -148,9 +148,9 @@ kept_place lines slots columns rows row_words column_words i j s kept row column
       row_places = length-set columns _ _ ∙ kept.row_places;
       column_places = length-set rows _ _ ∙ kept.column_places;
       indexed = subst (λ n. (l t : ℕ) → l < lines → t < slots → held (set rows (j * slots + s) (Some i)) slots l t ≡ column_slot n l t) same
-          (indexed_after lines slots rows (column_slot m) (column_slot (with_path m i j s)) j s (Some i) kept.column_places kept.indexed column slot here others);
+          (held_indexed_after lines slots rows (column_slot m) (column_slot (with_path m i j s)) j s (Some i) kept.column_places kept.indexed column slot here others);
       row_marks = subst (λ n. IsMarked lines slots (marked row_words i s) (row_slot n)) same
-          (marks_taken lines slots row_words (row_slot m) (row_slot (with_path m i j s)) i s j kept.row_marks row (with_path_here m i j s) (with_path_other m i j s));
+          (marks_taken lines slots row_words (row_slot m) (row_slot (with_path m i j s)) i s j kept.row_marks row (row_slot-with_path_here m i j s) (row_slot-with_path_other m i j s));
       column_marks = subst (λ n. IsMarked lines slots (marked column_words j s) (column_slot n)) same
           (marks_taken lines slots column_words (column_slot m) (column_slot (with_path m i j s)) j s i kept.column_marks column here others);
     }
@@ -171,9 +171,9 @@ kept_lift lines slots columns rows row_words column_words i j s kept stands =
       row_places = length-set columns _ _ ∙ kept.row_places;
       column_places = length-set rows _ _ ∙ kept.column_places;
       indexed = subst (λ n. (l t : ℕ) → l < lines → t < slots → held (set rows (j * slots + s) None) slots l t ≡ column_slot n l t) same
-          (indexed_after lines slots rows (column_slot m) (column_slot (without_path m i s)) j s None kept.column_places kept.indexed column slot here others);
+          (held_indexed_after lines slots rows (column_slot m) (column_slot (without_path m i s)) j s None kept.column_places kept.indexed column slot here others);
       row_marks = subst (λ n. IsMarked lines slots (unmarked row_words i s) (row_slot n)) same
-          (marks_left lines slots row_words (row_slot m) (row_slot (without_path m i s)) i s kept.row_marks row slot few (without_path_here m i s) (without_path_other m i s));
+          (marks_left lines slots row_words (row_slot m) (row_slot (without_path m i s)) i s kept.row_marks row slot few (row_slot-without_path_here m i s) (row_slot-without_path_other m i s));
       column_marks = subst (λ n. IsMarked lines slots (unmarked column_words j s) (column_slot n)) same
           (marks_left lines slots column_words (column_slot m) (column_slot (without_path m i s)) j s kept.column_marks column slot few here others);
     }

@@ -35,12 +35,12 @@ as_many : length (drop 1 decision_values) ≡ 128
 unfolding decision_values
 as_many = refl
 
-pub first_beyond : (magnitude k : ℕ) → k < 128 → ((j : ℕ) → j < k → get_or decision_values (j + 1) 0 ≤ magnitude) → magnitude < get_or decision_values (k + 1) 0 → interval_of magnitude ≡ k
-first_beyond magnitude k inside before here =
+pub interval_of_first_beyond : (magnitude k : ℕ) → k < 128 → ((j : ℕ) → j < k → get_or decision_values (j + 1) 0 ≤ magnitude) → magnitude < get_or decision_values (k + 1) 0 → interval_of magnitude ≡ k
+interval_of_first_beyond magnitude k inside before here =
     position_or_len_is (λ upper. nat_lt magnitude upper) (drop 1 decision_values) k 0 (let many = as_many in omega arith)
     (λ j below. let end = before j below in let at = get_or_after_one decision_values j 0 in grind (arith, nat_tests))
     (λ within. let at = get_or_after_one decision_values k 0 in grind (arith, nat_tests))
 
-pub last_end : get_or decision_values 128 0 ≡ 4096
+pub get_or-decision_values_last : get_or decision_values 128 0 ≡ 4096
 unfolding decision_values
-last_end = refl
+get_or-decision_values_last = refl

@@ -3,7 +3,7 @@ use Rattle.std.proofs.Common.{◌≡◌, ℕ, ◌+◌, ◌*◌, ◌/◌, ◌%◌
 use Rattle.std.proofs.lemmas.Bool.{eqb-true, cases_lt, le-leb, lt-leb}
 use Rattle.q931_elements.specs.InformationElement.{InformationElement}
 use Rattle.q931_elements.specs.Reading.{elements_of}
-use Rattle.q931_elements.proofs.Readings.{reading_is, is_read}
+use Rattle.q931_elements.proofs.Readings.{reading_is, IsElementList-elements_of}
 use Rattle.q931_codec.specs.declared.kind.MessageKind.{MessageKind}
 use Rattle.q931_codec.specs.declared.message.Message.{Message}
 use Rattle.q931_codec.specs.declared.message.Discard.{Discard}
@@ -27,8 +27,8 @@ value_back true value small = omega arith
 value_back false value small = omega arith
 
 -- what the grammar reads is what the beginning says
-pub message_read : (octets : List ℕ) (m : Message) → IsMessage octets m → reading octets ≡ Ok m
-message_read octets m is =
+pub reading_message : (octets : List ℕ) (m : Message) → IsMessage octets m → reading octets ≡ Ok m
+reading_message octets m is =
     ap reading is.octets_are
     ∙ ap (λ (x : Message). Ok x) (same_made _ m.flag _ m.reference _ m.kind _ m.elements (flag_back m.flag m.reference is.value) (value_back m.flag m.reference is.value) is.kind (sym (reading_is is.rest m.elements is.elements_are)))
 
@@ -69,7 +69,7 @@ five high low type rest h l = record {
   kind = kind_is type;
   rest = rest;
   octets_are = sym (ap (λ (r : List ℕ). (8 ∷ 2 ∷ r ++ type_of (kind_of type) ∷ []) ++ rest) (reference_back high low h l) ∙ ap (λ (t : ℕ). 8 ∷ 2 ∷ high ∷ low ∷ t ∷ rest) (type_back named_kinds type));
-  elements_are = is_read rest;
+  elements_are = IsElementList-elements_of rest;
 }
 
 from_reference : (octets : List ℕ) (m : Message) → IsOctets (8 ∷ 2 ∷ octets) → reading_from_reference octets ≡ Ok m → IsMessage (8 ∷ 2 ∷ octets) m

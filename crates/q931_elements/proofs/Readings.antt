@@ -45,43 +45,43 @@ after_unfinished [] is = refl
 after_unfinished (code ∷ []) low = rw (lt-ltb code 0x80 low) refl
 after_unfinished (code ∷ len ∷ rest) (low, short) = rw (lt-ltb code 0x80 low) (nil_from_length (drop len rest) (omega (arith, length-drop len rest)))
 
-read_present : (item : Item) (rest : List ℕ) → IsPiece (Present item) → elements_of (octets_of item ++ rest) ≡ element_of item ∷ elements_of rest
-read_present item rest is = elements_from (octets_of item ++ rest) _ (sym (front_present item rest is))
+elements_of_present : (item : Item) (rest : List ℕ) → IsPiece (Present item) → elements_of (octets_of item ++ rest) ≡ element_of item ∷ elements_of rest
+elements_of_present item rest is = elements_from (octets_of item ++ rest) _ (sym (front_present item rest is))
 
-read_shifted : (shift : ℕ) (item : Item) (rest : List ℕ) → IsNonLockingShift shift → IsItem item → elements_of (shift ∷ (octets_of item ++ rest)) ≡ elements_of rest
-read_shifted shift item rest is item-is =
+elements_of_shifted : (shift : ℕ) (item : Item) (rest : List ℕ) → IsNonLockingShift shift → IsItem item → elements_of (shift ∷ (octets_of item ++ rest)) ≡ elements_of rest
+elements_of_shifted shift item rest is item-is =
     elements_from (shift ∷ (octets_of item ++ rest)) _ (sym (non_locking_at shift (octets_of item ++ rest) is)) ∙ ap elements_of (after_is item rest item-is)
 
-pub read_nothing : elements_of [] ≡ []
-read_nothing = elements_step []
+pub elements_of_nothing : elements_of [] ≡ []
+elements_of_nothing = elements_step []
 
-read_unfinished : (octets : List ℕ) → IsUnfinishedElement octets → elements_of octets ≡ []
-read_unfinished octets is = elements_from octets _ (sym (unfinished_at octets is))
+elements_of_unfinished : (octets : List ℕ) → IsUnfinishedElement octets → elements_of octets ≡ []
+elements_of_unfinished octets is = elements_from octets _ (sym (unfinished_at octets is))
 
-read_tail : (tail : List ℕ) → IsTail tail → elements_of tail ≡ []
-read_tail [] is = read_nothing
-read_tail (octet ∷ rest) (inl locking) = elements_from (octet ∷ rest) _ (sym (locking_at octet rest locking))
-read_tail (octet ∷ rest) (inr (inl (shift, unfinished))) =
-    elements_from (octet ∷ rest) _ (sym (non_locking_at octet rest shift)) ∙ ap elements_of (after_unfinished rest unfinished) ∙ read_nothing
-read_tail (octet ∷ rest) (inr (inr unfinished)) = read_unfinished (octet ∷ rest) unfinished
+elements_of_tail : (tail : List ℕ) → IsTail tail → elements_of tail ≡ []
+elements_of_tail [] is = elements_of_nothing
+elements_of_tail (octet ∷ rest) (inl locking) = elements_from (octet ∷ rest) _ (sym (locking_at octet rest locking))
+elements_of_tail (octet ∷ rest) (inr (inl (shift, unfinished))) =
+    elements_from (octet ∷ rest) _ (sym (non_locking_at octet rest shift)) ∙ ap elements_of (after_unfinished rest unfinished) ∙ elements_of_nothing
+elements_of_tail (octet ∷ rest) (inr (inr unfinished)) = elements_of_unfinished (octet ∷ rest) unfinished
 
 -- ---- at most one reading
 
-read_pieces : (pieces : List Piece) (tail : List ℕ) → AllByRecursion IsPiece pieces → IsTail tail → elements_of (octets_of_pieces pieces ++ tail) ≡ present_elements pieces
-read_pieces [] tail are is = read_tail tail is
-read_pieces (Present item ∷ pieces) tail (one, others) is =
+elements_of_pieces : (pieces : List Piece) (tail : List ℕ) → AllByRecursion IsPiece pieces → IsTail tail → elements_of (octets_of_pieces pieces ++ tail) ≡ present_elements pieces
+elements_of_pieces [] tail are is = elements_of_tail tail is
+elements_of_pieces (Present item ∷ pieces) tail (one, others) is =
     ap elements_of (append_assoc (octets_of item) (octets_of_pieces pieces) tail)
-    ∙ read_present item (octets_of_pieces pieces ++ tail) one
-    ∙ ap (λ es. element_of item ∷ es) (read_pieces pieces tail others is)
-read_pieces (Shifted shift item ∷ pieces) tail (one, others) is =
+    ∙ elements_of_present item (octets_of_pieces pieces ++ tail) one
+    ∙ ap (λ es. element_of item ∷ es) (elements_of_pieces pieces tail others is)
+elements_of_pieces (Shifted shift item ∷ pieces) tail (one, others) is =
     ap (λ octets. elements_of (shift ∷ octets)) (append_assoc (octets_of item) (octets_of_pieces pieces) tail)
-    ∙ read_shifted shift item (octets_of_pieces pieces ++ tail) one.0 one.1
-    ∙ read_pieces pieces tail others is
+    ∙ elements_of_shifted shift item (octets_of_pieces pieces ++ tail) one.0 one.1
+    ∙ elements_of_pieces pieces tail others is
 
 -- what the grammar reads is what the walk finds
 pub reading_is : (octets : List ℕ) (elements : List InformationElement) → IsElementList octets elements → elements ≡ elements_of octets
 reading_is octets elements is =
-    is.elements_are ∙ sym (read_pieces is.pieces is.tail is.are_pieces is.is_tail) ∙ ap elements_of (sym is.octets_are)
+    is.elements_are ∙ sym (elements_of_pieces is.pieces is.tail is.are_pieces is.is_tail) ∙ ap elements_of (sym is.octets_are)
 
 -- ---- at least one reading
 
@@ -113,7 +113,7 @@ with_present octets item rest is parts others = record {
   are_pieces = (is, others.are_pieces);
   is_tail = others.is_tail;
   octets_are = parts ∙ ap (λ left. octets_of item ++ left) others.octets_are ∙ sym (append_assoc (octets_of item) (octets_of_pieces others.pieces) others.tail);
-  elements_are = ap elements_of parts ∙ read_present item rest is ∙ ap (λ es. element_of item ∷ es) others.elements_are;
+  elements_are = ap elements_of parts ∙ elements_of_present item rest is ∙ ap (λ es. element_of item ∷ es) others.elements_are;
 }
 
 with_shifted : (octets : List ℕ) (shift : ℕ) (item : Item) (rest : List ℕ) → IsNonLockingShift shift → IsItem item → octets ≡ shift ∷ (octets_of item ++ rest) → IsElementList rest (elements_of rest) → IsElementList octets (elements_of octets)
@@ -123,11 +123,11 @@ with_shifted octets shift item rest is item-is parts others = record {
   are_pieces = ((is, item-is), others.are_pieces);
   is_tail = others.is_tail;
   octets_are = parts ∙ ap (λ left. shift ∷ (octets_of item ++ left)) others.octets_are ∙ ap (λ left. shift ∷ left) (sym (append_assoc (octets_of item) (octets_of_pieces others.pieces) others.tail));
-  elements_are = ap elements_of parts ∙ read_shifted shift item rest is item-is ∙ others.elements_are;
+  elements_are = ap elements_of parts ∙ elements_of_shifted shift item rest is item-is ∙ others.elements_are;
 }
 
 tail_alone : (tail : List ℕ) → IsTail tail → IsElementList tail (elements_of tail)
-tail_alone tail is = record { pieces = []; tail = tail; are_pieces = tt; is_tail = is; octets_are = refl; elements_are = read_tail tail is }
+tail_alone tail is = record { pieces = []; tail = tail; are_pieces = tt; is_tail = is; octets_are = refl; elements_are = elements_of_tail tail is }
 
 unfinished_tail : (octets : List ℕ) → IsUnfinishedElement octets → IsTail octets
 unfinished_tail [] is = tt
@@ -185,8 +185,8 @@ read_within zero octets le = tail_alone octets (unfinished_tail octets (subst Is
 read_within (suc n) octets le = read_longer n (read_within n) octets le
 
 -- each string of octets has a reading
-pub is_read : (octets : List ℕ) → IsElementList octets (elements_of octets)
-is_read octets = read_within (length octets) octets (omega arith)
+pub IsElementList-elements_of : (octets : List ℕ) → IsElementList octets (elements_of octets)
+IsElementList-elements_of octets = read_within (length octets) octets (omega arith)
 
 -- ---- what is written
 

@@ -28,15 +28,15 @@ contents_shorter : (octets : List ℕ) → length (after_contents octets) ≤ le
 contents_shorter [] = omega arith
 contents_shorter (len ∷ rest) = omega (arith, length-drop len rest)
 
-pub item_shorter : (octets : List ℕ) → length (after_item octets) ≤ length octets
-item_shorter [] = omega arith
-item_shorter (octet ∷ rest) =
+pub length-after_item-le : (octets : List ℕ) → length (after_item octets) ≤ length octets
+length-after_item-le [] = omega arith
+length-after_item-le (octet ∷ rest) =
     either (λ (left : List ℕ). length left ≤ suc (length rest)) (ltb octet 0x80) (after_contents rest) rest (omega (arith, contents_shorter rest)) (omega arith)
 
 same_at : (f g : List ℕ → List InformationElement) (n : ℕ) → ((octets : List ℕ) → length octets ≤ n → f octets ≡ g octets) → (at : Front) → IsWithin n at → elements_at f at ≡ elements_at g at
 same_at f g n same (Whole element rest) within = ap (λ es. element ∷ es) (same rest within)
 same_at f g n same LockingShift within = refl
-same_at f g n same (NonLockingShift rest) within = same (after_item rest) (omega (arith, item_shorter rest))
+same_at f g n same (NonLockingShift rest) within = same (after_item rest) (omega (arith, length-after_item-le rest))
 same_at f g n same Unfinished within = refl
 
 same_bound : (m n : ℕ) (octets : List ℕ) → length octets ≤ m → length octets ≤ n → elements_within m octets ≡ elements_within n octets
@@ -63,7 +63,7 @@ elements_from octets at is = elements_step octets ∙ ap (elements_at elements_o
 count_at : (others : List ℕ → List InformationElement) (n : ℕ) → ((octets : List ℕ) → length (others octets) ≤ length octets) → (at : Front) → IsWithin n at → length (elements_at others at) ≤ suc n
 count_at others n few (Whole element rest) within = omega (arith, few rest)
 count_at others n few LockingShift within = omega arith
-count_at others n few (NonLockingShift rest) within = omega (arith, few (after_item rest), item_shorter rest)
+count_at others n few (NonLockingShift rest) within = omega (arith, few (after_item rest), length-after_item-le rest)
 count_at others n few Unfinished within = omega arith
 
 count_within : (n : ℕ) (octets : List ℕ) → length (elements_within n octets) ≤ length octets
@@ -73,6 +73,6 @@ count_within (suc n) [] = omega arith
 count_within (suc n) (x ∷ xs) = count_at (elements_within n) (length xs) (count_within n) (front_in (x ∷ xs)) (front_within x xs)
 
 -- there are no more elements than octets
-pub elements_few : (octets : List ℕ) → length (elements_of octets) ≤ length octets
+pub length-elements_of-le : (octets : List ℕ) → length (elements_of octets) ≤ length octets
 unfolding elements_of
-elements_few octets = count_within (length octets) octets
+length-elements_of-le octets = count_within (length octets) octets

@@ -9,7 +9,7 @@ use mathlib.Core.Logic.{inl, inr}
 use Rattle.rearrange_chain.specs.declared.moves.Move.{Move}
 use Rattle.rearrange_chain.specs.Chain.{End, Row, Column, far_end, move_of}
 use Rattle.paull_matrix.proofs.Pigeonhole.{pigeonhole}
-use Rattle.rearrange_chain.proofs.Walk.{line_of, leave, enter, step, end_at, IsMirrored, IsWithin, IsEndOf, own_chain, then_cases, map_cases, entered_by, turned, next_at, is_step, has_step, end_cases, old_of, new_of, chain_length, comes_to_ends, never_comes_to, no_meeting, no_return, been_before, end_within, number, number_below, number_same, numbered, numbered_is}
+use Rattle.rearrange_chain.proofs.Walk.{line_of, leave, enter, step, end_at, IsMirrored, IsWithin, IsEndOf, own_chain, then_cases, map_cases, entered_by, far_end_turned, end_at_next, is_step, slice_get-own_chain_has_step, end_cases, move_of_old, move_of_new, chain_length, comes_to_ends, never_comes_to, no_meeting, no_return, been_before, line_of_end_within, number, number_below, number_same, numbered, numbered_is}
 
 -- What a chain from a start needs, so that it comes to an end and comes back nowhere: the paths are found from both of their ends, what is
 -- looked up lies within the lines, nothing leads to the start, and nothing leads to some other end
@@ -62,7 +62,7 @@ two_walks look a b lines start other opened p q x y g h =
           record {
             first = e.0;
             is = ap (λ t. if t then numbered look a b lines start k else numbered look a b lines other (k - suc p)) (let yes : nat_lt k (suc p) ≡ true = grind (arith, nat_tests, less) in yes) ∙ numbered_is look a b lines start k e.0 e.1;
-            inside = end_within look a b lines start opened.within opened.inside k e.0 e.1;
+            inside = line_of_end_within look a b lines start opened.within opened.inside k e.0 e.1;
             source = inl (less, e.1);
           }
       | inr more ↦
@@ -70,7 +70,7 @@ two_walks look a b lines start other opened p q x y g h =
           record {
             first = e.0;
             is = ap (λ t. if t then numbered look a b lines start k else numbered look a b lines other (k - suc p)) (let no_less : nat_lt k (suc p) ≡ false = grind (arith, nat_tests, more) in no_less) ∙ numbered_is look a b lines other (k - suc p) e.0 e.1;
-            inside = end_within look a b lines other opened.within opened.other_inside (k - suc p) e.0 e.1;
+            inside = line_of_end_within look a b lines other opened.within opened.other_inside (k - suc p) e.0 e.1;
             source = inr (more, e.1);
           }
     ]
@@ -126,33 +126,33 @@ taken_before look a b lines start other opened (suc k) f line here goes =
     let last = then_cases (step look a b) (end_at look a b start k) f here in
     let way = map_cases last.0 (look last.0 (leave a b last.0)) f last.2 in
     let back : line_of last.0 ≡ line = same_Some (line_of last.0) line (sym (entered_by look a b last.0 f opened.mirror last.2) ∙ goes) in
-    let there = has_step look a b start (2 * lines) k last.0 way.0 (omega arith) last.1 way.1 in
-    let turn = turned a b last.0 way.0 in (
+    let there = slice_get-own_chain_has_step look a b start (2 * lines) k last.0 way.0 (omega arith) last.1 way.1 in
+    let turn = far_end_turned a b last.0 way.0 in (
       k,
       there ∙ ap Some (turned_move last.0 way.0 (leave a b last.0) (enter a b last.0))
           ∙ ap Some (λ i. move_of (way.2 i) (back i) (leave_is last.0 way.0 f way.2 i) (enter_is last.0 way.0 f way.2 i)),
     )
   where
     leave_is : (e : End) (m : ℕ) (g : End) → far_end e m ≡ g → leave a b e ≡ enter a b g
-    leave_is e m g is = sym (turned a b e m).1 ∙ ap (enter a b) is
+    leave_is e m g is = sym (far_end_turned a b e m).1 ∙ ap (enter a b) is
 
     enter_is : (e : End) (m : ℕ) (g : End) → far_end e m ≡ g → enter a b e ≡ leave a b g
-    enter_is e m g is = sym (turned a b e m).0 ∙ ap (leave a b) is
+    enter_is e m g is = sym (far_end_turned a b e m).0 ∙ ap (leave a b) is
 
 -- and the path over which it goes on
 taken_after : (look : End → ℕ → Option ℕ) (a b lines : ℕ) (start other : End) → IsOpen look a b lines start other → (k : ℕ) (f : End) (line : ℕ)
     → end_at look a b start k ≡ Some f → look f (leave a b f) ≡ Some line → Takes (own_chain look a b (2 * lines) start) f line (leave a b f) (enter a b f)
 taken_after look a b lines start other opened k f line here goes =
     let few = ends_before look a b lines start other opened k f here in
-    (k, has_step look a b start (2 * lines) k f line (omega arith) here goes)
+    (k, slice_get-own_chain_has_step look a b start (2 * lines) k f line (omega arith) here goes)
 
 -- Where a move's path has, at one of its ends, a neighbour in the slot that it takes, the chain takes that neighbour too
 pub takes_neighbour : (look : End → ℕ → Option ℕ) (a b lines : ℕ) (start other : End) → IsOpen look a b lines start other → (k : ℕ) (v : Move) (f : End) (line : ℕ)
     → slice_get (own_chain look a b (2 * lines) start) k ≡ Some v → IsEndOf f v → look f v.new ≡ Some line → Takes (own_chain look a b (2 * lines) start) f line v.new v.old
 takes_neighbour look a b lines start other opened k v f line h end goes =
     let at = is_step look a b start (2 * lines) k v h in
-    let new_is : v.new ≡ enter a b at.near = ap (λ (w : Move). w.new) at.is ∙ new_of at.near at.line (leave a b at.near) (enter a b at.near) in
-    let old_is : v.old ≡ leave a b at.near = ap (λ (w : Move). w.old) at.is ∙ old_of at.near at.line (leave a b at.near) (enter a b at.near) in
+    let new_is : v.new ≡ enter a b at.near = ap (λ (w : Move). w.new) at.is ∙ move_of_new at.near at.line (leave a b at.near) (enter a b at.near) in
+    let old_is : v.old ≡ leave a b at.near = ap (λ (w : Move). w.old) at.is ∙ move_of_old at.near at.line (leave a b at.near) (enter a b at.near) in
     elim (end_cases at.near at.line (leave a b at.near) (enter a b at.near) v f at.is end) [
       | inl near ↦
           let new_at : v.new ≡ enter a b f = new_is ∙ ap (enter a b) (sym near) in
@@ -160,10 +160,10 @@ takes_neighbour look a b lines start other opened k v f line h end goes =
           let taken = taken_before look a b lines start other opened k f line (at.is_at ∙ ap Some (sym near)) (subst (λ s. look f s ≡ Some line) new_at goes) in
           (taken.0, taken.1 ∙ ap Some (λ i. move_of f line (sym new_at i) (sym old_at i)))
       | inr far ↦
-          let turn = turned a b at.near at.line in
+          let turn = far_end_turned a b at.near at.line in
           let new_at : v.new ≡ leave a b f = new_is ∙ sym turn.0 ∙ ap (leave a b) (sym far) in
           let old_at : v.old ≡ enter a b f = old_is ∙ sym turn.1 ∙ ap (enter a b) (sym far) in
-          let next = next_at look a b start at.near k at.line at.is_at at.goes ∙ ap Some (sym far) in
+          let next = end_at_next look a b start at.near k at.line at.is_at at.goes ∙ ap Some (sym far) in
           let taken = taken_after look a b lines start other opened (suc k) f line next (subst (λ s. look f s ≡ Some line) new_at goes) in
           (taken.0, taken.1 ∙ ap Some (λ i. move_of f line (sym new_at i) (sym old_at i)))
     ]

@@ -7,7 +7,7 @@ use Rattle.std.proofs.Common.{get_or}
 use Rattle.std.proofs.lemmas.Option.{same_Some, slice_get-get_or, get_or_from_slice_get, slice_get_within}
 use mathlib.Core.Logic.{inl, inr}
 use Rattle.paull_matrix.specs.Matrix.{Matrix, row_slot, with_path, without_path, paths_of_cell, SameSizes, IsLegal}
-use Rattle.paull_matrix.proofs.Laws.{with_path_here, with_path_other, without_path_here, without_path_other, here_or_other, new_or_old, stood_before, legal_with, legal_without, no_column, cell_differs}
+use Rattle.paull_matrix.proofs.Laws.{row_slot-with_path_here, row_slot-with_path_other, row_slot-without_path_here, row_slot-without_path_other, here_or_other, new_or_old, row_slot_stood_before, legal_with, legal_without, no_column, cell_differs}
 use Rattle.rearrange_chain.specs.declared.moves.Move.{Move}
 use Rattle.rearrange_chain.specs.Chain.{lifted, placed, exchanged, ChangesBy}
 use Rattle.rearrange_chain.specs.InTurn.{CanLift, CanPlace}
@@ -19,42 +19,42 @@ LeavesNone moves i s = (k : ℕ) (v : Move) → slice_get moves k ≡ Some v →
 abbrev pub TakesNone : List Move → ℕ → ℕ → Type 0
 TakesNone moves i s = (k : ℕ) (v : Move) → slice_get moves k ≡ Some v → v.row ≡ i → v.new ≡ s → ⊥
 
-none_stays : (m : Matrix) (k t i s : ℕ) → row_slot m i s ≡ None → row_slot (without_path m k t) i s ≡ None
-none_stays m k t i s none = elim (here_or_other k t i s) [
-  | inl here ↦ rw (here.0, here.1) (without_path_here m k t)
-  | inr other ↦ without_path_other m k t i s other ∙ none
+row_slot_none_stays : (m : Matrix) (k t i s : ℕ) → row_slot m i s ≡ None → row_slot (without_path m k t) i s ≡ None
+row_slot_none_stays m k t i s none = elim (here_or_other k t i s) [
+  | inl here ↦ rw (here.0, here.1) (row_slot-without_path_here m k t)
+  | inr other ↦ row_slot-without_path_other m k t i s other ∙ none
 ]
 
-pub lifted_none : (moves : List Move) (m : Matrix) (i s : ℕ) → row_slot m i s ≡ None → row_slot (lifted m moves) i s ≡ None
-lifted_none [] m i s none = none
-lifted_none (v ∷ moves) m i s none = lifted_none moves (without_path m v.row v.old) i s (none_stays m v.row v.old i s none)
+pub row_slot-lifted_none : (moves : List Move) (m : Matrix) (i s : ℕ) → row_slot m i s ≡ None → row_slot (lifted m moves) i s ≡ None
+row_slot-lifted_none [] m i s none = none
+row_slot-lifted_none (v ∷ moves) m i s none = row_slot-lifted_none moves (without_path m v.row v.old) i s (row_slot_none_stays m v.row v.old i s none)
 
 -- a path that is left without the moved ones was there before
-pub lifted_from : (moves : List Move) (m : Matrix) (i s j : ℕ) → row_slot (lifted m moves) i s ≡ Some j → row_slot m i s ≡ Some j
-lifted_from [] m i s j e = e
-lifted_from (v ∷ moves) m i s j e = stood_before m v.row v.old i s j (lifted_from moves (without_path m v.row v.old) i s j e)
+pub row_slot_lifted_from : (moves : List Move) (m : Matrix) (i s j : ℕ) → row_slot (lifted m moves) i s ≡ Some j → row_slot m i s ≡ Some j
+row_slot_lifted_from [] m i s j e = e
+row_slot_lifted_from (v ∷ moves) m i s j e = row_slot_stood_before m v.row v.old i s j (row_slot_lifted_from moves (without_path m v.row v.old) i s j e)
 
 -- a path that does not move stays
-pub lifted_keeps : (moves : List Move) (m : Matrix) (i s : ℕ) → LeavesNone moves i s → row_slot (lifted m moves) i s ≡ row_slot m i s
-lifted_keeps [] m i s none = refl
-lifted_keeps (v ∷ moves) m i s none =
-    lifted_keeps moves (without_path m v.row v.old) i s (λ k u h. none (suc k) u h)
-    ∙ without_path_other m v.row v.old i s (λ row slot. none zero v refl (sym row) (sym slot))
+pub row_slot-lifted_keeps : (moves : List Move) (m : Matrix) (i s : ℕ) → LeavesNone moves i s → row_slot (lifted m moves) i s ≡ row_slot m i s
+row_slot-lifted_keeps [] m i s none = refl
+row_slot-lifted_keeps (v ∷ moves) m i s none =
+    row_slot-lifted_keeps moves (without_path m v.row v.old) i s (λ k u h. none (suc k) u h)
+    ∙ row_slot-without_path_other m v.row v.old i s (λ row slot. none zero v refl (sym row) (sym slot))
 
 -- a path that moves is gone
-pub lifted_takes : (moves : List Move) (m : Matrix) (k : ℕ) (v : Move) → slice_get moves k ≡ Some v → row_slot (lifted m moves) v.row v.old ≡ None
-lifted_takes [] m k v h = absurd (cc)
-lifted_takes (u ∷ moves) m zero v h =
+pub row_slot-lifted_takes : (moves : List Move) (m : Matrix) (k : ℕ) (v : Move) → slice_get moves k ≡ Some v → row_slot (lifted m moves) v.row v.old ≡ None
+row_slot-lifted_takes [] m k v h = absurd (cc)
+row_slot-lifted_takes (u ∷ moves) m zero v h =
     let same : u ≡ v = same_Some u v h in
-    lifted_none moves (without_path m u.row u.old) v.row v.old (subst (λ (w : Move). row_slot (without_path m u.row u.old) w.row w.old ≡ None) same (without_path_here m u.row u.old))
-lifted_takes (u ∷ moves) m (suc k) v h = lifted_takes moves (without_path m u.row u.old) k v h
+    row_slot-lifted_none moves (without_path m u.row u.old) v.row v.old (subst (λ (w : Move). row_slot (without_path m u.row u.old) w.row w.old ≡ None) same (row_slot-without_path_here m u.row u.old))
+row_slot-lifted_takes (u ∷ moves) m (suc k) v h = row_slot-lifted_takes moves (without_path m u.row u.old) k v h
 
 -- what no path moves to stays
-pub placed_keeps : (moves : List Move) (m : Matrix) (i s : ℕ) → TakesNone moves i s → row_slot (placed m moves) i s ≡ row_slot m i s
-placed_keeps [] m i s none = refl
-placed_keeps (v ∷ moves) m i s none =
-    placed_keeps moves (with_path m v.row v.column v.new) i s (λ k u h. none (suc k) u h)
-    ∙ with_path_other m v.row v.column v.new i s (λ row slot. none zero v refl (sym row) (sym slot))
+pub row_slot-placed_keeps : (moves : List Move) (m : Matrix) (i s : ℕ) → TakesNone moves i s → row_slot (placed m moves) i s ≡ row_slot m i s
+row_slot-placed_keeps [] m i s none = refl
+row_slot-placed_keeps (v ∷ moves) m i s none =
+    row_slot-placed_keeps moves (with_path m v.row v.column v.new) i s (λ k u h. none (suc k) u h)
+    ∙ row_slot-with_path_other m v.row v.column v.new i s (λ row slot. none zero v refl (sym row) (sym slot))
 
 -- a path is where it was moved to, or where it was
 pub placed_from : (moves : List Move) (m : Matrix) (i s j : ℕ) → row_slot (placed m moves) i s ≡ Some j
@@ -89,7 +89,7 @@ can_lift [] m stands once = tt
 can_lift (v ∷ moves) m stands once = (
   stands zero v refl,
   can_lift moves (without_path m v.row v.old)
-      (λ k u h. without_path_other m v.row v.old u.row u.old (λ row slot. let same = once (suc k) zero u v h refl row slot in absurd (omega arith)) ∙ stands (suc k) u h)
+      (λ k u h. row_slot-without_path_other m v.row v.old u.row u.old (λ row slot. let same = once (suc k) zero u v h refl row slot in absurd (omega arith)) ∙ stands (suc k) u h)
       (λ k n u w g h row slot. let same = once (suc k) (suc n) u w g h row slot in omega arith),
 )
 
@@ -113,7 +113,7 @@ can_place (v ∷ moves) m within rows columns row_free column_free = (
   can_place moves (with_path m v.row v.column v.new) (λ k u h. within (suc k) u h)
       (λ k n u w g h row slot. let same = rows (suc k) (suc n) u w g h row slot in omega arith)
       (λ k n u w g h column slot. let same = columns (suc k) (suc n) u w g h column slot in omega arith)
-      (λ k u h. with_path_other m v.row v.column v.new u.row u.new (λ row slot. let same = rows (suc k) zero u v h refl row slot in absurd (omega arith)) ∙ row_free (suc k) u h)
+      (λ k u h. row_slot-with_path_other m v.row v.column v.new u.row u.new (λ row slot. let same = rows (suc k) zero u v h refl row slot in absurd (omega arith)) ∙ row_free (suc k) u h)
       (λ k u i h e. elim (new_or_old m v.row v.column v.new i u.new u.column e) [
         | inl new ↦ let same = columns (suc k) zero u v h refl new.2 new.1 in absurd (omega arith)
         | inr old ↦ column_free (suc k) u i h old
@@ -144,8 +144,8 @@ exchange_places m moves legal is = can_place moves (lifted m moves) within is.ta
     free_at : (k : ℕ) (v : Move) → slice_get moves k ≡ Some v → (o : Option ℕ) → row_slot (lifted m moves) v.row v.new ≡ o → o ≡ None
     free_at k v h None e = refl
     free_at k v h (Some j) e =
-        let other = is.row_moves k v j h (lifted_from moves m v.row v.new j e) in
-        let gone = lifted_takes moves m other.0 other.1 other.2 in
+        let other = is.row_moves k v j h (row_slot_lifted_from moves m v.row v.new j e) in
+        let gone = row_slot-lifted_takes moves m other.0 other.1 other.2 in
         sym e ∙ ap (λ s. row_slot (lifted m moves) v.row s) (sym other.4) ∙ ap (λ i. row_slot (lifted m moves) i other.1.old) (sym other.3) ∙ gone
 
     row_free : (k : ℕ) (v : Move) → slice_get moves k ≡ Some v → row_slot (lifted m moves) v.row v.new ≡ None
@@ -153,23 +153,23 @@ exchange_places m moves legal is = can_place moves (lifted m moves) within is.ta
 
     column_free : (k : ℕ) (v : Move) (i : ℕ) → slice_get moves k ≡ Some v → row_slot (lifted m moves) i v.new ≡ Some v.column → ⊥
     column_free k v i h e =
-        let other = is.column_moves k v i h (lifted_from moves m i v.new v.column e) in
-        let gone = lifted_takes moves m other.0 other.1 other.2 in
+        let other = is.column_moves k v i h (row_slot_lifted_from moves m i v.new v.column e) in
+        let gone = row_slot-lifted_takes moves m other.0 other.1 other.2 in
         let none : row_slot (lifted m moves) i v.new ≡ None = ap (λ s. row_slot (lifted m moves) i s) (sym other.4) ∙ ap (λ k'. row_slot (lifted m moves) k' other.1.old) (sym other.3) ∙ gone in
         cc
 
 -- The matrices differ by the moves
-placed_has : (moves : List Move) (m : Matrix)
+row_slot-placed_has : (moves : List Move) (m : Matrix)
     → ((k n : ℕ) (u v : Move) → slice_get moves k ≡ Some u → slice_get moves n ≡ Some v → u.row ≡ v.row → u.new ≡ v.new → k ≡ n)
     → (k : ℕ) (v : Move) → slice_get moves k ≡ Some v → row_slot (placed m moves) v.row v.new ≡ Some v.column
-placed_has [] m once k v h = absurd (cc)
-placed_has (u ∷ moves) m once zero v h =
+row_slot-placed_has [] m once k v h = absurd (cc)
+row_slot-placed_has (u ∷ moves) m once zero v h =
     let same : u ≡ v = same_Some u v h in
     subst (λ (w : Move). row_slot (placed (with_path m u.row u.column u.new) moves) w.row w.new ≡ Some w.column) same
-    (placed_keeps moves (with_path m u.row u.column u.new) u.row u.new (λ k w g row slot. let one = once (suc k) zero w u g refl row slot in absurd (omega arith))
-    ∙ with_path_here m u.row u.column u.new)
-placed_has (u ∷ moves) m once (suc k) v h =
-    placed_has moves (with_path m u.row u.column u.new) (λ k n w x g e row slot. let one = once (suc k) (suc n) w x g e row slot in omega arith) k v h
+    (row_slot-placed_keeps moves (with_path m u.row u.column u.new) u.row u.new (λ k w g row slot. let one = once (suc k) zero w u g refl row slot in absurd (omega arith))
+    ∙ row_slot-with_path_here m u.row u.column u.new)
+row_slot-placed_has (u ∷ moves) m once (suc k) v h =
+    row_slot-placed_has moves (with_path m u.row u.column u.new) (λ k n w x g e row slot. let one = once (suc k) (suc n) w x g e row slot in omega arith) k v h
 
 all_from_get : {X : Type 0} (P : X → Type 0) (xs : List X) → ((k : ℕ) (x : X) → slice_get xs k ≡ Some x → P x) → All P xs
 all_from_get P xs each k d below = each k (get_or xs k d) (slice_get-get_or xs k d below)
@@ -185,16 +185,16 @@ exchange_changes m moves is = record {
       omega arith;
   turned = all_from_get (λ (v : Move). v.old ≢ v.new) moves is.turns;
   stood = all_from_get (λ (v : Move). row_slot m v.row v.old ≡ Some v.column) moves is.stands;
-  stands = all_from_get (λ (v : Move). row_slot (exchanged m moves) v.row v.new ≡ Some v.column) moves (placed_has moves (lifted m moves) is.take_once);
+  stands = all_from_get (λ (v : Move). row_slot (exchanged m moves) v.row v.new ≡ Some v.column) moves (row_slot-placed_has moves (lifted m moves) is.take_once);
   kept = λ i s j none e.
       let leaves = get_from_all (λ (v : Move). ¬ ((v.row ≡ i) × (v.old ≡ s))) moves none in
-      placed_keeps moves (lifted m moves) i s (λ k v h row slot.
+      row_slot-placed_keeps moves (lifted m moves) i s (λ k v h row slot.
       let at : row_slot m v.row v.new ≡ Some j = ap (λ x. row_slot m x v.new) row ∙ ap (λ x. row_slot m i x) slot ∙ e in
       let other = is.row_moves k v j h at in
       leaves other.0 other.1 other.2 (other.3 ∙ row, other.4 ∙ slot))
-      ∙ lifted_keeps moves m i s (λ k v h row slot. leaves k v h (row, slot)) ∙ e;
+      ∙ row_slot-lifted_keeps moves m i s (λ k v h row slot. leaves k v h (row, slot)) ∙ e;
   none_else = λ i s j none e. elim (placed_from moves (lifted m moves) i s j e) [
-    | inl before ↦ lifted_from moves m i s j before
+    | inl before ↦ row_slot_lifted_from moves m i s j before
     | inr moved ↦ absurd (get_from_all (λ (v : Move). ¬ ((v.row ≡ i) × (v.new ≡ s))) moves none moved.0 moved.1 moved.2 (moved.3, moved.4))
   ];
 }
@@ -207,7 +207,7 @@ is_of_cell i j v = nat_eq v.row i && nat_eq v.column j
 lifted_cells : (moves : List Move) (m : Matrix) (i j : ℕ) → IsLegal m → CanLift m moves → paths_of_cell m i j ≡ paths_of_cell (lifted m moves) i j + count_by (is_of_cell i j) moves
 lifted_cells [] m i j legal can = omega arith
 lifted_cells (v ∷ moves) m i j legal can =
-    let one = cell_differs m (without_path m v.row v.old) v.row v.old v.column refl (legal.slot_within v.row v.old v.column can.0) can.0 (without_path_here m v.row v.old) (λ k t other. without_path_other m v.row v.old k t other) i j in
+    let one = cell_differs m (without_path m v.row v.old) v.row v.old v.column refl (legal.slot_within v.row v.old v.column can.0) can.0 (row_slot-without_path_here m v.row v.old) (λ k t other. row_slot-without_path_other m v.row v.old k t other) i j in
     let rest = lifted_cells moves (without_path m v.row v.old) i j (legal_without m v.row v.old legal) can.1 in
     let counted : count_by (is_of_cell i j) (v ∷ moves) ≡ (if nat_eq v.row i && nat_eq v.column j then 1 else 0) + count_by (is_of_cell i j) moves = sum_by-cons (λ u. cond (is_of_cell i j u) 1 0) v moves in
     let all : paths_of_cell (lifted m (v ∷ moves)) i j ≡ paths_of_cell (lifted (without_path m v.row v.old) moves) i j = refl in
@@ -217,8 +217,8 @@ lifted_cells (v ∷ moves) m i j legal can =
 placed_cells : (moves : List Move) (m : Matrix) (i j : ℕ) → CanPlace m moves → paths_of_cell (placed m moves) i j ≡ paths_of_cell m i j + count_by (is_of_cell i j) moves
 placed_cells [] m i j can = omega arith
 placed_cells (v ∷ moves) m i j can =
-    let one = cell_differs (with_path m v.row v.column v.new) m v.row v.new v.column refl can.0.slot (with_path_here m v.row v.column v.new) can.0.row_free
-    (λ k t other. sym (with_path_other m v.row v.column v.new k t other)) i j in
+    let one = cell_differs (with_path m v.row v.column v.new) m v.row v.new v.column refl can.0.slot (row_slot-with_path_here m v.row v.column v.new) can.0.row_free
+    (λ k t other. sym (row_slot-with_path_other m v.row v.column v.new k t other)) i j in
     let rest = placed_cells moves (with_path m v.row v.column v.new) i j can.1 in
     let counted : count_by (is_of_cell i j) (v ∷ moves) ≡ (if nat_eq v.row i && nat_eq v.column j then 1 else 0) + count_by (is_of_cell i j) moves = sum_by-cons (λ u. cond (is_of_cell i j u) 1 0) v moves in
     let all : paths_of_cell (placed m (v ∷ moves)) i j ≡ paths_of_cell (placed (with_path m v.row v.column v.new) moves) i j = refl in

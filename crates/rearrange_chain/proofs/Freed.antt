@@ -8,9 +8,9 @@ use Rattle.paull_matrix.proofs.Numbers.{lowest_passes, lowest_none}
 use Rattle.paull_matrix.proofs.Laws.{column_of_row, row_of_column, row_inside, no_column, lowest_in_row_is, lowest_in_column_is}
 use Rattle.rearrange_chain.specs.declared.moves.Move.{Move}
 use Rattle.rearrange_chain.specs.Chain.{End, Row, Column, far_line, far_end, move_of, chain, lifted, exchanged, is_shorter, shorter, ChangesBy}
-use Rattle.rearrange_chain.proofs.Walk.{leave, enter, IsMirrored, IsWithin, own_chain, is_step, has_step, rows_leave_once, rows_take_once, columns_take_once, not_entered, new_of, old_of}
+use Rattle.rearrange_chain.proofs.Walk.{leave, enter, IsMirrored, IsWithin, own_chain, is_step, slice_get-own_chain_has_step, rows_leave_once, rows_take_once, columns_take_once, not_entered, move_of_new, move_of_old}
 use Rattle.rearrange_chain.proofs.Closed.{IsOpen, turned_round, both_bound, takes_neighbour, other_untouched}
-use Rattle.rearrange_chain.proofs.Exchange.{IsExchange, lifted_keeps, lifted_from, lifted_takes, placed_keeps, placed_from, exchange_changes, exchange_cells, exchange_legal, exchange_sizes}
+use Rattle.rearrange_chain.proofs.Exchange.{IsExchange, row_slot-lifted_keeps, row_slot_lifted_from, row_slot-lifted_takes, row_slot-placed_keeps, placed_from, exchange_changes, exchange_cells, exchange_legal, exchange_sizes}
 
 -- in a legal matrix a path is found from both of its ends
 pub mirrored : (m : Matrix) → IsLegal m → IsMirrored (far_line m)
@@ -52,15 +52,15 @@ chain_exchanges m a b start other legal a_inside b_inside opened = record {
   stands = λ k v h.
       let at = is_step (far_line m) a b start (2 * m.lines) k v h in
       subst (λ (w : Move). row_slot m w.row w.old ≡ Some w.column) (sym at.is)
-      (ap (row_slot m (move_of at.near at.line (leave a b at.near) (enter a b at.near)).row) (old_of at.near at.line (leave a b at.near) (enter a b at.near))
+      (ap (row_slot m (move_of at.near at.line (leave a b at.near) (enter a b at.near)).row) (move_of_old at.near at.line (leave a b at.near) (enter a b at.near))
       ∙ stands_at m at.near at.line (leave a b at.near) (enter a b at.near) legal at.goes);
   turns = λ k v h same.
       let at = is_step (far_line m) a b start (2 * m.lines) k v h in
       two_ways a b at.near opened.two_slots
-      (sym (old_of at.near at.line (leave a b at.near) (enter a b at.near)) ∙ ap (λ (w : Move). w.old) (sym at.is) ∙ same ∙ ap (λ (w : Move). w.new) at.is ∙ new_of at.near at.line (leave a b at.near) (enter a b at.near));
+      (sym (move_of_old at.near at.line (leave a b at.near) (enter a b at.near)) ∙ ap (λ (w : Move). w.old) (sym at.is) ∙ same ∙ ap (λ (w : Move). w.new) at.is ∙ move_of_new at.near at.line (leave a b at.near) (enter a b at.near));
   within = λ k v h.
       let at = is_step (far_line m) a b start (2 * m.lines) k v h in
-      subst (λ (w : Move). w.new < m.slots) (sym at.is) (subst (λ s. s < m.slots) (sym (new_of at.near at.line (leave a b at.near) (enter a b at.near))) (enter_inside at.near));
+      subst (λ (w : Move). w.new < m.slots) (sym at.is) (subst (λ s. s < m.slots) (sym (move_of_new at.near at.line (leave a b at.near) (enter a b at.near))) (enter_inside at.near));
   leave_once = λ k n u v g h row old. rows_leave_once (far_line m) a b start (2 * m.lines) k n u v opened.mirror opened.free opened.two_slots g h row old;
   take_once = λ k n u v g h row new. rows_take_once (far_line m) a b start (2 * m.lines) k n u v opened.mirror opened.free opened.two_slots g h row new;
   columns_once = λ k n u v g h column new. columns_take_once (far_line m) a b start (2 * m.lines) k n u v opened.mirror opened.free opened.two_slots g h column new;
@@ -77,20 +77,20 @@ chain_exchanges m a b start other legal a_inside b_inside opened = record {
     enter_inside (Column j) = b_inside
 
 -- After the exchange of a chain the other end stays free in the slot in which it would be entered
-pub other_free_after : (m : Matrix) (a b : ℕ) (start other : End) → IsLegal m → IsOpen (far_line m) a b m.lines start other
+pub far_line_other_free_after : (m : Matrix) (a b : ℕ) (start other : End) → IsLegal m → IsOpen (far_line m) a b m.lines start other
     → far_line (exchanged m (own_chain (far_line m) a b (2 * m.lines) start)) other (enter a b other) ≡ None
-other_free_after m a b start (Row i) legal opened =
-    placed_keeps moves (lifted m moves) i a (λ k v h row _. untouched k v h row) ∙ lifted_keeps moves m i a (λ k v h row _. untouched k v h row) ∙ opened.other_free
+far_line_other_free_after m a b start (Row i) legal opened =
+    row_slot-placed_keeps moves (lifted m moves) i a (λ k v h row _. untouched k v h row) ∙ row_slot-lifted_keeps moves m i a (λ k v h row _. untouched k v h row) ∙ opened.other_free
   where
     moves : List Move
     moves = own_chain (far_line m) a b (2 * m.lines) start
 
     untouched : (k : ℕ) (v : Move) → slice_get (own_chain (far_line m) a b (2 * m.lines) start) k ≡ Some v → v.row ≡ i → ⊥
     untouched k v h row = other_untouched (far_line m) a b m.lines (2 * m.lines) start (Row i) opened k v h (inl (ap Row (sym row)))
-other_free_after m a b start (Column j) legal opened =
+far_line_other_free_after m a b start (Column j) legal opened =
     no_column (exchanged m (own_chain (far_line m) a b (2 * m.lines) start)) j b (λ x e. elim (placed_from moves (lifted m moves) x b j e) [
       | inl before ↦
-          let stood = column_of_row m x b j legal (lifted_from moves m x b j before) in
+          let stood = column_of_row m x b j legal (row_slot_lifted_from moves m x b j before) in
           clash stood opened.other_free
       | inr moved ↦ other_untouched (far_line m) a b m.lines (2 * m.lines) start (Column j) opened moved.0 moved.1 moved.2 (inr (ap Column (sym moved.5)))
     ])
@@ -102,17 +102,17 @@ other_free_after m a b start (Column j) legal opened =
     clash g h = let wrong = sym g ∙ h in cc
 
 -- and its own end becomes free in the slot in which it was left
-pub start_free_after : (m : Matrix) (a b : ℕ) (start other : End) → IsLegal m → IsOpen (far_line m) a b m.lines start other
+pub far_line_start_free_after : (m : Matrix) (a b : ℕ) (start other : End) → IsLegal m → IsOpen (far_line m) a b m.lines start other
     → far_line (exchanged m (own_chain (far_line m) a b (2 * m.lines) start)) start (leave a b start) ≡ None
-start_free_after m a b (Column j) other legal opened =
+far_line_start_free_after m a b (Column j) other legal opened =
     no_column (exchanged m (own_chain (far_line m) a b (2 * m.lines) (Column j))) j a (λ x e. elim (placed_from moves (lifted m moves) x a j e) [
       | inl before ↦
-          let stood = lifted_from moves m x a j before in
-          let first = has_step (far_line m) a b (Column j) (2 * m.lines) zero (Column j) x some_lines refl (column_of_row m x a j legal stood) in
-          clash before (lifted_takes moves m zero (record { row = x; column = j; old = a; new = b }) first)
+          let stood = row_slot_lifted_from moves m x a j before in
+          let first = slice_get-own_chain_has_step (far_line m) a b (Column j) (2 * m.lines) zero (Column j) x some_lines refl (column_of_row m x a j legal stood) in
+          clash before (row_slot-lifted_takes moves m zero (record { row = x; column = j; old = a; new = b }) first)
       | inr moved ↦
           let at = is_step (far_line m) a b (Column j) (2 * m.lines) moved.0 moved.1 moved.2 in
-          let entered : enter a b at.near ≡ a = sym (new_of at.near at.line (leave a b at.near) (enter a b at.near)) ∙ ap (λ (w : Move). w.new) (sym at.is) ∙ moved.4 in
+          let entered : enter a b at.near ≡ a = sym (move_of_new at.near at.line (leave a b at.near) (enter a b at.near)) ∙ ap (λ (w : Move). w.new) (sym at.is) ∙ moved.4 in
           let comes : far_end at.near at.line ≡ Column j = sym (to_column a b at.near at.line opened.two_slots entered) ∙ ap (λ (w : Move). Column w.column) (sym at.is) ∙ ap Column moved.5 in
           not_entered (far_line m) a b at.near (Column j) opened.mirror opened.free (rw at.goes (ap Some comes))
     ])
@@ -129,14 +129,14 @@ start_free_after m a b (Column j) other legal opened =
     to_column : (c d : ℕ) (e : End) (line : ℕ) → c ≢ d → enter c d e ≡ c → Column (move_of e line (leave c d e) (enter c d e)).column ≡ far_end e line
     to_column c d (Row i) line apart e = refl
     to_column c d (Column k) line apart e = absurd (apart (sym e))
-start_free_after m a b (Row i) other legal opened = is_none_by (row_slot (exchanged m (own_chain (far_line m) a b (2 * m.lines) (Row i))) i b) (λ l e. elim (placed_from moves (lifted m moves) i b l e) [
+far_line_start_free_after m a b (Row i) other legal opened = is_none_by (row_slot (exchanged m (own_chain (far_line m) a b (2 * m.lines) (Row i))) i b) (λ l e. elim (placed_from moves (lifted m moves) i b l e) [
   | inl before ↦
-      let stood = lifted_from moves m i b l before in
-      let first = has_step (far_line m) a b (Row i) (2 * m.lines) zero (Row i) l some_lines refl stood in
-      clash before (lifted_takes moves m zero (record { row = i; column = l; old = b; new = a }) first)
+      let stood = row_slot_lifted_from moves m i b l before in
+      let first = slice_get-own_chain_has_step (far_line m) a b (Row i) (2 * m.lines) zero (Row i) l some_lines refl stood in
+      clash before (row_slot-lifted_takes moves m zero (record { row = i; column = l; old = b; new = a }) first)
   | inr moved ↦
       let at = is_step (far_line m) a b (Row i) (2 * m.lines) moved.0 moved.1 moved.2 in
-      let entered : enter a b at.near ≡ b = sym (new_of at.near at.line (leave a b at.near) (enter a b at.near)) ∙ ap (λ (w : Move). w.new) (sym at.is) ∙ moved.4 in
+      let entered : enter a b at.near ≡ b = sym (move_of_new at.near at.line (leave a b at.near) (enter a b at.near)) ∙ ap (λ (w : Move). w.new) (sym at.is) ∙ moved.4 in
       let comes : far_end at.near at.line ≡ Row i = sym (to_row a b at.near at.line opened.two_slots entered) ∙ ap (λ (w : Move). Row w.row) (sym at.is) ∙ ap Row moved.3 in
       not_entered (far_line m) a b at.near (Row i) opened.mirror opened.free (rw at.goes (ap Some comes))
 ])
@@ -203,8 +203,8 @@ from_column m j a b = chain (far_line m) (2 * m.lines) (Column j) a b
 abbrev pub from_row : Matrix → ℕ → ℕ → ℕ → List Move
 from_row m i a b = chain (far_line m) (2 * m.lines) (Row i) b a
 
-pub bounds : (m : Matrix) (i j a b : ℕ) → Ways m i j a b → length (from_column m j a b) + length (from_row m i a b) + 2 ≤ 2 * m.lines
-bounds m i j a b w = both_bound (far_line m) a b m.lines (2 * m.lines) (Column j) (Row i) w.opened
+pub length-chains-le : (m : Matrix) (i j a b : ℕ) → Ways m i j a b → length (from_column m j a b) + length (from_row m i a b) + 2 ≤ 2 * m.lines
+length-chains-le m i j a b w = both_bound (far_line m) a b m.lines (2 * m.lines) (Column j) (Row i) w.opened
 
 pub shorter_room : (m : Matrix) (i j a b : ℕ) → Ways m i j a b → Room m i j (if is_shorter (from_row m i a b) (from_column m j a b) then b else a) (shorter (from_row m i a b) (from_column m j a b))
 shorter_room m i j a b w = by (is_shorter (from_row m i a b) (from_column m j a b)) refl
@@ -212,17 +212,17 @@ shorter_room m i j a b w = by (is_shorter (from_row m i a b) (from_column m j a 
     by : (t : Bool) → nat_lt (length (from_row m i a b)) (length (from_column m j a b)) ≡ t → Room m i j (if t then b else a) (if t then from_row m i a b else from_column m j a b)
     by true less = record {
       exchange = chain_exchanges m a b (Row i) (Column j) w.legal w.a_inside w.b_inside (turned_round (far_line m) a b m.lines (Column j) (Row i) w.opened);
-      row_free = start_free_after m a b (Row i) (Column j) w.legal (turned_round (far_line m) a b m.lines (Column j) (Row i) w.opened);
-      column_free = other_free_after m a b (Row i) (Column j) w.legal (turned_round (far_line m) a b m.lines (Column j) (Row i) w.opened);
+      row_free = far_line_start_free_after m a b (Row i) (Column j) w.legal (turned_round (far_line m) a b m.lines (Column j) (Row i) w.opened);
+      column_free = far_line_other_free_after m a b (Row i) (Column j) w.legal (turned_round (far_line m) a b m.lines (Column j) (Row i) w.opened);
       inside = w.b_inside;
-      bound = let both = bounds m i j a b w in let fewer : length (from_row m i a b) < length (from_column m j a b) = grind (arith, nat_tests, less) in omega (arith, both, fewer);
+      bound = let both = length-chains-le m i j a b w in let fewer : length (from_row m i a b) < length (from_column m j a b) = grind (arith, nat_tests, less) in omega (arith, both, fewer);
     }
     by false more = record {
       exchange = chain_exchanges m a b (Column j) (Row i) w.legal w.a_inside w.b_inside w.opened;
-      row_free = other_free_after m a b (Column j) (Row i) w.legal w.opened;
-      column_free = start_free_after m a b (Column j) (Row i) w.legal w.opened;
+      row_free = far_line_other_free_after m a b (Column j) (Row i) w.legal w.opened;
+      column_free = far_line_start_free_after m a b (Column j) (Row i) w.legal w.opened;
       inside = w.a_inside;
-      bound = let both = bounds m i j a b w in let fewer : length (from_column m j a b) ≤ length (from_row m i a b) = grind (arith, nat_tests, more) in omega (arith, both, fewer);
+      bound = let both = length-chains-le m i j a b w in let fewer : length (from_column m j a b) ≤ length (from_row m i a b) = grind (arith, nat_tests, more) in omega (arith, both, fewer);
     }
 
 -- what is there after moves that make room

@@ -142,9 +142,9 @@ far_line_is : (e : End) (line : ℕ) → line_of (far_end e line) ≡ line
 far_line_is (Row i) line = refl
 far_line_is (Column j) line = refl
 
-pub end_within : (look : End → ℕ → Option ℕ) (a b lines : ℕ) (start : End) → IsWithin lines look → line_of start < lines → (n : ℕ) (x : End) → end_at look a b start n ≡ Some x → line_of x < lines
-end_within look a b lines start within inside zero x h = subst (λ e. line_of e < lines) (same_Some start x h) inside
-end_within look a b lines start within inside (suc n) x h =
+pub line_of_end_within : (look : End → ℕ → Option ℕ) (a b lines : ℕ) (start : End) → IsWithin lines look → line_of start < lines → (n : ℕ) (x : End) → end_at look a b start n ≡ Some x → line_of x < lines
+line_of_end_within look a b lines start within inside zero x h = subst (λ e. line_of e < lines) (same_Some start x h) inside
+line_of_end_within look a b lines start within inside (suc n) x h =
     let last = then_cases (step look a b) (end_at look a b start n) x h in
     let way = map_cases last.0 (look last.0 (leave a b last.0)) x last.2 in
     subst (λ e. line_of e < lines) way.2 (rw (far_line_is last.0 way.0) (within last.0 (leave a b last.0) way.0 way.1))
@@ -165,12 +165,12 @@ pub record IsStep (look : End → ℕ → Option ℕ) (a b : ℕ) (start : End) 
   pub goes : look near (leave a b near) ≡ Some line
   pub is : v ≡ move_of near line (leave a b near) (enter a b near)
 
-pub next_at : (look : End → ℕ → Option ℕ) (a b : ℕ) (start e : End) (k line : ℕ) → end_at look a b start k ≡ Some e → look e (leave a b e) ≡ Some line → end_at look a b start (suc k) ≡ Some (far_end e line)
-next_at look a b start e k line h g = rw h (rw g refl)
+pub end_at_next : (look : End → ℕ → Option ℕ) (a b : ℕ) (start e : End) (k line : ℕ) → end_at look a b start k ≡ Some e → look e (leave a b e) ≡ Some line → end_at look a b start (suc k) ≡ Some (far_end e line)
+end_at_next look a b start e k line h g = rw h (rw g refl)
 
-pub turned : (a b : ℕ) (e : End) (line : ℕ) → (leave a b (far_end e line) ≡ enter a b e) × (enter a b (far_end e line) ≡ leave a b e)
-turned a b (Row i) line = (refl, refl)
-turned a b (Column j) line = (refl, refl)
+pub far_end_turned : (a b : ℕ) (e : End) (line : ℕ) → (leave a b (far_end e line) ≡ enter a b e) × (enter a b (far_end e line) ≡ leave a b e)
+far_end_turned a b (Row i) line = (refl, refl)
+far_end_turned a b (Column j) line = (refl, refl)
 
 abbrev pub own_chain : (End → ℕ → Option ℕ) → ℕ → ℕ → ℕ → End → List Move
 own_chain look a b n e = chain look n e (leave a b e) (enter a b e)
@@ -179,7 +179,7 @@ chain_on : (look : End → ℕ → Option ℕ) (a b n : ℕ) (e : End) (line : �
     → own_chain look a b (suc n) e ≡ move_of e line (leave a b e) (enter a b e) ∷ own_chain look a b n (far_end e line)
 chain_on look a b n e line g =
     ap (λ (o : Option ℕ). elim o as (λ _. List Move) [ None ↦ [] | Some l ↦ move_of e l (leave a b e) (enter a b e) ∷ chain look n (far_end e l) (enter a b e) (leave a b e) ]) g
-    ∙ ap (λ moves. move_of e line (leave a b e) (enter a b e) ∷ moves) (rw ((turned a b e line).0, (turned a b e line).1) refl)
+    ∙ ap (λ moves. move_of e line (leave a b e) (enter a b e) ∷ moves) (rw ((far_end_turned a b e line).0, (far_end_turned a b e line).1) refl)
 
 chain_ends : (look : End → ℕ → Option ℕ) (a b n : ℕ) (e : End) → look e (leave a b e) ≡ None → own_chain look a b n e ≡ []
 chain_ends look a b zero e g = refl
@@ -204,7 +204,7 @@ chain_steps look a b start (suc n) k e here x v h = cases (look e (leave a b e))
       goes = goes;
       is = sym (same_Some _ v first);
     }
-    at line (suc x) goes rest later = subst (λ m. IsStep look a b start m v) (omega arith) (later (far_end e line) (next_at look a b start e k line here goes) x rest)
+    at line (suc x) goes rest later = subst (λ m. IsStep look a b start m v) (omega arith) (later (far_end e line) (end_at_next look a b start e k line here goes) x rest)
 
     cases : (o : Option ℕ) → look e (leave a b e) ≡ o
         → ((e' : End) → end_at look a b start (suc k) ≡ Some e' → (x' : ℕ) → slice_get (own_chain look a b n e') x' ≡ Some v → IsStep look a b start (x' + suc k) v)
@@ -223,34 +223,34 @@ chain_length look a b start (suc n) k e here = cases (look e (leave a b e)) refl
         → (x : End) × (end_at look a b start (length (own_chain look a b (suc n) e) + k) ≡ Some x)
     cases None goes later = (e, subst (λ m. end_at look a b start m ≡ Some e) (sym (ap (λ moves. length moves + k) (chain_ends look a b (suc n) e goes) ∙ zero-add k)) here)
     cases (Some line) goes later =
-        let rest = later (far_end e line) (next_at look a b start e k line here goes) in
+        let rest = later (far_end e line) (end_at_next look a b start e k line here goes) in
         let size = ap length (chain_on look a b n e line goes) in
         let at : length (own_chain look a b n (far_end e line)) + suc k ≡ length (own_chain look a b (suc n) e) + k = omega (arith, size) in
         (rest.0, subst (λ m. end_at look a b start m ≡ Some rest.0) at rest.1)
 
 -- where the walk goes on, so does the chain
-pub chain_goes_on : (look : End → ℕ → Option ℕ) (a b : ℕ) (start : End) (n k : ℕ) (e : End) → end_at look a b start k ≡ Some e
+pub slice_get-own_chain_goes_on : (look : End → ℕ → Option ℕ) (a b : ℕ) (start : End) (n k : ℕ) (e : End) → end_at look a b start k ≡ Some e
     → (x : ℕ) (f : End) (line : ℕ) → x < n → end_at look a b start (x + k) ≡ Some f → look f (leave a b f) ≡ Some line
     → slice_get (own_chain look a b n e) x ≡ Some (move_of f line (leave a b f) (enter a b f))
-chain_goes_on look a b start zero k e here x f line early there goes = absurd (omega arith)
-chain_goes_on look a b start (suc n) k e here zero f line early there goes =
+slice_get-own_chain_goes_on look a b start zero k e here x f line early there goes = absurd (omega arith)
+slice_get-own_chain_goes_on look a b start (suc n) k e here zero f line early there goes =
     let same : e ≡ f = same_Some e f (sym here ∙ ap (end_at look a b start) (sym (zero-add k)) ∙ there) in
     let on : look e (leave a b e) ≡ Some line = subst (λ g. look g (leave a b g) ≡ Some line) (sym same) goes in
     ap (λ moves. slice_get moves zero) (chain_on look a b n e line on) ∙ ap (λ g. Some (move_of g line (leave a b g) (enter a b g))) same
-chain_goes_on look a b start (suc n) k e here (suc x) f line early there goes =
+slice_get-own_chain_goes_on look a b start (suc n) k e here (suc x) f line early there goes =
     let at : x + suc k ≡ suc x + k = omega arith in
     let next = been_before look a b start (suc x + k) (suc k) f there (omega arith) in
     let way = map_cases e (look e (leave a b e)) next.0 (sym (ap (option_and_then (step look a b)) here) ∙ next.1) in
     ap (λ moves. slice_get moves (suc x)) (chain_on look a b n e way.0 way.1)
-    ∙ chain_goes_on look a b start n (suc k) (far_end e way.0) (next_at look a b start e k way.0 here way.1) x f line (omega arith) (ap (end_at look a b start) at ∙ there) goes
+    ∙ slice_get-own_chain_goes_on look a b start n (suc k) (far_end e way.0) (end_at_next look a b start e k way.0 here way.1) x f line (omega arith) (ap (end_at look a b start) at ∙ there) goes
 
 -- the same from the start
 pub is_step : (look : End → ℕ → Option ℕ) (a b : ℕ) (start : End) (n k : ℕ) (v : Move) → slice_get (own_chain look a b n start) k ≡ Some v → IsStep look a b start k v
 is_step look a b start n k v h = subst (λ m. IsStep look a b start m v) (add-zero k) (chain_steps look a b start n zero start refl k v h)
 
-pub has_step : (look : End → ℕ → Option ℕ) (a b : ℕ) (start : End) (n k : ℕ) (f : End) (line : ℕ) → k < n → end_at look a b start k ≡ Some f → look f (leave a b f) ≡ Some line
+pub slice_get-own_chain_has_step : (look : End → ℕ → Option ℕ) (a b : ℕ) (start : End) (n k : ℕ) (f : End) (line : ℕ) → k < n → end_at look a b start k ≡ Some f → look f (leave a b f) ≡ Some line
     → slice_get (own_chain look a b n start) k ≡ Some (move_of f line (leave a b f) (enter a b f))
-has_step look a b start n k f line early there goes = chain_goes_on look a b start n zero start refl k f line early (ap (end_at look a b start) (add-zero k) ∙ there) goes
+slice_get-own_chain_has_step look a b start n k f line early there goes = slice_get-own_chain_goes_on look a b start n zero start refl k f line early (ap (end_at look a b start) (add-zero k) ∙ there) goes
 
 -- the two ends of a moved path
 ends_of_row : (e : End) (line old new : ℕ) → (Row (move_of e line old new).row ≡ e) ⊎ (Row (move_of e line old new).row ≡ far_end e line)
@@ -261,13 +261,13 @@ ends_of_column : (e : End) (line old new : ℕ) → (Column (move_of e line old 
 ends_of_column (Row i) line old new = inr refl
 ends_of_column (Column j) line old new = inl refl
 
-pub old_of : (e : End) (line old new : ℕ) → (move_of e line old new).old ≡ old
-old_of (Row i) line old new = refl
-old_of (Column j) line old new = refl
+pub move_of_old : (e : End) (line old new : ℕ) → (move_of e line old new).old ≡ old
+move_of_old (Row i) line old new = refl
+move_of_old (Column j) line old new = refl
 
-pub new_of : (e : End) (line old new : ℕ) → (move_of e line old new).new ≡ new
-new_of (Row i) line old new = refl
-new_of (Column j) line old new = refl
+pub move_of_new : (e : End) (line old new : ℕ) → (move_of e line old new).new ≡ new
+move_of_new (Row i) line old new = refl
+move_of_new (Column j) line old new = refl
 
 -- an end of a moved path
 abbrev pub IsEndOf : End → Move → Type 0
@@ -284,7 +284,7 @@ comes_to_ends look a b start n k v f h end =
     let at = is_step look a b start n k v h in
     elim (end_cases at.near at.line (leave a b at.near) (enter a b at.near) v f at.is end) [
       | inl near ↦ (k, at.is_at ∙ ap Some (sym near))
-      | inr far ↦ (suc k, next_at look a b start at.near k at.line at.is_at at.goes ∙ ap Some (sym far))
+      | inr far ↦ (suc k, end_at_next look a b start at.near k at.line at.is_at at.goes ∙ ap Some (sym far))
     ]
 
 same_side : (a b : ℕ) (e f : End) (l m : ℕ) → a ≢ b → leave a b e ≡ leave a b f → (move_of e l (leave a b e) (enter a b e)).row ≡ (move_of f m (leave a b f) (enter a b f)).row → (e ≡ f) ⊎ (far_end e l ≡ far_end f m)
@@ -310,7 +310,7 @@ same_place : (look : End → ℕ → Option ℕ) (a b : ℕ) (start : End) (k n 
 same_place look a b start k n u v mirror free s t (inl near) = no_return look a b start mirror free k n t.near (s.is_at ∙ ap Some near) t.is_at
 same_place look a b start k n u v mirror free s t (inr far) =
     let next = no_return look a b start mirror free (suc k) (suc n) (far_end t.near t.line)
-    (next_at look a b start s.near k s.line s.is_at s.goes ∙ ap Some far) (next_at look a b start t.near n t.line t.is_at t.goes) in
+    (end_at_next look a b start s.near k s.line s.is_at s.goes ∙ ap Some far) (end_at_next look a b start t.near n t.line t.is_at t.goes) in
     omega arith
 
 -- The walk repeats no path: two moves of a row differ in the slots that they leave and in those that they take, two of a column too
@@ -319,7 +319,7 @@ pub rows_leave_once : (look : End → ℕ → Option ℕ) (a b : ℕ) (start : E
 rows_leave_once look a b start size k n u v mirror free apart g h row old =
     let s = is_step look a b start size k u g in
     let t = is_step look a b start size n v h in
-    let left = sym (old_of s.near s.line (leave a b s.near) (enter a b s.near)) ∙ ap (λ (w : Move). w.old) (sym s.is) ∙ old ∙ ap (λ (w : Move). w.old) t.is ∙ old_of t.near t.line (leave a b t.near) (enter a b t.near) in
+    let left = sym (move_of_old s.near s.line (leave a b s.near) (enter a b s.near)) ∙ ap (λ (w : Move). w.old) (sym s.is) ∙ old ∙ ap (λ (w : Move). w.old) t.is ∙ move_of_old t.near t.line (leave a b t.near) (enter a b t.near) in
     same_place look a b start k n u v mirror free s t
     (same_side a b s.near t.near s.line t.line apart left (ap (λ (w : Move). w.row) (sym s.is) ∙ row ∙ ap (λ (w : Move). w.row) t.is))
 
@@ -328,7 +328,7 @@ pub rows_take_once : (look : End → ℕ → Option ℕ) (a b : ℕ) (start : En
 rows_take_once look a b start size k n u v mirror free apart g h row new =
     let s = is_step look a b start size k u g in
     let t = is_step look a b start size n v h in
-    let taken = sym (new_of s.near s.line (leave a b s.near) (enter a b s.near)) ∙ ap (λ (w : Move). w.new) (sym s.is) ∙ new ∙ ap (λ (w : Move). w.new) t.is ∙ new_of t.near t.line (leave a b t.near) (enter a b t.near) in
+    let taken = sym (move_of_new s.near s.line (leave a b s.near) (enter a b s.near)) ∙ ap (λ (w : Move). w.new) (sym s.is) ∙ new ∙ ap (λ (w : Move). w.new) t.is ∙ move_of_new t.near t.line (leave a b t.near) (enter a b t.near) in
     same_place look a b start k n u v mirror free s t
     (same_side a b s.near t.near s.line t.line apart (entered_as a b s.near t.near apart taken) (ap (λ (w : Move). w.row) (sym s.is) ∙ row ∙ ap (λ (w : Move). w.row) t.is))
 
@@ -337,6 +337,6 @@ pub columns_take_once : (look : End → ℕ → Option ℕ) (a b : ℕ) (start :
 columns_take_once look a b start size k n u v mirror free apart g h column new =
     let s = is_step look a b start size k u g in
     let t = is_step look a b start size n v h in
-    let taken = sym (new_of s.near s.line (leave a b s.near) (enter a b s.near)) ∙ ap (λ (w : Move). w.new) (sym s.is) ∙ new ∙ ap (λ (w : Move). w.new) t.is ∙ new_of t.near t.line (leave a b t.near) (enter a b t.near) in
+    let taken = sym (move_of_new s.near s.line (leave a b s.near) (enter a b s.near)) ∙ ap (λ (w : Move). w.new) (sym s.is) ∙ new ∙ ap (λ (w : Move). w.new) t.is ∙ move_of_new t.near t.line (leave a b t.near) (enter a b t.near) in
     same_place look a b start k n u v mirror free s t
     (same_column_side a b s.near t.near s.line t.line apart taken (ap (λ (w : Move). w.column) (sym s.is) ∙ column ∙ ap (λ (w : Move). w.column) t.is))

@@ -172,11 +172,11 @@ module _ (octets line others : List ℕ) (other : line ≢ divider) where
   }
 
 -- the octets behind a first line are fewer
-pub shorter : (octets line others : List ℕ) → 0 < length octets → IsFirstLine octets line others → length others < length octets
-shorter octets line others some (Fed none is) =
+pub others_shorter : (octets line others : List ℕ) → 0 < length octets → IsFirstLine octets line others → length others < length octets
+others_shorter octets line others some (Fed none is) =
     let long : length octets ≡ length line + length (10 ∷ others) = ap (λ (l : List ℕ). length l) is ∙ length-append line (10 ∷ others) in
     omega (arith, long)
-shorter octets line others some (Unfed none is empty) = let short : length others ≡ 0 = ap (λ (l : List ℕ). length l) empty in omega (arith, some, short)
+others_shorter octets line others some (Unfed none is empty) = let short : length others ≡ 0 = ap (λ (l : List ℕ). length l) empty in omega (arith, some, short)
 
 -- ---- a division underway
 
@@ -196,9 +196,9 @@ pub goes_through : (bytes : List ℕ) → GoesOn bytes [] → IsDivided bytes by
 goes_through bytes goes = subst (λ (front : List ℕ). IsDivided bytes front []) (sym goes.parts) (goes.divides [] [] divided_none)
 
 -- the divider was found
-pub goes_here : (bytes rest line others : List ℕ) → GoesOn bytes rest → IsFirstLine rest line others → line ≡ divider
+pub IsDivided_here : (bytes rest line others : List ℕ) → GoesOn bytes rest → IsFirstLine rest line others → line ≡ divider
     → IsDivided bytes (take (length bytes - length rest) bytes) others
-goes_here bytes rest line others goes first same =
+IsDivided_here bytes rest line others goes first same =
     let long : length bytes ≡ length goes.piece + length rest = ap (λ (l : List ℕ). length l) goes.parts ∙ length-append goes.piece rest in
     let count : length bytes - length rest ≡ length goes.piece = omega (arith, long) in
     let front : take (length bytes - length rest) bytes ≡ goes.piece = (λ i. take (count i) (goes.parts i)) ∙ take-append_seam goes.piece rest in

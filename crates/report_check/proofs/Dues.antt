@@ -37,29 +37,29 @@ module _ (strict : Bool) (bytes : List ℕ) where
       never_verdicts (slots_of strict) t report line valid (moved (λ v o. IsInvalidAt (slots_of strict) v o line) t u report other has also invalid)
 
   -- of an input one thing is found
-  pub finds_one : (e d : Ending) → Finds strict bytes e → Finds strict bytes d → status_of e ≡ status_of d
-  finds_one ended.ReadFailed d one other = absurd one
-  finds_one ended.WriteFailed d one other = absurd one
-  finds_one ended.OutOfMemory d one other = absurd one
-  finds_one ended.WrongArguments d one other = absurd one
-  finds_one ended.Completed ended.Completed one other = refl
-  finds_one ended.Completed (ended.Refused line reason) one other = absurd (never_unchecked bytes one.1 one.0 line reason one.2 other)
-  finds_one ended.Completed ended.WrongArguments one other = absurd other
-  finds_one ended.Completed ended.ReadFailed one other = absurd other
-  finds_one ended.Completed ended.WriteFailed one other = absurd other
-  finds_one ended.Completed ended.OutOfMemory one other = absurd other
-  finds_one ended.Completed (ended.Invalid line) one other = absurd (never_two one.0 other.0 one.1 other.1 line one.2 one.3 other.2 other.3)
-  finds_one (ended.Refused line reason) ended.Completed one other = absurd (never_unchecked bytes other.1 other.0 line reason other.2 one)
-  finds_one (ended.Refused line reason) (ended.Refused l r) one other = refl
-  finds_one (ended.Refused line reason) ended.WrongArguments one other = absurd other
-  finds_one (ended.Refused line reason) ended.ReadFailed one other = absurd other
-  finds_one (ended.Refused line reason) ended.WriteFailed one other = absurd other
-  finds_one (ended.Refused line reason) ended.OutOfMemory one other = absurd other
-  finds_one (ended.Refused line reason) (ended.Invalid l) one other = absurd (never_unchecked bytes other.1 other.0 line reason other.2 one)
-  finds_one (ended.Invalid line) ended.Completed one other = absurd (never_two other.0 one.0 other.1 one.1 line other.2 other.3 one.2 one.3)
-  finds_one (ended.Invalid line) (ended.Refused l r) one other = absurd (never_unchecked bytes one.1 one.0 l r one.2 other)
-  finds_one (ended.Invalid line) ended.WrongArguments one other = absurd other
-  finds_one (ended.Invalid line) ended.ReadFailed one other = absurd other
-  finds_one (ended.Invalid line) ended.WriteFailed one other = absurd other
-  finds_one (ended.Invalid line) ended.OutOfMemory one other = absurd other
-  finds_one (ended.Invalid line) (ended.Invalid l) one other = refl
+  pub status_of_finds_one : (e d : Ending) → Finds strict bytes e → Finds strict bytes d → status_of e ≡ status_of d
+  status_of_finds_one ended.ReadFailed d one other = absurd one
+  status_of_finds_one ended.WriteFailed d one other = absurd one
+  status_of_finds_one ended.OutOfMemory d one other = absurd one
+  status_of_finds_one ended.WrongArguments d one other = absurd one
+  status_of_finds_one ended.Completed ended.Completed one other = refl
+  status_of_finds_one ended.Completed (ended.Refused line reason) one other = absurd (never_unchecked bytes one.1 one.0 line reason one.2 other)
+  status_of_finds_one ended.Completed ended.WrongArguments one other = absurd other
+  status_of_finds_one ended.Completed ended.ReadFailed one other = absurd other
+  status_of_finds_one ended.Completed ended.WriteFailed one other = absurd other
+  status_of_finds_one ended.Completed ended.OutOfMemory one other = absurd other
+  status_of_finds_one ended.Completed (ended.Invalid line) one other = absurd (never_two one.0 other.0 one.1 other.1 line one.2 one.3 other.2 other.3)
+  status_of_finds_one (ended.Refused line reason) ended.Completed one other = absurd (never_unchecked bytes other.1 other.0 line reason other.2 one)
+  status_of_finds_one (ended.Refused line reason) (ended.Refused l r) one other = refl
+  status_of_finds_one (ended.Refused line reason) ended.WrongArguments one other = absurd other
+  status_of_finds_one (ended.Refused line reason) ended.ReadFailed one other = absurd other
+  status_of_finds_one (ended.Refused line reason) ended.WriteFailed one other = absurd other
+  status_of_finds_one (ended.Refused line reason) ended.OutOfMemory one other = absurd other
+  status_of_finds_one (ended.Refused line reason) (ended.Invalid l) one other = absurd (never_unchecked bytes other.1 other.0 line reason other.2 one)
+  status_of_finds_one (ended.Invalid line) ended.Completed one other = absurd (never_two other.0 one.0 other.1 one.1 line other.2 other.3 one.2 one.3)
+  status_of_finds_one (ended.Invalid line) (ended.Refused l r) one other = absurd (never_unchecked bytes one.1 one.0 l r one.2 other)
+  status_of_finds_one (ended.Invalid line) ended.WrongArguments one other = absurd other
+  status_of_finds_one (ended.Invalid line) ended.ReadFailed one other = absurd other
+  status_of_finds_one (ended.Invalid line) ended.WriteFailed one other = absurd other
+  status_of_finds_one (ended.Invalid line) ended.OutOfMemory one other = absurd other
+  status_of_finds_one (ended.Invalid line) (ended.Invalid l) one other = refl

@@ -147,8 +147,8 @@ none_at : (text : List ℕ) → ((j : ℕ) → j < length text → is_feed_at te
 none_at [] none = refl
 none_at (octet ∷ text) none = other_octet octet text (λ e. none 0 (omega arith) (eq-eqb octet 10 e)) (none_at text (λ j less. none (suc j) (omega arith)))
 
-pub found_first : (text : List ℕ) (k : ℕ) → IsFirstByte (is_byte 10) text (Some k) → IsCut text (take k text) (drop (suc k) text)
-found_first text k h = cut_at text k h.0.high h.1 (λ j less feed. h.0.before j (omega arith) less feed)
+pub IsCut_first : (text : List ℕ) (k : ℕ) → IsFirstByte (is_byte 10) text (Some k) → IsCut text (take k text) (drop (suc k) text)
+IsCut_first text k h = cut_at text k h.0.high h.1 (λ j less feed. h.0.before j (omega arith) less feed)
 
-pub found_none : (text : List ℕ) → IsFirstByte (is_byte 10) text None → is_unbroken text ≡ true
-found_none text h = none_at text (λ j less feed. h j (omega arith) less feed)
+pub is_unbroken_none_found : (text : List ℕ) → IsFirstByte (is_byte 10) text None → is_unbroken text ≡ true
+is_unbroken_none_found text h = none_at text (λ j less feed. h j (omega arith) less feed)

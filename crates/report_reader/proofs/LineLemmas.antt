@@ -77,8 +77,8 @@ reading_spells line answer found =
         rw (← whole) (record { printed = answer_is (record { event = event; reply = said.0; octets = said.1 }) normal ∙ ap (λ (l : List ℕ). l ++ codes "\n") (sym text); normal = normal })
 
 -- what a line spells is read
-pub spelling_reads : (line : List ℕ) (answer : Answer) → Spells line answer → reading line ≡ Some answer
-spelling_reads line answer spells =
+pub reading_spelled : (line : List ℕ) (answer : Answer) → Spells line answer → reading line ≡ Some answer
+reading_spelled line answer spells =
     let normal = spells.normal in
     let n : ℕ = answer.event in
     let rest : List ℕ = reply_text answer.octets answer.reply in
@@ -100,16 +100,16 @@ spelling_reads line answer spells =
 
 -- a line spells at most one answer
 pub one_spelled : (line : List ℕ) (a b : Answer) → Spells line a → Spells line b → a ≡ b
-one_spelled line a b first second = same_Some a b (sym (spelling_reads line a first) ∙ spelling_reads line b second)
+one_spelled line a b first second = same_Some a b (sym (reading_spelled line a first) ∙ reading_spelled line b second)
 
 -- what is read is what is spelled, and where nothing is read nothing is spelled
-pub spelled : (line : List ℕ) (found : Option Answer) → found ≡ reading line → MatchOption found ((answer : Answer) → Spells line answer → ⊥) (Spells line)
-spelled line None is = λ answer spells. let no = is ∙ spelling_reads line answer spells in absurd cc
-spelled line (Some answer) is = reading_spells line answer (sym is)
+pub Spells_cases : (line : List ℕ) (found : Option Answer) → found ≡ reading line → MatchOption found ((answer : Answer) → Spells line answer → ⊥) (Spells line)
+Spells_cases line None is = λ answer spells. let no = is ∙ reading_spelled line answer spells in absurd cc
+Spells_cases line (Some answer) is = reading_spells line answer (sym is)
 
 pub spelled_ok : {E : Type 0} (line : List ℕ) (read : Result (Option Answer) E) → IfOk read (λ found. found ≡ reading line)
     → IfOk read (λ found. MatchOption found ((answer : Answer) → Spells line answer → ⊥) (λ answer. Spells line answer))
-spelled_ok line (Ok found) is = spelled line found is
+spelled_ok line (Ok found) is = Spells_cases line found is
 spelled_ok line (Err e) is = tt
 
 -- the line of an answer, without the line feed that ends it

@@ -59,8 +59,8 @@ pub record HasRead (all read rest : List ℕ) : Type 0 where
   pub behind : read ++ (octets_front rest).0 ≡ (octets_front all).0
   pub left : (octets_front rest).1 ≡ (octets_front all).1
 
-pub begun : (all read : List ℕ) → read ≡ [] → HasRead all read all
-begun all read none = rw none (record { few = omega arith; behind = refl; left = refl })
+pub HasRead_begun : (all read : List ℕ) → read ≡ [] → HasRead all read all
+HasRead_begun all read none = rw none (record { few = omega arith; behind = refl; left = refl })
 
 pub read_more : (all read rest others more : List ℕ) (octet : ℕ) → HasRead all read rest → octet_at rest ≡ Some (octet, others) → length read < 112 → more ≡ read ++ octet ∷ []
     → HasRead all more others
@@ -72,31 +72,31 @@ read_more all read rest others more octet so_far found room pushed =
       left = rw front at so_far.left;
     })
 
-pub too_many : (all read rest others : List ℕ) (octet : ℕ) → HasRead all read rest → octet_at rest ≡ Some (octet, others) → length read ≡ 112 → octets_at all ≡ None
-too_many all read rest others octet so_far found full =
+pub octets_at_too_many : (all read rest others : List ℕ) (octet : ℕ) → HasRead all read rest → octet_at rest ≡ Some (octet, others) → length read ≡ 112 → octets_at all ≡ None
+octets_at_too_many all read rest others octet so_far found full =
     let front = front_more rest others octet found in
     let behind : read ++ octet ∷ (octets_front others).0 ≡ (octets_front all).0 = rw front at so_far.behind in
     let long : 112 < length (octets_front all).0 = omega (arith, ap length behind, length-append read (octet ∷ (octets_front others).0), full) in
     rw (lt-leb _ _ long, le-leb 1 (length (octets_front all).0) (omega (arith, long))) refl
 
-pub none_read : (all read rest : List ℕ) → HasRead all read rest → octet_at rest ≡ None → length read ≡ 0 → octets_at all ≡ None
-none_read all [] rest so_far none empty =
+pub octets_at_none_read : (all read rest : List ℕ) → HasRead all read rest → octet_at rest ≡ None → length read ≡ 0 → octets_at all ≡ None
+octets_at_none_read all [] rest so_far none empty =
     let nothing = front_none rest none in
     let behind : [] ≡ (octets_front all).0 = rw nothing at so_far.behind in
     rw (← behind) refl
-none_read all (octet ∷ read) rest so_far none empty = absurd (omega arith)
+octets_at_none_read all (octet ∷ read) rest so_far none empty = absurd (omega arith)
 
 -- octets that are as many as a message may have are a message's
-pub by_count : (front : List ℕ × List ℕ) (read rest : List ℕ) → read ≡ front.0 → rest ≡ front.1 → 1 ≤ length read → length read ≤ 112
+pub passing_by_count : (front : List ℕ × List ℕ) (read rest : List ℕ) → read ≡ front.0 → rest ≡ front.1 → 1 ≤ length read → length read ≤ 112
     → passing (between 1 112 (length front.0)) front ≡ Some (read, rest)
-by_count front read rest behind left some few = rw (← behind, le-leb 1 (length read) some, le-leb (length read) 112 few) (ap (λ (b : List ℕ). Some (read, b)) (sym left))
+passing_by_count front read rest behind left some few = rw (← behind, le-leb 1 (length read) some, le-leb (length read) 112 few) (ap (λ (b : List ℕ). Some (read, b)) (sym left))
 
-pub all_read : (all read rest : List ℕ) → HasRead all read rest → octet_at rest ≡ None → 1 ≤ length read → octets_at all ≡ Some (read, rest)
-all_read all read rest so_far none some =
+pub octets_at_all_read : (all read rest : List ℕ) → HasRead all read rest → octet_at rest ≡ None → 1 ≤ length read → octets_at all ≡ Some (read, rest)
+octets_at_all_read all read rest so_far none some =
     let nothing = front_none rest none in
     let behind : read ≡ (octets_front all).0 = sym (append-nil read) ∙ (rw nothing at so_far.behind) in
     let left : rest ≡ (octets_front all).1 = rw nothing at so_far.left in
-    by_count (octets_front all) read rest behind left some so_far.few
+    passing_by_count (octets_front all) read rest behind left some so_far.few
 
 -- ---- what is read is there, and what is there is read
 
@@ -199,10 +199,10 @@ abbrev pub is_apart : List ℕ → Bool
 is_apart [] = true
 is_apart (octet ∷ octets) = eqb octet 32
 
-pub apart_none : (rest : List ℕ) → is_apart rest ≡ true → octet_at rest ≡ None
-apart_none [] apart = refl
-apart_none (octet ∷ []) apart = refl
-apart_none (octet ∷ low ∷ rest) apart = rw (eqb-true octet 32 apart) refl
+pub octet_at_apart_none : (rest : List ℕ) → is_apart rest ≡ true → octet_at rest ≡ None
+octet_at_apart_none [] apart = refl
+octet_at_apart_none (octet ∷ []) apart = refl
+octet_at_apart_none (octet ∷ low ∷ rest) apart = rw (eqb-true octet 32 apart) refl
 
 pub front_back : (octets rest : List ℕ) → AreOctets octets → octet_at rest ≡ None → octets_front (encode_upper octets ++ rest) ≡ (octets, rest)
 unfolding encode_with octets_front

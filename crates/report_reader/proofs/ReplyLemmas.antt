@@ -21,7 +21,7 @@ use Rattle.report_reader.proofs.NumberLemmas.{spaced_back, spaced_text, starts_d
 use Rattle.report_reader.proofs.OctetLemmas.{is_apart}
 use Rattle.report_reader.proofs.SignalLemmas.{Stops, line_text, signals_back, signals_text, told, told_apart}
 use Rattle.report_reader.proofs.SignalLemmas.Stops.{No_more, No_word}
-use Rattle.report_reader.proofs.RowLemmas.{parts_apart, parts_stop, rows_of_parts, rows_of_text}
+use Rattle.report_reader.proofs.RowLemmas.{parts_apart, behind-parts_stop, rows_of_parts, rows_of_text}
 
 -- ---- words
 
@@ -225,7 +225,7 @@ frame_back n sends rows held fine are =
     let rest : List ℕ = told (codes " send") sends ++ parts 0 rows in
     let apart = parts_apart 0 rows in
     let number = spaced_back n rest held (apart_digit rest (told_apart (codes " send") (parts 0 rows) sends apart send_apart)) in
-    let stops : Stops (codes " send") (parts 0 rows) = No_word (parts_stop (codes " send") 0 rows (no_word 115 (codes "end") refl) (no_word_there _ 32) (omega (arith, are.few))) in
+    let stops : Stops (codes " send") (parts 0 rows) = No_word (behind-parts_stop (codes " send") 0 rows (no_word 115 (codes "end") refl) (no_word_there _ 32) (omega (arith, are.few))) in
     let signals = signals_back (length rest + 1) (codes " send") (parts 0 rows) [] sends stops apart send_apart fine (omega arith) in
     rw (number, signals, rows_of_parts rows are) refl
 

@@ -10,7 +10,7 @@ use Rattle.report_reader.specs.declared.report.ReportFault.TheVariants.{Memory, 
 use Rattle.report_reader.specs.Spelling.{is_unbroken, IsFault, IsFaultyAt, IsNormal, IsReport, Spells}
 use Rattle.report_reader.specs.Reading.{reading}
 use Rattle.report_reader.proofs.FeedLemmas.{IsCut, broken, cut_of, same_line}
-use Rattle.report_reader.proofs.LineLemmas.{line_of, line_spells, line_unbroken, one_spelled, spelled}
+use Rattle.report_reader.proofs.LineLemmas.{line_of, line_spells, line_unbroken, one_spelled, Spells_cases}
 
 -- ---- two lists of lines at the beginning of the same bytes
 
@@ -113,8 +113,8 @@ pub record HasRead (bytes : List ℕ) (answers : List Answer) (rest : List ℕ) 
   pub normal : All IsNormal answers
   pub room : length answers + length rest ≤ length bytes
 
-pub begun : (bytes : List ℕ) (answers : List Answer) → answers ≡ [] → HasRead bytes answers bytes
-begun bytes answers none = rw none (record { printed = refl; normal = All-nil IsNormal; room = omega arith })
+pub HasRead_begun : (bytes : List ℕ) (answers : List Answer) → answers ≡ [] → HasRead bytes answers bytes
+HasRead_begun bytes answers none = rw none (record { printed = refl; normal = All-nil IsNormal; room = omega arith })
 
 pub read_more : (bytes : List ℕ) (answers more : List Answer) (rest line others : List ℕ) (answer : Answer) → HasRead bytes answers rest → rest ≡ line ++ 10 ∷ others → Spells line answer
     → more ≡ answers ++ answer ∷ [] → HasRead bytes more others
@@ -128,12 +128,12 @@ read_more bytes answers more rest line others answer so_far there spells pushed 
       room = omega (arith, so_far.room, long, length-append line (10 ∷ others), length-append answers (answer ∷ []));
     })
 
-pub shorter : (rest line others : List ℕ) → rest ≡ line ++ 10 ∷ others → length others < length rest
-shorter rest line others there = let long = ap length there in omega (arith, long, length-append line (10 ∷ others))
+pub others_shorter : (rest line others : List ℕ) → rest ≡ line ++ 10 ∷ others → length others < length rest
+others_shorter rest line others there = let long = ap length there in omega (arith, long, length-append line (10 ∷ others))
 
-pub all_read : (bytes : List ℕ) (answers : List Answer) (rest : List ℕ) → HasRead bytes answers rest → length rest ≡ 0 → IsReport bytes answers
-all_read bytes answers [] so_far empty = record { printed = so_far.printed ∙ append-nil (answer_lines answers); normal = so_far.normal }
-all_read bytes answers (octet ∷ rest) so_far empty = absurd (omega arith)
+pub IsReport_all_read : (bytes : List ℕ) (answers : List Answer) (rest : List ℕ) → HasRead bytes answers rest → length rest ≡ 0 → IsReport bytes answers
+IsReport_all_read bytes answers [] so_far empty = record { printed = so_far.printed ∙ append-nil (answer_lines answers); normal = so_far.normal }
+IsReport_all_read bytes answers (octet ∷ rest) so_far empty = absurd (omega arith)
 
 -- no line feed ends the line
 pub lost_end : (bytes : List ℕ) (answers : List Answer) (rest : List ℕ) (n : ℕ) → HasRead bytes answers rest → (length rest ≡ 0 → ⊥) → is_unbroken rest ≡ true → n ≡ length answers + 1 → IsFaultyAt bytes n
@@ -151,7 +151,7 @@ lost_end bytes answers rest n so_far some whole number = record {
 pub lost_line : (bytes : List ℕ) (answers : List Answer) (rest line others : List ℕ) (n : ℕ) → HasRead bytes answers rest → IsCut rest line others → ((answer : Answer) → Spells line answer → ⊥)
     → n ≡ length answers + 1 → IsFaultyAt bytes n
 lost_line bytes answers rest line others n so_far cut none number =
-    let less = shorter rest line others cut.there in
+    let less = others_shorter rest line others cut.there in
     record {
       before = answers;
       behind = rest;
@@ -172,7 +172,7 @@ HasReading bytes = ((answers : List Answer) × IsReport bytes answers) ⊎ ((n :
 read_on : (k : ℕ) (bytes : List ℕ) (answers : List Answer) (rest : List ℕ) → length rest < k → HasRead bytes answers rest → HasReading bytes
 unfolding HasReading
 read_on zero bytes answers rest enough so_far = absurd (omega arith)
-read_on (suc k) bytes answers [] enough so_far = inl (answers, all_read bytes answers [] so_far refl)
+read_on (suc k) bytes answers [] enough so_far = inl (answers, IsReport_all_read bytes answers [] so_far refl)
 read_on (suc k) bytes answers (octet ∷ rest) enough so_far = by_cut (read_on k bytes) (cut_of (octet ∷ rest))
   where
     by_line : ((more : List Answer) (left : List ℕ) → length left < k → HasRead bytes more left → ((answers : List Answer) × IsReport bytes answers) ⊎ ((n : ℕ) × IsFaultyAt bytes n))
@@ -180,18 +180,18 @@ read_on (suc k) bytes answers (octet ∷ rest) enough so_far = by_cut (read_on k
         → ((answers : List Answer) × IsReport bytes answers) ⊎ ((n : ℕ) × IsFaultyAt bytes n)
     by_line later line others cut None none = inr (length answers + 1, lost_line bytes answers (octet ∷ rest) line others (length answers + 1) so_far cut none refl)
     by_line later line others cut (Some answer) spells =
-        let less = shorter (octet ∷ rest) line others cut.there in
+        let less = others_shorter (octet ∷ rest) line others cut.there in
         later (answers ++ answer ∷ []) others (omega arith) (read_more bytes answers (answers ++ answer ∷ []) (octet ∷ rest) line others answer so_far cut.there spells refl)
 
     by_cut : ((more : List Answer) (left : List ℕ) → length left < k → HasRead bytes more left → ((answers : List Answer) × IsReport bytes answers) ⊎ ((n : ℕ) × IsFaultyAt bytes n))
         → (is_unbroken (octet ∷ rest) ≡ true) ⊎ ((line : List ℕ) × (others : List ℕ) × IsCut (octet ∷ rest) line others)
         → ((answers : List Answer) × IsReport bytes answers) ⊎ ((n : ℕ) × IsFaultyAt bytes n)
     by_cut later (inl whole) = inr (length answers + 1, lost_end bytes answers (octet ∷ rest) (length answers + 1) so_far (λ e. absurd (omega arith)) whole refl)
-    by_cut later (inr cut) = by_line later cut.0 cut.1 cut.2 (reading cut.0) (spelled cut.0 (reading cut.0) refl)
+    by_cut later (inr cut) = by_line later cut.0 cut.1 cut.2 (reading cut.0) (Spells_cases cut.0 (reading cut.0) refl)
 
 pub some_reading : (bytes : List ℕ) → ((answers : List Answer) × IsReport bytes answers) ⊎ ((n : ℕ) × IsFaultyAt bytes n)
 unfolding HasReading
-some_reading bytes = read_on (length bytes + 1) bytes [] bytes (omega arith) (begun bytes [] refl)
+some_reading bytes = read_on (length bytes + 1) bytes [] bytes (omega arith) (HasRead_begun bytes [] refl)
 
 -- ---- the one answer of a reader
 
@@ -200,8 +200,8 @@ fault_at bytes (Ok answers) n fault e = absurd cc
 fault_at bytes (Err Memory) n fault e = absurd cc
 fault_at bytes (Err (Line m)) n fault e = let same : m ≡ n = cc in rw same at fault
 
-pub refused : {A : Type 0} (bytes : List ℕ) (r : Result A ReportFault) → IfErr r (λ e. IsFault bytes e) → (n : ℕ) → r ≡ Err (Line n) → IsFaultyAt bytes n
-refused bytes r fault n e = fault_at bytes r n fault e
+pub IsFaultyAt_refused : {A : Type 0} (bytes : List ℕ) (r : Result A ReportFault) → IfErr r (λ e. IsFault bytes e) → (n : ℕ) → r ≡ Err (Line n) → IsFaultyAt bytes n
+IsFaultyAt_refused bytes r fault n e = fault_at bytes r n fault e
 
 pub reads_each : {A : Type 0} (items : A → List Answer) (bytes : List ℕ) (r : Result A ReportFault) → IfOk r (λ read. IsReport bytes (items read)) → IfErr r (λ e. IsFault bytes e)
     → (answers : List Answer) → IsReport bytes answers → IfOk r (λ read. items read ≡ answers) × IfErr r (λ e. e ≡ Memory)

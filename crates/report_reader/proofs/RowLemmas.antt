@@ -8,7 +8,7 @@ use Rattle.std.proofs.lemmas.List.FromFn.{fill_by_all}
 use Rattle.std.proofs.lemmas.Option.{same_Some}
 use Rattle.circuit_model.specs.FrameInput.{idle_octet}
 use Rattle.report_text.specs.Report.{line_octets, lines_sent, octet_of, on_line, part, parts}
-use Rattle.report_text.proofs.Rows.{row_is, row_of}
+use Rattle.report_text.proofs.Rows.{line_octets_row, line_octets_row_of}
 use Rattle.exchange_events.specs.declared.signal.Signal.{Signal}
 use Rattle.report_reader.specs.Spelling.{is_idle, AreRows, IsRow}
 use Rattle.report_reader.specs.Reading.{behind, idle_row, row_at, rows_before, rows_of, rows_in, rows_step, signal_at, spaced_at, ◌>>=◌}
@@ -48,8 +48,8 @@ pub record GoesOn (all : List ℕ) (rows : List (List ℕ)) (rest : List ℕ) : 
   pub enough : length rest < rounds
   pub same : rows_in rounds rows rest ≡ rows_of all
 
-pub begun : (all : List ℕ) (rows : List (List ℕ)) → rows ≡ [] → GoesOn all rows all
-begun all rows none = rw none (record { rounds = length all + 1; enough = omega arith; same = refl })
+pub GoesOn_begun : (all : List ℕ) (rows : List (List ℕ)) → rows ≡ [] → GoesOn all rows all
+GoesOn_begun all rows none = rw none (record { rounds = length all + 1; enough = omega arith; same = refl })
 
 -- a step by the row at the beginning
 step_by : (k : ℕ) (rows : List (List ℕ)) (octet : ℕ) (rest : List ℕ) (found : Option (Signal × List ℕ)) → row_at (octet ∷ rest) ≡ found
@@ -100,8 +100,8 @@ rows_more all (octet ∷ rest) others rows more sent goes some found above pushe
         record { rounds = k; enough = omega arith; same = rw (le-ltb sent.line (length rows) above) at (sym step ∙ same) }
 
 -- one idle row more on the way to a line
-pub filled_more : (line : ℕ) (rows more : List (List ℕ)) → length rows < line → more ≡ rows ++ idle_row ∷ [] → rows_before line more ≡ rows_before line rows
-filled_more line rows more below pushed =
+pub rows_before_filled_more : (line : ℕ) (rows more : List (List ℕ)) → length rows < line → more ≡ rows ++ idle_row ∷ [] → rows_before line more ≡ rows_before line rows
+rows_before_filled_more line rows more below pushed =
     let long : length (rows ++ idle_row ∷ []) ≡ length rows + 1 = length-append rows (idle_row ∷ []) in
     let left : line - length rows ≡ suc (line - length (rows ++ idle_row ∷ [])) = omega (arith, long) in
     rw (pushed, append_assoc rows (idle_row ∷ []) (replicate (line - length (rows ++ idle_row ∷ [])) idle_row), left) refl
@@ -116,7 +116,7 @@ pushed sent line rows filled more row at before is behind = rw (behind, before, 
 -- rows of thirty octets are what their lines send
 pub rows_sent : (rows : List (List ℕ)) → All IsRow rows → lines_sent (octet_of rows) (length rows) ≡ rows
 rows_sent rows all = sym (fill_by_all (line_octets (octet_of rows)) rows (length rows) [] refl
-    (λ k within. sym (row_is k (get_or rows k []) (All-get_or IsRow rows k [] within all).thirty) ∙ row_of rows k))
+    (λ k within. sym (line_octets_row k (get_or rows k []) (All-get_or IsRow rows k [] within all).thirty) ∙ line_octets_row_of rows k))
 
 parts_append : (n : ℕ) (rows more : List (List ℕ)) → parts n (rows ++ more) ≡ parts n rows ++ parts (n + length rows) more
 parts_append n [] more = let e : n + 0 ≡ n = omega arith in rw e refl
@@ -292,11 +292,11 @@ rows_back (suc k) rows (row ∷ more) line above fine busy none few enough = eli
 ]
 
 -- no word is before the rows of a frame
-pub parts_stop : (mark : List ℕ) (line : ℕ) (rows : List (List ℕ)) → ((octets : List ℕ) (read : ℕ × List ℕ) → spaced_at octets ≡ Some read → behind mark octets ≡ None)
+pub behind-parts_stop : (mark : List ℕ) (line : ℕ) (rows : List (List ℕ)) → ((octets : List ℕ) (read : ℕ × List ℕ) → spaced_at octets ≡ Some read → behind mark octets ≡ None)
     → behind mark [] ≡ None → line + length rows ≤ 32 → behind mark (parts line rows) ≡ None
-parts_stop mark line [] apart empty few = empty
-parts_stop mark line (row ∷ rows) apart empty few = elim (cases_Bool (is_idle row)) [
-  | inl idle ↦ ap (λ (l : List ℕ). behind mark (l ++ parts (line + 1) rows)) (part_idle line row idle) ∙ parts_stop mark (line + 1) rows apart empty (omega (arith, few))
+behind-parts_stop mark line [] apart empty few = empty
+behind-parts_stop mark line (row ∷ rows) apart empty few = elim (cases_Bool (is_idle row)) [
+  | inl idle ↦ ap (λ (l : List ℕ). behind mark (l ++ parts (line + 1) rows)) (part_idle line row idle) ∙ behind-parts_stop mark (line + 1) rows apart empty (omega (arith, few))
   | inr busy ↦
       let rest : List ℕ = 58 ∷ (encode_upper row ++ parts (line + 1) rows) in
       let number = spaced_back line rest (omega (arith, few)) refl in

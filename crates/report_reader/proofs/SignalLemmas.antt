@@ -13,7 +13,7 @@ use Rattle.report_reader.specs.Reading.{behind, octets_at, octets_front, passing
 use Rattle.report_reader.proofs.StepLemmas.{both, passed}
 use Rattle.report_reader.proofs.WordLemmas.{behind_text, behind_word}
 use Rattle.report_reader.proofs.NumberLemmas.{spaced_back, spaced_text}
-use Rattle.report_reader.proofs.OctetLemmas.{apart_none, by_count, front_back, front_text, is_apart}
+use Rattle.report_reader.proofs.OctetLemmas.{octet_at_apart_none, passing_by_count, front_back, front_text, is_apart}
 
 -- ---- one message
 
@@ -68,8 +68,8 @@ pub signal_back : (sent : Signal) (rest : List ℕ) → IsSendable sent → is_a
 signal_back sent rest fine apart =
     let line = spaced_back sent.line (58 ∷ (encode_upper sent.octets ++ rest)) (omega (arith, fine.line)) refl in
     let mark = behind_word (58 ∷ []) (encode_upper sent.octets ++ rest) in
-    let front = front_back sent.octets rest fine.octets (apart_none rest apart) in
-    let octets : octets_at (encode_upper sent.octets ++ rest) ≡ Some (sent.octets, rest) = by_count (octets_front (encode_upper sent.octets ++ rest)) sent.octets rest
+    let front = front_back sent.octets rest fine.octets (octet_at_apart_none rest apart) in
+    let octets : octets_at (encode_upper sent.octets ++ rest) ≡ Some (sent.octets, rest) = passing_by_count (octets_front (encode_upper sent.octets ++ rest)) sent.octets rest
     (sym (ap (λ (f : List ℕ × List ℕ). f.0) front)) (sym (ap (λ (f : List ℕ × List ℕ). f.1) front)) fine.some fine.few in
     let below : ltb sent.line 32 ≡ true = lt-ltb sent.line 32 fine.line in
     rw (line_text sent.line sent.octets rest, line, below, mark, octets) refl
@@ -88,13 +88,13 @@ pub record GoesOn (mark all : List ℕ) (sends : List Signal) (rest : List ℕ) 
   pub same : signals_in rounds mark sends rest ≡ signals_at mark all
 
 -- a step by what comes after the word
-pub step_by : (k : ℕ) (mark : List ℕ) (sends : List Signal) (rest : List ℕ) (found : Option (List ℕ)) → behind mark rest ≡ found
+pub signals_in_step_by : (k : ℕ) (mark : List ℕ) (sends : List Signal) (rest : List ℕ) (found : Option (List ℕ)) → behind mark rest ≡ found
     → signals_in (suc k) mark sends rest ≡ signals_step found sends rest (signals_in k mark)
 unfolding signals_in
-step_by k mark sends rest found is = rw is refl
+signals_in_step_by k mark sends rest found is = rw is refl
 
-pub begun : (mark all : List ℕ) (sends : List Signal) → sends ≡ [] → GoesOn mark all sends all
-begun mark all sends none = rw none (record { rounds = length all + 1; enough = omega arith; same = refl })
+pub GoesOn_begun : (mark all : List ℕ) (sends : List Signal) → sends ≡ [] → GoesOn mark all sends all
+GoesOn_begun mark all sends none = rw none (record { rounds = length all + 1; enough = omega arith; same = refl })
 
 -- no word is at the beginning, or nothing follows it
 pub signals_end : (mark all rest : List ℕ) (sends : List Signal) → GoesOn mark all sends rest → (behind mark rest ≡ None) → signals_at mark all ≡ Some (sends, rest)
@@ -102,7 +102,7 @@ signals_end mark all rest sends goes none = by_rounds goes.rounds goes.enough go
   where
     by_rounds : (k : ℕ) → length rest < k → signals_in k mark sends rest ≡ signals_at mark all → signals_at mark all ≡ Some (sends, rest)
     by_rounds zero enough same = absurd (omega arith)
-    by_rounds (suc k) enough same = sym same ∙ step_by k mark sends rest None none
+    by_rounds (suc k) enough same = sym same ∙ signals_in_step_by k mark sends rest None none
 
 pub signals_empty : (mark all rest front : List ℕ) (sends : List Signal) → GoesOn mark all sends rest → behind mark rest ≡ Some front → length front ≡ 0
     → signals_at mark all ≡ Some (sends, rest)
@@ -110,7 +110,7 @@ signals_empty mark all rest [] sends goes found empty = by_rounds goes.rounds go
   where
     by_rounds : (k : ℕ) → length rest < k → signals_in k mark sends rest ≡ signals_at mark all → signals_at mark all ≡ Some (sends, rest)
     by_rounds zero enough same = absurd (omega arith)
-    by_rounds (suc k) enough same = sym same ∙ step_by k mark sends rest (Some []) found
+    by_rounds (suc k) enough same = sym same ∙ signals_in_step_by k mark sends rest (Some []) found
 signals_empty mark all rest (octet ∷ front) sends goes found empty = absurd (omega arith)
 
 -- what follows the word is no message
@@ -121,7 +121,7 @@ signals_none mark all rest (octet ∷ front) sends goes found some none = by_rou
   where
     by_rounds : (k : ℕ) → length rest < k → signals_in k mark sends rest ≡ signals_at mark all → signals_at mark all ≡ None
     by_rounds zero enough same = absurd (omega arith)
-    by_rounds (suc k) enough same = sym same ∙ step_by k mark sends rest (Some (octet ∷ front)) found ∙ (rw none refl)
+    by_rounds (suc k) enough same = sym same ∙ signals_in_step_by k mark sends rest (Some (octet ∷ front)) found ∙ (rw none refl)
 
 behind_fits : (mark rest front : List ℕ) → behind mark rest ≡ Some front → length front ≤ length rest
 behind_fits mark rest front found = let long = ap length (behind_text mark rest front found) in omega (arith, long, length-append mark front)
@@ -138,7 +138,7 @@ signals_more mark all rest (octet ∷ front) others sends more sent goes found s
     by_rounds zero enough same = absurd (omega arith)
     by_rounds (suc k) enough same =
         let less = front_shorter mark rest (octet ∷ front) others sent found next in
-        let step = step_by k mark sends rest (Some (octet ∷ front)) found in
+        let step = signals_in_step_by k mark sends rest (Some (octet ∷ front)) found in
         record { rounds = k; enough = omega arith; same = rw next at (sym step ∙ same) }
 
 -- ---- what messages in a row spell
@@ -202,9 +202,9 @@ pub data Stops (mark rest : List ℕ) : Type 0 where
   No_word : behind mark rest ≡ None → Stops mark rest
   No_more : behind mark rest ≡ Some [] → Stops mark rest
 
-stopped : (k : ℕ) (mark rest : List ℕ) (sends : List Signal) → Stops mark rest → signals_in (suc k) mark sends rest ≡ Some (sends, rest)
-stopped k mark rest sends (No_word none) = step_by k mark sends rest None none
-stopped k mark rest sends (No_more none) = step_by k mark sends rest (Some []) none
+signals_in_stopped : (k : ℕ) (mark rest : List ℕ) (sends : List Signal) → Stops mark rest → signals_in (suc k) mark sends rest ≡ Some (sends, rest)
+signals_in_stopped k mark rest sends (No_word none) = signals_in_step_by k mark sends rest None none
+signals_in_stopped k mark rest sends (No_more none) = signals_in_step_by k mark sends rest (Some []) none
 
 -- what follows a message is apart from it
 pub told_apart : (mark rest : List ℕ) (sends : List Signal) → is_apart rest ≡ true → ((line : ℕ) (octets more : List ℕ) → is_apart (mark ++ (on_line line octets ++ more)) ≡ true)
@@ -220,12 +220,12 @@ pub signals_back : (k : ℕ) (mark rest : List ℕ) (sends more : List Signal) �
     → ((line : ℕ) (octets behind_it : List ℕ) → is_apart (mark ++ (on_line line octets ++ behind_it)) ≡ true) → All IsSendable more
     → length (told mark more ++ rest) < k → signals_in k mark sends (told mark more ++ rest) ≡ Some (sends ++ more, rest)
 signals_back zero mark rest sends more stops apart spaced fine enough = absurd (omega arith)
-signals_back (suc k) mark rest sends [] stops apart spaced fine enough = stopped k mark rest sends stops ∙ rw (append-nil sends) refl
+signals_back (suc k) mark rest sends [] stops apart spaced fine enough = signals_in_stopped k mark rest sends stops ∙ rw (append-nil sends) refl
 signals_back (suc k) mark rest sends (sent ∷ more) stops apart spaced fine enough =
     let others : List ℕ = told mark more ++ rest in
     let line : List ℕ = on_line sent.line sent.octets ++ others in
     let text = told_more mark rest sent more in
-    let first = step_by k mark sends (mark ++ line) (Some line) (behind_word mark line) in
+    let first = signals_in_step_by k mark sends (mark ++ line) (Some line) (behind_word mark line) in
     let signal = signal_back sent others (All-head IsSendable sent more fine) (told_apart mark rest more apart spaced) in
     let long = ap length text in
     let less = signal_shorter line sent others signal in

@@ -7,14 +7,14 @@ use Rattle.std.proofs.lemmas.List.{drop_more}
 use Rattle.std.proofs.lemmas.List.FromFn.{fill_by_all, length-map-range_with_len, get_or-map-range_with_len}
 
 -- a row of thirty octets is what its line sends
-pub row_is : (line : ℕ) (row : List ℕ) → length row ≡ 30 → line_octets (λ at. slice_index row at.place) line ≡ row
+pub line_octets_row : (line : ℕ) (row : List ℕ) → length row ≡ 30 → line_octets (λ at. slice_index row at.place) line ≡ row
 unfolding line_octets
-row_is line row thirty = sym (fill_by_all (λ place. slice_index row place) row 30 0 thirty (λ k within. refl))
+line_octets_row line row thirty = sym (fill_by_all (λ place. slice_index row place) row 30 0 thirty (λ k within. refl))
 
 -- a slot's octet is read in the row of its line
-pub row_of : (rows : List (List ℕ)) (line : ℕ) → line_octets (λ at. slice_index (get_or rows line []) at.place) line ≡ line_octets (octet_of rows) line
+pub line_octets_row_of : (rows : List (List ℕ)) (line : ℕ) → line_octets (λ at. slice_index (get_or rows line []) at.place) line ≡ line_octets (octet_of rows) line
 unfolding line_octets
-row_of rows line = refl
+line_octets_row_of rows line = refl
 
 -- from one of the lines on, its own row comes first
 pub drop_sent : (octet : Slot → ℕ) (lines line : ℕ) → line < lines → drop line (lines_sent octet lines) ≡ line_octets octet line ∷ drop (line + 1) (lines_sent octet lines)

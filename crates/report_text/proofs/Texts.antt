@@ -5,9 +5,9 @@ use Rattle.hex.specs.Hex.{encode_upper, encode_with, upper_digits}
 use Rattle.report_text.proofs.Wide.{encode-append}
 
 -- the colon behind the number of a line, and the space before it
-pub line_before : (text buf digits : List ℕ) (at : ℕ) → 1 ≤ at → at ≤ length buf → 22 ≤ length text → drop at buf ≡ digits ++ drop 21 (set text 21 58)
+pub drop-set_line_before : (text buf digits : List ℕ) (at : ℕ) → 1 ≤ at → at ≤ length buf → 22 ≤ length text → drop at buf ≡ digits ++ drop 21 (set text 21 58)
     → drop (at - 1) (set buf (at - 1) 32) ≡ 32 ∷ (digits ++ 58 ∷ [] ++ drop 22 text)
-line_before text buf digits at one within room written =
+drop-set_line_before text buf digits at one within room written =
     let place : at - 1 + 1 ≡ at = omega arith in
     drop-set buf (at - 1) 32 (omega arith) ∙ ap (λ n. 32 ∷ drop n buf) place
     ∙ ap (λ (l : List ℕ). 32 ∷ l) (written ∙ ap (λ (l : List ℕ). digits ++ l) (drop-set text 21 58 (omega arith)) ∙ sym (append_assoc digits (58 ∷ []) (drop 22 text)))

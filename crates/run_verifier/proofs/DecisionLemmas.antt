@@ -13,7 +13,7 @@ use Rattle.report_reader.specs.Reading.{parse_number}
 use Rattle.run_verifier.specs.Replaying.{line_due}
 use Rattle.run_verifier.specs.Verdicts.{IsInvalidAt, IsValid, MayFollow}
 use Rattle.run_verifier.specs.Verifying.{GoesOn, IsStuck}
-use Rattle.run_verifier.proofs.EndLemmas.{HasRead, invalid_here, read_more, read_none, too_long, valid_here}
+use Rattle.run_verifier.proofs.EndLemmas.{HasRead, invalid_here, read_more, read_none, IsInvalidAt_too_long, valid_here}
 use Rattle.run_verifier.proofs.NextLemmas.{no_line, no_number, no_turn}
 
 -- ---- what holds or doesn't
@@ -175,7 +175,7 @@ HasVerdict slots trace bytes = IsValid slots trace bytes ⊎ ((n : ℕ) × IsInv
 
 judge : (slots : ℕ) (trace : Trace) (bytes : List ℕ) (m : ℕ) (order text : List ℕ) (k : ℕ) → IsSound trace → HasRead slots trace order bytes text k → k + m ≡ length trace.events → HasVerdict slots trace bytes
 judge slots trace bytes zero order [] k sound read all = inl (valid_here slots trace order bytes [] k sound read (omega (arith, all)) refl)
-judge slots trace bytes zero order (o ∷ text) k sound read all = inr (k + 1, too_long slots trace order bytes (o ∷ text) k sound read (omega (arith, all)) (λ e. cc))
+judge slots trace bytes zero order (o ∷ text) k sound read all = inr (k + 1, IsInvalidAt_too_long slots trace order bytes (o ∷ text) k sound read (omega (arith, all)) (λ e. cc))
 judge slots trace bytes (suc m) order text k sound read all = elim (next slots trace order text sound) [
   | inl line ↦ judge slots trace bytes m (order ++ line.goes.number ∷ []) line.behind (k + 1) sound (read_more slots trace order bytes text line.behind k read line.goes) (omega (arith, all))
   | inr stuck ↦ inr (k + 1, invalid_here slots trace order bytes text k sound read (omega (arith, all)) stuck)

@@ -27,7 +27,7 @@ use Rattle.run_verifier.specs.Replaying.{line_due}
 use Rattle.run_verifier.specs.Verdicts.{IsGood, IsInvalidAt, IsValid, MayFollow, report_due}
 use Rattle.run_verifier.specs.declared.turns.Turns.{Turns}
 use Rattle.run_verifier.specs.Verifying.{GoesOn, IsStuck, IsUnderway}
-use Rattle.run_verifier.proofs.OrderLemmas.{follows, goes_on, lawful_take, none_lawful}
+use Rattle.run_verifier.proofs.OrderLemmas.{follows, IsLawfulPrefix_goes_on, lawful_take, none_lawful}
 use Rattle.run_verifier.proofs.ReportLemmas.{line_last, same_front}
 use Rattle.run_verifier.proofs.VerdictLemmas.{few_good, fewer_good}
 
@@ -51,7 +51,7 @@ read_more slots trace order bytes text behind k read goes =
     let long = length-append order (n ∷ []) in
     record {
       count = omega (arith, count, long);
-      lawful = goes_on trace order n read.lawful goes.may;
+      lawful = IsLawfulPrefix_goes_on trace order n read.lawful goes.may;
       report = read.report ∙ ap (λ (l : List ℕ). report_due slots trace order ++ l) goes.line
           ∙ sym (append_assoc (report_due slots trace order) (line_due slots trace order n goes.event) behind)
           ∙ ap (λ (l : List ℕ). l ++ behind) (sym line);
@@ -159,8 +159,8 @@ module _ (slots : ℕ) (trace : Trace) (order bytes text : List ℕ) (k : ℕ) (
     text = read.report ∙ ap (λ (l : List ℕ). report_due slots trace order ++ l) empty ∙ append-nil (report_due slots trace order);
   }
 
-  pub too_long : k ≡ length trace.events → (text ≡ [] → ⊥) → IsInvalidAt slots trace bytes (k + 1)
-  too_long all some = record {
+  pub IsInvalidAt_too_long : k ≡ length trace.events → (text ≡ [] → ⊥) → IsInvalidAt slots trace bytes (k + 1)
+  IsInvalidAt_too_long all some = record {
     before = k;
     number = refl;
     good = good;

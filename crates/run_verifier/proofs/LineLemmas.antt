@@ -8,7 +8,7 @@ use Rattle.exchange_events.specs.Sound.{Fits, IsSound, setting_of}
 use Rattle.exchange_events.proofs.EventNumbers.{of_event_at}
 use Rattle.call_profile.specs.Step.{events_of, next, world_after_all}
 use Rattle.call_profile.specs.World.{World, start}
-use Rattle.call_profile.proofs.RunLemmas.{events_of-snoc, few_events, world-snoc, world_next}
+use Rattle.call_profile.proofs.RunLemmas.{events_of-snoc, length-events_of-le, world-snoc, world_next}
 use Rattle.exchange_core.specs.Working.{IsNumbered, world_after}
 use Rattle.lone_exchange.specs.declared.exchange.LoneExchange.{LoneExchange}
 use Rattle.lone_exchange.specs.At.{IsAt}
@@ -20,7 +20,7 @@ module _ {P : Type 0} (slots : ℕ) (trace : Trace) (order : List ℕ) (x : Lone
   frames_few sound room =
       let s = setting_of slots trace in
       let grows = world_next s (start s.dimensions) (events_of trace.events order) in
-      let few = few_events trace.events order in
+      let few = length-events_of-le trace.events order in
       let same = done.work.holds.circuits.holds.next in
       let most = sound.count in
       omega (arith, grows, few, same, room, most)

@@ -55,41 +55,41 @@ module _ (trace : Trace) (order : List ℕ) (n : ℕ) where
   long : length (order ++ n ∷ []) ≡ length order + 1
   long = length-append order (n ∷ [])
 
-  last : (d : ℕ) → get_or (order ++ n ∷ []) (length order) d ≡ n
-  last d = get_or-append_seam order n [] d
+  get_or-append_last : (d : ℕ) → get_or (order ++ n ∷ []) (length order) d ≡ n
+  get_or-append_last d = get_or-append_seam order n [] d
 
-  before : (k d : ℕ) → k < length order → get_or (order ++ n ∷ []) k d ≡ get_or order k d
-  before k d within = get_or_append_left order (n ∷ []) d k within
+  get_or-append_before : (k d : ℕ) → k < length order → get_or (order ++ n ∷ []) k d ≡ get_or order k d
+  get_or-append_before k d within = get_or_append_left order (n ∷ []) d k within
 
   pub follows : IsLawfulPrefix trace (order ++ n ∷ []) → MayFollow trace order n
   follows lawful = record {
-    known = subst (IsEvent trace) (last 0) (lawful.known (length order) 0 (omega (arith, long)));
-    new = λ at. lawful.distinct at.0 (length order) n at.1 (omega (arith, long)) (before at.0 n at.1 ∙ at.2 ∙ sym (last n));
+    known = subst (IsEvent trace) (get_or-append_last 0) (lawful.known (length order) 0 (omega (arith, long)));
+    new = λ at. lawful.distinct at.0 (length order) n at.1 (omega (arith, long)) (get_or-append_before at.0 n at.1 ∙ at.2 ∙ sym (get_or-append_last n));
     waits = λ m is precedes. subst (λ (l : List ℕ). Contains l m) (take-append_seam order (n ∷ []))
-        (lawful.waits (length order) (omega (arith, long)) m is (subst (Precedes trace m) (sym (last 0)) precedes));
+        (lawful.waits (length order) (omega (arith, long)) m is (subst (Precedes trace m) (sym (get_or-append_last 0)) precedes));
   }
 
-  pub goes_on : IsLawfulPrefix trace order → MayFollow trace order n → IsLawfulPrefix trace (order ++ n ∷ [])
-  goes_on lawful may = record {
+  pub IsLawfulPrefix_goes_on : IsLawfulPrefix trace order → MayFollow trace order n → IsLawfulPrefix trace (order ++ n ∷ [])
+  IsLawfulPrefix_goes_on lawful may = record {
     known = All-append (IsEvent trace) order (n ∷ []) lawful.known (All-cons (IsEvent trace) n [] may.known (All-nil (IsEvent trace)));
     distinct = λ a b d below within. elim (cases_lt b (length order)) [
-      | inl left ↦ λ same. lawful.distinct a b d below left (sym (before a d (omega (arith, below, left))) ∙ same ∙ before b d left)
+      | inl left ↦ λ same. lawful.distinct a b d below left (sym (get_or-append_before a d (omega (arith, below, left))) ∙ same ∙ get_or-append_before b d left)
       | inr right ↦
           let at : length order ≡ b = omega (arith, within, long, right) in
           let early : a < length order = omega (arith, below, at) in
-          λ same. may.new (a, early, get_or_default order a n d early ∙ sym (before a d early) ∙ same ∙ sym (ap (λ (k : ℕ). get_or (order ++ n ∷ []) k d) at) ∙ last d)
+          λ same. may.new (a, early, get_or_default order a n d early ∙ sym (get_or-append_before a d early) ∙ same ∙ sym (ap (λ (k : ℕ). get_or (order ++ n ∷ []) k d) at) ∙ get_or-append_last d)
     ];
     waits = λ k within m is precedes. elim (cases_lt k (length order)) [
       | inl left ↦
           let front : take k (order ++ n ∷ []) ≡ take k order = take-append-le k order (n ∷ []) (omega (arith, left)) in
-          subst (λ (l : List ℕ). Contains l m) (sym front) (lawful.waits k left m is (subst (Precedes trace m) (before k 0 left) precedes))
+          subst (λ (l : List ℕ). Contains l m) (sym front) (lawful.waits k left m is (subst (Precedes trace m) (get_or-append_before k 0 left) precedes))
       | inr right ↦
           let at : length order ≡ k = omega (arith, within, long, right) in
-          let read : slice_index (order ++ n ∷ []) k ≡ n = sym (ap (λ (i : ℕ). get_or (order ++ n ∷ []) i 0) at) ∙ last 0 in
+          let read : slice_index (order ++ n ∷ []) k ≡ n = sym (ap (λ (i : ℕ). get_or (order ++ n ∷ []) i 0) at) ∙ get_or-append_last 0 in
           let front : take k (order ++ n ∷ []) ≡ order = sym (ap (λ (i : ℕ). take i (order ++ n ∷ [])) at) ∙ take-append_seam order (n ∷ []) in
           subst (λ (l : List ℕ). Contains l m) (sym front) (may.waits m is (subst (Precedes trace m) read precedes))
     ];
   }
 
-pub turns : (trace : Trace) (order : List ℕ) (n : ℕ) → IsLawfulPrefix trace (order ++ n ∷ []) ↔ (IsLawfulPrefix trace order × MayFollow trace order n)
-turns trace order n = (λ lawful. (lawful_front trace order (n ∷ []) lawful, follows trace order n lawful), λ both. goes_on trace order n both.0 both.1)
+pub IsLawfulPrefix-append : (trace : Trace) (order : List ℕ) (n : ℕ) → IsLawfulPrefix trace (order ++ n ∷ []) ↔ (IsLawfulPrefix trace order × MayFollow trace order n)
+IsLawfulPrefix-append trace order n = (λ lawful. (lawful_front trace order (n ∷ []) lawful, follows trace order n lawful), λ both. IsLawfulPrefix_goes_on trace order n both.0 both.1)

@@ -24,15 +24,15 @@ use Rattle.report_reader.proofs.NumberLemmas.{number_back}
 -- ---- the beginning of a line
 
 -- a line begins with its event's number and a space
-pub starts : (rows : List (List ℕ)) (n : ℕ) (told : Kept) → (tail : List ℕ) × (report_line rows n told ≡ decimal n ++ 32 ∷ tail)
-starts rows n (Granted a b) = (codes "granted " ++ decimal a ++ codes " " ++ decimal b ++ codes "\n", simp append_assoc refl)
-starts rows n Busy = (codes "busy\n", refl)
-starts rows n (Seated a b) = (codes "seated " ++ decimal a ++ codes " " ++ decimal b ++ codes "\n", simp append_assoc refl)
-starts rows n NoPort = (codes "noport\n", refl)
-starts rows n Freed = (codes "freed\n", refl)
-starts rows n NotNailed = (codes "notnailed\n", refl)
-starts rows n (Sent sends moved records) = (codes "message" ++ moves moved ++ messages sends ++ codes "\n", simp append_assoc refl)
-starts rows n (Frame k sends records) = (codes "frame " ++ decimal k ++ frame_messages sends ++ parts 0 rows ++ codes "\n", simp append_assoc refl)
+pub report_line_starts : (rows : List (List ℕ)) (n : ℕ) (told : Kept) → (tail : List ℕ) × (report_line rows n told ≡ decimal n ++ 32 ∷ tail)
+report_line_starts rows n (Granted a b) = (codes "granted " ++ decimal a ++ codes " " ++ decimal b ++ codes "\n", simp append_assoc refl)
+report_line_starts rows n Busy = (codes "busy\n", refl)
+report_line_starts rows n (Seated a b) = (codes "seated " ++ decimal a ++ codes " " ++ decimal b ++ codes "\n", simp append_assoc refl)
+report_line_starts rows n NoPort = (codes "noport\n", refl)
+report_line_starts rows n Freed = (codes "freed\n", refl)
+report_line_starts rows n NotNailed = (codes "notnailed\n", refl)
+report_line_starts rows n (Sent sends moved records) = (codes "message" ++ moves moved ++ messages sends ++ codes "\n", simp append_assoc refl)
+report_line_starts rows n (Frame k sends records) = (codes "frame " ++ decimal k ++ frame_messages sends ++ parts 0 rows ++ codes "\n", simp append_assoc refl)
 
 -- so do octets that begin with a line
 begins : (n : ℕ) (line tail rest : List ℕ) → line ≡ decimal n ++ 32 ∷ tail → line ++ rest ≡ decimal n ++ 32 ∷ (tail ++ rest)
@@ -41,7 +41,7 @@ begins n line tail rest is = ap (λ (l : List ℕ). l ++ rest) is ∙ append_ass
 -- and the number there is read back
 pub number_read : (rows : List (List ℕ)) (n : ℕ) (told : Kept) (rest : List ℕ) → n < 2 ^ 32 → (more : List ℕ) × (parse_number (report_line rows n told ++ rest) ≡ Some (n, more))
 number_read rows n told rest small =
-    let start = starts rows n told in
+    let start = report_line_starts rows n told in
     (32 ∷ (start.0 ++ rest), ap parse_number (begins n (report_line rows n told) start.0 rest start.1) ∙ number_back n (32 ∷ (start.0 ++ rest)) small refl)
 
 same_number : (rows others : List (List ℕ)) (m n : ℕ) (told said : Kept) (r t : List ℕ) → m < 2 ^ 32 → n < 2 ^ 32 → report_line rows m told ++ r ≡ report_line others n said ++ t → m ≡ n
@@ -134,7 +134,7 @@ module _ (played : Played) (s : Setting) (trace : Trace) where
     some_text : (w : World) (n : ℕ) (ys : List ℕ) → IsEvent trace n → [] ≡ lines w (n ∷ ys) → ⊥
     some_text w n ys is same =
         let e = event_there trace n is in
-        let start = starts (sent_at played s w e.0) n (kept_of (reply s w e.0)) in
+        let start = report_line_starts (sent_at played s w e.0) n (kept_of (reply s w e.0)) in
         let there : lines w (n ∷ ys) ≡ decimal n ++ 32 ∷ (start.0 ++ lines (next s w e.0) ys) =
         line_first w n ys e.0 e.1 ∙ begins n (event_line played s w n e.0) start.0 (lines (next s w e.0) ys) start.1 in
         let long = length-append (decimal n) (32 ∷ (start.0 ++ lines (next s w e.0) ys)) in

@@ -26,7 +26,7 @@ use Rattle.segment_run.specs.Merging.{IsMerged}
 use Rattle.segment_run.specs.Merging.{all_of}
 use Rattle.segment_run.specs.Segment.{IsAnswered, AreAnswered, new_events}
 use Rattle.segment_run.specs.Workers.{AreDealt, load, part_numbered, turns_left, worker_numbered}
-use Rattle.segment_run.proofs.ListLemmas.{In, all_in, in_either, in_left, in_map, filter_in, length_of_map, range_in, both, got_in, got_left, got_behind, got_within}
+use Rattle.segment_run.proofs.ListLemmas.{In, all_in, in_either, in_left, in_map, filter_in, length_of_map, range_in, both, got_in, slice_get-append_left, slice_get-append_right, got_within}
 use Rattle.segment_run.proofs.DoerLemmas.{numbered_frames, numbered_processor}
 use Rattle.segment_run.proofs.MergeLemmas.{all_of_last, all_of_none, apart_last, each_place, events_are}
 use Rattle.segment_run.proofs.RunLemmas.{zip_right}
@@ -98,7 +98,7 @@ module _ {J U : Type 0} (plays : Plays) (tones : Kind → List ℕ) (board : Boa
         let r1 = (range_in 1 (length trace.events) p.answer.event f.1).0 in
         record {
           entry = ap (λ (l : List Entry). slice_get l p.place) s.1
-              ∙ (got_left (ku u).seen s.0 p.place ((ku u).number, p.answer.event) a.entry ∙ ap (λ (m : ℕ). Some (m, p.answer.event)) w.did.number);
+              ∙ (slice_get-append_left (ku u).seen s.0 p.place ((ku u).number, p.answer.event) a.entry ∙ ap (λ (m : ℕ). Some (m, p.answer.event)) w.did.number);
           low = omega (arith, beyond, long);
           event = λ e. omega (arith, e, r1);
           given = record {
@@ -191,14 +191,14 @@ module _ {J U : Type 0} (plays : Plays) (tones : Kind → List ℕ) (board : Boa
         omega (arith, numbers, high, is)))
 
     -- where all is whole, there are as many answers as turns were given
-    pub as_many : (n low : ℕ) (js : List J) (us : List U) → AllZip Answers js us → AreDealt trace segment v n low (rows_of js) → All (λ (u : U). IsTrue (bu u)) us → length (all_of (lists us)) ≡ turns_left (rows_of js)
-    as_many n low [] [] z d whole = ap length all_of_none
-    as_many n low [] (u ∷ us) z d whole = absurd z
-    as_many n low (j ∷ js) [] z d whole = absurd z
-    as_many n low (j ∷ js) (u ∷ us) z d whole =
+    pub length-all_of : (n low : ℕ) (js : List J) (us : List U) → AllZip Answers js us → AreDealt trace segment v n low (rows_of js) → All (λ (u : U). IsTrue (bu u)) us → length (all_of (lists us)) ≡ turns_left (rows_of js)
+    length-all_of n low [] [] z d whole = ap length all_of_none
+    length-all_of n low [] (u ∷ us) z d whole = absurd z
+    length-all_of n low (j ∷ js) [] z d whole = absurd z
+    length-all_of n low (j ∷ js) (u ∷ us) z d whole =
         let a = ap length (lists_cons u us) in
         let b = length-append (all_of (lists us)) (au u) in
-        let c = as_many (n + 1) (wj j + 1) js us z.1 d.3 (λ i x h. whole (suc i) x (omega (arith, h))) in
+        let c = length-all_of (n + 1) (wj j + 1) js us z.1 d.3 (λ i x h. whole (suc i) x (omega (arith, h))) in
         let told = ap length (z.0.0.all (whole 0 u (omega arith))) in
         let e = length_of_map (λ (q : Placed). q.answer.event) (au u) in
         let turns = d.2.turns_are in
@@ -219,7 +219,7 @@ module _ {J U : Type 0} (plays : Plays) (tones : Kind → List ℕ) (board : Boa
             let t = there i a at in
             let g = (one_good n low js us z d seen t.0 t.1).good in
             let number = (one_good n low js us z d seen t.0 t.1).number in
-            (number, sym (got_behind v.seen rest i) ∙ (ap (λ (l : List Entry). slice_get l (length v.seen + i)) (sym grew) ∙ (ap (slice_get k.seen) (sym t.2) ∙ (g.entry ∙ ap (λ (x : Answer). Some (number, x.event)) t.3)))))
+            (number, sym (slice_get-append_right v.seen rest i) ∙ (ap (λ (l : List Entry). slice_get l (length v.seen + i)) (sym grew) ∙ (ap (slice_get k.seen) (sym t.2) ∙ (g.entry ∙ ap (λ (x : Answer). Some (number, x.event)) t.3)))))
             ∙ sym grown_is;
         each = λ i a at.
             let t = there i a at in

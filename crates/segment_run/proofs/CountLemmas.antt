@@ -8,7 +8,7 @@ use Rattle.exchange_events.specs.declared.trace.Event.{Event}
 use Rattle.exchange_events.specs.declared.trace.Trace.{Trace}
 use Rattle.exchange_events.specs.Orders.{Worker, Processor, Frame_worker, event_at, worker_of}
 use Rattle.call_processor.specs.Parts.{does, is_its, is_worker, worker_at}
-use Rattle.call_processor.proofs.PartLemmas.{up_to, next_its, next_not}
+use Rattle.call_processor.proofs.PartLemmas.{up_to, up_to_next_its, up_to_next_not}
 use Rattle.segment_run.specs.Workers.{worker_numbered}
 use Rattle.segment_run.proofs.DoerLemmas.{is_itself, numbered_frames, numbered_processor, other_worker}
 use Rattle.segment_run.proofs.LoadLemmas.{worker_is}
@@ -26,8 +26,8 @@ long_range a zero = refl
 long_range a (suc n) = ap suc (long_range (a + 1) n)
 
 -- a worker has no more events than there are
-pub up_to_few : (trace : Trace) (worker : Worker) (first event : ℕ) → length (up_to trace worker first event) ≤ event - first
-up_to_few trace worker first event =
+pub length-up_to-le : (trace : Trace) (worker : Worker) (first event : ℕ) → length (up_to trace worker first event) ≤ event - first
+length-up_to-le trace worker first event =
     let a = filter_few (is_its trace worker) (range_with_len first (event - first)) in
     omega (arith, a, long_range first (event - first))
 
@@ -70,13 +70,13 @@ counted_more trace first event n ev loads from few long at is each i le =
 
     other : is_worker (worker_numbered trace.processors n) (worker_numbered trace.processors i) ≡ false → i ≢ n
         → slice_index (slice_set loads n (slice_index loads n + 1)) i ≡ length (up_to trace (worker_numbered trace.processors i) first (event + 1))
-    other off apart = get_or-set_other loads n i (slice_index loads n + 1) 0 apart ∙ (each i le ∙ ap length (sym (next_not trace (worker_numbered trace.processors i) first event from (its (worker_numbered trace.processors i) ∙ off))))
+    other off apart = get_or-set_other loads n i (slice_index loads n + 1) 0 apart ∙ (each i le ∙ ap length (sym (up_to_next_not trace (worker_numbered trace.processors i) first event from (its (worker_numbered trace.processors i) ∙ off))))
 
     same : i ≡ n → slice_index (slice_set loads n (slice_index loads n + 1)) i ≡ length (up_to trace (worker_numbered trace.processors i) first (event + 1))
     same e =
         let w = worker_numbered trace.processors i in
         let mine : is_its trace w event ≡ true = its w ∙ (ap (λ (k : ℕ). is_worker (worker_numbered trace.processors n) (worker_numbered trace.processors k)) e ∙ is_itself (worker_numbered trace.processors n)) in
-        let more = ap length (next_its trace w first event from mine) in
+        let more = ap length (up_to_next_its trace w first event from mine) in
         let long_one = length-append (up_to trace w first event) (event ∷ []) in
         let was = each i le in
         let at_n = ap (slice_index loads) e in

@@ -113,9 +113,9 @@ module _ {J : Type 0} (number : J → ℕ) (known : J → SeatKnowledge) (trace 
   })
 
   -- seat 0 has a turn for each event of the next worker
-  pub enough : (i : ℕ) (js : List J) (k : SeatKnowledge) → i ≤ trace.processors → k.left + turns_left (seats js) ≡ v.left → turns_left (seats js) ≡ loads_below trace segment i
+  pub load_enough : (i : ℕ) (js : List J) (k : SeatKnowledge) → i ≤ trace.processors → k.left + turns_left (seats js) ≡ v.left → turns_left (seats js) ≡ loads_below trace segment i
       → loads_below trace segment (trace.processors + 1) ≤ v.left → load trace segment i ≤ k.left
-  enough i js k le turns all few =
+  load_enough i js k le turns all few =
       let more = loads_more trace segment i in
       let grow = loads_grow trace segment (i + 1) (trace.processors + 1) (omega (arith, le)) in
       omega (arith, turns, all, few, more, grow)

@@ -33,8 +33,8 @@ is_itself (Processor a) = grind (arith, nat_tests)
 is_itself Frame_worker = refl
 
 -- an event of one worker is another's exactly where the two are one
-pub one_worker : (trace : Trace) (a b : Worker) (n : ℕ) → is_its trace a n ≡ true → is_its trace b n ≡ is_worker a b
-one_worker trace a b n = go (event_at trace.events n)
+pub is_its_one_worker : (trace : Trace) (a b : Worker) (n : ℕ) → is_its trace a n ≡ true → is_its trace b n ≡ is_worker a b
+is_its_one_worker trace a b n = go (event_at trace.events n)
   where
     go : (o : Option Event) → does trace.processors a o ≡ true → does trace.processors b o ≡ is_worker a b
     go None e = absurd (cc e)
@@ -110,14 +110,14 @@ dealt_in trace segment v n low (u ∷ ts) d t (inr more) =
     record { number = r.number; is = r.is; since = omega (arith, a); from_low = omega (arith, b, c); few = r.few }
 
 -- two of the workers are one exactly where their seats are
-pub alike : (trace : Trace) (segment : ℕ) (v : SeatKnowledge) (n low : ℕ) (ts : List Doer) → AreDealt trace segment v n low (map seat_of ts) → (t u : Doer) → In t ts → In u ts
+pub is_worker_alike : (trace : Trace) (segment : ℕ) (v : SeatKnowledge) (n low : ℕ) (ts : List Doer) → AreDealt trace segment v n low (map seat_of ts) → (t u : Doer) → In t ts → In u ts
     → is_worker (worker_numbered trace.processors t.worker) (worker_numbered trace.processors u.worker) ≡ nat_eq t.from.number u.from.number
-alike trace segment v n low [] d t u i j = absurd i
-alike trace segment v n low (w ∷ ts) d t u (inl p) (inl q) =
+is_worker_alike trace segment v n low [] d t u i j = absurd i
+is_worker_alike trace segment v n low (w ∷ ts) d t u (inl p) (inl q) =
     let same : t ≡ u = sym p ∙ q in
     subst (λ (x : Doer). is_worker (worker_numbered trace.processors t.worker) (worker_numbered trace.processors x.worker) ≡ nat_eq t.from.number x.from.number) same
     (is_itself (worker_numbered trace.processors t.worker) ∙ (let self : nat_eq t.from.number t.from.number ≡ true = grind (arith, nat_tests) in sym self))
-alike trace segment v n low (w ∷ ts) d t u (inl p) (inr j) =
+is_worker_alike trace segment v n low (w ∷ ts) d t u (inl p) (inr j) =
     let r = dealt_in trace segment v (n + 1) (w.worker + 1) ts d.3 u j in
     let a = r.since in
     let b = r.from_low in
@@ -126,7 +126,7 @@ alike trace segment v n low (w ∷ ts) d t u (inl p) (inr j) =
     let off : nat_eq w.from.number u.from.number ≡ false = grind (arith, nat_tests, a, na, nw) in
     subst (λ (x : Doer). is_worker (worker_numbered trace.processors x.worker) (worker_numbered trace.processors u.worker) ≡ nat_eq x.from.number u.from.number) p
     ((other_worker trace.processors w.worker u.worker (omega (arith, b)) r.few).0 ∙ sym off)
-alike trace segment v n low (w ∷ ts) d t u (inr i) (inl q) =
+is_worker_alike trace segment v n low (w ∷ ts) d t u (inr i) (inl q) =
     let r = dealt_in trace segment v (n + 1) (w.worker + 1) ts d.3 t i in
     let a = r.since in
     let b = r.from_low in
@@ -135,7 +135,7 @@ alike trace segment v n low (w ∷ ts) d t u (inr i) (inl q) =
     let off : nat_eq t.from.number w.from.number ≡ false = grind (arith, nat_tests, a, na, nw) in
     subst (λ (x : Doer). is_worker (worker_numbered trace.processors t.worker) (worker_numbered trace.processors x.worker) ≡ nat_eq t.from.number x.from.number) q
     ((other_worker trace.processors w.worker t.worker (omega (arith, b)) r.few).1 ∙ sym off)
-alike trace segment v n low (w ∷ ts) d t u (inr i) (inr j) = alike trace segment v (n + 1) (w.worker + 1) ts d.3 t u i j
+is_worker_alike trace segment v n low (w ∷ ts) d t u (inr i) (inr j) = is_worker_alike trace segment v (n + 1) (w.worker + 1) ts d.3 t u i j
 
 -- ---- entries
 
@@ -175,8 +175,8 @@ module _ (turns : ℕ) (trace : Trace) (segment : ℕ) (v k : SeatKnowledge) (re
   kept_in m i = all_in (λ (x : JoinedSeat). x.own ≡ entries_of x.number k.seen) k.kept after.kept m i
 
   -- an entry of the growth is a doer's
-  pub whose : (e : Entry) → In e rest → (t : Doer) × In t ts × (e.0 ≡ t.from.number)
-  whose e i =
+  pub doer_of_entry : (e : Entry) → In e rest → (t : Doer) × In t ts × (e.0 ≡ t.from.number)
+  doer_of_entry e i =
       let there : In e k.seen = subst (λ (l : List Entry). In e l) (sym j.grew) (behind v.seen) in
       let accounts : Accounts k e.0 = all_in (λ (x : Entry). Accounts k x.0) k.seen (after.accounted j.all) e there in
       go (nat_eq e.0 k.number) refl accounts
@@ -234,7 +234,7 @@ module _ (turns : ℕ) (trace : Trace) (segment : ℕ) (v k : SeatKnowledge) (re
 
   pub its_of : (e : Entry) → In e rest → (t : Doer) × Its e t
   its_of e i =
-      let w = whose e i in
+      let w = doer_of_entry e i in
       let t = w.0 in
       let n = t.from.number in
       let same = w.2 in
@@ -260,28 +260,28 @@ module _ (turns : ℕ) (trace : Trace) (segment : ℕ) (v k : SeatKnowledge) (re
       )
 
   -- a doer did its part of the growth
-  pub of_doer : (t : Doer) → In t ts → filter (is_its trace (worker_numbered trace.processors t.worker)) (order_of rest) ≡ t.done
-  of_doer t i =
+  pub filter-is_its_of_doer : (t : Doer) → In t ts → filter (is_its trace (worker_numbered trace.processors t.worker)) (order_of rest) ≡ t.done
+  filter-is_its_of_doer t i =
       let worker = worker_numbered trace.processors t.worker in
       filter_map_of (λ (e : Entry). e.1) (is_its trace worker) rest
       ∙ (ap order_of (filter_alike (λ (e : Entry). is_its trace worker e.1) (λ (e : Entry). nat_eq e.0 t.from.number) rest (λ e h.
       let o = its_of e h in
-      one_worker trace (worker_numbered trace.processors o.0.worker) worker e.1 o.1.its
-      ∙ (alike trace segment v (v.made + 1) 0 ts j.dealt o.0 t o.1.among i ∙ ap (λ (m : ℕ). nat_eq m t.from.number) (sym o.1.number))))
+      is_its_one_worker trace (worker_numbered trace.processors o.0.worker) worker e.1 o.1.its
+      ∙ (is_worker_alike trace segment v (v.made + 1) 0 ts j.dealt o.0 t o.1.among i ∙ ap (λ (m : ℕ). nat_eq m t.from.number) (sym o.1.number))))
       ∙ (ap order_of (entries_are t i) ∙ order_for t.from.number t.done))
 
   -- and who is none of the doers did none of it
-  pub of_other : (worker : Worker) → ((t : Doer) → In t ts → is_worker (worker_numbered trace.processors t.worker) worker ≡ false) → filter (is_its trace worker) (order_of rest) ≡ []
-  of_other worker none =
+  pub filter-is_its_of_other : (worker : Worker) → ((t : Doer) → In t ts → is_worker (worker_numbered trace.processors t.worker) worker ≡ false) → filter (is_its trace worker) (order_of rest) ≡ []
+  filter-is_its_of_other worker none =
       filter_none (is_its trace worker) (order_of rest) (λ n h.
       let m = map_in (λ (e : Entry). e.1) rest n h in
       let o = its_of m.0 m.1 in
-      ap (is_its trace worker) (sym m.2) ∙ (one_worker trace (worker_numbered trace.processors o.0.worker) worker m.0.1 o.1.its ∙ none o.0 o.1.among))
+      ap (is_its trace worker) (sym m.2) ∙ (is_its_one_worker trace (worker_numbered trace.processors o.0.worker) worker m.0.1 o.1.its ∙ none o.0 o.1.among))
 
 -- a worker is one of the doers or none
-pub found : (processors : ℕ) (worker : Worker) (ts : List Doer) → ((t : Doer) × In t ts × (worker_numbered processors t.worker ≡ worker)) ⊎ ((t : Doer) → In t ts → is_worker (worker_numbered processors t.worker) worker ≡ false)
-found processors worker [] = inr (λ t i. absurd i)
-found processors worker (u ∷ ts) = go (is_worker (worker_numbered processors u.worker) worker) refl (found processors worker ts)
+pub doer_of_worker : (processors : ℕ) (worker : Worker) (ts : List Doer) → ((t : Doer) × In t ts × (worker_numbered processors t.worker ≡ worker)) ⊎ ((t : Doer) → In t ts → is_worker (worker_numbered processors t.worker) worker ≡ false)
+doer_of_worker processors worker [] = inr (λ t i. absurd i)
+doer_of_worker processors worker (u ∷ ts) = go (is_worker (worker_numbered processors u.worker) worker) refl (doer_of_worker processors worker ts)
   where
     go : (b : Bool) → is_worker (worker_numbered processors u.worker) worker ≡ b
         → ((t : Doer) × In t ts × (worker_numbered processors t.worker ≡ worker)) ⊎ ((t : Doer) → In t ts → is_worker (worker_numbered processors t.worker) worker ≡ false)

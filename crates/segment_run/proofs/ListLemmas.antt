@@ -101,14 +101,14 @@ module _ {X : Type 0} where
   got_in (y ∷ ys) zero x e = inl (cc e)
   got_in (y ∷ ys) (suc i) x e = inr (got_in ys i x e)
 
-  pub got_left : (xs ys : List X) (i : ℕ) (x : X) → slice_get xs i ≡ Some x → slice_get (xs ++ ys) i ≡ Some x
-  got_left [] ys i x e = absurd (cc e)
-  got_left (y ∷ xs) ys zero x e = e
-  got_left (y ∷ xs) ys (suc i) x e = got_left xs ys i x e
+  pub slice_get-append_left : (xs ys : List X) (i : ℕ) (x : X) → slice_get xs i ≡ Some x → slice_get (xs ++ ys) i ≡ Some x
+  slice_get-append_left [] ys i x e = absurd (cc e)
+  slice_get-append_left (y ∷ xs) ys zero x e = e
+  slice_get-append_left (y ∷ xs) ys (suc i) x e = slice_get-append_left xs ys i x e
 
-  pub got_behind : (xs ys : List X) (i : ℕ) → slice_get (xs ++ ys) (length xs + i) ≡ slice_get ys i
-  got_behind [] ys i = let e : zero + i ≡ i = omega arith in ap (slice_get ys) e
-  got_behind (x ∷ xs) ys i = let e : suc (length xs) + i ≡ suc (length xs + i) = omega arith in ap (slice_get (x ∷ (xs ++ ys))) e ∙ got_behind xs ys i
+  pub slice_get-append_right : (xs ys : List X) (i : ℕ) → slice_get (xs ++ ys) (length xs + i) ≡ slice_get ys i
+  slice_get-append_right [] ys i = let e : zero + i ≡ i = omega arith in ap (slice_get ys) e
+  slice_get-append_right (x ∷ xs) ys i = let e : suc (length xs) + i ≡ suc (length xs + i) = omega arith in ap (slice_get (x ∷ (xs ++ ys))) e ∙ slice_get-append_right xs ys i
 
   pub got_within : (xs : List X) (i : ℕ) (x : X) → slice_get xs i ≡ Some x → i < length xs
   got_within [] i x e = absurd (cc e)

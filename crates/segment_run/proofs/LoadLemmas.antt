@@ -97,9 +97,9 @@ sums_all trace some_one (x ∷ xs) f =
     let c = sums_all trace some_one xs (λ y i. f y (inr i)) in
     omega (arith, a, b, c)
 
-pub long_range : (a n : ℕ) → length (range_with_len a n) ≡ n
-long_range a zero = refl
-long_range a (suc n) = ap suc (long_range (a + 1) n)
+pub length-range_with_len : (a n : ℕ) → length (range_with_len a n) ≡ n
+length-range_with_len a zero = refl
+length-range_with_len a (suc n) = ap suc (length-range_with_len (a + 1) n)
 
 pub loads_none : (trace : Trace) (segment : ℕ) → loads_below trace segment 0 ≡ 0
 unfolding loads_below
@@ -156,12 +156,12 @@ loads_all trace segment some_one sound within =
     each (suc n) = λ i. each n i + length (part_is trace segment (worker_numbered trace.processors n) sound within i)
 
 -- seat 0 has a turn for each event of a segment where all segments before were done
-pub turns_for : (board : Board) (trace : Trace) (segment : ℕ) (v : SeatKnowledge) → trace ≡ board.trace → IsSound trace → segment < length trace.segments → IsChief (turns_of board) v → length v.seen ≡ events_before trace.segments segment
+pub length-events_of_segment-le : (board : Board) (trace : Trace) (segment : ℕ) (v : SeatKnowledge) → trace ≡ board.trace → IsSound trace → segment < length trace.segments → IsChief (turns_of board) v → length v.seen ≡ events_before trace.segments segment
     → length (events_of_segment trace segment) ≤ v.left
-turns_for board trace segment v same sound within chief begun =
+length-events_of_segment-le board trace segment v same sound within chief begun =
     let next : segment + 1 ≡ suc segment = omega arith in
     let end = ap (events_before trace.segments) next in
-    let long = ap length (segment_is trace segment sound.segments within) ∙ long_range (events_before trace.segments segment + 1) (get_or trace.segments segment 0 - events_before trace.segments segment) in
+    let long = ap length (segment_is trace segment sound.segments within) ∙ length-range_with_len (events_before trace.segments segment + 1) (get_or trace.segments segment 0 - events_before trace.segments segment) in
     let whole = chief.settled.whole chief.joined in
     let ends = ends_are trace segment sound.segments within in
     let first = ends.0 in

@@ -327,8 +327,8 @@ module _ {K : Type 0} (holds : K → List Placed → Type 0) where
     in_run : (p : Placed) → In p h.run → In p part.0
     in_run p j = subst (In p) (sym h.parts) (in_left h.run h.rest p j)
 
-    starts : first_place (h.run ++ h.rest) ≡ Some first
-    starts = subst (λ (l : List Placed). first_place l ≡ Some first) h.parts (next.1 w part.0 at part.2)
+    first_place_starts : first_place (h.run ++ h.rest) ≡ Some first
+    first_place_starts = subst (λ (l : List Placed). first_place l ≡ Some first) h.parts (next.1 w part.0 at part.2)
 
     low : (run : List Placed) → 0 < length run → first_place (run ++ h.rest) ≡ Some first → All (λ (p : Placed). p.place < below) (drop 1 run) → (p : Placed) → In p run → (p.place ≡ first) ⊎ (p.place < below)
     low [] some e few p j = absurd j
@@ -336,7 +336,7 @@ module _ {K : Type 0} (holds : K → List Placed → Type 0) where
     low (y ∷ run) some e few p (inr more) = inr (all_in (λ (q : Placed). q.place < below) run few p more)
 
     some_run : 0 < length h.run
-    some_run = h.some (subst (λ (l : List Placed). 0 < length l) (sym h.parts) (any (h.run ++ h.rest) starts))
+    some_run = h.some (subst (λ (l : List Placed). 0 < length l) (sym h.parts) (any (h.run ++ h.rest) first_place_starts))
       where
         any : (ps : List Placed) → first_place ps ≡ Some first → 0 < length ps
         any [] e = absurd (cc e)
@@ -354,7 +354,7 @@ module _ {K : Type 0} (holds : K → List Placed → Type 0) where
         let within = got_here used t.0 there.0 there.1 in
         let n = next.2 t.0 there.0 t.1 up.0 within t.2 there.1 there.2 up.1 in
         let differ = apart_two u.rest k t.0 part.0 t.1 part.1 t.3 t.2 u.apart p q (in_run p i) t.4 in
-        pick (low h.run some_run starts h.before p i) n.0 n.1 up.2 differ (cases_lt p.place q.place)
+        pick (low h.run some_run first_place_starts h.before p i) n.0 n.1 up.2 differ (cases_lt p.place q.place)
       where
         got_here : (xs : List (WorkerBuffers K)) (j : ℕ) (y : WorkerBuffers K) → slice_get xs j ≡ Some y → j < length xs
         got_here [] j y e = absurd (cc e)

@@ -20,7 +20,7 @@ use Rattle.exchange_events.specs.Sound.{IsSound, last_of}
 use Rattle.exchange_events.proofs.EventNumbers.{event_there}
 use Rattle.exchange_core.specs.Working.{Entry, order_of}
 use Rattle.call_processor.specs.Parts.{is_worker, does, is_its, part_of}
-use Rattle.call_processor.proofs.PartLemmas.{at_least, at_most, in_segment, rises, below_last}
+use Rattle.call_processor.proofs.PartLemmas.{segment_of_at_least, segment_of_at_most, in_segment, ends_rise, below_last}
 use Rattle.segment_run.specs.Segment.{new_events, of_worker, IsChief, IsOfSegment, Ran, RanWhole}
 use Rattle.segment_run.specs.Segments.{IsDoneBelow, events_before}
 
@@ -232,8 +232,8 @@ pub grown_known : (trace : Trace) (k : ℕ) (v w : SeatKnowledge) → Ran trace 
 grown_known trace k v w ran = All-weaker (IsOfSegment trace k) (IsEvent trace) (λ n is. is.0) (new_events v w) ran.only
 
 -- before the first segment nothing was done
-pub none : (trace : Trace) → IsDoneBelow trace 0 []
-none trace = record {
+pub IsDoneBelow_none : (trace : Trace) → IsDoneBelow trace 0 []
+IsDoneBelow_none trace = record {
   lawful = record {
     known = All-nil (IsEvent trace);
     distinct = λ i j d below within. absurd (omega (arith, within));
@@ -244,8 +244,8 @@ none trace = record {
 }
 
 -- a segment was run whole
-pub one_more : (trace : Trace) (k : ℕ) (v w : SeatKnowledge) → IsDoneBelow trace k (order_of v.seen) → Ran trace k v w → RanWhole trace k v w → IsDoneBelow trace (k + 1) (order_of w.seen)
-one_more trace k v w below ran whole =
+pub IsDoneBelow_one_more : (trace : Trace) (k : ℕ) (v w : SeatKnowledge) → IsDoneBelow trace k (order_of v.seen) → Ran trace k v w → RanWhole trace k v w → IsDoneBelow trace (k + 1) (order_of w.seen)
+IsDoneBelow_one_more trace k v w below ran whole =
     subst (IsDoneBelow trace (k + 1)) (sym (order_grown v w ran.begins)) (done_more trace k (order_of v.seen) (new_events v w) below ran.only ran.fronts whole)
 
 -- a segment was run, and cut short
@@ -256,8 +256,8 @@ cut_short trace k v w below ran =
 -- ---- all segments
 
 -- an order of all segments holds every event
-pub all_done : (trace : Trace) (order : List ℕ) → IsSound trace → IsDoneBelow trace (length trace.segments) order → IsLawful trace order
-all_done trace order sound below = record {
+pub IsLawful_all_done : (trace : Trace) (order : List ℕ) → IsSound trace → IsDoneBelow trace (length trace.segments) order → IsLawful trace order
+IsLawful_all_done trace order sound below = record {
   begun = below.lawful;
   whole = λ n is. below.all n is (in_segment trace n sound.segments is);
 }
@@ -291,12 +291,12 @@ module _ (ends : List ℕ) (rising : AllPairs (λ (m n : ℕ). m < n) ends) wher
   ended_by : (k n : ℕ) → k ≤ length ends → 1 ≤ n → n ≤ events_before ends k → segment_of ends n < k
   ended_by zero n within low high = absurd (omega (arith, low, high))
   ended_by (suc k) n within low high =
-      let few = at_most ends n k (λ i above inside. let later = rises ends rising k i above inside in omega (arith, later, high)) in
+      let few = segment_of_at_most ends n k (λ i above inside. let later = ends_rise ends rising k i above inside in omega (arith, later, high)) in
       omega (arith, few)
 
   not_ended : (k n : ℕ) → k ≤ length ends → events_before ends k < n → k ≤ segment_of ends n
   not_ended zero n within low = omega arith
-  not_ended (suc k) n within low = at_least ends n (suc k) within (λ i less. let earlier = rises ends rising i k (omega (arith, less)) (omega (arith, within)) in omega (arith, earlier, low))
+  not_ended (suc k) n within low = segment_of_at_least ends n (suc k) within (λ i less. let earlier = ends_rise ends rising i k (omega (arith, less)) (omega (arith, within)) in omega (arith, earlier, low))
 
   end_within : (k : ℕ) → k ≤ length ends → events_before ends k ≤ last_of ends
   end_within zero within = omega arith

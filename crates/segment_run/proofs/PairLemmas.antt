@@ -50,11 +50,11 @@ module _ {J F K : Type 0} (holds : K → List Placed → Type 0) (board : Board)
   pairs_map g (j ∷ js) [] z = absurd z
   pairs_map g (j ∷ js) (f ∷ fs) z = ap (λ l. g f ∷ l) (pairs_map g js fs z.1)
 
-  pub pairs_long : (js : List J) (fs : List F) (z : AllZip Kept_part js fs) → length (pairs js fs z) ≡ length fs
-  pairs_long [] [] z = refl
-  pairs_long [] (f ∷ fs) z = absurd z
-  pairs_long (j ∷ js) [] z = absurd z
-  pairs_long (j ∷ js) (f ∷ fs) z = ap (λ n. suc n) (pairs_long js fs z.1)
+  pub length-pairs : (js : List J) (fs : List F) (z : AllZip Kept_part js fs) → length (pairs js fs z) ≡ length fs
+  length-pairs [] [] z = refl
+  length-pairs [] (f ∷ fs) z = absurd z
+  length-pairs (j ∷ js) [] z = absurd z
+  length-pairs (j ∷ js) (f ∷ fs) z = ap (λ n. suc n) (length-pairs js fs z.1)
 
   pub pairs_all : (P : F → Type 0) (js : List J) (fs : List F) (z : AllZip Kept_part js fs) → All P fs → All (λ (u : F × List Placed). P u.0) (pairs js fs z)
   pairs_all P [] [] z a = λ k d within. absurd (omega (arith, within))

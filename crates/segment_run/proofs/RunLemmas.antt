@@ -18,7 +18,7 @@ use Rattle.call_processor.specs.Work.{Works, answered_events, entries_for}
 use Rattle.segment_run.specs.Segment.{IsChief, Ran, RanWhole, IsOfSegment, new_events}
 use Rattle.segment_run.specs.Workers.{AreDealt, HasDealt, any_baton, after_joins, load, part_numbered, turns_left, worker_numbered}
 use Rattle.segment_run.proofs.ListLemmas.{In, all_in, in_all, map_in, length_of_map}
-use Rattle.segment_run.proofs.DoerLemmas.{Doer, Joined, seat_of, its_of, of_doer, of_other, found, is_itself, no_part, numbered_frames, numbered_processor}
+use Rattle.segment_run.proofs.DoerLemmas.{Doer, Joined, seat_of, its_of, filter-is_its_of_doer, filter-is_its_of_other, doer_of_worker, is_itself, no_part, numbered_frames, numbered_processor}
 
 -- ---- lists side by side
 
@@ -56,9 +56,9 @@ module _ {A B : Type 0} (R : A → B → Type 0) where
 
 -- ---- seat 0 with seats joined
 
-pub joined_kept : (c : SeatKnowledge) (ws : List SeatKnowledge) → (after_joins c ws).kept ≡ map joined_seat ws ++ c.kept
-joined_kept c [] = refl
-joined_kept c (w ∷ ws) = ap (λ (l : List JoinedSeat). joined_seat w ∷ l) (joined_kept c ws)
+pub after_joins_kept : (c : SeatKnowledge) (ws : List SeatKnowledge) → (after_joins c ws).kept ≡ map joined_seat ws ++ c.kept
+after_joins_kept c [] = refl
+after_joins_kept c (w ∷ ws) = ap (λ (l : List JoinedSeat). joined_seat w ∷ l) (after_joins_kept c ws)
 
 abbrev pub sum_left : List SeatKnowledge → ℕ
 sum_left [] = 0
@@ -138,11 +138,11 @@ module _ {J U : Type 0} (board : Board) (trace : Trace) (segment : ℕ) (wj : J 
       let r = pair_of js us z.1 t more in
       record { j = r.j; u = r.u; job = inr r.job; out = inr r.out; each = r.each; is = r.is }
 
-  batons : (c : SeatKnowledge) (js : List J) (us : List U) → AllZip Each js us → (c.baton || any_baton (seats js)) ≡ true → (after_joins c (map ku us)).baton ≡ true
-  batons c [] [] z e = sym (or_false c.baton) ∙ e
-  batons c [] (u ∷ us) z e = absurd z
-  batons c (j ∷ js) [] z e = absurd z
-  batons c (j ∷ js) (u ∷ us) z e = go (batons c js us z.1) (kj j).baton (ku u).baton z.0.0.did.baton e
+  after_joins_batons : (c : SeatKnowledge) (js : List J) (us : List U) → AllZip Each js us → (c.baton || any_baton (seats js)) ≡ true → (after_joins c (map ku us)).baton ≡ true
+  after_joins_batons c [] [] z e = sym (or_false c.baton) ∙ e
+  after_joins_batons c [] (u ∷ us) z e = absurd z
+  after_joins_batons c (j ∷ js) [] z e = absurd z
+  after_joins_batons c (j ∷ js) (u ∷ us) z e = go (after_joins_batons c js us z.1) (kj j).baton (ku u).baton z.0.0.did.baton e
     where
       go : ((c.baton || any_baton (seats js)) ≡ true → (after_joins c (map ku us)).baton ≡ true) → (a b : Bool) → b ≡ a → (c.baton || (a || any_baton (seats js))) ≡ true → ((after_joins c (map ku us)).baton || b) ≡ true
       go tail true b same e = ap (λ (x : Bool). (after_joins c (map ku us)).baton || x) same ∙ or_true (after_joins c (map ku us)).baton
@@ -163,8 +163,8 @@ module _ {J U : Type 0} (board : Board) (trace : Trace) (segment : ℕ) (wj : J 
     long : length us ≡ length js
     long = zip_long Each js us z
 
-    pub after : Settled turns k
-    after = go us refl
+    pub Settled_after : Settled turns k
+    Settled_after = go us refl
       where
         go : (ws : List U) → us ≡ ws → Settled turns k
         go [] none =
@@ -183,7 +183,7 @@ module _ {J U : Type 0} (board : Board) (trace : Trace) (segment : ℕ) (wj : J 
     made_is = ap (λ (x : SeatKnowledge). x.made) is ∙ ((joined_rest c (map ku us)).made ∙ dealt.made)
 
     kept_are : k.kept ≡ map joined_seat (map ku us) ++ v.kept
-    kept_are = ap (λ (x : SeatKnowledge). x.kept) is ∙ (joined_kept c (map ku us) ∙ ap (λ (l : List JoinedSeat). map joined_seat (map ku us) ++ l) dealt.kept)
+    kept_are = ap (λ (x : SeatKnowledge). x.kept) is ∙ (after_joins_kept c (map ku us) ∙ ap (λ (l : List JoinedSeat). map joined_seat (map ku us) ++ l) dealt.kept)
 
     all_joined : k.made ≡ length k.kept
     all_joined =
@@ -206,12 +206,12 @@ module _ {J U : Type 0} (board : Board) (trace : Trace) (segment : ℕ) (wj : J 
       fronts = λ t i. let p = pair_of js us z t i in subst (λ (x : Doer). (more : List ℕ) × (part_numbered trace segment x.worker ≡ x.done ++ more)) (sym p.is) p.each.0.first;
     }
 
-    pub grown_is : new_events v k ≡ order_of rest
-    grown_is = ap (λ (l : List Entry). order_of (unseen v.seen l)) grew ∙ ap order_of (unseen_front v.seen rest)
+    pub new_events_grown : new_events v k ≡ order_of rest
+    new_events_grown = ap (λ (l : List Entry). order_of (unseen v.seen l)) grew ∙ ap order_of (unseen_front v.seen rest)
 
     pub turns_are : k.left + length rest ≡ v.left
     turns_are =
-        let a = after.whole all_joined in
+        let a = Settled_after.whole all_joined in
         let b = chief.settled.whole chief.joined in
         let d = ap length grew in
         let e = length-append v.seen rest in
@@ -220,31 +220,31 @@ module _ {J U : Type 0} (board : Board) (trace : Trace) (segment : ℕ) (wj : J 
     pub still_chief : IsChief turns k
     still_chief = record {
       number = number_is ∙ chief.number;
-      baton = ap (λ (x : SeatKnowledge). x.baton) is ∙ batons c js us z baton;
+      baton = ap (λ (x : SeatKnowledge). x.baton) is ∙ after_joins_batons c js us z baton;
       joined = all_joined;
-      settled = after;
+      settled = Settled_after;
     }
 
-    pub begun : StartsWith k.seen v.seen
-    begun = (rest, grew)
+    pub StartsWith_begun : StartsWith k.seen v.seen
+    StartsWith_begun = (rest, grew)
 
     front_of : (worker : Worker) → ((t : Doer) × In t ts × (worker_numbered trace.processors t.worker ≡ worker)) ⊎ ((t : Doer) → In t ts → is_worker (worker_numbered trace.processors t.worker) worker ≡ false)
         → (more : List ℕ) × (part_of trace segment worker ≡ filter (is_its trace worker) (order_of rest) ++ more)
     front_of worker (inl t) =
         let f = joined.fronts t.0 t.1 in
         subst (λ (w : Worker). (more : List ℕ) × (part_of trace segment w ≡ filter (is_its trace w) (order_of rest) ++ more)) t.2
-        (f.0, f.1 ∙ ap (λ (l : List ℕ). l ++ f.0) (sym (of_doer turns trace segment v k rest ts chief.settled after joined t.0 t.1)))
-    front_of worker (inr none) = (part_of trace segment worker, ap (λ (l : List ℕ). l ++ part_of trace segment worker) (sym (of_other turns trace segment v k rest ts chief.settled after joined worker none)))
+        (f.0, f.1 ∙ ap (λ (l : List ℕ). l ++ f.0) (sym (filter-is_its_of_doer turns trace segment v k rest ts chief.settled Settled_after joined t.0 t.1)))
+    front_of worker (inr none) = (part_of trace segment worker, ap (λ (l : List ℕ). l ++ part_of trace segment worker) (sym (filter-is_its_of_other turns trace segment v k rest ts chief.settled Settled_after joined worker none)))
 
     pub ran : Ran trace segment v k
     ran = record {
-      begins = begun;
-      only = subst (All (IsOfSegment trace segment)) (sym grown_is) (in_all (IsOfSegment trace segment) (order_of rest) (λ n h.
+      begins = StartsWith_begun;
+      only = subst (All (IsOfSegment trace segment)) (sym new_events_grown) (in_all (IsOfSegment trace segment) (order_of rest) (λ n h.
           let m = map_in (λ (e : Entry). e.1) rest n h in
-          let o = its_of turns trace segment v k rest ts chief.settled after joined m.0 m.1 in
+          let o = its_of turns trace segment v k rest ts chief.settled Settled_after joined m.0 m.1 in
           subst (IsOfSegment trace segment) m.2 (o.1.event, o.1.segment_is)));
-      fronts = λ worker. subst (λ (l : List ℕ). (more : List ℕ) × (part_of trace segment worker ≡ filter (is_its trace worker) l ++ more)) (sym grown_is) (front_of worker (found trace.processors worker ts));
-      turns = let a = ap length grown_is in let b = length_of_map (λ (e : Entry). e.1) rest in omega (arith, a, b, turns_are);
+      fronts = λ worker. subst (λ (l : List ℕ). (more : List ℕ) × (part_of trace segment worker ≡ filter (is_its trace worker) l ++ more)) (sym new_events_grown) (front_of worker (doer_of_worker trace.processors worker ts));
+      turns = let a = ap length new_events_grown in let b = length_of_map (λ (e : Entry). e.1) rest in omega (arith, a, b, turns_are);
       few = omega (arith, made_is, few);
     }
 
@@ -295,8 +295,8 @@ module _ {J U : Type 0} (board : Board) (trace : Trace) (segment : ℕ) (wj : J 
           → filter (is_its trace worker) (order_of rest) ≡ part_of trace segment worker
       whole_of worker (inl t) =
           subst (λ (w : Worker). filter (is_its trace w) (order_of rest) ≡ part_of trace segment w) t.2
-          (of_doer turns trace segment v k rest ts chief.settled after joined t.0 t.1 ∙ whole_done t.0 t.1)
-      whole_of worker (inr none) = of_other turns trace segment v k rest ts chief.settled after joined worker none ∙ sym (other_part worker none)
+          (filter-is_its_of_doer turns trace segment v k rest ts chief.settled Settled_after joined t.0 t.1 ∙ whole_done t.0 t.1)
+      whole_of worker (inr none) = filter-is_its_of_other turns trace segment v k rest ts chief.settled Settled_after joined worker none ∙ sym (other_part worker none)
 
       pub ran_whole : RanWhole trace segment v k
-      ran_whole = λ worker. ap (filter (is_its trace worker)) grown_is ∙ whole_of worker (found trace.processors worker ts)
+      ran_whole = λ worker. ap (filter (is_its trace worker)) new_events_grown ∙ whole_of worker (doer_of_worker trace.processors worker ts)

@@ -28,10 +28,10 @@ use Rattle.segment_run.specs.Merging.{all_of}
 use Rattle.segment_run.specs.Segment.{AreAnswered, IsChief, IsOfSegment, Ran, RanWhole, new_events}
 use Rattle.segment_run.specs.Workers.{AreDealt, HasDealt, any_baton, after_joins, load, loads_below, part_numbered, turns_left, worker_numbered}
 use Rattle.segment_run.proofs.ListLemmas.{In, all_in, in_all, in_filter, in_left, in_right, in_map, filter_none, none_behind}
-use Rattle.segment_run.proofs.DoerLemmas.{Doer, Joined, dealt_in, alike, entries_split, found, numbered_frames, numbered_processor, one_worker, its_of}
+use Rattle.segment_run.proofs.DoerLemmas.{Doer, Joined, dealt_in, is_worker_alike, entries_split, doer_of_worker, numbered_frames, numbered_processor, is_its_one_worker, its_of}
 use Rattle.segment_run.proofs.LoadLemmas.{loads_all}
-use Rattle.segment_run.proofs.RunLemmas.{zip_and, sum_left, still_chief, ran, ran_whole, turns_are, grown_is, grew, ts, pair_of, joined, after as settled_after, doer, doers}
-use Rattle.segment_run.proofs.AnswerLemmas.{Octets, apart, are_answered, as_many, lists}
+use Rattle.segment_run.proofs.RunLemmas.{zip_and, sum_left, still_chief, ran, ran_whole, turns_are, new_events_grown, grew, ts, pair_of, joined, Settled_after as settled_after, doer, doers}
+use Rattle.segment_run.proofs.AnswerLemmas.{Octets, apart, are_answered, length-all_of, lists}
 
 -- ---- a run that did nothing
 
@@ -63,7 +63,7 @@ module _ (turns : ℕ) (trace : Trace) (segment : ℕ) (v k : SeatKnowledge) (re
   frame_by : (e : Entry) → In e rest → IsFrame trace e.1 → (t : Doer) × In t doers × (e.0 ≡ t.from.number) × (frames_of t ≡ true)
   frame_by e i frame =
       let o = its_of turns trace segment v k rest doers before after j e i in
-      let one = one_worker trace (worker_numbered trace.processors o.0.worker) Frame_worker e.1 o.1.its in
+      let one = is_its_one_worker trace (worker_numbered trace.processors o.0.worker) Frame_worker e.1 o.1.its in
       (o.0, o.1.among, o.1.number, sym one ∙ frame_its trace e.1 frame)
 
   -- without a frame worker there are none
@@ -98,7 +98,7 @@ module _ (turns : ℕ) (trace : Trace) (segment : ℕ) (v k : SeatKnowledge) (re
       let there : In e rest = subst (λ (l : List Entry). In e l) rest_is (in_right begins.0 s.0 e h) in
       let f = frame_by e there frame in
       let one : is_worker (worker_numbered trace.processors f.0.worker) (worker_numbered trace.processors t.worker) ≡ true = ap (is_worker (worker_numbered trace.processors f.0.worker)) is ∙ f.3 in
-      let numbers : nat_eq f.0.from.number n ≡ true = sym (alike trace segment v (v.made + 1) 0 doers j.dealt f.0 t f.1 i) ∙ one in
+      let numbers : nat_eq f.0.from.number n ≡ true = sym (is_worker_alike trace segment v (v.made + 1) 0 doers j.dealt f.0 t f.1 i) ∙ one in
       let self : nat_eq e.0 n ≡ true = ap (λ (m : ℕ). nat_eq m n) f.2 ∙ numbers in
       subst (λ (l : List Entry). In e l) no_more (in_filter (λ (x : Entry). nat_eq x.0 n) s.0 e h self))
 
@@ -167,7 +167,7 @@ module _ {J U E : Type 0} (board : Board) (trace : Trace) (segment : ℕ) (wj : 
     it_grew = grew board trace segment wj kj ku au bu Extra (turns_of board) v c k js us z r.chief r.seat r.dealt r.baton r.turns r.joins r.begins r.settled r.few
 
     it_grew_by : new_events v k ≡ order_of growth
-    it_grew_by = grown_is board trace segment wj kj ku au bu Extra (turns_of board) v c k js us z r.chief r.seat r.dealt r.baton r.turns r.joins r.begins r.settled r.few
+    it_grew_by = new_events_grown board trace segment wj kj ku au bu Extra (turns_of board) v c k js us z r.chief r.seat r.dealt r.baton r.turns r.joins r.begins r.settled r.few
 
     turns_taken : k.left + length growth ≡ v.left
     turns_taken = turns_are board trace segment wj kj ku au bu Extra (turns_of board) v c k js us z r.chief r.seat r.dealt r.baton r.turns r.joins r.begins r.settled r.few
@@ -226,7 +226,7 @@ module _ {J U E : Type 0} (board : Board) (trace : Trace) (segment : ℕ) (wj : 
             absurd (cc e)
 
     pub run_ready : IsReadyAt k.seen after later
-    run_ready = go (found trace.processors Frame_worker all_doers)
+    run_ready = go (doer_of_worker trace.processors Frame_worker all_doers)
       where
         go : ((t : Doer) × In t all_doers × (worker_numbered trace.processors t.worker ≡ Frame_worker)) ⊎ ((t : Doer) → In t all_doers → is_worker (worker_numbered trace.processors t.worker) Frame_worker ≡ false) → IsReadyAt k.seen after later
         go (inl t) = ready_with t.0 t.1 t.2
@@ -283,13 +283,13 @@ module _ {J U E : Type 0} (board : Board) (trace : Trace) (segment : ℕ) (wj : 
       pub run_apart : AreApart all_answers
       run_apart = apart plays tones board trace segment wj kj ku au bu r.same v k (v.made + 1) 0 js us zipped r.dealt r.fronts
 
-      pub run_many : length (all_of all_answers) ≡ length (events_of_segment trace segment)
-      run_many = as_many plays tones board trace segment wj kj ku au bu r.same v k (v.made + 1) 0 js us zipped r.dealt whole ∙ (sym size ∙ run_size)
+      pub length-all_of_run : length (all_of all_answers) ≡ length (events_of_segment trace segment)
+      length-all_of_run = length-all_of plays tones board trace segment wj kj ku au bu r.same v k (v.made + 1) 0 js us zipped r.dealt whole ∙ (sym size ∙ run_size)
 
       pub run_answered : (m : List Placed) → IsMerged all_answers m → AreAnswered plays tones board v k (map (λ (p : Placed). p.answer) m)
       run_answered m merged =
           are_answered plays tones board trace segment wj kj ku au bu r.same v k growth it_grew it_grew_by (v.made + 1) 0 js us zipped r.dealt r.fronts
-          (run_many ∙ sym run_size) m merged
+          (length-all_of_run ∙ sym run_size) m merged
 
 -- ---- before the workers start
 
@@ -304,9 +304,9 @@ module _ {J : Type 0} (trace : Trace) (segment : ℕ) (wj : J → ℕ) (kj : J �
   each_at P n low js d here = in_all (λ (j : J). P (kj j).seen) js (λ j i. subst P (sym (seen_same n low js d j i)) here)
 
 -- seat 0 has a turn for each event that the workers have to do
-pub enough_turns : (trace : Trace) (segment : ℕ) (left : ℕ) → IsSound trace → segment < length trace.segments → length (events_of_segment trace segment) ≤ left
+pub loads_below_enough_turns : (trace : Trace) (segment : ℕ) (left : ℕ) → IsSound trace → segment < length trace.segments → length (events_of_segment trace segment) ≤ left
     → loads_below trace segment (trace.processors + 1) ≤ left
-enough_turns trace segment left sound within turns =
+loads_below_enough_turns trace segment left sound within turns =
     let some_one = sound.processors.0 in
     let all = loads_all trace segment (omega (arith, some_one)) sound.segments within in
     omega (arith, all, turns)

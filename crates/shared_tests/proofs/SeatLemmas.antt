@@ -15,8 +15,8 @@ use Rattle.call_processor.specs.Frames.{Carrying, IsReady, IsReadyFor}
 use Rattle.call_processor.specs.Parts.{events_of_segment, is_its, part_of}
 use Rattle.segment_run.specs.Segment.{IsChief}
 use Rattle.segment_run.specs.Segments.{IsDoneBelow}
-use Rattle.segment_run.proofs.LoadLemmas.{turns_for}
-use Rattle.segment_run.proofs.OrderLemmas.{first_chief, none, seen_done}
+use Rattle.segment_run.proofs.LoadLemmas.{length-events_of_segment-le}
+use Rattle.segment_run.proofs.OrderLemmas.{first_chief, IsDoneBelow_none, seen_done}
 
 -- ---- the seat that a board begins with
 
@@ -24,7 +24,7 @@ pub first_is_chief : (turns n : ℕ) (v : SeatKnowledge) → turns ≡ n → v �
 first_is_chief turns n v same fresh = subst (IsChief turns) (sym (fresh ∙ ap first_seat (sym same))) (first_chief turns)
 
 pub first_has_done : (trace : Trace) (n : ℕ) (v : SeatKnowledge) → v ≡ first_seat n → IsDoneBelow trace 0 (order_of v.seen)
-first_has_done trace n v fresh = subst (λ (w : SeatKnowledge). IsDoneBelow trace 0 (order_of w.seen)) (sym fresh) (none trace)
+first_has_done trace n v fresh = subst (λ (w : SeatKnowledge). IsDoneBelow trace 0 (order_of w.seen)) (sym fresh) (IsDoneBelow_none trace)
 
 pub first_made : (n : ℕ) (v : SeatKnowledge) → v ≡ first_seat n → v.made ≡ 0
 first_made n v fresh = ap (λ (w : SeatKnowledge). w.made) fresh
@@ -59,19 +59,19 @@ all_few trace segment =
     omega (arith, both, size)
 
 -- the first seat has a turn for each event of a part
-pub first_may : (trace : Trace) (segment : ℕ) (worker : Worker) (v : SeatKnowledge) → v ≡ first_seat (length trace.events) → length (part_of trace segment worker) ≤ v.left
-first_may trace segment worker v fresh =
+pub length-part_of_first-le : (trace : Trace) (segment : ℕ) (worker : Worker) (v : SeatKnowledge) → v ≡ first_seat (length trace.events) → length (part_of trace segment worker) ≤ v.left
+length-part_of_first-le trace segment worker v fresh =
     let part = part_few trace segment worker in
     let all = all_few trace segment in
     let left = ap (λ (w : SeatKnowledge). w.left) fresh in
     omega (arith, part, all, left)
 
 -- so has seat 0 where all segments before were done
-pub chief_may : (trace : Trace) (segment : ℕ) (worker : Worker) (turns : ℕ) (v : SeatKnowledge) → turns ≡ length trace.events → IsSound trace → segment < length trace.segments → IsChief turns v
+pub length-part_of_chief-le : (trace : Trace) (segment : ℕ) (worker : Worker) (turns : ℕ) (v : SeatKnowledge) → turns ≡ length trace.events → IsSound trace → segment < length trace.segments → IsChief turns v
     → IsDoneBelow trace segment (order_of v.seen) → length (part_of trace segment worker) ≤ v.left
-chief_may trace segment worker turns v same sound within chief below =
+length-part_of_chief-le trace segment worker turns v same sound within chief below =
     let board : Board = record { trace = trace; slots = 0; bound = 0 } in
     let part = part_few trace segment worker in
     let begun = seen_done trace segment v sound (omega (arith, within)) below in
-    let all = turns_for board trace segment v refl sound within (subst (λ (n : ℕ). IsChief n v) same chief) begun in
+    let all = length-events_of_segment-le board trace segment v refl sound within (subst (λ (n : ℕ). IsChief n v) same chief) begun in
     omega (arith, part, all)

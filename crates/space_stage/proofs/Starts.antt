@@ -37,8 +37,8 @@ module _ (slots lines_in : ℕ) (numbers : ℕ → Option ℕ) (bytes starts row
     | inr line ↦ let at = mul-add-lt (byte + 1) slots slot (lines_in + 1) (omega (arith, line_is line)) near in omega (arith, at, size, begins.lines byte (line_is line))
   ]
 
-  pub gathered : get_or rows (start + slot) 0 ≡ fetched (numbers slot) (λ l. octet l slot)
-  gathered = elim (cases_eq byte 255) [
+  pub get_or_gathered : get_or rows (start + slot) 0 ≡ fetched (numbers slot) (λ l. octet l slot)
+  get_or_gathered = elim (cases_eq byte 255) [
     | inl none ↦ ap (λ at. get_or rows at 0) (idle_at none) ∙ idle slot near ∙ sym (ap (λ (o : Option ℕ). fetched o (λ l. octet l slot)) (none_is none))
     | inr line ↦ ap (λ s. get_or rows (s + slot) 0) (begins.lines byte (line_is line)) ∙ lines byte slot near ∙ sym (ap (λ (o : Option ℕ). fetched o (λ l. octet l slot)) (some_is line))
   ]

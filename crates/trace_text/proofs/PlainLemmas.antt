@@ -19,7 +19,7 @@ use Rattle.circuit_model.specs.Circuits.{same_slot}
 use Rattle.circuit_model.specs.declared.channel.Slot.{Slot}
 use Rattle.trace_text.specs.declared.said.Sizes.{Sizes}
 use Rattle.trace_text.specs.declared.said.Said.TheVariants as Said
-use Rattle.trace_text.proofs.TraceOctets.{by_kind, all_digits, odd_digits}
+use Rattle.trace_text.proofs.TraceOctets.{by_kind, all_digits, octets_written_odd_digits}
 use Rattle.trace_text.proofs.TraceParts.{part_given, reads_by_kind}
 
 pub and_both : (a b : Bool) → (a && b) ≡ true → (a ≡ true) × (b ≡ true)
@@ -132,13 +132,13 @@ two_numeral t d some less small =
     let v : (0 * 10 + (48 + t - 48)) * 10 + (48 + d - 48) ≡ 10 * t + d = omega arith in
     rw (e, f, g) (ap (λ (n : ℕ). Some n) v)
 
-pub one_at : (octets others : List ℕ) (d : ℕ) → octets ≡ (48 + d) ∷ others → d < 10 → NumberAt octets d others
-one_at octets others d parts small =
+pub NumberAt_one_digit : (octets others : List ℕ) (d : ℕ) → octets ≡ (48 + d) ∷ others → d < 10 → NumberAt octets d others
+NumberAt_one_digit octets others d parts small =
     let e : is_ascii_digit (48 + d) ≡ true = grind (arith, nat_tests) in
     record { front = (48 + d) ∷ []; digits = rw e refl; number = one_numeral d small; parts = parts }
 
-pub two_at : (octets behind others : List ℕ) (t d : ℕ) → octets ≡ (48 + t) ∷ behind → t < 10 → behind ≡ (48 + d) ∷ others → d < 10 → 0 < t → NumberAt octets (10 * t + d) others
-two_at octets behind others t d parts less more small some =
+pub NumberAt_two_digits : (octets behind others : List ℕ) (t d : ℕ) → octets ≡ (48 + t) ∷ behind → t < 10 → behind ≡ (48 + d) ∷ others → d < 10 → 0 < t → NumberAt octets (10 * t + d) others
+NumberAt_two_digits octets behind others t d parts less more small some =
     let e : is_ascii_digit (48 + t) ≡ true = grind (arith, nat_tests) in
     let f : is_ascii_digit (48 + d) ≡ true = grind (arith, nat_tests) in
     record { front = (48 + t) ∷ (48 + d) ∷ []; digits = rw (e, f) refl; number = two_numeral t d some less small; parts = parts ∙ ap (λ (l : List ℕ). (48 + t) ∷ l) more }
@@ -283,7 +283,7 @@ written_few most None octets h = absurd cc
 written_few most (Some written) octets h = refl
 
 odd_none : (digits : List ℕ) → length digits % 2 ≢ 0 → is_some (octets_written digits) ≡ false
-odd_none digits odd = rw (odd_digits digits odd) refl
+odd_none digits odd = rw (octets_written_odd_digits digits odd) refl
 
 both_ways : (digits : List ℕ) → is_some (octets_written digits) ≡ true → (n : ℕ) → n ≡ length digits % 2 → list_all is_digit digits ≡ true
 both_ways digits some zero e = sym (all_digits digits (sym e)) ∙ some

@@ -24,8 +24,8 @@ not_true false h = refl
 pub first_found : (mark : ℕ) (octets : List ℕ) (k : ℕ) → IsFirstByte (is_byte mark) octets (Some k) → IsFirstMark mark octets k
 first_found mark octets k h = record { within = h.0.high; here = h.1; before = λ j lt. not_true _ (h.0.before j (omega arith) lt) }
 
-pub none_found : (mark : ℕ) (octets : List ℕ) → IsFirstByte (is_byte mark) octets None → NoMark mark octets
-none_found mark octets h j lt = not_true _ (h j (omega arith) lt)
+pub NoMark_not_found : (mark : ℕ) (octets : List ℕ) → IsFirstByte (is_byte mark) octets None → NoMark mark octets
+NoMark_not_found mark octets h j lt = not_true _ (h j (omega arith) lt)
 
 rest_mark : (mark x : ℕ) (xs : List ℕ) (k : ℕ) → IsFirstMark mark (x ∷ xs) (suc k) → IsFirstMark mark xs k
 rest_mark mark x xs k h = record { within = let w : suc k < length (x ∷ xs) = h.within in omega arith; here = h.here; before = λ j lt. h.before (suc j) (omega arith) }
@@ -77,7 +77,7 @@ pub words_end : (octets : List ℕ) (r : Option ℕ) → 0 < length octets → g
     → words octets ≡ take (unwrap_or r (length octets)) octets ∷ words (drop (unwrap_or r (length octets)) octets)
 words_end [] r lt h found = absurd (omega arith)
 words_end (x ∷ xs) None lt h found =
-    rw (take_all (suc (length xs)) (x ∷ xs) (omega arith), drop_all (suc (length xs)) (x ∷ xs) (omega arith)) (words_whole x xs (none_found 32 (x ∷ xs) found))
+    rw (take_all (suc (length xs)) (x ∷ xs) (omega arith), drop_all (suc (length xs)) (x ∷ xs) (omega arith)) (words_whole x xs (NoMark_not_found 32 (x ∷ xs) found))
 words_end (x ∷ xs) (Some k) lt h found = words_cut x xs k (not_space x h) (first_found 32 (x ∷ xs) k found)
 
 -- the first word isn't empty

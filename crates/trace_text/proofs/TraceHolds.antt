@@ -174,16 +174,16 @@ HoldsMore told line n = (said : Said) × (says trace_limits (so_far told) line �
 
 module _ (d : Draft) (told : List Said) (h : Holds d told) where
   -- behind the end of a segment
-  anew : (said : Said) (more : List Said) → ends_after d.begun (length d.events.items) (said ∷ more) ≡ open_segment_end d.begun (length d.events.items) ++ ends_after (length d.events.items) (length d.events.items) more
+  segment_ends_anew : (said : Said) (more : List Said) → ends_after d.begun (length d.events.items) (said ∷ more) ≡ open_segment_end d.begun (length d.events.items) ++ ends_after (length d.events.items) (length d.events.items) more
       → segment_ends (told ++ said ∷ more) ≡ (d.ends.items ++ open_segment_end d.begun (length d.events.items)) ++ ends_after (length d.events.items) (length d.events.items) more
-  anew said more ends =
+  segment_ends_anew said more ends =
       let count = length d.events.items in
       h.ends (said ∷ more) ∙ ap (λ (ns : List ℕ). d.ends.items ++ ns) ends ∙ sym (append_assoc d.ends.items (open_segment_end d.begun count) (ends_after count count more))
 
   ends_more : (said : Said) (more : List Said) → segment_ends (told ++ said ∷ more) ≡ ends_with d said ++ ends_after (begun_with d said) (length (step push d.events.items (event_said said))) more
   ends_more (Happens event) more = h.ends (Happens event ∷ more) ∙ ap (λ n. d.ends.items ++ ends_after d.begun n more) (sym (length_push d.events.items event))
-  ends_more Sync more = anew Sync more refl
-  ends_more Change more = anew Change more refl
+  ends_more Sync more = segment_ends_anew Sync more refl
+  ends_more Change more = segment_ends_anew Change more refl
   ends_more said more = h.ends (said ∷ more)
 
   -- the heading counts the events

@@ -63,20 +63,20 @@ joined (Some u) (Some w) (Some octets) h l e f =
     rw (p, q) refl
 
 -- the octets of two digits and of those that follow
-pub pair_then : (high low : ℕ) (digits : List ℕ) (h l : ℕ) → digit_value high ≡ Some h → digit_value low ≡ Some l
+pub octets_written_pair_then : (high low : ℕ) (digits : List ℕ) (h l : ℕ) → digit_value high ≡ Some h → digit_value low ≡ Some l
     → octets_written (high ∷ low ∷ digits) ≡ behind ((h * 16 + l) ∷ []) (octets_written digits)
-pair_then high low digits h l e f = joined (digit_value high) (digit_value low) (octets_written digits) h l e f
+octets_written_pair_then high low digits h l e f = joined (digit_value high) (digit_value low) (octets_written digits) h l e f
 
 -- digits that begin with an octet that is none write nothing
-pub none_first : (high low : ℕ) (digits : List ℕ) → digit_value high ≡ None → octets_written (high ∷ low ∷ digits) ≡ None
-none_first high low digits e = rw e refl
+pub octets_written_none_first : (high low : ℕ) (digits : List ℕ) → digit_value high ≡ None → octets_written (high ∷ low ∷ digits) ≡ None
+octets_written_none_first high low digits e = rw e refl
 
 none_inside : (o : Option ℕ) (f : ℕ → ℕ → Option (List ℕ)) → option_and_then (λ (u : ℕ). option_and_then (λ (w : ℕ). f u w) None) o ≡ None
 none_inside None f = refl
 none_inside (Some u) f = refl
 
-pub none_second : (high low : ℕ) (digits : List ℕ) → digit_value low ≡ None → octets_written (high ∷ low ∷ digits) ≡ None
-none_second high low digits e = rw e (none_inside (digit_value high) (λ u w. option_and_then (λ (octets : List ℕ). Some ((u * 16 + w) ∷ octets)) (octets_written digits)))
+pub octets_written_none_second : (high low : ℕ) (digits : List ℕ) → digit_value low ≡ None → octets_written (high ∷ low ∷ digits) ≡ None
+octets_written_none_second high low digits e = rw e (none_inside (digit_value high) (λ u w. option_and_then (λ (octets : List ℕ). Some ((u * 16 + w) ∷ octets)) (octets_written digits)))
 
 both_none : (o p : Option ℕ) → option_and_then (λ (u : ℕ). option_and_then (λ (w : ℕ). option_and_then (λ (octets : List ℕ). Some ((u * 16 + w) ∷ octets)) None) p) o ≡ None
 both_none None p = refl
@@ -107,18 +107,18 @@ all_digits (x ∷ []) even = absurd (omega arith)
 all_digits (x ∷ y ∷ rest) even =
     let again = all_digits rest (omega arith) in
     elim (either x) [
-      | inr lost ↦ rw (lost.0, none_first x y rest lost.1) refl
+      | inr lost ↦ rw (lost.0, octets_written_none_first x y rest lost.1) refl
       | inl found ↦ elim (either y) [
-        | inr lost ↦ rw (found.0, lost.0, none_second x y rest lost.1) refl
-        | inl both ↦ rw (found.0, both.0, pair_then x y rest found.1.0 both.1.0 found.1.1 both.1.1, some_behind ((found.1.0 * 16 + both.1.0) ∷ []) (octets_written rest), again) refl
+        | inr lost ↦ rw (found.0, lost.0, octets_written_none_second x y rest lost.1) refl
+        | inl both ↦ rw (found.0, both.0, octets_written_pair_then x y rest found.1.0 both.1.0 found.1.1 both.1.1, some_behind ((found.1.0 * 16 + both.1.0) ∷ []) (octets_written rest), again) refl
       ]
     ]
 
 -- an odd number of digits writes nothing
-pub odd_digits : (digits : List ℕ) → length digits % 2 ≢ 0 → octets_written digits ≡ None
-odd_digits [] odd = absurd (odd refl)
-odd_digits (x ∷ []) odd = refl
-odd_digits (x ∷ y ∷ rest) odd = rw (odd_digits rest (λ e. odd (omega arith))) (both_none (digit_value x) (digit_value y))
+pub octets_written_odd_digits : (digits : List ℕ) → length digits % 2 ≢ 0 → octets_written digits ≡ None
+octets_written_odd_digits [] odd = absurd (odd refl)
+octets_written_odd_digits (x ∷ []) odd = refl
+octets_written_odd_digits (x ∷ y ∷ rest) odd = rw (octets_written_odd_digits rest (λ e. odd (omega arith))) (both_none (digit_value x) (digit_value y))
 
 -- octets are half as many as their digits
 behind_length : (h : ℕ) (digits : List ℕ) (o : Option (List ℕ)) → IfSome o (λ octets. length digits ≡ 2 * length octets) → IfSome (behind (h ∷ []) o) (λ octets. suc (suc (length digits)) ≡ 2 * length octets)
@@ -131,29 +131,29 @@ written_length (x ∷ []) = tt
 written_length (x ∷ y ∷ rest) =
     let P : Option (List ℕ) → Type 0 = λ o. IfSome o (λ octets. suc (suc (length rest)) ≡ 2 * length octets) in
     elim (either x) [
-      | inr lost ↦ subst P (sym (none_first x y rest lost.1)) tt
+      | inr lost ↦ subst P (sym (octets_written_none_first x y rest lost.1)) tt
       | inl found ↦ elim (either y) [
-        | inr lost ↦ subst P (sym (none_second x y rest lost.1)) tt
-        | inl both ↦ subst P (sym (pair_then x y rest found.1.0 both.1.0 found.1.1 both.1.1)) (behind_length (found.1.0 * 16 + both.1.0) rest (octets_written rest) (written_length rest))
+        | inr lost ↦ subst P (sym (octets_written_none_second x y rest lost.1)) tt
+        | inl both ↦ subst P (sym (octets_written_pair_then x y rest found.1.0 both.1.0 found.1.1 both.1.1)) (behind_length (found.1.0 * 16 + both.1.0) rest (octets_written rest) (written_length rest))
       ]
     ]
 
-wrong_length : (digits : List ℕ) (o : Option (List ℕ)) → is_some o ≡ true → length digits ≢ 60 → IfSome o (λ octets. length digits ≡ 2 * length octets) → thirty o ≡ Err Length
-wrong_length digits None some other e = absurd cc
-wrong_length digits (Some octets) some other e =
+thirty_wrong_length : (digits : List ℕ) (o : Option (List ℕ)) → is_some o ≡ true → length digits ≢ 60 → IfSome o (λ octets. length digits ≡ 2 * length octets) → thirty o ≡ Err Length
+thirty_wrong_length digits None some other e = absurd cc
+thirty_wrong_length digits (Some octets) some other e =
     let short : eqb (length octets) 30 ≡ false = ne_eqb (length octets) 30 (λ thirty_long. other (omega arith)) in
     rw short refl
 
 -- octets other than thirty are refused for their length
-pub refused_length : (digits : List ℕ) → is_some (octets_written digits) ≡ true → length digits ≢ 60 → thirty (octets_written digits) ≡ Err Length
-refused_length digits some other = wrong_length digits (octets_written digits) some other (written_length digits)
+pub thirty_refused_length : (digits : List ℕ) → is_some (octets_written digits) ≡ true → length digits ≢ 60 → thirty (octets_written digits) ≡ Err Length
+thirty_refused_length digits some other = thirty_wrong_length digits (octets_written digits) some other (written_length digits)
 
-none_is : (o : Option (List ℕ)) → is_some o ≡ false → thirty o ≡ Err Hex
-none_is None h = refl
-none_is (Some octets) h = absurd cc
+thirty_none : (o : Option (List ℕ)) → is_some o ≡ false → thirty o ≡ Err Hex
+thirty_none None h = refl
+thirty_none (Some octets) h = absurd cc
 
-pub refused_digits : (digits : List ℕ) → is_some (octets_written digits) ≡ false → thirty (octets_written digits) ≡ Err Hex
-refused_digits digits h = none_is (octets_written digits) h
+pub thirty_refused_digits : (digits : List ℕ) → is_some (octets_written digits) ≡ false → thirty (octets_written digits) ≡ Err Hex
+thirty_refused_digits digits h = thirty_none (octets_written digits) h
 
 -- ---- a loop over pairs
 
@@ -170,12 +170,12 @@ pair_at digits i lt =
     rw (one, two, place) refl
 
 -- one more pair is read
-pub pair_read : (digits octets : List ℕ) (i h l : ℕ) → 2 * i + 1 < length digits → i < length octets
+pub behind_pair_read : (digits octets : List ℕ) (i h l : ℕ) → 2 * i + 1 < length digits → i < length octets
     → digit_value (get_or digits (2 * i) 0) ≡ Some h → digit_value (get_or digits (2 * i + 1) 0) ≡ Some l
     → behind (take i octets) (octets_written (drop (2 * i) digits)) ≡ octets_written digits
     → behind (take (i + 1) (set octets i (h * 16 + l))) (octets_written (drop (2 * (i + 1)) digits)) ≡ octets_written digits
-pair_read digits octets i h l lt room e f so_far =
-    let one = pair_then (get_or digits (2 * i) 0) (get_or digits (2 * i + 1) 0) (drop (2 * (i + 1)) digits) h l e f in
+behind_pair_read digits octets i h l lt room e f so_far =
+    let one = octets_written_pair_then (get_or digits (2 * i) 0) (get_or digits (2 * i + 1) 0) (drop (2 * (i + 1)) digits) h l e f in
     let stepped : behind (take i octets) (octets_written (drop (2 * i) digits)) ≡ behind (take i octets ++ (h * 16 + l) ∷ []) (octets_written (drop (2 * (i + 1)) digits)) =
     ap (λ o. behind (take i octets) o) (ap octets_written (pair_at digits i lt) ∙ one) ∙ behind-behind (take i octets) (h * 16 + l) (octets_written (drop (2 * (i + 1)) digits)) in
     rw (take_more_set octets i (h * 16 + l) room) (sym stepped ∙ so_far)
@@ -198,15 +198,15 @@ written_both (x ∷ []) others even = absurd (omega arith)
 written_both (x ∷ y ∷ digits) others even =
     let written = octets_written others in
     elim (either x) [
-      | inr lost ↦ none_first x y (digits ++ others) lost.1 ∙ sym (ap (option_and_then (λ octets. behind octets written)) (none_first x y digits lost.1))
+      | inr lost ↦ octets_written_none_first x y (digits ++ others) lost.1 ∙ sym (ap (option_and_then (λ octets. behind octets written)) (octets_written_none_first x y digits lost.1))
       | inl high ↦ elim (either y) [
-        | inr lost ↦ none_second x y (digits ++ others) lost.1 ∙ sym (ap (option_and_then (λ octets. behind octets written)) (none_second x y digits lost.1))
+        | inr lost ↦ octets_written_none_second x y (digits ++ others) lost.1 ∙ sym (ap (option_and_then (λ octets. behind octets written)) (octets_written_none_second x y digits lost.1))
         | inl low ↦
             let octet = high.1.0 * 16 + low.1.0 in
-            pair_then x y (digits ++ others) high.1.0 low.1.0 high.1.1 low.1.1
+            octets_written_pair_then x y (digits ++ others) high.1.0 low.1.0 high.1.1 low.1.1
             ∙ ap (behind (octet ∷ [])) (written_both digits others (omega arith))
             ∙ behind_then octet (octets_written digits) written
-            ∙ sym (ap (option_and_then (λ octets. behind octets written)) (pair_then x y digits high.1.0 low.1.0 high.1.1 low.1.1))
+            ∙ sym (ap (option_and_then (λ octets. behind octets written)) (octets_written_pair_then x y digits high.1.0 low.1.0 high.1.1 low.1.1))
       ]
     ]
 
@@ -214,16 +214,16 @@ behind_all : (front octets : List ℕ) (o : Option (List ℕ)) → behind front 
 behind_all front octets None = refl
 behind_all front octets (Some more) = ap (λ (l : List ℕ). Some l) (sym (append_assoc front octets more))
 
-pushed_on : (front now : List ℕ) (o written : Option (List ℕ)) → behind front o ≡ Some now → behind front (option_and_then (λ octets. behind octets written) o) ≡ behind now written
-pushed_on front now None written e = absurd cc
-pushed_on front now (Some octets) written e = let same : front ++ octets ≡ now = cc in behind_all front octets written ∙ ap (λ l. behind l written) same
+behind_pushed_on : (front now : List ℕ) (o written : Option (List ℕ)) → behind front o ≡ Some now → behind front (option_and_then (λ octets. behind octets written) o) ≡ behind now written
+behind_pushed_on front now None written e = absurd cc
+behind_pushed_on front now (Some octets) written e = let same : front ++ octets ≡ now = cc in behind_all front octets written ∙ ap (λ l. behind l written) same
 
 -- some digits more are read
-pub octets_pushed : (n : ℕ) (digits before now : List ℕ) (all : Option (List ℕ)) → length (take n digits) % 2 ≡ 0 → behind before (octets_written (take n digits)) ≡ Some now
+pub behind-octets_written_pushed : (n : ℕ) (digits before now : List ℕ) (all : Option (List ℕ)) → length (take n digits) % 2 ≡ 0 → behind before (octets_written (take n digits)) ≡ Some now
     → behind before (octets_written digits) ≡ all → behind now (octets_written (drop n digits)) ≡ all
-octets_pushed n digits before now all even read so_far =
+behind-octets_written_pushed n digits before now all even read so_far =
     let both = ap octets_written (sym (take-append-drop n digits)) ∙ written_both (take n digits) (drop n digits) even in
-    sym (pushed_on before now (octets_written (take n digits)) (octets_written (drop n digits)) read) ∙ sym (ap (behind before) both) ∙ so_far
+    sym (behind_pushed_on before now (octets_written (take n digits)) (octets_written (drop n digits)) read) ∙ sym (ap (behind before) both) ∙ so_far
 
 lost_in : (o written : Option (List ℕ)) (front : List ℕ) → ok_or o Hex ≡ Err Hex → ok_or (behind front (option_and_then (λ octets. behind octets written) o)) Hex ≡ Err Hex
 lost_in None written front e = refl
@@ -252,24 +252,24 @@ pub few_written : (most : ℕ) (digits : List ℕ) → length digits ≤ 2 * mos
 few_written most digits few = some_few most digits (octets_written digits) few (written_length digits)
 
 -- so what was read of them, or refused, is what reading gives
-pub few_given : (most : ℕ) (digits : List ℕ) (r : Result (List ℕ) LineError) → length digits ≤ 2 * most → IfOk r (λ octets. octets_written digits ≡ Some octets)
+pub Gives_few : (most : ℕ) (digits : List ℕ) (r : Result (List ℕ) LineError) → length digits ≤ 2 * most → IfOk r (λ octets. octets_written digits ≡ Some octets)
     → IfErr r (λ e. Fails e (ok_or (octets_written digits) Hex)) → Gives r (at_most most (octets_written digits))
-few_given most digits (Ok octets) few read refused = sym (few_written most digits few) ∙ ap (λ o. ok_or o Hex) read
-few_given most digits (Err e) few read refused = subst (Fails e) (few_written most digits few) refused
+Gives_few most digits (Ok octets) few read refused = sym (few_written most digits few) ∙ ap (λ o. ok_or o Hex) read
+Gives_few most digits (Err e) few read refused = subst (Fails e) (few_written most digits few) refused
 
-some_many : (most : ℕ) (digits : List ℕ) (o : Option (List ℕ)) → is_some o ≡ true → 2 * most < length digits → IfSome o (λ octets. length digits ≡ 2 * length octets) → at_most most o ≡ Err Length
-some_many most digits None some many half = absurd cc
-some_many most digits (Some octets) some many half = let over : leb (length octets) most ≡ false = grind (arith, nat_tests, many, half) in rw over refl
+at_most_some_many : (most : ℕ) (digits : List ℕ) (o : Option (List ℕ)) → is_some o ≡ true → 2 * most < length digits → IfSome o (λ octets. length digits ≡ 2 * length octets) → at_most most o ≡ Err Length
+at_most_some_many most digits None some many half = absurd cc
+at_most_some_many most digits (Some octets) some many half = let over : leb (length octets) most ≡ false = grind (arith, nat_tests, many, half) in rw over refl
 
-pub many_written : (most : ℕ) (digits : List ℕ) → is_some (octets_written digits) ≡ true → 2 * most < length digits → at_most most (octets_written digits) ≡ Err Length
-many_written most digits some many = some_many most digits (octets_written digits) some many (written_length digits)
+pub at_most-octets_written_many : (most : ℕ) (digits : List ℕ) → is_some (octets_written digits) ≡ true → 2 * most < length digits → at_most most (octets_written digits) ≡ Err Length
+at_most-octets_written_many most digits some many = at_most_some_many most digits (octets_written digits) some many (written_length digits)
 
 none_at_most : (most : ℕ) (o : Option (List ℕ)) → is_some o ≡ false → at_most most o ≡ Err Hex
 none_at_most most None h = refl
 none_at_most most (Some octets) h = absurd cc
 
-pub none_written : (most : ℕ) (digits : List ℕ) → is_some (octets_written digits) ≡ false → at_most most (octets_written digits) ≡ Err Hex
-none_written most digits h = none_at_most most (octets_written digits) h
+pub at_most-octets_written_none : (most : ℕ) (digits : List ℕ) → is_some (octets_written digits) ≡ false → at_most most (octets_written digits) ≡ Err Hex
+at_most-octets_written_none most digits h = none_at_most most (octets_written digits) h
 
 -- what digits write are octets
 behind_octets : (h : ℕ) (o : Option (List ℕ)) → h < 256 → IfSome o (λ octets. All (λ v. v < 256) octets) → IfSome (behind (h ∷ []) o) (λ octets. All (λ v. v < 256) octets)
@@ -282,13 +282,13 @@ are_octets (x ∷ []) = tt
 are_octets (x ∷ y ∷ rest) =
     let P : Option (List ℕ) → Type 0 = λ o. IfSome o (λ octets. All (λ v. v < 256) octets) in
     elim (either x) [
-      | inr lost ↦ subst P (sym (none_first x y rest lost.1)) tt
+      | inr lost ↦ subst P (sym (octets_written_none_first x y rest lost.1)) tt
       | inl found ↦ elim (either y) [
-        | inr lost ↦ subst P (sym (none_second x y rest lost.1)) tt
+        | inr lost ↦ subst P (sym (octets_written_none_second x y rest lost.1)) tt
         | inl both ↦
             let high = digit_small x found.1.0 found.1.1 in
             let low = digit_small y both.1.0 both.1.1 in
-            subst P (sym (pair_then x y rest found.1.0 both.1.0 found.1.1 both.1.1)) (behind_octets (found.1.0 * 16 + both.1.0) (octets_written rest) (omega (arith, high, low)) (are_octets rest))
+            subst P (sym (octets_written_pair_then x y rest found.1.0 both.1.0 found.1.1 both.1.1)) (behind_octets (found.1.0 * 16 + both.1.0) (octets_written rest) (omega (arith, high, low)) (are_octets rest))
       ]
     ]
 
@@ -315,11 +315,11 @@ value_more values digits k v room within e so_far =
     rw (take_more_set values k v room, take_more digits k 0 within, map-append, map-append, e, so_far) refl
 
 -- one more pair of digits with these values is read
-pub values_read : (digits values octets : List ℕ) (i octet : ℕ) → AreValues values digits → 2 * i + 1 < length values → i < length octets
+pub behind_values_read : (digits values octets : List ℕ) (i octet : ℕ) → AreValues values digits → 2 * i + 1 < length values → i < length octets
     → octet ≡ ((get_or values (2 * i) 0 + 256 * get_or values (2 * i + 1) 0) * 16 % 65536 + (get_or values (2 * i) 0 + 256 * get_or values (2 * i + 1) 0) / 256) % 65536 % 256
     → behind (take i octets) (octets_written (drop (2 * i) digits)) ≡ octets_written digits
     → behind (take (i + 1) (set octets i octet)) (octets_written (drop (2 * (i + 1)) digits)) ≡ octets_written digits
-values_read digits values octets i octet same lt room e so_far =
+behind_values_read digits values octets i octet same lt room e so_far =
     let h = get_or values (2 * i) 0 in
     let l = get_or values (2 * i + 1) 0 in
     let high : digit_value (get_or digits (2 * i) 0) ≡ Some h = value_at values digits (2 * i) same (omega arith) in
@@ -328,12 +328,12 @@ values_read digits values octets i octet same lt room e so_far =
     let small_low = digit_small (get_or digits (2 * i + 1) 0) l low in
     let whole : octet ≡ h * 16 + l = omega (arith, e, small, small_low) in
     let many = as_many values digits same in
-    rw whole (pair_read digits octets i h l (omega (arith, many)) room high low so_far)
+    rw whole (behind_pair_read digits octets i h l (omega (arith, many)) room high low so_far)
 
 -- all pairs of digits with these values are read
-pub values_done : (digits values octets : List ℕ) → AreValues values digits → length values ≡ 64 → length octets ≡ 32
+pub octets_written_values_done : (digits values octets : List ℕ) → AreValues values digits → length values ≡ 64 → length octets ≡ 32
     → behind (take 32 octets) (octets_written (drop 64 digits)) ≡ octets_written digits → octets_written digits ≡ Some octets
-values_done digits values octets same v o so_far =
+octets_written_values_done digits values octets same v o so_far =
     let many = as_many values digits same in
     sym so_far ∙ rw (drop_all 64 digits (omega (arith, many, v)), take_all 32 octets (omega (arith, o))) (ap (λ (l : List ℕ). Some l) (append-nil octets))
 
@@ -346,14 +346,14 @@ head_none : (h : ℕ) (o : Option (List ℕ)) → behind (h ∷ []) o ≡ Some [
 head_none h None e = cc
 head_none h (Some rest) e = cc
 
-front_pair : (n x y : ℕ) (digits more octets : List ℕ) (h l : ℕ) → digit_value x ≡ Some h → digit_value y ≡ Some l
+octets_written_front_pair : (n x y : ℕ) (digits more octets : List ℕ) (h l : ℕ) → digit_value x ≡ Some h → digit_value y ≡ Some l
     → ((os : List ℕ) → octets_written (digits ++ more) ≡ Some os → octets_written digits ≡ Some (take n os))
     → octets_written (x ∷ y ∷ digits ++ more) ≡ Some octets → octets_written (x ∷ y ∷ digits) ≡ Some (take (suc n) octets)
-front_pair n x y digits more [] h l e f again w =
-    absurd (head_none (h * 16 + l) (octets_written (digits ++ more)) (sym (pair_then x y (digits ++ more) h l e f) ∙ w))
-front_pair n x y digits more (o ∷ os) h l e f again w =
-    let parts = tail_of (h * 16 + l) (octets_written (digits ++ more)) o os (sym (pair_then x y (digits ++ more) h l e f) ∙ w) in
-    pair_then x y digits h l e f ∙ rw (parts.0, again os parts.1) refl
+octets_written_front_pair n x y digits more [] h l e f again w =
+    absurd (head_none (h * 16 + l) (octets_written (digits ++ more)) (sym (octets_written_pair_then x y (digits ++ more) h l e f) ∙ w))
+octets_written_front_pair n x y digits more (o ∷ os) h l e f again w =
+    let parts = tail_of (h * 16 + l) (octets_written (digits ++ more)) o os (sym (octets_written_pair_then x y (digits ++ more) h l e f) ∙ w) in
+    octets_written_pair_then x y digits h l e f ∙ rw (parts.0, again os parts.1) refl
 
 pub front_written : (n : ℕ) (digits more octets : List ℕ) → length digits ≡ 2 * n → octets_written (digits ++ more) ≡ Some octets → octets_written digits ≡ Some (take n octets)
 front_written zero [] more octets d e = refl
@@ -362,10 +362,10 @@ front_written (suc n) [] more octets d e = absurd (omega arith)
 front_written (suc n) (x ∷ []) more octets d e = absurd (omega arith)
 front_written (suc n) (x ∷ y ∷ digits) more octets d e =
     elim (either x) [
-      | inr lost ↦ let none : octets_written (x ∷ y ∷ digits ++ more) ≡ None = none_first x y (digits ++ more) lost.1 in absurd cc
+      | inr lost ↦ let none : octets_written (x ∷ y ∷ digits ++ more) ≡ None = octets_written_none_first x y (digits ++ more) lost.1 in absurd cc
       | inl first ↦ elim (either y) [
-        | inr lost ↦ let none : octets_written (x ∷ y ∷ digits ++ more) ≡ None = none_second x y (digits ++ more) lost.1 in absurd cc
-        | inl second ↦ front_pair n x y digits more octets first.1.0 second.1.0 first.1.1 second.1.1 (λ os f. front_written n digits more os (omega arith) f) e
+        | inr lost ↦ let none : octets_written (x ∷ y ∷ digits ++ more) ≡ None = octets_written_none_second x y (digits ++ more) lost.1 in absurd cc
+        | inl second ↦ octets_written_front_pair n x y digits more octets first.1.0 second.1.0 first.1.1 second.1.1 (λ os f. front_written n digits more os (omega arith) f) e
       ]
     ]
 

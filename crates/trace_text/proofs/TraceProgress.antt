@@ -35,13 +35,13 @@ each_push before [] (first ∷ front) line said meets e = absurd meets
 each_push before (other ∷ told) (first ∷ front) line said meets e =
     (meets.0, each_push (before ++ other ∷ []) told front line said meets.1 (rw (sym (append_assoc before (other ∷ []) told)) at e))
 
-pub begun : (bytes : List ℕ) (d : Draft) → Holds d [] → Progress bytes bytes 0 d
-begun bytes d held = record { front = []; told = []; parts = refl; meets = tt; held = held; place = refl; room = omega arith }
+pub Progress_begun : (bytes : List ℕ) (d : Draft) → Holds d [] → Progress bytes bytes 0 d
+Progress_begun bytes d held = record { front = []; told = []; parts = refl; meets = tt; held = held; place = refl; room = omega arith }
 
-pub goes_on : (bytes rest line others : List ℕ) (number : ℕ) (d n : Draft) (p : Progress bytes rest number d)
+pub Progress_goes_on : (bytes rest line others : List ℕ) (number : ℕ) (d n : Draft) (p : Progress bytes rest number d)
     → lines rest ≡ line ∷ lines others → length others < length rest
     → HoldsMore p.told line n → Progress bytes others (number + 1) n
-goes_on bytes rest line others number d n p cut shorter step = record {
+Progress_goes_on bytes rest line others number d n p cut shorter step = record {
   front = p.front ++ line ∷ [];
   told = p.told ++ step.0 ∷ [];
   parts = p.parts ∙ ap (λ (ls : List (List ℕ)). p.front ++ ls) cut ∙ sym (append_assoc p.front (line ∷ []) (lines others));
@@ -75,9 +75,9 @@ fault_at bytes rest line others number d (Refused why) fault p few cut fails is 
 whole : (bytes rest : List ℕ) (number : ℕ) (d : Draft) (p : Progress bytes rest number d) → length rest ≡ 0 → lines bytes ≡ p.front
 whole bytes rest number d p empty = p.parts ∙ ap (λ (r : List ℕ). p.front ++ lines r) (nil_from_length rest empty) ∙ append-nil p.front
 
-pub is_read : (bytes rest : List ℕ) (number : ℕ) (d : Draft) (t : Trace) (p : Progress bytes rest number d)
+pub IsTrace_read : (bytes rest : List ℕ) (number : ℕ) (d : Draft) (t : Trace) (p : Progress bytes rest number d)
     → length bytes ≤ max_bytes → length rest ≡ 0 → ((told : List Said) → Holds d told → IsWhatLinesSay t told) → IsTrace bytes t
-is_read bytes rest number d t p few empty told = record {
+IsTrace_read bytes rest number d t p few empty told = record {
   few = few;
   told = p.told;
   meets = subst (λ ls. EachSays [] ls p.told) (sym (whole bytes rest number d p empty)) p.meets;
@@ -98,7 +98,7 @@ lacks_header bytes rest number last why d p few empty none at named =
 -- what the draft makes at the end is what was read
 module _ (bytes rest : List ℕ) (number : ℕ) (d : Draft) (p : Progress bytes rest number d) (few : length bytes ≤ max_bytes) (empty : length rest ≡ 0) where
   pub ends_read : (r : Result Trace TraceFault) → IfOk r (λ t. (told : List Said) → Holds d told → IsWhatLinesSay t told) → IfOk r (λ t. IsTrace bytes t)
-  ends_read (Ok t) made = is_read bytes rest number d t p few empty made
+  ends_read (Ok t) made = IsTrace_read bytes rest number d t p few empty made
   ends_read (Err e) made = tt
 
   pub ends_refused : (r : Result Trace TraceFault) → IfErr r (λ e. FailsAtEnd d.heading.sizes number e) → IfErr r (λ e. IsFault bytes e)

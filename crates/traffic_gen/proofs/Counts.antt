@@ -87,8 +87,8 @@ traffic_counts seed calls =
     let before = counts-append header (segment nails) 10 81 0 80 header_counts nailed in
     counts-append (header ++ segment nails) (calls_drawn calls seed) 91 (14 * calls) 80 (8 * calls) before (calls_count calls seed)
 
-pub line_count : (seed calls : ℕ) → length (traffic_lines seed calls) ≤ 91 + 14 * calls
-line_count seed calls = (traffic_counts seed calls).few
+pub length-traffic_lines-le : (seed calls : ℕ) → length (traffic_lines seed calls) ≤ 91 + 14 * calls
+length-traffic_lines-le seed calls = (traffic_counts seed calls).few
 
 pub events_are_few : (seed calls : ℕ) → event_count (traffic_lines seed calls) ≤ 80 + 8 * calls
 events_are_few seed calls = (traffic_counts seed calls).fewer
@@ -104,4 +104,4 @@ text_length (line ∷ lines) fit =
 pub traffic_length : (seed calls : ℕ) → length (traffic seed calls) ≤ 128 * (91 + 14 * calls)
 unfolding traffic
 traffic_length seed calls =
-    omega (arith, text_length (traffic_lines seed calls) (lines_fit seed calls), line_count seed calls)
+    omega (arith, text_length (traffic_lines seed calls) (lines_fit seed calls), length-traffic_lines-le seed calls)

@@ -102,8 +102,8 @@ module _ {S C : Type 0} (setting : S → C) (journal : S → List Entry) (room :
     pub out : (j : ℕ) (v : View C) → Sits s.views j v → IsServed v.stage → get_elem? s.homes 0 ≡ some none
     pub home : NoneServed s.views → (x : S) × (get_elem? s.homes 0 ≡ some (some (Some x))) × IsAt setting journal room (Some opening) budget log x
 
-  behind : (log : List Entry) (v : View C) (rest : List Entry) → log ≡ v.known.seen ++ rest → unseen v.known.seen log ≡ rest
-  behind log v rest whole = ap (drop (length v.known.seen)) whole ∙ unseen_front v.known.seen rest
+  unseen_behind : (log : List Entry) (v : View C) (rest : List Entry) → log ≡ v.known.seen ++ rest → unseen v.known.seen log ≡ rest
+  unseen_behind log v rest whole = ap (drop (length v.known.seen)) whole ∙ unseen_front v.known.seen rest
 
   seat_of : (s : State (Option S) (View C)) (r : TurnRule setting journal room reserved opening budget s) (j : ℕ) (v : View C) → Sits s.views j v → SeatOk reserved opening budget r.log r.made v
   seat_of s r j v sit =
@@ -111,7 +111,7 @@ module _ {S C : Type 0} (setting : S → C) (journal : S → List Entry) (room :
       let own = r.own_entries.own j v sit in
       let kept = r.own_entries.kept j v sit in
       let opened = r.slots_way.opened j v sit in
-      let back = behind r.log v begun.0 begun.1 in
+      let back = unseen_behind r.log v begun.0 begun.1 in
       let numbers : Every (λ (k : JoinedSeat). (k.number ≢ v.known.number) × (k.number ≤ r.made)) v.known.kept = every_both v.known.kept (λ k a b. (a, b)) (r.own_entries.not_mine j v sit) (r.own_entries.kept_made j v sit) in
       record {
         setting_is = opened.0;
@@ -156,7 +156,7 @@ module _ {S C : Type 0} (setting : S → C) (journal : S → List Entry) (room :
 
   pub rule_of : (s : State (Option S) (View C)) → Facts s → TurnRule setting journal room reserved opening budget s
   rule_of s f =
-      let back : (j : ℕ) (v : View C) (sit : Sits s.views j v) → (f.seats j v sit).rest ≡ unseen v.known.seen f.log = λ j v sit. let o = f.seats j v sit in sym (behind f.log v o.rest o.whole) in
+      let back : (j : ℕ) (v : View C) (sit : Sits s.views j v) → (f.seats j v sit).rest ≡ unseen v.known.seen f.log = λ j v sit. let o = f.seats j v sit in sym (unseen_behind f.log v o.rest o.whole) in
       let between : (j : ℕ) (v : View C) → Sits s.views j v → (t : ℕ) → HoldsTicket v.stage t → (now_serving s ≤ t) × (t < next_ticket s) = λ j v sit t h. ticket_below reserved f.log (now_serving s) (next_ticket s) v v.stage t (f.knows j v sit) h in
       record {
         log = f.log;

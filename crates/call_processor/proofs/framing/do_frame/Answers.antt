@@ -11,7 +11,7 @@ use Rattle.frame_engine.specs.Frames.{PlaysOut}
 use Rattle.tone_rules.specs.Tables.{table_of}
 use Rattle.call_processor.proofs.AloneLemmas.{next_alone}
 use Rattle.call_processor.proofs.EventLemmas.{Next, answer_next}
-use Rattle.call_processor.proofs.FrameLemmas.{frame_asks, boundary, frames_few, input_whole, made_at, next_frame, one_input, played_here, ready_after, same_frames, still_carried, written_whole}
+use Rattle.call_processor.proofs.FrameLemmas.{frame_asks, boundary, world_at_frames_few, input_whole, made_at, next_frame, one_input, played_here, ready_after, same_frames, still_carried, written_whole}
 use Rattle.call_profile.proofs.GivenToneLemmas.{sounds_given}
 use Rattle.call_processor.specs.Keeping.{placed}
 use Rattle.call_processor.proofs.KeepingLemmas.{on_ok}
@@ -40,7 +40,7 @@ frame-requires-clause-last g c =
     let last = c.handle_into-place.ensures.done.place in
     let below = c.handle_into-place.ensures.done.below in
     let long = length-take-le place (K c.handle_into-place.new.seat).seen (omega (arith, last)) in
-    let few = frames_few board history c.handle_into-place.ensures.done.sound (omega (arith, long, below)) in
+    let few = world_at_frames_few board history c.handle_into-place.ensures.done.sound (omega (arith, long, below)) in
     omega (arith, few, same.next, c.requires.ready.number)
 
 pub frame-requires-clause-sizes : goal.frame-requires-clause-sizes

@@ -5,7 +5,7 @@ use Rattle.exchange_events.specs.Sound.{IsSound}
 use Rattle.call_processor.specs.Parts.{is_its, part_of}
 use Rattle.call_processor.proofs.EventLemmas.{frames_stay}
 use Rattle.call_processor.proofs.KeepingLemmas.{keeps_done, keeps_front, keeps_lacking, keeps_more, keeps_none, keeps_nothing, keeps_whole, works_ended}
-use Rattle.call_processor.proofs.PartLemmas.{next_not, next_its, none_up_to, front_here, front_next, turn_left, up_to}
+use Rattle.call_processor.proofs.PartLemmas.{up_to_next_not, up_to_next_its, up_to_none, front_here, front_next, turn_left, up_to}
 use Rattle.call_processor.proofs.framing.do_frames.Goals as goal
 
 pub input_of-requires : goal.input_of-requires
@@ -25,7 +25,7 @@ loop-event-init g c =
     let empty : g.K.AnswerSink.holds c.clear.new.self [] = search rules in
     record {
       seated = c.requires.seated;
-      keeps = keeps_done _ _ _ _ _ _ _ _ (none_up_to c.args.cx.now.trace.now Frame_worker c.event_range-first.result.0) (keeps_none _ _ _ _ _ empty);
+      keeps = keeps_done _ _ _ _ _ _ _ _ (up_to_none c.args.cx.now.trace.now Frame_worker c.event_range-first.result.0) (keeps_none _ _ _ _ _ empty);
       from = search rules;
       ready = c.requires.may.ready;
       lines = search rules;
@@ -36,7 +36,7 @@ loop-event-preserved-in_default g c =
     let off : is_its c.args.cx.now.trace.now Frame_worker c.loop-event.event ≡ false = search rules in
     record {
       seated = c.loop-event.invariant.seated;
-      keeps = keeps_done _ _ _ _ _ _ _ _ (sym (next_not c.args.cx.now.trace.now _ _ _ c.loop-event.invariant.from off)) c.loop-event.invariant.keeps;
+      keeps = keeps_done _ _ _ _ _ _ _ _ (sym (up_to_next_not c.args.cx.now.trace.now _ _ _ c.loop-event.invariant.from off)) c.loop-event.invariant.keeps;
       from = search rules;
       ready = c.loop-event.invariant.ready;
       lines = c.loop-event.invariant.lines;
@@ -68,7 +68,7 @@ loop-event-preserved g c =
     let its : is_its c.args.cx.now.trace.now Frame_worker c.loop-event.event ≡ true = search rules in
     record {
       seated = c.do_frame.ensures.seated;
-      keeps = keeps_done _ _ _ _ _ _ _ _ (sym (next_its c.args.cx.now.trace.now _ _ _ c.loop-event.invariant.from its))
+      keeps = keeps_done _ _ _ _ _ _ _ _ (sym (up_to_next_its c.args.cx.now.trace.now _ _ _ c.loop-event.invariant.from its))
           (keeps_more _ _ _ (λ a b answers s each said. frames_stay _ _ _ a b answers s each said) _ _ _ _ _ _ _ c.loop-event.invariant.keeps c.do_frame.ensures.handled c.in_ok-do_frame.ensures.kept);
       from = search rules;
       ready = c.do_frame.ensures.ready;

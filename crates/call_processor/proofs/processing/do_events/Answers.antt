@@ -6,7 +6,7 @@ use Rattle.call_processor.specs.Keeping.{KeepsWork, has_no_octets}
 use Rattle.exchange_events.specs.Sound.{IsSound}
 use Rattle.call_processor.specs.Parts.{is_its, part_of}
 use Rattle.call_processor.proofs.KeepingLemmas.{keeps_done, keeps_front, keeps_lacking, keeps_more, keeps_none, keeps_whole}
-use Rattle.call_processor.proofs.PartLemmas.{up_to, rest_from, none_up_to, next_not, next_its, front_here, front_next, turn_left}
+use Rattle.call_processor.proofs.PartLemmas.{up_to, rest_from, up_to_none, up_to_next_not, up_to_next_its, front_here, front_next, turn_left}
 use Rattle.call_processor.proofs.processing.do_events.Goals as goal
 
 pub is_of_processor-requires-clause-event : goal.is_of_processor-requires-clause-event
@@ -20,7 +20,7 @@ loop-event-init g c =
     let empty : g.K.AnswerSink.holds c.clear.new.self [] = search rules in
     record {
       seated = c.requires.seated;
-      keeps = keeps_done _ _ _ _ _ _ _ _ (none_up_to c.args.cx.now.trace.now (Processor c.args.processor) c.event_range-first.result.0) (keeps_none _ _ _ _ _ empty);
+      keeps = keeps_done _ _ _ _ _ _ _ _ (up_to_none c.args.cx.now.trace.now (Processor c.args.processor) c.event_range-first.result.0) (keeps_none _ _ _ _ _ empty);
       from = search rules;
       tool = c.requires.tool;
     }
@@ -34,7 +34,7 @@ loop-event-preserved-then-not-is_of_processor g c =
       seated = c.loop-event.invariant.seated;
       keeps = keeps_done g.K.AnswerSink.holds (g.B.Switchboard.board c.args.cx.now.board.now) (λ w. has_no_octets) (up_to c.args.cx.now.trace.now W first c.loop-event.event) (up_to c.args.cx.now.trace.now W first (c.loop-event.event + 1))
           (g.B.Switchboard.known c.args.seat.now) (g.B.Switchboard.known c.loop-event.seat) c.loop-event.sink
-          (sym (next_not c.args.cx.now.trace.now W first c.loop-event.event c.loop-event.invariant.from off)) c.loop-event.invariant.keeps;
+          (sym (up_to_next_not c.args.cx.now.trace.now W first c.loop-event.event c.loop-event.invariant.from off)) c.loop-event.invariant.keeps;
       from = search rules;
       tool = c.loop-event.invariant.tool;
     }
@@ -110,7 +110,7 @@ loop-event-preserved g c =
     record {
       seated = c.do_event.ensures.seated;
       keeps = keeps_done g.K.AnswerSink.holds board (λ w. has_no_octets) (up_to trace W first event ++ event ∷ []) (up_to trace W first (event + 1)) v x c.do_event.new.sink
-          (sym (next_its trace W first event c.loop-event.invariant.from its))
+          (sym (up_to_next_its trace W first event c.loop-event.invariant.from its))
           (keeps_more g.K.AnswerSink.holds board (λ w. has_no_octets) (λ w y answers s each said. said) (up_to trace W first event) v (g.B.Switchboard.known c.loop-event.seat) x event c.loop-event.sink c.do_event.new.sink
           c.loop-event.invariant.keeps c.do_event.ensures.handled c.in_ok-do_event.ensures.kept);
       from = search rules;

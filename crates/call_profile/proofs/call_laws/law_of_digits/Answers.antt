@@ -1,9 +1,9 @@
 use Rattle.std.proofs.Common.{refl}
-use Rattle.call_profile.proofs.DigitsLawLemmas.{same_choice, wants_slot, wants_port}
+use Rattle.call_profile.proofs.DigitsLawLemmas.{lowest_idle_beside_same_choice, wants_slot, wants_port}
 use Rattle.call_profile.proofs.call_laws.law_of_digits.Goals as goal
 
 pub returns-clause-choice : goal.returns-clause-choice
-returns-clause-choice c w x leg line at = same_choice w x leg at line
+returns-clause-choice c w x leg line at = lowest_idle_beside_same_choice w x leg at line
 
 pub returns-clause-no_slot : goal.returns-clause-no_slot
 returns-clause-no_slot c s w h called m at is = wants_slot s w h.slot called m h.leg at is

@@ -4,15 +4,15 @@ use Rattle.call_profile.proofs.CommandLemmas.{pass_kept}
 use Rattle.call_profile.proofs.ExpiryChangeLemmas.{none_else_changes, untimed_stay}
 use Rattle.call_profile.proofs.ExpiryCircuitLemmas.{conversations_stay, layout_stays, ports_stay}
 use Rattle.call_profile.proofs.ExpirySinceLemmas.{began_by}
-use Rattle.call_profile.proofs.ExpirySendLemmas.{lines_send, lines_record}
+use Rattle.call_profile.proofs.ExpirySendLemmas.{length-outcome_of_lines_sends-le, length-outcome_of_lines_records-le}
 use Rattle.call_profile.proofs.call_laws.law_of_expiries.Goals as goal
 
 pub returns-clause-sends : goal.returns-clause-sends
-returns-clause-sends c s w input = lines_send s w.holding.next (pass w input) s.dimensions.external
+returns-clause-sends c s w input = length-outcome_of_lines_sends-le s w.holding.next (pass w input) s.dimensions.external
 
 pub returns-clause-records : goal.returns-clause-records
 returns-clause-records c s w input stands =
-    lines_record s w.holding.next (pass w input) (pass_kept s w stands.circuits stands.legs input) s.dimensions.external (omega arith)
+    length-outcome_of_lines_records-le s w.holding.next (pass w input) (pass_kept s w stands.circuits stands.legs input) s.dimensions.external (omega arith)
 
 pub returns-clause-others : goal.returns-clause-others
 returns-clause-others c s w input stands = none_else_changes s w input stands

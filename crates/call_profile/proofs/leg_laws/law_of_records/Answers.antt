@@ -1,4 +1,4 @@
-use Rattle.call_profile.proofs.RecordOrderLemmas.{restart_comes_by_place, others_record_one}
+use Rattle.call_profile.proofs.RecordOrderLemmas.{restart_comes_by_place, length-answer_to_others-le}
 use Rattle.call_profile.proofs.RecordedMessageLemmas.{record_is, ended_is_recorded}
 use Rattle.call_profile.proofs.leg_laws.law_of_records.Goals as goal
 
@@ -12,4 +12,4 @@ pub returns-clause-order : goal.returns-clause-order
 returns-clause-order c = restart_comes_by_place
 
 pub returns-clause-one : goal.returns-clause-one
-returns-clause-one c = others_record_one
+returns-clause-one c = length-answer_to_others-le

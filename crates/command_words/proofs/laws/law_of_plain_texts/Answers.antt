@@ -1,5 +1,5 @@
-use Rattle.command_words.proofs.Plain.{plain_texts}
+use Rattle.command_words.proofs.Plain.{command_of_plain_texts}
 use Rattle.command_words.proofs.laws.law_of_plain_texts.Goals as goal
 
 pub returns : goal.returns
-returns c = plain_texts
+returns c = command_of_plain_texts

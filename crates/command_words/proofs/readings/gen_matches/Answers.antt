@@ -2,7 +2,7 @@ use Rattle.std.proofs.Common.{rules, ap, ap₂, refl, codes, true, map, string_b
 use Rattle.clap.specs.Words.{App, FailsBy, HasMatchesOf, Text, app_of, fault_of, is_simple, is_simple_and_free, new_app, rule_of, with_rule}
 use Rattle.clap.proofs.OnLiterals.{clap_on_literals}
 use Rattle.command_words.specs.Words.{gen_app, positional}
-use Rattle.command_words.proofs.Taken.{taken, refused, text_is}
+use Rattle.command_words.proofs.Taken.{takes_words_ok, takes_words_err, text_is}
 use Rattle.command_words.proofs.readings.gen_matches.Goals as goal
 
 is_free : is_simple_and_free gen_app ≡ true
@@ -28,8 +28,8 @@ returns c =
     let fails = subst (λ (a : App). FailsBy (fault_of a words) parse.result) command_is (parse.ensures.kinds (ap is_simple_and_free command_is ∙ is_free)) in
     let found = subst (λ (a : App). IfOk parse.result (HasMatchesOf a words)) command_is parse.ensures.matches in
     record {
-      taken = taken gen_app words parse.result fails;
-      refused = refused gen_app words parse.result fails;
+      taken = takes_words_ok gen_app words parse.result fails;
+      refused = takes_words_err gen_app words parse.result fails;
       seed = text_is gen_app words (codes "SEED") parse.result simple found;
       calls = text_is gen_app words (codes "CALLS") parse.result simple found;
     }

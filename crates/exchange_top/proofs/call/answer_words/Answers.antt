@@ -1,6 +1,6 @@
 use Rattle.std.proofs.Common.{refl, ap, ◌∙◌, Err, Some, inl, inr}
 use Rattle.report_check.specs.declared.ending.Ending.TheVariants as ended
-use Rattle.exchange_top.proofs.Endings.{ends_at_once, ends_check, ends_line, nothing_read, stops_by}
+use Rattle.exchange_top.proofs.Endings.{ends_at_once, ends_check, ends_line, ConsumesAtMost_none, stops_by}
 use Rattle.exchange_top.proofs.Sums.{keeps}
 use Rattle.exchange_top.proofs.Tellings.{none_left}
 use Rattle.exchange_top.proofs.call.answer_words.Goals as goal
@@ -18,7 +18,7 @@ pub returns-in-Ok-Generate-clause-ends : goal.returns-in-Ok-Generate-clause-ends
 returns-in-Ok-Generate-clause-ends g c = c.run_generated.ensures.ends _ _ (c.in-Ok-Generate.ensures.command ∙ ap Some c.in-Ok-Generate.field-0-is)
 
 pub returns-in-Ok-Generate-clause-stops : goal.returns-in-Ok-Generate-clause-stops
-returns-in-Ok-Generate-clause-stops g c = nothing_read _ _
+returns-in-Ok-Generate-clause-stops g c = ConsumesAtMost_none _ _
 
 pub returns-in-Ok-Check-clause-ends : goal.returns-in-Ok-Check-clause-ends
 returns-in-Ok-Check-clause-ends g c =
@@ -38,7 +38,7 @@ returns-in-Err-NoCommand-clause-ends g c =
     (record { order = c.refuse.ensures.none; meters = none_left _ _ _ _; engine = c.refuse.ensures.engine })
 
 pub returns-in-Err-NoCommand-clause-stops : goal.returns-in-Err-NoCommand-clause-stops
-returns-in-Err-NoCommand-clause-stops g c = nothing_read _ _
+returns-in-Err-NoCommand-clause-stops g c = ConsumesAtMost_none _ _
 
 pub returns-in-Err-Memory-clause-ends : goal.returns-in-Err-Memory-clause-ends
 returns-in-Err-Memory-clause-ends g c =
@@ -46,4 +46,4 @@ returns-in-Err-Memory-clause-ends g c =
     ends_at_once _ _ _ _ e.ending (keeps _) (record { order = e.none; meters = none_left _ _ _ _; engine = e.engine })
 
 pub returns-in-Err-Memory-clause-stops : goal.returns-in-Err-Memory-clause-stops
-returns-in-Err-Memory-clause-stops g c = nothing_read _ _
+returns-in-Err-Memory-clause-stops g c = ConsumesAtMost_none _ _

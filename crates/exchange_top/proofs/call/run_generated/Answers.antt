@@ -3,7 +3,7 @@ use Rattle.std.specs.List.{concat}
 use Rattle.exchange_top.specs.Summary.{summary_text}
 use Rattle.report_check.specs.declared.ending.Ending.TheVariants as ended
 use Rattle.generated_trace.specs.Generated.{IsTrafficOf}
-use Rattle.generated_trace.proofs.Told.{unchanged}
+use Rattle.generated_trace.proofs.Told.{changes_none}
 use Rattle.line_list.specs.declared.listing.Listing.TheVariants as listing
 use Rattle.meters.specs.Changing.{handed_in}
 use Rattle.exchange_top.proofs.Endings.{ends_at_once, ends_generated, ends_summed}
@@ -27,7 +27,7 @@ returns-in-Completed-clause-ends g c arguments input asked =
     let run = rw c.in-Completed.is at c.run_trace-ended.ensures.runs in
     let steady : g.K.Sink.faults c.run_trace-ended.new.sink ≡ g.K.Sink.faults c.args.sink.now =
     elim c.run_trace-ended.ensures.writes [ inl failed ↦ let never : ended.Completed ≡ ended.WriteFailed = rw c.in-Completed.is at failed in absurd (cc) | inr kept ↦ kept ] in
-    let silent = unchanged_text g.C.Carrier.plays listing.Nothing 30 c.in-Ok.trace c.run_trace-ended.result.order.items (unchanged c.args.seed c.args.calls c.in-Ok.trace c.requires.most is)
+    let silent = unchanged_text g.C.Carrier.plays listing.Nothing 30 c.in-Ok.trace c.run_trace-ended.result.order.items (changes_none c.args.seed c.args.calls c.in-Ok.trace c.requires.most is)
     (λ m. (goal.Meter-dyn g (m.vtable, m.value)).text m.value) (handed_in c.args.metering.now.on.items c.args.metering.now.spare.items) in
     let said = ap (λ ms. summary_text c.in-Ok.trace (concat (map (λ m. (goal.Meter-dyn g (m.vtable, m.value)).text m.value []) ms))) c.as_slice.ensures.value in
     ends_summed g.C.Carrier.plays g.C.Carrier.sizes g.C.Carrier.carries _ _ _ _ _ _ _ _ _ c.run_trace-ended.result.engine c.sum_up.result.engine c.in-Ok.trace run silent

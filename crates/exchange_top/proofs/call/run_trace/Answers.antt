@@ -6,7 +6,7 @@ use Rattle.exchange_top.specs.Commands.{fabric_of}
 use Rattle.exchange_top.specs.Outcomes.{Fabric}
 use Rattle.exchange_top.proofs.Endings.{runs_on, runs_so}
 use Rattle.exchange_top.proofs.Tellings.{none_beyond}
-use Rattle.exchange_top.proofs.Underway.{begun_none}
+use Rattle.exchange_top.proofs.Underway.{IsRunInterrupted_none}
 use Rattle.exchange_top.proofs.call.run_trace.Goals as goal
 
 pub returns-in-Ok-clause-runs : goal.returns-in-Ok-clause-runs
@@ -19,7 +19,7 @@ returns-in-Ok-clause-runs g c =
 pub returns-in-Err-clause-runs : goal.returns-in-Err-clause-runs
 returns-in-Err-clause-runs g c =
     let e = c.idle.ensures in
-    runs_so _ _ _ _ ended.OutOfMemory _ e.ending (begun_none _ _ _ _ _ _ _ _ _ _ _ e.none refl (none_beyond _ _ _ _) e.engine)
+    runs_so _ _ _ _ ended.OutOfMemory _ e.ending (IsRunInterrupted_none _ _ _ _ _ _ _ _ _ _ _ e.none refl (none_beyond _ _ _ _) e.engine)
 
 pub returns-in-Ok-new-clause-runs : goal.returns-in-Ok-new-clause-runs
 returns-in-Ok-new-clause-runs g c =
@@ -31,4 +31,4 @@ returns-in-Ok-new-clause-runs g c =
 pub returns-in-Err-new-clause-runs : goal.returns-in-Err-new-clause-runs
 returns-in-Err-new-clause-runs g c =
     let e = c.idle-in-Err-new.ensures in
-    runs_so _ _ _ _ ended.OutOfMemory _ e.ending (begun_none _ _ _ _ _ _ _ _ _ _ _ e.none refl (none_beyond _ _ _ _) e.engine)
+    runs_so _ _ _ _ ended.OutOfMemory _ e.ending (IsRunInterrupted_none _ _ _ _ _ _ _ _ _ _ _ e.none refl (none_beyond _ _ _ _) e.engine)

@@ -3,7 +3,7 @@ use Rattle.std.proofs.lemmas.List.{length-take-le}
 use Rattle.line_follower.specs.Following.{HasNoFeed}
 use Rattle.trace_text.specs.TraceWords.{lines}
 use Rattle.line_follower.specs.declared.following.Following.TheVariants as ended
-use Rattle.line_follower.proofs.Steps.{first_underway, held_next, read_more, read_none, settled_of, unwritten_answer}
+use Rattle.line_follower.proofs.Steps.{first_underway, IsUnderway_held_next, IsUnderway_read_more, IsUnderway_read_none, settled_of, unwritten_answer}
 use Rattle.exchange_top.proofs.FollowedEndings.{answered}
 use Rattle.exchange_top.proofs.follow_loop.follow_to_end.Goals as goal
 
@@ -23,7 +23,7 @@ pub returns-then-more-eq0-clause-ended : goal.returns-then-more-eq0-clause-ended
 returns-then-more-eq0-clause-ended g c =
     let (heard, u) = c.loop-more.invariant.underway in
     let all : List ℕ = heard ++ take c.in-Ok.more (drop c.loop-more.held c.read_after.new.buffer) in
-    let now = read_none (g.W.Wire.stands c.loop-more.wire) (g.W.Wire.stands c.read_after.new.wire) _ heard
+    let now = IsUnderway_read_none (g.W.Wire.stands c.loop-more.wire) (g.W.Wire.stands c.read_after.new.wire) _ heard
     c.loop-more.buffer c.read_after.new.buffer c.loop-more.text.items c.loop-more.held c.in-Ok.more c.loop-more.handler.lines c.if-more-eq0.true u
     c.in-Ok.ensures.before (c.in-Ok.ensures.heard heard) in
     let (said, stood, has) = c.handle_end.ensures.ended c.args.handler.now.metering.on.items c.args.handler.now.metering.spare.items all now in
@@ -35,7 +35,7 @@ handle_end-requires-clause-at g c κs within =
       c.args.handler.now.metering.on.items,
       c.args.handler.now.metering.spare.items,
       heard ++ take c.in-Ok.more (drop c.loop-more.held c.read_after.new.buffer),
-      read_none (g.W.Wire.stands c.loop-more.wire) (g.W.Wire.stands c.read_after.new.wire) _ heard
+      IsUnderway_read_none (g.W.Wire.stands c.loop-more.wire) (g.W.Wire.stands c.read_after.new.wire) _ heard
           c.loop-more.buffer c.read_after.new.buffer c.loop-more.text.items c.loop-more.held c.in-Ok.more c.loop-more.handler.lines c.if-more-eq0.true u
           c.in-Ok.ensures.before (c.in-Ok.ensures.heard heard),
     )
@@ -46,7 +46,7 @@ handle_lines-requires-clause-at g c κs within =
       c.args.handler.now.metering.on.items,
       c.args.handler.now.metering.spare.items,
       heard ++ take c.in-Ok.more (drop c.loop-more.held c.read_after.new.buffer),
-      read_more (g.W.Wire.stands c.loop-more.wire) (g.W.Wire.stands c.read_after.new.wire) _ heard
+      IsUnderway_read_more (g.W.Wire.stands c.loop-more.wire) (g.W.Wire.stands c.read_after.new.wire) _ heard
           c.loop-more.buffer c.read_after.new.buffer c.loop-more.text.items c.loop-more.held c.in-Ok.more c.loop-more.handler.lines u
           c.in-Ok.ensures.before (c.in-Ok.ensures.heard heard),
     )
@@ -55,7 +55,7 @@ pub returns-in-Err-handle_lines-clause-ended : goal.returns-in-Err-handle_lines-
 returns-in-Err-handle_lines-clause-ended g c =
     let (heard, u) = c.loop-more.invariant.underway in
     let all : List ℕ = heard ++ take c.in-Ok.more (drop c.loop-more.held c.read_after.new.buffer) in
-    let now = read_more (g.W.Wire.stands c.loop-more.wire) (g.W.Wire.stands c.read_after.new.wire) _ heard
+    let now = IsUnderway_read_more (g.W.Wire.stands c.loop-more.wire) (g.W.Wire.stands c.read_after.new.wire) _ heard
     c.loop-more.buffer c.read_after.new.buffer c.loop-more.text.items c.loop-more.held c.in-Ok.more c.loop-more.handler.lines u
     c.in-Ok.ensures.before (c.in-Ok.ensures.heard heard) in
     let (said, stood, has) = c.in-Err-handle_lines.ensures.stopped c.args.handler.now.metering.on.items c.args.handler.now.metering.spare.items all now in
@@ -66,7 +66,7 @@ returns-in-Err-flush-clause-ended g c =
     let (heard, u) = c.loop-more.invariant.underway in
     let all : List ℕ = heard ++ take c.in-Ok.more (drop c.loop-more.held c.read_after.new.buffer) in
     let bytes : List ℕ = take (c.loop-more.held + c.in-Ok.more) c.read_after.new.buffer in
-    let now = read_more (g.W.Wire.stands c.loop-more.wire) (g.W.Wire.stands c.read_after.new.wire) _ heard
+    let now = IsUnderway_read_more (g.W.Wire.stands c.loop-more.wire) (g.W.Wire.stands c.read_after.new.wire) _ heard
     c.loop-more.buffer c.read_after.new.buffer c.loop-more.text.items c.loop-more.held c.in-Ok.more c.loop-more.handler.lines u
     c.in-Ok.ensures.before (c.in-Ok.ensures.heard heard) in
     let next = c.in-Ok-handle_lines.ensures.done c.args.handler.now.metering.on.items c.args.handler.now.metering.spare.items all now in
@@ -85,7 +85,7 @@ loop-more-preserved g c =
     let end = c.loop-more.held + c.in-Ok.more in
     let bytes : List ℕ = take end c.read_after.new.buffer in
     let taken = c.in-Ok-handle_lines.taken in
-    let now = read_more (g.W.Wire.stands c.loop-more.wire) (g.W.Wire.stands c.read_after.new.wire) _ heard
+    let now = IsUnderway_read_more (g.W.Wire.stands c.loop-more.wire) (g.W.Wire.stands c.read_after.new.wire) _ heard
     c.loop-more.buffer c.read_after.new.buffer c.loop-more.text.items c.loop-more.held c.in-Ok.more c.loop-more.handler.lines u
     c.in-Ok.ensures.before (c.in-Ok.ensures.heard heard) in
     let next = c.in-Ok-handle_lines.ensures.done c.args.handler.now.metering.on.items c.args.handler.now.metering.spare.items all now in
@@ -100,7 +100,7 @@ loop-more-preserved g c =
       partial = subst HasNoFeed (sym moved) c.in-Ok-handle_lines.ensures.partial;
       underway = (
         all,
-        held_next (g.W.Wire.stands c.handle_lines.new.wire) (g.W.Wire.stands c.flush.new.wire) _ all
+        IsUnderway_held_next (g.W.Wire.stands c.handle_lines.new.wire) (g.W.Wire.stands c.flush.new.wire) _ all
             (drop taken bytes) (take (end - taken) c.move_to_front.new.buffer) c.handle_lines.new.text.items c.flush.new.text.items c.handle_lines.new.handler.lines
             next (c.in-Ok-flush.ensures.whole all) moved c.flush.ensures.blank,
       );

@@ -9,12 +9,12 @@ use Rattle.exchange_top.specs.Telling.{meter_story}
 use Rattle.exchange_top.proofs.Endings.{runs_so}
 use Rattle.exchange_top.proofs.Sums.{fits_order, moved}
 use Rattle.exchange_top.proofs.Tellings.{none_beyond}
-use Rattle.exchange_top.proofs.Underway.{begun_none, ending_memory, no_engine_of}
+use Rattle.exchange_top.proofs.Underway.{IsRunInterrupted_none, ending_memory, no_engine_of}
 use Rattle.exchange_top.proofs.run.run.Goals as goal
 
 pub returns-in_err-board-clause-runs : goal.returns-in_err-board-clause-runs
 returns-in_err-board-clause-runs g c = runs_so _ _ _ _ ended.OutOfMemory _ (ending_memory _ c.from_residual.ensures.1)
-    (begun_none _ _ _ _ _ _ _ _ _ _ _ c.requires.empty refl (none_beyond _ _ _ _) (no_engine_of _ _ c.from_residual.ensures.1))
+    (IsRunInterrupted_none _ _ _ _ _ _ _ _ _ _ _ c.requires.empty refl (none_beyond _ _ _ _) (no_engine_of _ _ c.from_residual.ensures.1))
 
 pub note_order-requires : goal.note_order-requires
 note_order-requires g c = record {

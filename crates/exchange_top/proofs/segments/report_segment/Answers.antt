@@ -1,6 +1,6 @@
 use Rattle.std.proofs.Common.{length, ap, sym, ◌∙◌, arith, subst}
 use Rattle.call_processor.specs.Frames.{IsReady}
-use Rattle.segment_run.proofs.LoadLemmas.{turns_for}
+use Rattle.segment_run.proofs.LoadLemmas.{length-events_of_segment-le}
 use Rattle.segment_run.proofs.OrderLemmas.{numbers_left, seen_done}
 use Rattle.exchange_top.specs.Telling.{AreTold, AreToldFront}
 use Rattle.exchange_top.proofs.Kept.{added, told_behind, told_within}
@@ -17,7 +17,7 @@ run_segment_with-requires-clause-may g c lifetimes outlive =
       within = within;
       chief = c.requires.chief;
       numbers = numbers_left c.args.cx.now.trace.now c.args.segment _ c.requires.sound within c.requires.numbers;
-      turns = turns_for (g.B.Switchboard.board c.args.cx.now.board.now) c.args.cx.now.trace.now c.args.segment v c.requires.trace c.requires.sound within c.requires.chief
+      turns = length-events_of_segment-le (g.B.Switchboard.board c.args.cx.now.board.now) c.args.cx.now.trace.now c.args.segment v c.requires.trace c.requires.sound within c.requires.chief
           (seen_done c.args.cx.now.trace.now c.args.segment v c.requires.sound (omega (arith, within)) c.requires.done);
     }
 

@@ -9,7 +9,7 @@ use Rattle.report_check.specs.declared.ending.Ending.TheVariants as ended
 use Rattle.exchange_top.specs.Running.{AreOfAnswers}
 use Rattle.exchange_top.proofs.Endings.{runs_so}
 use Rattle.exchange_top.proofs.Pending.{at_some}
-use Rattle.exchange_top.proofs.Steps.{first_on, first_underway, interrupted_behind, interrupted_first, interrupted_here, next_at, then_on, then_underway, unwritten_here}
+use Rattle.exchange_top.proofs.Steps.{AreOn_first, first_underway, interrupted_behind, interrupted_first, interrupted_here, next_at, AreOn_then, then_underway, unwritten_here}
 use Rattle.exchange_top.proofs.Underway.{ending_memory, ending_write, no_engine_of, run_whole, underway_written}
 use Rattle.exchange_top.proofs.segments.report_segments.Goals as goal
 
@@ -26,7 +26,7 @@ returns-in_err-flush_full-clause-runs g c =
     runs_so _ _ _ _ ended.WriteFailed _ (ending_write _ from) (
       c.in_err-flush_full.ensures.cause,
       unwritten_here (first_underway _ _ _ _ g.C.Carrier.plays g.L.ListingKind.listing (g.B.Switchboard.board c.args.cx.now.board.now) _ _ c.requires.trace c.as_slice-changes.ensures _ c.requires.fresh _ c.requires.silent _ _ _ _ c.in_ok-made.ensures.done c.requires.blank)
-          (first_on _ _ _ _ g.C.Carrier.plays g.L.ListingKind.listing (g.B.Switchboard.board c.args.cx.now.board.now) _ _ c.requires.trace c.as_slice-changes.ensures _ c.requires.fresh _ c.requires.silent _ _ _ _ c.in_ok-made.ensures.done) c.in_err-flush_full.ensures.front (no_engine_of _ _ from),
+          (AreOn_first _ _ _ _ g.C.Carrier.plays g.L.ListingKind.listing (g.B.Switchboard.board c.args.cx.now.board.now) _ _ c.requires.trace c.as_slice-changes.ensures _ c.requires.fresh _ c.requires.silent _ _ _ _ c.in_ok-made.ensures.done) c.in_err-flush_full.ensures.front (no_engine_of _ _ from),
     )
 
 pub returns-in_err-flush_full-clause-writes : goal.returns-in_err-flush_full-clause-writes
@@ -50,7 +50,7 @@ loop-segment-init g c = record {
   silent = c.in_ok-flush_full.ensures.silent;
   ready = rw c.requires.fresh c.requires.ready;
   steady = c.in_ok-flush_full.ensures.steady;
-  on = first_on _ _ _ _ g.C.Carrier.plays g.L.ListingKind.listing (g.B.Switchboard.board c.args.cx.now.board.now) _ _ c.requires.trace c.as_slice-changes.ensures _ c.requires.fresh _ c.requires.silent _ _ _ _ c.in_ok-made.ensures.done;
+  on = AreOn_first _ _ _ _ g.C.Carrier.plays g.L.ListingKind.listing (g.B.Switchboard.board c.args.cx.now.board.now) _ _ c.requires.trace c.as_slice-changes.ensures _ c.requires.fresh _ c.requires.silent _ _ _ _ c.in_ok-made.ensures.done;
 }
 
 pub returns-in_err-report_segment-clause-runs : goal.returns-in_err-report_segment-clause-runs
@@ -89,7 +89,7 @@ returns-in_err-flush_full-2-clause-runs g c =
           (then_underway _ _ _ _ g.C.Carrier.plays g.L.ListingKind.listing (g.B.Switchboard.board c.args.cx.now.board.now) _ _ c.requires.trace c.as_slice-changes.ensures _ c.as_slice-ends.ensures c.requires.sound _ _ _ _ _ _ _ _ _ c.loop-segment-test.true c.loop-segment.invariant.underway c.loop-segment.invariant.on c.loop-segment.invariant.silent
           _ c.report_segment.ensures.ran c.in_ok-report_segment.ensures.whole _ c.in_ok-report_segment.ensures.told _ _ _ _ c.in_ok-made-2.ensures.done
           refl c.report_segment.ensures.chief c.in_ok-report_segment.ensures.added)
-          (then_on _ _ _ _ g.C.Carrier.plays g.L.ListingKind.listing (g.B.Switchboard.board c.args.cx.now.board.now) _ _ c.requires.trace c.as_slice-changes.ensures _ c.as_slice-ends.ensures c.requires.sound _ _ _ _ _ _ _ _ _ c.loop-segment-test.true c.loop-segment.invariant.underway c.loop-segment.invariant.on c.loop-segment.invariant.silent
+          (AreOn_then _ _ _ _ g.C.Carrier.plays g.L.ListingKind.listing (g.B.Switchboard.board c.args.cx.now.board.now) _ _ c.requires.trace c.as_slice-changes.ensures _ c.as_slice-ends.ensures c.requires.sound _ _ _ _ _ _ _ _ _ c.loop-segment-test.true c.loop-segment.invariant.underway c.loop-segment.invariant.on c.loop-segment.invariant.silent
           _ c.report_segment.ensures.ran c.in_ok-report_segment.ensures.whole _ c.in_ok-report_segment.ensures.told _ _ _ _ c.in_ok-made-2.ensures.done) c.in_err-flush_full-2.ensures.front (no_engine_of _ _ from),
     )
 
@@ -110,7 +110,7 @@ loop-segment-preserved g c = record {
   silent = c.in_ok-flush_full-2.ensures.silent;
   ready = c.in_ok-report_segment.ensures.ready;
   steady = c.in_ok-flush_full-2.ensures.steady ∙ c.loop-segment.invariant.steady;
-  on = then_on _ _ _ _ g.C.Carrier.plays g.L.ListingKind.listing (g.B.Switchboard.board c.args.cx.now.board.now) _ _ c.requires.trace c.as_slice-changes.ensures _ c.as_slice-ends.ensures c.requires.sound _ _ _ _ _ _ _ _ _ c.loop-segment-test.true c.loop-segment.invariant.underway c.loop-segment.invariant.on c.loop-segment.invariant.silent
+  on = AreOn_then _ _ _ _ g.C.Carrier.plays g.L.ListingKind.listing (g.B.Switchboard.board c.args.cx.now.board.now) _ _ c.requires.trace c.as_slice-changes.ensures _ c.as_slice-ends.ensures c.requires.sound _ _ _ _ _ _ _ _ _ c.loop-segment-test.true c.loop-segment.invariant.underway c.loop-segment.invariant.on c.loop-segment.invariant.silent
       _ c.report_segment.ensures.ran c.in_ok-report_segment.ensures.whole _ c.in_ok-report_segment.ensures.told _ _ _ _ c.in_ok-made-2.ensures.done;
 }
 

@@ -6,8 +6,8 @@ use Rattle.rearrange_chain.specs.Chain.{moves_for}
 use Rattle.control_memory.specs.Paths.{Fabric}
 use Rattle.fabric_map.specs.Rearranging.{AreTaken, taken_by}
 use Rattle.path_memory.proofs.Added.{pairs_after}
-use Rattle.path_memory.proofs.Kept.{can_of, kept_with}
-use Rattle.fabric_map.proofs.Connected.{has_row_room, has_column_room, connects, is_readied, can_lay_is}
+use Rattle.path_memory.proofs.Kept.{can_of, IsPathMemory-with_path}
+use Rattle.fabric_map.proofs.Connected.{has_row_room, has_column_room, Made_connected, is_readied, can_lay_is}
 use Rattle.fabric_map.proofs.fabric.connect_by_moves.Goals as goal
 
 pub make_room-freed-requires-clause-row_room : goal.make_room-freed-requires-clause-row_room
@@ -21,14 +21,14 @@ make_room-freed-requires-clause-column_room g c =
 pub lift_all-requires-clause-taken : goal.lift_all-requires-clause-taken
 lift_all-requires-clause-taken g c =
     let can = can_of c.memory.inside.paths c.args.memory.now c.memory.view_is c.args.from c.args.to c.requires.from c.requires.to c.requires.inlet c.requires.outlet in
-    let made = connects c.memory.inside.matrix c.memory.inside.paths c.args.from c.args.to c.memory.invariant (ap (λ (x : Fabric). x.slots) c.memory.view_is ∙ c.requires.thirty) can in
+    let made = Made_connected c.memory.inside.matrix c.memory.inside.paths c.args.from c.args.to c.memory.invariant (ap (λ (x : Fabric). x.slots) c.memory.view_is ∙ c.requires.thirty) can in
     let moves = c.deref.ensures.0 ∙ c.make_room-freed.ensures.moves in
     subst (λ v. AreTaken c.memory.inside.paths.layout v (taken_by c.memory.inside.paths.layout v)) (sym moves) made.taken
 
 pub lay_all-requires-clause-same : goal.lay_all-requires-clause-same
 lay_all-requires-clause-same g c =
     let can = can_of c.memory.inside.paths c.args.memory.now c.memory.view_is c.args.from c.args.to c.requires.from c.requires.to c.requires.inlet c.requires.outlet in
-    let made = connects c.memory.inside.matrix c.memory.inside.paths c.args.from c.args.to c.memory.invariant (ap (λ (x : Fabric). x.slots) c.memory.view_is ∙ c.requires.thirty) can in
+    let made = Made_connected c.memory.inside.matrix c.memory.inside.paths c.args.from c.args.to c.memory.invariant (ap (λ (x : Fabric). x.slots) c.memory.view_is ∙ c.requires.thirty) can in
     let first = c.deref.ensures.0 ∙ c.make_room-freed.ensures.moves in
     let second = c.deref-2.ensures.0 ∙ c.make_room-freed.ensures.moves in
     ap length (c.deref-3.ensures.0 ∙ c.lift_all.ensures.lifted ∙ ap (taken_by c.memory.inside.paths.layout) first) ∙ made.same ∙ sym (ap length second)
@@ -36,7 +36,7 @@ lay_all-requires-clause-same g c =
 pub lay_all-requires-clause-room : goal.lay_all-requires-clause-room
 lay_all-requires-clause-room g c =
     let can = can_of c.memory.inside.paths c.args.memory.now c.memory.view_is c.args.from c.args.to c.requires.from c.requires.to c.requires.inlet c.requires.outlet in
-    let made = connects c.memory.inside.matrix c.memory.inside.paths c.args.from c.args.to c.memory.invariant (ap (λ (x : Fabric). x.slots) c.memory.view_is ∙ c.requires.thirty) can in
+    let made = Made_connected c.memory.inside.matrix c.memory.inside.paths c.args.from c.args.to c.memory.invariant (ap (λ (x : Fabric). x.slots) c.memory.view_is ∙ c.requires.thirty) can in
     let first = c.deref.ensures.0 ∙ c.make_room-freed.ensures.moves in
     let second = c.deref-2.ensures.0 ∙ c.make_room-freed.ensures.moves in
     can_lay_is _ _ _ _ c.memory.inside.paths.layout _ (moves_for c.memory.inside.matrix c.args.from.line c.args.to.line) c.deref.result.now c.deref-2.result.now c.deref-3.result.now
@@ -62,7 +62,7 @@ invariant_of-memory g c =
     c.make_room-freed.ensures.row_free c.make_room-freed.ensures.column_free in
     let lines : c.lay_all.new.paths.lines ≡ f.lines = c.lay_all.ensures.lines ∙ c.lift_all.ensures.lines in
     let slots : c.lay_all.new.paths.slots ≡ f.slots = c.lay_all.ensures.slots ∙ c.lift_all.ensures.slots in
-    kept_with f.lines f.slots c.make_room-freed.new.matrix _ from to slot c.place.new.self c.insert.new.self (c.make_room-freed.ensures.sizes.0 ∙ c.memory.invariant.lines) (c.make_room-freed.ensures.sizes.1 ∙ c.memory.invariant.slots)
+    IsPathMemory-with_path f.lines f.slots c.make_room-freed.new.matrix _ from to slot c.place.new.self c.insert.new.self (c.make_room-freed.ensures.sizes.0 ∙ c.memory.invariant.lines) (c.make_room-freed.ensures.sizes.1 ∙ c.memory.invariant.slots)
     ready.beside ready.can.from_inside ready.can.to_inside c.make_room-freed.ensures.within ready.free c.place.ensures.placed c.place.ensures.legal
     (c.insert.ensures.layout ∙ ap (λ l. with_path l from to slot) ready.layout_is) (c.insert.ensures.lines ∙ lines) (c.insert.ensures.slots ∙ slots)
 

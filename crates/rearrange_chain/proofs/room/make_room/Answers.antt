@@ -6,7 +6,7 @@ use Rattle.rearrange_chain.specs.declared.moves.Move.{Move}
 use Rattle.rearrange_chain.specs.Chain.{Column, far_line, chain, exchanged, is_shorter, shorter, with_chain}
 use Rattle.rearrange_chain.specs.InTurn.{CanLift}
 use Rattle.rearrange_chain.proofs.Exchange.{exchange_lifts, exchange_places}
-use Rattle.rearrange_chain.proofs.Freed.{Rearranged, ways, bounds, from_row, from_column, shorter_room, rearranges_shorter}
+use Rattle.rearrange_chain.proofs.Freed.{Rearranged, ways, length-chains-le, from_row, from_column, shorter_room, rearranges_shorter}
 use Rattle.rearrange_chain.proofs.room.make_room.Goals as goal
 use Rattle.rearrange_chain.proofs.room.make_room.Goals.{After-place_all}
 use Rattle.rearrange_chain.proofs.room.make_room.Given.{Over}
@@ -29,7 +29,7 @@ walk-requires-clause-slots g c = ((ways c.args.matrix.now c.args.i c.args.j c.fr
 
 pub walk-requires-clause-bound : goal.walk-requires-clause-bound
 walk-requires-clause-bound g c =
-    let few = bounds c.args.matrix.now c.args.i c.args.j c.free_in_row-a.result c.free_in_column-b.result (ways c.args.matrix.now c.args.i c.args.j c.free_in_row-a.result c.free_in_column-b.result c.free_in_row-a.ensures.legal c.requires.row c.requires.column (search rules) c.free_in_row-a.ensures.lowest c.free_in_column-b.ensures.lowest) in
+    let few = length-chains-le c.args.matrix.now c.args.i c.args.j c.free_in_row-a.result c.free_in_column-b.result (ways c.args.matrix.now c.args.i c.args.j c.free_in_row-a.result c.free_in_column-b.result c.free_in_row-a.ensures.legal c.requires.row c.requires.column (search rules) c.free_in_row-a.ensures.lowest c.free_in_column-b.ensures.lowest) in
     let is = ap length (nothing_listed c.args.matrix.now c.args.moves.now.items c.args.j c.free_in_row-a.result c.free_in_column-b.result c.requires.empty) in
     omega (arith, few, is)
 
@@ -38,7 +38,7 @@ walk_from_row-requires-clause-slots g c = ((ways c.args.matrix.now c.args.i c.ar
 
 pub walk_from_row-requires-clause-bound : goal.walk_from_row-requires-clause-bound
 walk_from_row-requires-clause-bound g c =
-    let few = bounds c.args.matrix.now c.args.i c.args.j c.free_in_row-a.result c.free_in_column-b.result (ways c.args.matrix.now c.args.i c.args.j c.free_in_row-a.result c.free_in_column-b.result c.free_in_row-a.ensures.legal c.requires.row c.requires.column (search rules) c.free_in_row-a.ensures.lowest c.free_in_column-b.ensures.lowest) in
+    let few = length-chains-le c.args.matrix.now c.args.i c.args.j c.free_in_row-a.result c.free_in_column-b.result (ways c.args.matrix.now c.args.i c.args.j c.free_in_row-a.result c.free_in_column-b.result c.free_in_row-a.ensures.legal c.requires.row c.requires.column (search rules) c.free_in_row-a.ensures.lowest c.free_in_column-b.ensures.lowest) in
     omega (arith, few)
 
 -- the moves that are taken, and their slot
@@ -99,7 +99,7 @@ returns-clause-sizes g c = (after g c).sizes
 
 pub returns-clause-looks : goal.returns-clause-looks
 returns-clause-looks g c =
-    let few = bounds c.args.matrix.now c.args.i c.args.j c.free_in_row-a.result c.free_in_column-b.result (ways c.args.matrix.now c.args.i c.args.j c.free_in_row-a.result c.free_in_column-b.result c.free_in_row-a.ensures.legal c.requires.row c.requires.column (search rules) c.free_in_row-a.ensures.lowest c.free_in_column-b.ensures.lowest) in
+    let few = length-chains-le c.args.matrix.now c.args.i c.args.j c.free_in_row-a.result c.free_in_column-b.result (ways c.args.matrix.now c.args.i c.args.j c.free_in_row-a.result c.free_in_column-b.result c.free_in_row-a.ensures.legal c.requires.row c.requires.column (search rules) c.free_in_row-a.ensures.lowest c.free_in_column-b.ensures.lowest) in
     let column = ap length (c.walk.ensures.chain ∙ nothing_listed c.args.matrix.now c.args.moves.now.items c.args.j c.free_in_row-a.result c.free_in_column-b.result c.requires.empty) in
     let row = ap length c.walk_from_row.ensures.chain in
     let none = ap length c.requires.empty in

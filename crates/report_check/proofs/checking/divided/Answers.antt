@@ -2,7 +2,7 @@ use Rattle.std.proofs.Common.{◌≡◌, ◌≢◌, refl}
 use Rattle.std.proofs.lemmas.Bool.Decides.{Decides-eqb}
 use Rattle.std.proofs.lemmas.Slice.Eq.{slice_eq-Decides}
 use Rattle.report_check.specs.Checking.{divider}
-use Rattle.report_check.proofs.Divisions.{divided_later, goes_here, goes_then}
+use Rattle.report_check.proofs.Divisions.{divided_later, IsDivided_here, goes_then}
 use Rattle.report_check.proofs.checking.divided.Goals as goal
 
 pub loop-rest-preserved : goal.loop-rest-preserved
@@ -15,4 +15,4 @@ loop-rest-preserved c =
 pub returns-then-eq : goal.returns-then-eq
 returns-then-eq c =
     let same : c.first_line.result.0.now ≡ divider = (slice_eq-Decides Decides-eqb c.first_line.result.0.now divider _ c.if-eq.ensures).0 refl in
-    goes_here c.args.bytes.now c.loop-rest.rest.now c.first_line.result.0.now c.first_line.result.1.now c.loop-rest.invariant c.first_line.ensures same
+    IsDivided_here c.args.bytes.now c.loop-rest.rest.now c.first_line.result.0.now c.first_line.result.1.now c.loop-rest.invariant c.first_line.ensures same

@@ -1,10 +1,10 @@
 use Rattle.std.proofs.Common.{sym, arith, ◌∙◌}
 use Rattle.std.proofs.lemmas.Bool.Decides.{nat_tests}
-use Rattle.report_reader.proofs.RowLemmas.{begun, pushed, row_shorter, rows_below, rows_end, rows_more, rows_none}
+use Rattle.report_reader.proofs.RowLemmas.{GoesOn_begun, pushed, row_shorter, rows_below, rows_end, rows_more, rows_none}
 use Rattle.report_reader.proofs.rows.rows_of.Goals as goal
 
 pub loop-rest-init : goal.loop-rest-init
-loop-rest-init c = begun c.args.octets.now c.new-rows.result.items c.new-rows.ensures.items
+loop-rest-init c = GoesOn_begun c.args.octets.now c.new-rows.result.items c.new-rows.ensures.items
 
 pub returns-in_default : goal.returns-in_default
 returns-in_default c =

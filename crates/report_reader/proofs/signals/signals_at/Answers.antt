@@ -1,11 +1,11 @@
 use Rattle.std.proofs.Common.{sym, arith}
 use Rattle.std.proofs.lemmas.Bool.Decides.{nat_tests}
-use Rattle.report_reader.proofs.SignalLemmas.{begun, front_shorter, signals_empty, signals_end, signals_more, signals_none}
+use Rattle.report_reader.proofs.SignalLemmas.{GoesOn_begun, front_shorter, signals_empty, signals_end, signals_more, signals_none}
 use Rattle.report_reader.proofs.signals.signals_at.Goals.{in-Some+then-is_empty, in_default}
 use Rattle.report_reader.proofs.signals.signals_at.Goals as goal
 
 pub loop-front-init : goal.loop-front-init
-loop-front-init c = begun c.args.word.now c.args.octets.now c.new-sends.result.items c.new-sends.ensures.items
+loop-front-init c = GoesOn_begun c.args.word.now c.args.octets.now c.new-sends.result.items c.new-sends.ensures.items
 
 pub returns-in_default-signal_at : goal.returns-in_default-signal_at
 returns-in_default-signal_at c =

@@ -3,7 +3,7 @@ use Rattle.std.proofs.lemmas.List.{append_assoc, append-nil, drop_all}
 use Rattle.std.proofs.lemmas.List.FromFn.{length-map-range_with_len}
 use Rattle.std.proofs.Transfers.{starts_with_trans}
 use Rattle.report_text.specs.Report.{line_octets, lines_sent, octet_of, part, parts}
-use Rattle.report_text.proofs.Rows.{drop_sent, row_of}
+use Rattle.report_text.proofs.Rows.{drop_sent, line_octets_row_of}
 use Rattle.report_text.proofs.report.put_parts.Goals as goal
 
 pub loop-line-preserved : goal.loop-line-preserved
@@ -15,7 +15,7 @@ loop-line-preserved c =
     let written : c.put_row.new.out.items ≡ before ++ part line (line_octets (λ at. slice_index (get_or rows line []) at.place) line) = c.in_ok-put_row.ensures.part in
     record {
       front = starts_with_trans _ _ _ c.put_row.ensures.front c.loop-line.invariant.front;
-      done = ap (λ out. out ++ parts (line + 1) rest) (written ∙ ap (λ row. before ++ part line row) (row_of rows line))
+      done = ap (λ out. out ++ parts (line + 1) rest) (written ∙ ap (λ row. before ++ part line row) (line_octets_row_of rows line))
           ∙ append_assoc before (part line (line_octets (octet_of rows) line)) (parts (line + 1) rest)
           ∙ ap (λ lines. before ++ parts line lines) (sym (drop_sent (octet_of rows) (length rows) line (omega (arith, c.loop-line-test.true))))
           ∙ c.loop-line.invariant.done;

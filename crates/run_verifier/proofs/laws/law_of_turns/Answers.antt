@@ -1,5 +1,5 @@
-use Rattle.run_verifier.proofs.OrderLemmas.{turns}
+use Rattle.run_verifier.proofs.OrderLemmas.{IsLawfulPrefix-append}
 use Rattle.run_verifier.proofs.laws.law_of_turns.Goals as goal
 
 pub returns : goal.returns
-returns c = turns
+returns c = IsLawfulPrefix-append

@@ -4,7 +4,7 @@ use Rattle.std.proofs.lemmas.List.{nil_from_length}
 use Rattle.std.proofs.lemmas.Option.{MatchOption-at_none, MatchOption-at_some}
 use Rattle.run_verifier.specs.Verdicts.{IsInvalidAt}
 use Rattle.run_verifier.specs.Verifying.{HasGoneOn, IsStuck}
-use Rattle.run_verifier.proofs.EndLemmas.{invalid_here, read_more, read_none, too_long, valid_here}
+use Rattle.run_verifier.proofs.EndLemmas.{invalid_here, read_more, read_none, IsInvalidAt_too_long, valid_here}
 use Rattle.run_verifier.proofs.replaying.verdict_on.Goals as goal
 
 pub loop-number-init : goal.loop-number-init
@@ -79,6 +79,6 @@ returns g c =
       right = λ slots done.
           let r = c.loop-number.invariant.reading slots done in
           subst (λ (n : ℕ). IsInvalidAt slots trace c.args.report.now (n + 1)) (sym count_again)
-          (too_long slots trace r.order c.args.report.now text c.loop-number.number c.requires.sound r.read all
+          (IsInvalidAt_too_long slots trace r.order c.args.report.now text c.loop-number.number c.requires.sound r.read all
           (λ (empty : text ≡ []). let none : length text ≡ 0 = ap length empty in absurd (grind (arith, nat_tests, none, c.is_empty.ensures, c.if-is_empty.false))));
     }

@@ -1,7 +1,7 @@
 use Rattle.std.proofs.Common.{◌≡◌, ◌-◌, Result, Ok, Err, OnErr, length, subst, sym, ap, arith, ◌∙◌}
 use Rattle.exchange_events.specs.Sound.{IsSound}
 use Rattle.call_processor.specs.Parts.{events_of_segment}
-use Rattle.segment_run.proofs.LoadLemmas.{long_range}
+use Rattle.segment_run.proofs.LoadLemmas.{length-range_with_len}
 use Rattle.segment_run.proofs.apart.run_apart.Goals as goal
 
 on_err : {A E P : Type 0} (r : Result A E) → P → OnErr r P
@@ -29,7 +29,7 @@ returns-clause-answered g c = λ kept held.
     let all = c.work_all-done.ensures.works.done whole in
     let first = c.event_range-first.result.0 in
     let end = c.event_range-first.result.1 in
-    let size : length (events_of_segment c.args.cx.now.trace.now c.args.segment) ≡ end - first = ap length c.event_range-first.ensures.all ∙ long_range first (end - first) in
+    let size : length (events_of_segment c.args.cx.now.trace.now c.args.segment) ≡ end - first = ap length c.event_range-first.ensures.all ∙ length-range_with_len first (end - first) in
     let many = all.many in
     let merged = c.in_ok-merge_or_truncate.ensures.merged kept all.parts held all.kept all.apart (omega (arith, many, size)) in
     record { answers = merged.answers; answered = all.answered merged.answers merged.merged; held = merged.held }

@@ -6,7 +6,7 @@ use Rattle.std.specs.declared.vec.Vec.{Vec}
 use Rattle.std.proofs.lemmas.List.Elements.{All-push}
 use Rattle.seat_history.specs.declared.seat_knowledge.SeatKnowledge.{SeatKnowledge}
 use Rattle.segment_run.specs.declared.dealing.Job.{Job}
-use Rattle.segment_run.proofs.DealLemmas.{Dealing, dealing_moved, enough, none_dealt, none_yet, one_dealt}
+use Rattle.segment_run.proofs.DealLemmas.{Dealing, dealing_moved, load_enough, none_dealt, none_yet, one_dealt}
 use Rattle.segment_run.proofs.dealing.deal.Goals.{then-turns-gt0, else-turns-gt0}
 use Rattle.segment_run.proofs.dealing.deal.Goals as goal
 
@@ -33,7 +33,7 @@ split-mine-requires-clause-turns g c =
     let last = c.from-processors.ensures in
     let within = c.loop-worker-test.true in
     let le : c.loop-worker.worker ≤ c.args.trace.now.processors = omega (arith, last, within) in
-    let h = enough (λ (j : Job _ _). j.worker) (λ (j : Job _ _). K j.seat) c.args.trace.now c.args.segment (K c.args.seat.now) c.loop-worker.worker c.loop-worker.jobs.items (K c.loop-worker.seat) le inv.dealing.turns inv.dealing.all c.requires.turns in
+    let h = load_enough (λ (j : Job _ _). j.worker) (λ (j : Job _ _). K j.seat) c.args.trace.now c.args.segment (K c.args.seat.now) c.loop-worker.worker c.loop-worker.jobs.items (K c.loop-worker.seat) le inv.dealing.turns inv.dealing.all c.requires.turns in
     let is = c.requires.loads c.loop-worker.worker le in
     omega (arith, h, is)
 
@@ -56,7 +56,7 @@ loop-worker-preserved g c =
     elim c.if-turns-gt0.branch [
       | then-turns-gt0 w ↦
           let j : Job _ _ = record { worker = i; seat = w.split-mine.result; buffers = w.pop_unused-buffers.result } in
-          let h = enough number known trace segment v i js (K c.loop-worker.seat) le inv.dealing.turns inv.dealing.all c.requires.turns in
+          let h = load_enough number known trace segment v i js (K c.loop-worker.seat) le inv.dealing.turns inv.dealing.all c.requires.turns in
           let d : Dealing number known trace segment v (i + 1) (js ++ j ∷ []) (K w.split-mine.new.seat) =
           one_dealt number known trace segment v i (slice_index_or c.args.loads.now i 0) (nat_eq i c.from-processors.result) js j (K c.loop-worker.seat) (K w.split-mine.new.seat) le is refl (omega (arith, h, is)) (ap (nat_eq i) last)
           w.split-mine.ensures.old w.split-mine.ensures.new inv.dealing in

@@ -4,7 +4,7 @@ use Rattle.exchange_events.specs.declared.trace.Event.{Event}
 use Rattle.exchange_events.proofs.EventNumbers.{event_at-is}
 use Rattle.segment_run.specs.Workers.{worker_numbered}
 use Rattle.segment_run.proofs.ListLemmas.{got_read}
-use Rattle.segment_run.proofs.CountLemmas.{up_to_few, number_is, counted_more}
+use Rattle.segment_run.proofs.CountLemmas.{length-up_to-le, number_is, counted_more}
 use Rattle.segment_run.proofs.dealing.loads_of.Goals as goal
 
 pub overflow_add-loads : goal.overflow_add-loads
@@ -14,7 +14,7 @@ overflow_add-loads c =
     let some_one = c.requires.sound.processors.0 in
     let o = number_is trace (omega (arith, some_one)) c.index-events-event.result c.processor_of.result n c.processor_of.ensures (λ m e. search rules) (λ e. search rules) in
     let each = c.loop-event.invariant.each n o.0 in
-    let few = up_to_few trace (worker_numbered trace.processors n) c.event_range-first.result.0 c.loop-event.event in
+    let few = length-up_to-le trace (worker_numbered trace.processors n) c.event_range-first.result.0 c.loop-event.event in
     search (rules, each, few)
 
 pub loop-event-preserved : goal.loop-event-preserved

@@ -6,7 +6,7 @@ use Rattle.seat_history.specs.Histories.{StartsWith}
 use Rattle.call_processor.specs.declared.worked.WorkerOutput.{WorkerOutput}
 use Rattle.call_processor.specs.declared.worked.WorkerBuffers.{WorkerBuffers}
 use Rattle.segment_run.specs.Workers.{after_joins}
-use Rattle.segment_run.proofs.JoinLemmas.{joined_more, lists_more, starts_on}
+use Rattle.segment_run.proofs.JoinLemmas.{after_joins_more, lists_more, starts_on}
 use Rattle.segment_run.proofs.ListLemmas.{all_front}
 use Rattle.segment_run.proofs.gathering.gather.Goals as goal
 
@@ -26,7 +26,7 @@ loop-output-preserved g c =
       room = search rules;
       kept = search rules;
       capacity = search rules;
-      seat = ap (λ (k : SeatKnowledge). after_joins k (map f ps)) c.join.ensures.seat ∙ (sym (joined_more f (K c.loop-output.seat) ps w) ∙ (ap (λ (l : List (WorkerOutput _ _)). after_joins (K c.loop-output.seat) (map f l)) (sym items) ∙ c.loop-output.invariant.seat));
+      seat = ap (λ (k : SeatKnowledge). after_joins k (map f ps)) c.join.ensures.seat ∙ (sym (after_joins_more f (K c.loop-output.seat) ps w) ∙ (ap (λ (l : List (WorkerOutput _ _)). after_joins (K c.loop-output.seat) (map f l)) (sym items) ∙ c.loop-output.invariant.seat));
       unused = ap (λ (l : List (WorkerBuffers _)). l ++ reverse (map h ps)) c.push_reserved.ensures.items ∙ (lists_more h c.loop-output.used.items ps w ∙ (ap (λ (l : List (WorkerOutput _ _)). c.loop-output.used.items ++ reverse (map h l)) (sym items) ∙ c.loop-output.invariant.unused));
       fronts = λ history s a.
           let F : WorkerOutput _ _ → Type 0 = λ u. StartsWith history (K u.seat).seen in

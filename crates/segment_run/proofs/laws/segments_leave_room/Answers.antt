@@ -1,5 +1,5 @@
 use Rattle.std.proofs.Common.{refl, arith}
-use Rattle.segment_run.proofs.LoadLemmas.{turns_for}
+use Rattle.segment_run.proofs.LoadLemmas.{length-events_of_segment-le}
 use Rattle.segment_run.proofs.OrderLemmas.{seen_done, numbers_left}
 use Rattle.segment_run.proofs.laws.segments_leave_room.Goals as goal
 
@@ -10,4 +10,4 @@ pub returns-clause-numbers : goal.returns-clause-numbers
 returns-clause-numbers c t k made sound within few = numbers_left t k made sound within few
 
 pub returns-clause-turns : goal.returns-clause-turns
-returns-clause-turns c b k v sound within chief below = turns_for b b.trace k v refl sound within chief (seen_done b.trace k v sound (omega (arith, within)) below)
+returns-clause-turns c b k v sound within chief below = length-events_of_segment-le b b.trace k v refl sound within chief (seen_done b.trace k v sound (omega (arith, within)) below)

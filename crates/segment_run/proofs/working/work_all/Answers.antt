@@ -13,8 +13,8 @@ use Rattle.segment_run.specs.Workers.{after_joins, part_numbered}
 use Rattle.seat_history.specs.Histories.{StartsWith}
 use Rattle.call_processor.specs.declared.worked.Placed.{Placed}
 use Rattle.call_processor.specs.declared.worked.WorkerBuffers.{WorkerBuffers}
-use Rattle.segment_run.proofs.PairLemmas.{pairs, pairs_all, pairs_keep, pairs_long, pairs_map, pairs_said, pairs_work, pairs_zip}
-use Rattle.segment_run.proofs.WholeRunLemmas.{Run, each_at, enough_turns, run_answered, run_apart, run_chief, run_long, run_many, run_ran, run_ready, run_whole}
+use Rattle.segment_run.proofs.PairLemmas.{pairs, pairs_all, pairs_keep, length-pairs, pairs_map, pairs_said, pairs_work, pairs_zip}
+use Rattle.segment_run.proofs.WholeRunLemmas.{Run, each_at, loads_below_enough_turns, run_answered, run_apart, run_chief, run_long, length-all_of_run, run_ran, run_ready, run_whole}
 use Rattle.segment_run.proofs.working.work_all.Goals as goal
 
 pub deal-jobs-requires-clause-few : goal.deal-jobs-requires-clause-few
@@ -25,7 +25,7 @@ deal-jobs-requires-clause-few g c lifetimes outlive =
 pub deal-jobs-requires-clause-turns : goal.deal-jobs-requires-clause-turns
 deal-jobs-requires-clause-turns g c lifetimes outlive =
     let sound : IsSound c.args.cx.now.trace.now = subst IsSound (sym c.requires.may.trace_is) ((g.met.B.Switchboard g.world.𝓛 g.world.𝓜 g.world.𝓡 ((λ s x. x), (λ x. x), (λ x. x), λ x. x)).sound_trace c.args.cx.now.board.now c.args.seat.now c.requires.seated) in
-    enough_turns c.args.cx.now.trace.now c.args.segment (g.B.Switchboard.known c.args.seat.now).left sound c.requires.may.within c.requires.may.turns
+    loads_below_enough_turns c.args.cx.now.trace.now c.args.segment (g.B.Switchboard.known c.args.seat.now).left sound c.requires.may.within c.requires.may.turns
 
 pub side_by_side-batch-requires-clause-ready : goal.side_by_side-batch-requires-clause-ready
 side_by_side-batch-requires-clause-ready g c lifetimes outlive =
@@ -80,7 +80,7 @@ returns-clause-works g c =
       joins = c.gather.ensures.seat ∙ ap (after_joins dealt) (sym (pairs_map g.K.AnswerSink.holds board octets part known seat place done seat jobs workers z));
       begins = c.gather.ensures.begins;
       fronts = pairs_all g.K.AnswerSink.holds board octets part known seat place done (λ f. StartsWith k.seen (K f.seat).seen) jobs workers z c.gather.ensures.fronts;
-      settled = λ some. c.gather.ensures.settled (subst (λ (n : ℕ). 0 < n) (pairs_long g.K.AnswerSink.holds board octets part known seat place done jobs workers z) some);
+      settled = λ some. c.gather.ensures.settled (subst (λ (n : ℕ). 0 < n) (length-pairs g.K.AnswerSink.holds board octets part known seat place done jobs workers z) some);
     } in
     record {
       chief = run_chief board trace c.args.segment number known joined answers whole plays tones g.C.Carrier.carries g.C.Carrier.next sizes v dealt k jobs us c.args.machine.value.engine c.side_by_side-batch.result.machine.value.engine c.args.machine.value.context.tool c.side_by_side-batch.result.machine.value.context.tool r;
@@ -94,7 +94,7 @@ returns-clause-works g c =
             parts = reverse (map answers us);
             kept = subst (λ (l : List (WorkerBuffers _)). Keep g.K.AnswerSink.holds l (reverse (map answers us))) (sym c.gather.ensures.unused) (pairs_keep g.K.AnswerSink.holds board octets part known seat place done jobs workers z);
             apart = run_apart board trace c.args.segment number known joined answers whole plays tones g.C.Carrier.carries g.C.Carrier.next sizes v dealt k jobs us c.args.machine.value.engine c.side_by_side-batch.result.machine.value.engine c.args.machine.value.context.tool c.side_by_side-batch.result.machine.value.context.tool r all_done;
-            many = run_many board trace c.args.segment number known joined answers whole plays tones g.C.Carrier.carries g.C.Carrier.next sizes v dealt k jobs us c.args.machine.value.engine c.side_by_side-batch.result.machine.value.engine c.args.machine.value.context.tool c.side_by_side-batch.result.machine.value.context.tool r all_done;
+            many = length-all_of_run board trace c.args.segment number known joined answers whole plays tones g.C.Carrier.carries g.C.Carrier.next sizes v dealt k jobs us c.args.machine.value.engine c.side_by_side-batch.result.machine.value.engine c.args.machine.value.context.tool c.side_by_side-batch.result.machine.value.context.tool r all_done;
             answered = run_answered board trace c.args.segment number known joined answers whole plays tones g.C.Carrier.carries g.C.Carrier.next sizes v dealt k jobs us c.args.machine.value.engine c.side_by_side-batch.result.machine.value.engine c.args.machine.value.context.tool c.side_by_side-batch.result.machine.value.context.tool r all_done;
           };
     }

@@ -4,7 +4,7 @@ use Rattle.std.proofs.lemmas.Bool.Decides.{nat_tests}
 use Rattle.std.proofs.lemmas.Iterator.{YieldsList-from_slice}
 use Rattle.std.proofs.lemmas.Iterator.Search.{all_from_yields_List}
 use Rattle.trace_text.specs.TraceFields.{is_digit}
-use Rattle.trace_text.proofs.TraceOctets.{all_digits, odd_digits}
+use Rattle.trace_text.proofs.TraceOctets.{all_digits, octets_written_odd_digits}
 use Rattle.trace_text.proofs.octets.are_pairs.Goals as goal
 
 pub returns-then-digits-eq0 : goal.returns-then-digits-eq0
@@ -14,4 +14,4 @@ returns-then-digits-eq0 c =
     all ∙ sym (all_digits c.args.digits.now (grind (arith, nat_tests)))
 
 pub returns-else-digits-eq0 : goal.returns-else-digits-eq0
-returns-else-digits-eq0 c = rw (odd_digits c.args.digits.now (grind (arith, nat_tests))) (search rules)
+returns-else-digits-eq0 c = rw (octets_written_odd_digits c.args.digits.now (grind (arith, nat_tests))) (search rules)

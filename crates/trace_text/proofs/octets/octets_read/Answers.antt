@@ -4,11 +4,11 @@ use Rattle.trace_text.specs.declared.fault.Reason.TheVariants.{Hex}
 use Rattle.trace_text.specs.TraceLines.{Fails}
 use Rattle.std.proofs.lemmas.Bool.Decides.{nat_tests}
 use Rattle.trace_text.specs.TraceFields.{octets_written}
-use Rattle.trace_text.proofs.TraceOctets.{odd_digits, octets_pushed, octets_lost, fails_lost}
+use Rattle.trace_text.proofs.TraceOctets.{octets_written_odd_digits, behind-octets_written_pushed, octets_lost, fails_lost}
 use Rattle.trace_text.proofs.octets.octets_read.Goals as goal
 
 pub returns-then-digits-ne0-clause-refused : goal.returns-then-digits-ne0-clause-refused
-returns-then-digits-ne0-clause-refused c = rw (odd_digits c.args.digits.now (grind (arith, nat_tests))) refl
+returns-then-digits-ne0-clause-refused c = rw (octets_written_odd_digits c.args.digits.now (grind (arith, nat_tests))) refl
 
 pub returns-in_err-push_octets-clause-refused : goal.returns-in_err-push_octets-clause-refused
 returns-in_err-push_octets-clause-refused c =
@@ -29,5 +29,5 @@ loop-rest-preserved c =
     let even : length (take n rest) % 2 ≡ 0 = rw (← front) (grind arith) in
     record {
       even = grind arith;
-      read = rw others (octets_pushed n rest c.loop-rest.octets.items c.push_octets.new.octets.items (octets_written c.args.digits.now) even (rw front at c.in_ok-push_octets.ensures.read) c.loop-rest.invariant.read);
+      read = rw others (behind-octets_written_pushed n rest c.loop-rest.octets.items c.push_octets.new.octets.items (octets_written c.args.digits.now) even (rw front at c.in_ok-push_octets.ensures.read) c.loop-rest.invariant.read);
     }

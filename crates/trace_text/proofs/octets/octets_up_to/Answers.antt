@@ -3,7 +3,7 @@ use Rattle.std.specs.Prelude.{ok_or}
 use Rattle.std.proofs.lemmas.Result.{IfOk-weaker, IfErr-weaker}
 use Rattle.trace_text.specs.declared.fault.Reason.TheVariants.{Hex}
 use Rattle.trace_text.specs.TraceLines.{Fails}
-use Rattle.trace_text.proofs.TraceOctets.{few_written, many_written, none_written}
+use Rattle.trace_text.proofs.TraceOctets.{few_written, at_most-octets_written_many, at_most-octets_written_none}
 use Rattle.trace_text.proofs.octets.octets_up_to.Goals as goal
 
 pub returns-then-digits-most-clause-read : goal.returns-then-digits-most-clause-read
@@ -18,7 +18,7 @@ returns-then-digits-most-clause-refused c =
 
 pub returns-then-are_pairs-clause-refused : goal.returns-then-are_pairs-clause-refused
 returns-then-are_pairs-clause-refused c =
-    many_written c.args.most c.args.digits.now (sym c.are_pairs.ensures ∙ c.if-are_pairs.true) (omega (arith, c.if-digits-most.false))
+    at_most-octets_written_many c.args.most c.args.digits.now (sym c.are_pairs.ensures ∙ c.if-are_pairs.true) (omega (arith, c.if-digits-most.false))
 
 pub returns-else-are_pairs-clause-refused : goal.returns-else-are_pairs-clause-refused
-returns-else-are_pairs-clause-refused c = none_written c.args.most c.args.digits.now (sym c.are_pairs.ensures ∙ c.if-are_pairs.false)
+returns-else-are_pairs-clause-refused c = at_most-octets_written_none c.args.most c.args.digits.now (sym c.are_pairs.ensures ∙ c.if-are_pairs.false)

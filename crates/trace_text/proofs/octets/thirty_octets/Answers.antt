@@ -1,21 +1,21 @@
 use Rattle.std.proofs.Common.{◌≡◌, length, ap, ◌∙◌, sym, arith}
 use Rattle.std.specs.List.{list_all}
 use Rattle.trace_text.specs.TraceFields.{is_digit, octets_written}
-use Rattle.trace_text.proofs.TraceOctets.{refused_length, refused_digits, lost_wide, thirty_wide}
+use Rattle.trace_text.proofs.TraceOctets.{thirty_refused_length, thirty_refused_digits, lost_wide, thirty_wide}
 use Rattle.trace_text.proofs.octets.thirty_octets.Goals as goal
 
 pub returns-then-are_pairs : goal.returns-then-are_pairs
-returns-then-are_pairs c = sym (refused_length c.args.digits.now (sym c.are_pairs.ensures ∙ c.if-are_pairs.true) c.if-digits-ne60.true)
+returns-then-are_pairs c = sym (thirty_refused_length c.args.digits.now (sym c.are_pairs.ensures ∙ c.if-are_pairs.true) c.if-digits-ne60.true)
 
 pub returns-else-are_pairs : goal.returns-else-are_pairs
-returns-else-are_pairs c = sym (refused_digits c.args.digits.now (sym c.are_pairs.ensures ∙ c.if-are_pairs.false))
+returns-else-are_pairs c = sym (thirty_refused_digits c.args.digits.now (sym c.are_pairs.ensures ∙ c.if-are_pairs.false))
 
 pub returns-then-not-are_digits : goal.returns-then-not-are_digits
 returns-then-not-are_digits c =
     let digits = c.args.digits.now in
     let sixty : length digits ≡ 60 = c.if-digits-ne60.false in
     let lost = lost_wide digits (omega (arith, sixty)) (ap (λ ds. list_all is_digit ds) (sym c.wide-text.ensures) ∙ sym c.are_digits.ensures ∙ c.if-not-are_digits.true) in
-    sym (refused_digits digits lost)
+    sym (thirty_refused_digits digits lost)
 
 pub returns : goal.returns
 returns c =

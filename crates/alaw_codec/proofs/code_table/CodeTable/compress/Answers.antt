@@ -3,7 +3,7 @@ use Rattle.std.specs.Int.{w32}
 use Rattle.std.proofs.lemmas.Int.{ints}
 use Rattle.std.proofs.lemmas.List.{get_or_read_under}
 use Rattle.circuit_model.specs.ALaw.{compress}
-use Rattle.alaw_codec.proofs.TableEnds.{clamped, code_of_clamped}
+use Rattle.alaw_codec.proofs.TableEnds.{clamped, compress-clamped}
 use Rattle.alaw_codec.proofs.code_table.CodeTable.compress.Goals as goal
 
 -- a value as a call passes it
@@ -22,4 +22,4 @@ returns c =
     let inside : i < 8191 = omega (arith, ints, low, high) in
     let size = c.self.invariant.size in
     let read : c.index.result.now ≡ get_or c.self.inside.octets.items i 0 = get_or_read_under c.self.inside.octets.items i 8191 c.index.result.now 0 c.index.ensures inside (sym size) in
-    read ∙ c.self.invariant.codes i inside ∙ ap compress (back ∙ value) ∙ code_of_clamped c.args.value
+    read ∙ c.self.invariant.codes i inside ∙ ap compress (back ∙ value) ∙ compress-clamped c.args.value

@@ -6,7 +6,7 @@ use Rattle.call_states.specs.declared.act.Act.{Act}
 use Rattle.call_states.proofs.Causes.{act_fits, cause_fits}
 use Rattle.q931_codec.specs.Contents.{call_state_in}
 use Rattle.call_profile.proofs.RecordOfActLemmas.{records_of_act}
-use Rattle.call_control.proofs.AtWorkLemmas.{digits_state, peer_external, known_there, known_peer, known_silent, known_waiting, known_records}
+use Rattle.call_control.proofs.AtWorkLemmas.{digits_state, peer_external, known_there, known_peer, hears_at_known_silent, known_waiting, known_records}
 use Rattle.call_control.proofs.operations.CallControl.act.Goals as goal
 
 pub record_of_act-call-requires-clause-peer_external :
@@ -39,7 +39,7 @@ pub perform-requires-clause-silent : goal.perform-requires-clause-silent
 perform-requires-clause-silent g c answers =
     let work = c.requires.work in
     let now = c.args.self.now in
-    known_silent work.0 now.map now.legs work.1 work.4 c.args.held c.requires.external c.requires.held c.args.message.now (sym c.on_message-act.ensures ∙ answers)
+    hears_at_known_silent work.0 now.map now.legs work.1 work.4 c.args.held c.requires.external c.requires.held c.args.message.now (sym c.on_message-act.ensures ∙ answers)
 
 pub perform-requires-clause-waiting : goal.perform-requires-clause-waiting
 perform-requires-clause-waiting g c alerts =

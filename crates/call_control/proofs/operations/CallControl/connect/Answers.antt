@@ -1,12 +1,12 @@
 use Rattle.std.proofs.Common.{◌∙◌}
-use Rattle.call_control.proofs.AtWorkLemmas.{cleared_silent}
+use Rattle.call_control.proofs.AtWorkLemmas.{unless_naming_cleared_silent}
 use Rattle.call_control.proofs.ActMakingLemmas.{connected_makes}
 use Rattle.call_control.proofs.operations.CallControl.connect.Goals as goal
 
 pub pair-requires-clause-silent_x : goal.pair-requires-clause-silent_x
 pair-requires-clause-silent_x g c =
     let work = c.requires.work in
-    c.clear.ensures.hears c.args.caller ∙ cleared_silent work.0 c.args.self.now.map c.args.self.now.legs work.1 c.args.caller work.2
+    c.clear.ensures.hears c.args.caller ∙ unless_naming_cleared_silent work.0 c.args.self.now.map c.args.self.now.legs work.1 c.args.caller work.2
 
 pub returns-clause-makes : goal.returns-clause-makes
 returns-clause-makes g c d m made =

@@ -13,7 +13,7 @@ use Rattle.call_control.specs.declared.setup_checks.CalledSide.{CalledSide}
 use Rattle.call_control.specs.Asked.{asked_of}
 use Rattle.call_control.specs.Choices.{IsWithin, accept_side, called_side, dialled_checks}
 use Rattle.call_control.proofs.AtWorkLemmas.{known_there}
-use Rattle.call_control.proofs.DigitsMakingLemmas.{dialled_small, digits_accept, digits_clear, wrongly_refused, rightly_checked, digits_seat}
+use Rattle.call_control.proofs.DigitsMakingLemmas.{dialled_small, digits_accept, digits_clear, digits_refusal_wrong, digits_refusal_right, digits_seat}
 use Rattle.call_control.proofs.SetupMakingLemmas.{leads_to_room, makes_begun, makes_same, number_reaches, on_err, on_ok, side_accepts}
 use Rattle.call_control.proofs.operations.CallControl.on_digits.Goals as goal
 
@@ -26,7 +26,7 @@ returns-in_default-dialled_on-clause-makes g c s w plan tones work =
     let wrong : adds_wrongly p.called m ≡ true = sym c.dialled_on.ensures.none ∙ ap is_none c.in_default-dialled_on.is in
     let pends = sym c.pending.ensures ∙ ap option_copied c.in-Some.is in
     let clears = digits_clear s c.args.plan.now now.map now.legs w plan work h m c.requires.external c.requires.held c.requires.waits p pends invalid_number_format
-    (wrongly_refused s c.args.plan.now now.map now.legs w plan work h m c.requires.external c.requires.held c.requires.waits p pends wrong) in
+    (digits_refusal_wrong s c.args.plan.now now.map now.legs w plan work h m c.requires.external c.requires.held c.requires.waits p pends wrong) in
     makes_same s.dimensions c.clear_leg.new.self.map c.clear_leg.new.self.legs c.clear_leg.new.out.sends c.clear_leg.new.out.moved (making_at w)
     (clear_with c.args.tones.now invalid_number_format h) (on_digits s w h m) (clears ∙ ap (λ (t : Tones). clear_with t invalid_number_format h) tones)
     (c.clear_leg.ensures.makes s.dimensions (making_at w) (makes_begun s.dimensions now.map now.legs c.args.out.now.sends c.args.out.now.moved w work.holds c.requires.fresh))
@@ -72,7 +72,7 @@ accept-requires-clause-seats g c room is_room =
     let right : adds_wrongly p.called m ≡ false = sym c.dialled_on.ensures.none ∙ ap is_none c.in-Some-dialled_on.is in
     let pends = sym c.pending.ensures ∙ ap option_copied c.in-Some.is in
     let same = c.as_slice.ensures.octets ∙ ap (λ (q : Pending). q.called) c.in-Some-dialled_on.ensures.added in
-    let passes = rightly_checked s c.args.plan.now now.map now.legs w work.2 work.4 h m c.requires.external c.requires.held c.requires.waits p pends c.as_slice.result.now dialled.is_readable dialled.target right same
+    let passes = digits_refusal_right s c.args.plan.now now.map now.legs w work.2 work.4 h m c.requires.external c.requires.held c.requires.waits p pends c.as_slice.result.now dialled.is_readable dialled.target right same
     c.look_up-dialled.ensures.readable c.look_up-dialled.ensures.target ∙ subst (λ (r : Result CalledSide ℕ). OnOk r (first_cause (dialled_checks s.dimensions w h.slot m dialled.is_readable dialled.target) ≡ None)) c.in-Ok.is
     (c.called_by_digits.ensures.passed s.dimensions w work.4.holds) in
     let side = on_ok c.called_by_digits.result c.in-Ok.called (λ (called : CalledSide). called_side s.dimensions w h.slot dialled.target ≡ Ok called) c.in-Ok.is (c.called_by_digits.ensures.called s.dimensions w work.4.holds) in
@@ -91,7 +91,7 @@ returns-in-Err-clause-makes g c s w plan tones work =
     let right : adds_wrongly p.called m ≡ false = sym c.dialled_on.ensures.none ∙ ap is_none c.in-Some-dialled_on.is in
     let pends = sym c.pending.ensures ∙ ap option_copied c.in-Some.is in
     let same = c.as_slice.ensures.octets ∙ ap (λ (q : Pending). q.called) c.in-Some-dialled_on.ensures.added in
-    let refused = rightly_checked s c.args.plan.now now.map now.legs w plan work h m c.requires.external c.requires.held c.requires.waits p pends c.as_slice.result.now dialled.is_readable dialled.target right same
+    let refused = digits_refusal_right s c.args.plan.now now.map now.legs w plan work h m c.requires.external c.requires.held c.requires.waits p pends c.as_slice.result.now dialled.is_readable dialled.target right same
     c.look_up-dialled.ensures.readable c.look_up-dialled.ensures.target ∙ on_err c.called_by_digits.result cause (λ why. first_cause (dialled_checks s.dimensions w h.slot m dialled.is_readable dialled.target) ≡ Some why) c.in-Err.is
     (c.called_by_digits.ensures.refused s.dimensions w work.holds) in
     let clears = digits_clear s c.args.plan.now now.map now.legs w plan work h m c.requires.external c.requires.held c.requires.waits p pends cause refused in
@@ -112,7 +112,7 @@ returns-in-Ok-clause-makes g c s w plan tones work =
     let right : adds_wrongly p.called m ≡ false = sym c.dialled_on.ensures.none ∙ ap is_none c.in-Some-dialled_on.is in
     let pends = sym c.pending.ensures ∙ ap option_copied c.in-Some.is in
     let same = c.as_slice.ensures.octets ∙ ap (λ (q : Pending). q.called) c.in-Some-dialled_on.ensures.added in
-    let passes = rightly_checked s c.args.plan.now now.map now.legs w plan work h m c.requires.external c.requires.held c.requires.waits p pends c.as_slice.result.now dialled.is_readable dialled.target right same
+    let passes = digits_refusal_right s c.args.plan.now now.map now.legs w plan work h m c.requires.external c.requires.held c.requires.waits p pends c.as_slice.result.now dialled.is_readable dialled.target right same
     c.look_up-dialled.ensures.readable c.look_up-dialled.ensures.target ∙ subst (λ (r : Result CalledSide ℕ). OnOk r (first_cause (dialled_checks s.dimensions w h.slot m dialled.is_readable dialled.target) ≡ None)) c.in-Ok.is
     (c.called_by_digits.ensures.passed s.dimensions w work.holds) in
     let side = on_ok c.called_by_digits.result called (λ (k : CalledSide). called_side s.dimensions w h.slot dialled.target ≡ Ok k) c.in-Ok.is (c.called_by_digits.ensures.called s.dimensions w work.holds) in

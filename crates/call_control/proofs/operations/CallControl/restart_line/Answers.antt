@@ -12,12 +12,12 @@ use Rattle.call_control.specs.Standing.{Makes}
 use Rattle.exchange_events.specs.Sizes.{Dimensions}
 use Rattle.call_control.proofs.MakingLemmas.{makes_send}
 use Rattle.call_profile.proofs.RestartLemmas.{acknowledgement_writable, below_kept}
-use Rattle.call_control.proofs.RestartMakingLemmas.{none_done, same_sizes, sizes_then, step_done}
+use Rattle.call_control.proofs.RestartMakingLemmas.{outcome_below_none, same_sizes, sizes_then, outcome_below_step}
 use Rattle.call_control.proofs.operations.CallControl.restart_line.Goals as goal
 
 pub loop-place-init : goal.loop-place-init
 loop-place-init g c = (
-  λ s w tones work. none_done s.dimensions s.tones c.args.asked c.args.line w _ _ _ _ _ work.holds c.requires.fresh.0 c.requires.fresh.1 c.new-records.ensures,
+  λ s w tones work. outcome_below_none s.dimensions s.tones c.args.asked c.args.line w _ _ _ _ _ work.holds c.requires.fresh.0 c.requires.fresh.1 c.new-records.ensures,
   subst (λ (list : List Signal). length list ≤ 0) (sym c.requires.fresh.0) (omega arith),
   subst (λ (list : List CallRecord). length list ≤ 0) (sym c.new-records.ensures) (omega arith),
   c.requires.fresh.1,
@@ -52,7 +52,7 @@ loop-place-preserved g c =
           let at : Slot = record { line = c.args.line; place = c.loop-place.place } in
           let makes = subst (λ (t : Tones). Makes s.dimensions after.self.map after.self.legs after.out.sends after.out.moved
           (making_after_all s.dimensions so_far_made (restart_slot t c.args.asked so_far_made.world.legs at))) (sym tones) (done.makes s.dimensions so_far_made first.0) in
-          step_done s.dimensions s.tones c.args.asked c.args.line w c.loop-place.place _ _ _ _ c.loop-place.records _ below (work.stands.circuits, work.stands.legs) small first.1
+          outcome_below_step s.dimensions s.tones c.args.asked c.args.line w c.loop-place.place _ _ _ _ c.loop-place.records _ below (work.stands.circuits, work.stands.legs) small first.1
           makes
           (done.records s.dimensions (outcome_below s.dimensions (restart_rule s.tones c.args.asked) c.args.line w c.loop-place.place).making.world first.0.holds),
       (let a = done.few.0 in let b = so_far.1 in omega (arith, a, b)),

@@ -5,14 +5,14 @@ use Rattle.conference_ports.specs.Owners.{members}
 use Rattle.circuit_map.specs.Connections.{hears_in}
 use Rattle.circuit_map.proofs.OwnersRooms.{roomed_free}
 use Rattle.circuit_map.proofs.Paths.{own_ports}
-use Rattle.circuit_map.proofs.Starting.{holds_empty, silent_rows, free_members}
+use Rattle.circuit_map.proofs.Starting.{holds_empty, hears_in_silent_rows, free_members}
 use Rattle.circuit_map.proofs.NextMemory.{shown_start}
 use Rattle.circuit_map.proofs.circuit_map.CircuitMap.new.Goals as goal
 
 pub returns-clause-holds : goal.returns-clause-holds
 returns-clause-holds g c =
     let rows : c.in_ok-vec.field-0.items ≡ replicate (30 * c.args.external) None = search rules in
-    holds_empty _ refl (λ z. ap (λ l. hears_in c.args.external l z) rows ∙ silent_rows c.args.external (30 * c.args.external) z) (ap members c.in_ok-new.ensures.free ∙ free_members (30 * c.args.bridges)) c.requires.bare
+    holds_empty _ refl (λ z. ap (λ l. hears_in c.args.external l z) rows ∙ hears_in_silent_rows c.args.external (30 * c.args.external) z) (ap members c.in_ok-new.ensures.free ∙ free_members (30 * c.args.bridges)) c.requires.bare
 
 pub invariant_of-result : goal.invariant_of-result
 invariant_of-result g c =

@@ -6,7 +6,7 @@ use Rattle.circuit_map.specs.Connections.{Connections, hears_in, hears_at, hears
 use Rattle.circuit_map.proofs.Rows.{hears_two, two_keep}
 use Rattle.circuit_map.proofs.OwnersRooms.{roomed_on}
 use Rattle.circuit_map.proofs.Holdings.{holds_pair, swapped}
-use Rattle.circuit_map.proofs.Seating.{idle_portless}
+use Rattle.circuit_map.proofs.Seating.{port_of_idle_portless}
 use Rattle.circuit_map.proofs.NextMemory.{shown_as, shown_row}
 use Rattle.circuit_map.proofs.Views.{idle_seen, heeded, obeyed, held_after, roomed_seen, joined_seen, moves_seen}
 use Rattle.circuit_map.proofs.Ends.{idle_both}
@@ -55,8 +55,8 @@ invariant_of-self g c =
     let in_x = idle_seen _ _ x is c.requires.external_x c.requires.idle_x in
     let in_y = idle_seen _ _ y is c.requires.external_y c.requires.idle_y in
     let held = c.self.invariant.held in
-    let none_x = idle_portless _ held.0 _ x held.1 in_x.1 in
-    let none_y = idle_portless _ held.0 _ y held.1 in_y.1 in
+    let none_x = port_of_idle_portless _ held.0 _ x held.1 in_x.1 in
+    let none_y = port_of_idle_portless _ held.0 _ y held.1 in_y.1 in
     let long = c.self.invariant.listeners in
     let one = shown_as _ _ _ _ _ _ _ c.set.ensures (shown_row _ _ _ _ _ _ x (Some (Pair y x c.self.inside.next)) _ c.self.invariant.shown long in_x.0.0 in_x.0.1 none_x c.to_index-at_x.ensures) in
     record {

@@ -5,9 +5,9 @@ use Rattle.circuit_model.specs.Ports.{ports_without}
 use Rattle.control_memory.specs.Layout.{IsSlot}
 use Rattle.circuit_map.specs.Connections.{Connections, hears_at, hears_after}
 use Rattle.circuit_map.proofs.OwnersRooms.{roomed_on, others_hear_on}
-use Rattle.circuit_map.proofs.Rows.{hears_two, row_inside}
-use Rattle.circuit_map.proofs.Clearing.{clear_paths, clears, hearing_at, rows_two, nobody_returns, pair_partner, no_member_too}
-use Rattle.circuit_map.proofs.NextMemory.{shown_as, shown_row, unseated_portless}
+use Rattle.circuit_map.proofs.Rows.{hears_two, number_of_inside}
+use Rattle.circuit_map.proofs.Clearing.{clear_paths, clears, hearing_at, rows_two, ports_without_nobody_returns, pair_partner, no_member_too}
+use Rattle.circuit_map.proofs.NextMemory.{shown_as, shown_row, port_of_unseated_portless}
 use Rattle.circuit_map.proofs.Views.{heeded, obeyed, held_after, roomed_seen, cleared_idle}
 use Rattle.circuit_map.proofs.Ends.{ends_of}
 use Rattle.circuit_map.proofs.circuit_map.CircuitMap.release.Goals as goal
@@ -19,13 +19,13 @@ disconnect_both-requires-clause-joined g c =
 pub index_mut-requires-2 : goal.index_mut-requires-2
 index_mut-requires-2 g c =
     let far = (ends_of _ _ _ _ _ _ _ _ c.self.view_is c.self.invariant c.args.x c.args.y c.requires.connected.0 c.requires.connected.1 c.requires.external c.requires.connected.2).far in
-    let inside = row_inside c.self.inside.external c.args.y far.0 far.1 in
+    let inside = number_of_inside c.self.inside.external c.args.y far.0 far.1 in
     omega (arith, inside, c.to_index-at_y.ensures, c.self.invariant.listeners, c.self.inside.heard.ok.0)
 
 pub set-requires-2 : goal.set-requires-2
 set-requires-2 g c =
     let far = (ends_of _ _ _ _ _ _ _ _ c.self.view_is c.self.invariant c.args.x c.args.y c.requires.connected.0 c.requires.connected.1 c.requires.external c.requires.connected.2).far in
-    let inside = row_inside c.self.inside.external c.args.y far.0 far.1 in
+    let inside = number_of_inside c.self.inside.external c.args.y far.0 far.1 in
     let hearers = ap length c.set.ensures ∙ length-set c.self.inside.hearing _ _ ∙ c.self.invariant.shown.hearers in
     omega (arith, inside, c.to_index-at_y.ensures, hearers)
 
@@ -49,7 +49,7 @@ returns-clause-ports g c =
     let s = c.requires.connected.1 in
     let held = c.self.invariant.held in
     let ends = ends_of _ _ _ _ _ _ _ _ c.self.view_is c.self.invariant x c.args.y c.requires.connected.0 s c.requires.external c.requires.connected.2 in
-    sym (nobody_returns _ held.0 _ x (λ room at t e. no_member_too _ c.args.y x at s room t ends.hears e) held.1) ∙ ap (λ (m : Connections). ports_without x m.ports) c.self.view_is
+    sym (ports_without_nobody_returns _ held.0 _ x (λ room at t e. no_member_too _ c.args.y x at s room t ends.hears e) held.1) ∙ ap (λ (m : Connections). ports_without x m.ports) c.self.view_is
 
 pub returns-clause-holds : goal.returns-clause-holds
 returns-clause-holds g c =
@@ -72,8 +72,8 @@ invariant_of-self g c =
     let held = c.self.invariant.held in
     let long = c.self.invariant.listeners in
     let ends = ends_of _ _ _ _ _ _ _ _ is c.self.invariant x y c.requires.connected.0 s c.requires.external c.requires.connected.2 in
-    let none_x = unseated_portless _ held.0 _ x (λ room at t e. no_member_too _ y x at s room t ends.hears e) held.1 in
-    let none_y = unseated_portless _ held.0 _ y (λ room at t e. no_member_too _ x y at s room t ends.hears_back e) held.1 in
+    let none_x = port_of_unseated_portless _ held.0 _ x (λ room at t e. no_member_too _ y x at s room t ends.hears e) held.1 in
+    let none_y = port_of_unseated_portless _ held.0 _ y (λ room at t e. no_member_too _ x y at s room t ends.hears_back e) held.1 in
     let one = shown_as _ _ _ _ _ _ _ c.set.ensures (shown_row _ _ _ _ _ _ x None _ c.self.invariant.shown long ends.near.0 ends.near.1 none_x c.to_index-at_x.ensures) in
     record {
       few = c.self.invariant.few;

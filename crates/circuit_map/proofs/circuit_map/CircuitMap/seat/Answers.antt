@@ -7,7 +7,7 @@ use Rattle.control_memory.specs.Layout.{IsSlot}
 use Rattle.circuit_map.specs.Connections.{Connections, joined_both, AreMoves, hears_in, hears_after, Represents, AreRoomed}
 use Rattle.circuit_map.proofs.OwnersRooms.{roomed_given}
 use Rattle.circuit_map.proofs.Sockets.{length-given}
-use Rattle.circuit_map.proofs.Seating.{lowest_port, free_in_members, no_number, holds_seat, no_lowest, none_given, idle_portless, full_where, not_full}
+use Rattle.circuit_map.proofs.Seating.{lowest_port, position-members, no_number, holds_seat, no_lowest, ports_with_none_given, port_of_idle_portless, count_by-is_member_full, not_full}
 use Rattle.circuit_map.proofs.Rows.{hears_set, given_keeps}
 use Rattle.circuit_map.proofs.NextMemory.{shown_as, shown_row, shown_given, shown_by}
 use Rattle.circuit_map.proofs.Views.{shown_with, held_with, idle_seen, obeyed, held_after, joined_seen, moves_seen, port_seen}
@@ -15,7 +15,7 @@ use Rattle.circuit_map.proofs.Ends.{port_given}
 use Rattle.circuit_model.proofs.Slots.{same_slot-refl}
 use Rattle.circuit_model.specs.declared.channel.Slot.{Slot}
 use Rattle.conference_ports.specs.Owners.{members}
-use Rattle.conference_ports.proofs.Positions.{owned_none}
+use Rattle.conference_ports.proofs.Positions.{owners_with_owned_none}
 use Rattle.circuit_map.proofs.circuit_map.CircuitMap.seat.Goals as goal
 
 pub take-requires-clause-portless : goal.take-requires-clause-portless
@@ -23,13 +23,13 @@ take-requires-clause-portless g c =
     let is = c.self.view_is in
     let held = subst (λ (m : Connections). (h : Holding) × Represents m h m.ports) is c.self.invariant.held in
     let m = c.args.self.now in
-    (λ i. port_of ((c.self.invariant.first ∙ ap (λ (m : Connections). m.external) is) i) (is i).ports c.args.x) ∙ idle_portless m held.0 m.ports c.args.x held.1 c.requires.idle
+    (λ i. port_of ((c.self.invariant.first ∙ ap (λ (m : Connections). m.external) is) i) (is i).ports c.args.x) ∙ port_of_idle_portless m held.0 m.ports c.args.x held.1 c.requires.idle
 
 pub invariant_of-self : goal.invariant_of-self
 invariant_of-self g c =
     let is = c.self.view_is in
     let none = no_lowest c.self.inside.ports.external c.self.inside.ports.owners (sym c.take.ensures.lowest ∙ c.in_default.is) in
-    let same = c.take.ensures.members ∙ none_given c.args.x _ none in
+    let same = c.take.ensures.members ∙ ports_with_none_given c.args.x _ none in
     record {
       few = c.self.invariant.few;
       width = c.self.invariant.width;
@@ -39,7 +39,7 @@ invariant_of-self g c =
       sockets = ap length same ∙ c.self.invariant.sockets;
       legal = c.self.invariant.legal;
       held = held_with _ _ same c.self.invariant.held;
-      roomed = subst (AreRoomed (hears_in c.self.inside.external c.self.inside.heard.items)) (sym (c.take.ensures.owners ∙ owned_none _ c.self.inside.ports.owners (no_number c.self.inside.ports.external _ (sym c.take.ensures.lowest ∙ c.in_default.is)))) c.self.invariant.roomed;
+      roomed = subst (AreRoomed (hears_in c.self.inside.external c.self.inside.heard.items)) (sym (c.take.ensures.owners ∙ owners_with_owned_none _ c.self.inside.ports.owners (no_number c.self.inside.ports.external _ (sym c.take.ensures.lowest ∙ c.in_default.is)))) c.self.invariant.roomed;
       shown = shown_by _ _ _ _ _ _ _ same c.self.invariant.shown;
     }
 
@@ -47,14 +47,14 @@ pub returns-in_default-clause-refused : goal.returns-in_default-clause-refused
 returns-in_default-clause-refused g c =
     let is = c.self.view_is in
     let none = no_lowest c.self.inside.ports.external c.self.inside.ports.owners (sym c.take.ensures.lowest ∙ c.in_default.is) in
-    let same = c.take.ensures.members ∙ none_given c.args.x _ none in
+    let same = c.take.ensures.members ∙ ports_with_none_given c.args.x _ none in
     shown_with _ _ _ same is
 
 pub returns-in_default-clause-full : goal.returns-in_default-clause-full
 returns-in_default-clause-full g c = λ h ports holds.
     let is = c.self.view_is in
     let none = no_lowest c.self.inside.ports.external c.self.inside.ports.owners (sym c.take.ensures.lowest ∙ c.in_default.is) in
-    (λ err. full_where c.args.self.now h ports holds (subst (λ (m : Connections). length m.ports ≡ 30 * m.bridges) is c.self.invariant.sockets) (subst (λ (p : Ports). position is_none p ≡ None) (ap (λ (m : Connections). m.ports) is) none), λ full. refl)
+    (λ err. count_by-is_member_full c.args.self.now h ports holds (subst (λ (m : Connections). length m.ports ≡ 30 * m.bridges) is c.self.invariant.sockets) (subst (λ (p : Ports). position is_none p ≡ None) (ap (λ (m : Connections). m.ports) is) none), λ full. refl)
 
 pub connect_both-moves-requires : goal.connect_both-moves-requires
 connect_both-moves-requires g c = (port_given _ _ _ _ _ _ _ _ c.self.view_is c.self.invariant c.args.x c.in-Some.port c.requires.external c.requires.idle refl (sym c.take.ensures.lowest ∙ c.in-Some.is)).can
@@ -132,7 +132,7 @@ invariant_of-self-2 g c =
     let rows = c.self.inside.heard.items in
     let long = c.self.invariant.listeners in
     let held = c.self.invariant.held in
-    let none = idle_portless _ held.0 _ x held.1 gets.idle in
+    let none = port_of_idle_portless _ held.0 _ x held.1 gets.idle in
     let one = shown_as _ _ _ _ _ _ _ c.set.ensures (shown_row _ _ _ _ _ _ x seat _ c.self.invariant.shown long gets.near.0 gets.near.1 none c.to_index-at_x.ensures) in
     let heard = set rows c.to_index-at_x.result seat in
     let hears : hears_in c.self.inside.external heard x ≡ seat =
@@ -149,7 +149,7 @@ invariant_of-self-2 g c =
       legal = c.connect_both-moves.ensures.legal;
       held = held_after _ _ _ (Seat x c.args.room) is (returns-clause-holds g c) held;
       roomed = subst (AreRoomed (hears_in c.self.inside.external heard)) (sym c.take.ensures.owners)
-          (roomed_given (hears_in c.self.inside.external rows) (hears_in c.self.inside.external heard) c.self.inside.ports.owners x c.args.room c.self.inside.next gets.lowest.number c.self.invariant.roomed (sym (free_in_members c.self.inside.ports.owners) ∙ gets.lowest.lowest) hears
+          (roomed_given (hears_in c.self.inside.external rows) (hears_in c.self.inside.external heard) c.self.inside.ports.owners x c.args.room c.self.inside.next gets.lowest.number c.self.invariant.roomed (sym (position-members c.self.inside.ports.owners) ∙ gets.lowest.lowest) hears
           (given_keeps (hears_in c.self.inside.external rows) (hears_in c.self.inside.external heard) x seat
           (λ z. hears_set c.self.inside.external rows x seat _ z c.to_index-at_x.ensures long gets.near.0 gets.near.1) gets.idle));
       shown = shown_by _ _ _ _ _ _ _ c.take.ensures.members two;

@@ -4,8 +4,8 @@ use Rattle.circuit_model.specs.Ports.{ports_without}
 use Rattle.circuit_map.specs.Connections.{Connections, hears_at, hears_after}
 use Rattle.circuit_map.proofs.OwnersRooms.{roomed_on, others_hear_on}
 use Rattle.circuit_map.proofs.Rows.{hears_set}
-use Rattle.circuit_map.proofs.Clearing.{clear_pathless, hearing_at, rows_one, pathless_pair, pathless_member, nobody_returns}
-use Rattle.circuit_map.proofs.NextMemory.{shown_as, shown_row, unseated_portless}
+use Rattle.circuit_map.proofs.Clearing.{clear_pathless, hearing_at, rows_one, pathless_pair, pathless_member, ports_without_nobody_returns}
+use Rattle.circuit_map.proofs.NextMemory.{shown_as, shown_row, port_of_unseated_portless}
 use Rattle.circuit_map.proofs.Views.{heeded, obeyed, held_after, roomed_seen, cleared_idle, pathless_seen}
 use Rattle.circuit_map.proofs.circuit_map.CircuitMap.silence.Goals as goal
 
@@ -28,7 +28,7 @@ returns-clause-ports g c =
     let x = c.args.x in
     let held = c.self.invariant.held in
     let at = pathless_seen _ _ x is c.requires.external c.requires.pathless in
-    sym (nobody_returns _ held.0 _ x (λ room t s e. pathless_member _ room t s at.1 e) held.1) ∙ ap (λ (m : Connections). ports_without x m.ports) is
+    sym (ports_without_nobody_returns _ held.0 _ x (λ room t s e. pathless_member _ room t s at.1 e) held.1) ∙ ap (λ (m : Connections). ports_without x m.ports) is
 
 pub returns-clause-holds : goal.returns-clause-holds
 returns-clause-holds g c =
@@ -43,7 +43,7 @@ invariant_of-self g c =
     let x = c.args.x in
     let held = c.self.invariant.held in
     let at = pathless_seen _ _ x is c.requires.external c.requires.pathless in
-    let none = unseated_portless _ held.0 _ x (λ room t s e. pathless_member _ room t s at.1 e) held.1 in
+    let none = port_of_unseated_portless _ held.0 _ x (λ room t s e. pathless_member _ room t s at.1 e) held.1 in
     record {
       few = c.self.invariant.few;
       width = c.self.invariant.width;

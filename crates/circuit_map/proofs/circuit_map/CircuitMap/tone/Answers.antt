@@ -5,7 +5,7 @@ use Rattle.circuit_map.specs.Connections.{Connections, hears_at, hears_after}
 use Rattle.circuit_map.proofs.Rows.{hears_set, given_keeps}
 use Rattle.circuit_map.proofs.OwnersRooms.{roomed_on}
 use Rattle.circuit_map.proofs.Holdings.{holds_tone}
-use Rattle.circuit_map.proofs.Seating.{idle_portless}
+use Rattle.circuit_map.proofs.Seating.{port_of_idle_portless}
 use Rattle.circuit_map.proofs.NextMemory.{shown_as, shown_row}
 use Rattle.circuit_map.proofs.Views.{idle_seen, heeded, obeyed, held_after, roomed_seen}
 use Rattle.circuit_map.proofs.circuit_map.CircuitMap.tone.Goals as goal
@@ -31,7 +31,7 @@ invariant_of-self g c =
     let x = c.args.x in
     let at = idle_seen _ _ x is c.requires.external c.requires.idle in
     let held = c.self.invariant.held in
-    let none = idle_portless _ held.0 _ x held.1 at.1 in
+    let none = port_of_idle_portless _ held.0 _ x held.1 at.1 in
     record {
       few = c.self.invariant.few;
       width = c.self.invariant.width;

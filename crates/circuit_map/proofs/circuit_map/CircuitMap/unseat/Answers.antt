@@ -8,7 +8,7 @@ use Rattle.circuit_map.proofs.OwnersRooms.{roomed_returned}
 use Rattle.circuit_map.proofs.Rows.{hears_set}
 use Rattle.circuit_map.proofs.Sockets.{length-returned, port_line}
 use Rattle.circuit_map.proofs.Clearing.{clear_paths, clears, hearing_at, rows_one, member_partner, no_member_too}
-use Rattle.circuit_map.proofs.NextMemory.{shown_as, shown_row, shown_returned, shown_by, one_port, returned_portless}
+use Rattle.circuit_map.proofs.NextMemory.{shown_as, shown_row, shown_returned, shown_by, count_by-has_one_port, port_of_returned_portless}
 use Rattle.circuit_map.proofs.Views.{heeded, obeyed, held_after, roomed_seen, cleared_idle}
 use Rattle.circuit_map.proofs.Ends.{port_had, port_not_lacking}
 use Rattle.conference_ports.specs.Owners.{members}
@@ -76,8 +76,8 @@ invariant_of-self g c =
     let s = c.requires.seated in
     let held = c.self.invariant.held in
     let has = port_had _ _ _ _ _ _ _ _ is c.self.invariant x p s.1 s.0 s.2 c.requires.external s.3 (sym c.port_of.ensures ∙ c.in-Some.is) in
-    let one = shown_as _ _ _ _ _ _ _ c.set.ensures (shown_returned c.self.inside.external c.self.inside.bridges _ _ _ _ x p _ _ c.self.invariant.shown has.port (one_port _ held.0 _ x held.1) has.inside c.to_index-at_port.ensures c.port_index-sits_at.ensures) in
-    let two = shown_as _ _ _ _ _ _ _ c.set-2.ensures (shown_row _ _ _ _ _ _ x None _ one c.self.invariant.listeners has.near.0 has.near.1 (returned_portless c.self.inside.external (members c.self.inside.ports.owners) x) c.to_index-at_x.ensures) in
+    let one = shown_as _ _ _ _ _ _ _ c.set.ensures (shown_returned c.self.inside.external c.self.inside.bridges _ _ _ _ x p _ _ c.self.invariant.shown has.port (count_by-has_one_port _ held.0 _ x held.1) has.inside c.to_index-at_port.ensures c.port_index-sits_at.ensures) in
+    let two = shown_as _ _ _ _ _ _ _ c.set-2.ensures (shown_row _ _ _ _ _ _ x None _ one c.self.invariant.listeners has.near.0 has.near.1 (port_of_returned_portless c.self.inside.external (members c.self.inside.ports.owners) x) c.to_index-at_x.ensures) in
     record {
       few = c.self.invariant.few;
       width = c.disconnect_both.ensures.width ∙ c.self.invariant.width;

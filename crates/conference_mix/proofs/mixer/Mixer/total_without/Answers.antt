@@ -6,7 +6,7 @@ use Rattle.std.proofs.lemmas.Grind.{get_or_default_zero}
 use mir.Val.{SFits}
 use Rattle.circuit_model.specs.ALaw.{compress}
 use Rattle.conference_mix.specs.Rooms.{given_at}
-use Rattle.conference_mix.proofs.SeatFacts.{port_near, total-small, given-kept}
+use Rattle.conference_mix.proofs.SeatFacts.{port_near, total-small, compress_given_kept}
 use Rattle.conference_mix.proofs.mixer.Mixer.total_without.Goals as goal
 
 pub offset_bounds-self-inside-port : goal.offset_bounds-self-inside-port
@@ -59,5 +59,5 @@ returns c =
     let near = c.self.invariant.near c.args.port inside in
     ap compress (exact (get_or c.self.inside.totals c.from.result (pos 0)) (get_or c.self.inside.own c.args.port (pos 0)) (total-small _ _ _ _ c.from.result c.self.invariant (omega (arith, room, near))) (c.self.invariant.small c.args.port inside))
     ∙ ap (λ (r : ℕ). compress (get_or c.self.inside.totals r (pos 0) -ℤ get_or c.self.inside.own c.args.port (pos 0))) room
-    ∙ given-kept c.self.inside.ports c.self.inside.totals c.self.inside.rooms c.self.inside.own c.args.port c.self.invariant inside
+    ∙ compress_given_kept c.self.inside.ports c.self.inside.totals c.self.inside.rooms c.self.inside.own c.args.port c.self.invariant inside
     ∙ ap (given_at c.args.port) c.self.view_is

@@ -4,7 +4,7 @@ use Rattle.std.proofs.lemmas.List.Quantifiers.{position-Some}
 use Rattle.circuit_model.specs.Ports.{has, ports_with}
 use Rattle.conference_ports.specs.declared.occupant.Occupant.{Occupant}
 use Rattle.conference_ports.specs.Owners.{Bridges, members, owners_with}
-use Rattle.conference_ports.proofs.Positions.{owned_at, owned_none, members_owned}
+use Rattle.conference_ports.proofs.Positions.{owners_with_owned_at, owners_with_owned_none, members_owned}
 use Rattle.conference_ports.proofs.Indexes.{indexed_taken, no_place}
 use Rattle.conference_ports.proofs.ports.Ports.take.Goals as goal
 
@@ -12,13 +12,13 @@ pub returns-in_default-clause-owners : goal.returns-in_default-clause-owners
 returns-in_default-clause-owners c =
     let owners = ap (λ (b : Bridges). b.owners) c.self.view_is in
     let none : position is_none c.args.self.now.owners ≡ None = search rules in
-    sym (owned_none (record { room = c.args.room; member = c.args.member }) c.args.self.now.owners none)
+    sym (owners_with_owned_none (record { room = c.args.room; member = c.args.member }) c.args.self.now.owners none)
 
 pub returns-in_default-clause-members : goal.returns-in_default-clause-members
 returns-in_default-clause-members c =
     let none : position is_none c.args.self.now.owners ≡ None = search rules in
     let new : Occupant = record { room = c.args.room; member = c.args.member } in
-    ap members (sym (owned_none new c.args.self.now.owners none)) ∙ members_owned new c.args.self.now.owners
+    ap members (sym (owners_with_owned_none new c.args.self.now.owners none)) ∙ members_owned new c.args.self.now.owners
 
 pub overflow_cast-port : goal.overflow_cast-port
 overflow_cast-port c =
@@ -43,10 +43,10 @@ pub returns-clause-owners : goal.returns-clause-owners
 returns-clause-owners c =
     let at : position is_none c.self.inside.owners.items ≡ Some c.in-Some.port = search rules in
     let new : Occupant = record { room = c.args.room; member = c.args.member } in
-    sym (owned_at new c.self.inside.owners.items c.in-Some.port at) ∙ ap (λ (b : Bridges). owners_with new b.owners) c.self.view_is
+    sym (owners_with_owned_at new c.self.inside.owners.items c.in-Some.port at) ∙ ap (λ (b : Bridges). owners_with new b.owners) c.self.view_is
 
 pub returns-clause-members : goal.returns-clause-members
 returns-clause-members c =
     let at : position is_none c.self.inside.owners.items ≡ Some c.in-Some.port = search rules in
     let new : Occupant = record { room = c.args.room; member = c.args.member } in
-    ap members (sym (owned_at new c.self.inside.owners.items c.in-Some.port at)) ∙ members_owned new c.self.inside.owners.items ∙ ap (λ (b : Bridges). ports_with c.args.member (members b.owners)) c.self.view_is
+    ap members (sym (owners_with_owned_at new c.self.inside.owners.items c.in-Some.port at)) ∙ members_owned new c.self.inside.owners.items ∙ ap (λ (b : Bridges). ports_with c.args.member (members b.owners)) c.self.view_is

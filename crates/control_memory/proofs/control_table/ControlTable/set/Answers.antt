@@ -1,11 +1,11 @@
 use Rattle.std.proofs.Common.{Some, rules}
-use Rattle.control_memory.proofs.Entries.{byte_set, number_in-below}
+use Rattle.control_memory.proofs.Entries.{entry_in_byte_set, number_in-below}
 use Rattle.control_memory.proofs.TableRows.{marked_set}
 use Rattle.control_memory.proofs.control_table.ControlTable.set.Goals as goal
 
 pub returns-clause-entries : goal.returns-clause-entries
 returns-clause-entries c row column inside near =
-    let is = byte_set c.self.inside.bytes.items c.self.inside.rows c.self.inside.columns c.args.row c.args.column c.args.number row column (Some c.args.number) (search rules) (search rules) (search rules) (search rules) (number_in-below c.args.number c.self.inside.limit (search rules) (search rules)) in
+    let is = entry_in_byte_set c.self.inside.bytes.items c.self.inside.rows c.self.inside.columns c.args.row c.args.column c.args.number row column (Some c.args.number) (search rules) (search rules) (search rules) (search rules) (number_in-below c.args.number c.self.inside.limit (search rules) (search rules)) in
     rw (← c.self.view_is) (search (rules, is))
 
 pub invariant_of-self : goal.invariant_of-self

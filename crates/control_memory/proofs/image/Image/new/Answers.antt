@@ -1,6 +1,6 @@
 use Rattle.std.proofs.Common.{rules, ◌≡◌, ◌+◌, ◌*◌, length, replicate, None, ap, ◌∙◌}
 use Rattle.std.proofs.lemmas.List.{length-replicate}
-use Rattle.control_memory.proofs.Entries.{none_in}
+use Rattle.control_memory.proofs.Entries.{Agree_none}
 use Rattle.control_memory.specs.declared.heard.Heard.TheVariants.{Silent}
 use Rattle.control_memory.proofs.image.Image.new.Goals as goal
 
@@ -8,9 +8,9 @@ pub returns-clause-paths : goal.returns-clause-paths
 returns-clause-paths c =
     let are = c.in_ok-incoming.ensures in
     record {
-      incoming = none_in _ _ _ _ are.incoming_size are.none.incoming;
-      space = none_in _ _ _ _ are.space_size are.none.space;
-      outgoing = none_in _ _ _ _ are.outgoing_size are.none.outgoing;
+      incoming = Agree_none _ _ _ _ are.incoming_size are.none.incoming;
+      space = Agree_none _ _ _ _ are.space_size are.none.space;
+      outgoing = Agree_none _ _ _ _ are.outgoing_size are.none.outgoing;
     }
 
 pub invariant_of-result : goal.invariant_of-result

@@ -6,7 +6,7 @@ use Rattle.exchange_events.specs.Sound.{Fits}
 use Rattle.call_profile.specs.Step.{reply, next}
 use Rattle.exchange_core.specs.Working.{Entry, Working, IsWorking, IsNumbered, IsToolFor, ShowsWorld, order_of, setting, world_of, world_after}
 use Rattle.call_profile.specs.World.{World}
-use Rattle.exchange_core.proofs.StepLemmas.{next_few, stepped, facts, is_laid, joins_its, of_each, read_of, world_more}
+use Rattle.exchange_core.proofs.StepLemmas.{next_few, IsWorking_stepped, facts, is_laid, joins_its, of_each, IsReadOf_ahead, world_more}
 use Rattle.exchange_core.proofs.step.Core.step_into.Goals as goal
 
 pub happen-response-requires-clause-work : goal.happen-response-requires-clause-work
@@ -26,7 +26,7 @@ pub happen-response-requires-clause-ahead : goal.happen-response-requires-clause
 happen-response-requires-clause-ahead g c =
     let e = c.event-event_done.result.now in
     let f = facts _ c.args.self.now _ _ _ c.args.event e c.self.view_is c.self.invariant c.requires.known c.event-event_done.ensures in
-    read_of _ c.args.self.now c.args.event e c.args.context.now.ahead c.self.view_is f.number c.requires.ahead
+    IsReadOf_ahead _ c.args.self.now c.args.event e c.args.context.now.ahead c.self.view_is f.number c.requires.ahead
 
 pub happen-response-requires-clause-room : goal.happen-response-requires-clause-room
 happen-response-requires-clause-room g c =
@@ -46,7 +46,7 @@ invariant_of-self g c =
     } in
     let done = c.happen-response.ensures in
     subst (λ room. IsWorking grown c.happen-response.new.control.map c.happen-response.new.control.legs room) (sym c.push_reserved.ensures.capacity)
-    (stepped own _ _ _ c.args.by c.args.event e c.happen-response.new.control.map c.happen-response.new.control.legs c.push_reserved.new.self.items
+    (IsWorking_stepped own _ _ _ c.args.by c.args.event e c.happen-response.new.control.map c.happen-response.new.control.legs c.push_reserved.new.self.items
     c.self.invariant f.known f.number c.push_reserved.ensures.items (done.world (setting own) (world_of own) refl refl refl f.at) done.sizes.bound done.sizes.slots refl)
 
 pub returns-clause-reply : goal.returns-clause-reply

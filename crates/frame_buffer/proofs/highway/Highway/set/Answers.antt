@@ -1,6 +1,6 @@
 use Rattle.std.proofs.Common.{ap, ◌<◌, rules}
 use Rattle.frame_buffer.specs.Highways.{Highways}
-use Rattle.frame_buffer.proofs.Rows.{other_place_behind}
+use Rattle.frame_buffer.proofs.Rows.{get_or-drop_other_place_behind}
 use Rattle.frame_buffer.proofs.highway.Highway.set.Goals as goal
 
 pub returns-clause-others : goal.returns-clause-others
@@ -8,5 +8,5 @@ returns-clause-others c l s inside apart =
     let slots_is = ap (λ (h : Highways). h.slots) c.self.view_is in
     let here : s < c.self.inside.slots = search rules in
     let mine : c.args.slot < c.self.inside.slots = search rules in
-    let kept = other_place_behind c.self.inside.octets.items c.self.inside.slots c.args.line c.args.slot l s c.args.octet mine here apart in
+    let kept = get_or-drop_other_place_behind c.self.inside.octets.items c.self.inside.slots c.args.line c.args.slot l s c.args.octet mine here apart in
     rw (← c.self.view_is) (search (rules, kept))

@@ -9,7 +9,7 @@ use Rattle.control_memory.specs.Shown.{Shows}
 use Rattle.tone_rules.specs.Tables.{table_of}
 use Rattle.frame_engine.specs.Frames.{Boundary, Come, IsNext, held_with, inputs_with, ports_with}
 use Rattle.frame_engine.specs.Carries.{Stages, EngineCarries}
-use Rattle.frame_engine.proofs.Frame.{IsAt, Did, plays, carries_on}
+use Rattle.frame_engine.proofs.Frame.{IsAt, Did, played_as-hears, carries_on}
 use Rattle.frame_engine.proofs.engine.EngineCarrier.frame.Given.{Over}
 use Rattle.frame_engine.proofs.engine.EngineCarrier.frame.Goals as goal
 
@@ -85,7 +85,7 @@ returns-clause-plays g c b next at line place =
     let is = at_boundary g c b next in
     let here : at.line < (engine_before g c).external = let external = (sizes g c).external in omega (arith, line, external) in
     c.play.ensures at line place
-    ∙ plays (engine_before g c) (image g c) (octets_read g c) (sizes g c) b.inputs b.held b.ports c.args.input.now b.circuits b.seats is.carries is.shows.0 is.shows.1 is.come (table_of c.args.tones.now) at here place
+    ∙ played_as-hears (engine_before g c) (image g c) (octets_read g c) (sizes g c) b.inputs b.held b.ports c.args.input.now b.circuits b.seats is.carries is.shows.0 is.shows.1 is.come (table_of c.args.tones.now) at here place
     ∙ sym (ap (λ f. hears (table_of c.args.tones.now) (inputs_with b c.args.input.now) (held_with b) f at) (sizes g c).frame)
 
 pub returns-clause-carries : goal.returns-clause-carries

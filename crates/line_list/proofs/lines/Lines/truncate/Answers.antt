@@ -1,9 +1,9 @@
 use Rattle.std.proofs.Common.{arith, ◌≤◌, length}
-use Rattle.line_list.proofs.LineLemmas.{cut_left, cut_marked, kept_all, run_octets, run_records}
+use Rattle.line_list.proofs.LineLemmas.{cut_left, cut_marked, lines_left_kept_all, run_octets, run_records}
 use Rattle.line_list.proofs.lines.Lines.truncate.Goals as goal
 
 pub returns-then-count-left : goal.returns-then-count-left
-returns-then-count-left c = rw (← c.self.view_is) (kept_all _ _ _ _ c.self.invariant _ c.entries_left-left.ensures c.args.count c.if-count-left.true)
+returns-then-count-left c = rw (← c.self.view_is) (lines_left_kept_all _ _ _ _ c.self.invariant _ c.entries_left-left.ensures c.args.count c.if-count-left.true)
 
 pub behind-end-requires-clause-octets : goal.behind-end-requires-clause-octets
 behind-end-requires-clause-octets c =

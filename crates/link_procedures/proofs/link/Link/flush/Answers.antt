@@ -1,13 +1,13 @@
 use Rattle.std.proofs.Common.{◌≡◌, ◌+◌, ◌-◌, ◌∙◌, arith}
 use Rattle.link_procedures.specs.Links.{step}
-use Rattle.link_procedures.proofs.FlushLemmas.{one_sent, all_sent}
+use Rattle.link_procedures.proofs.FlushLemmas.{sends_waiting_one_sent, all_sent}
 use Rattle.link_procedures.proofs.link.Link.flush.Goals as goal
 
 pub loop-preserved : goal.loop-preserved
 loop-preserved c =
     let sent = c.send_next.ensures in
     record {
-      flow = one_sent (7 - c.loop.counter) (7 - (c.loop.counter + 1)) c.args.at (step c.loop.self c.loop.out) c.send_next.new.self c.send_next.new.out (omega (arith, c.loop-test.true)) sent.link sent.out ∙ c.loop.invariant.flow;
+      flow = sends_waiting_one_sent (7 - c.loop.counter) (7 - (c.loop.counter + 1)) c.args.at (step c.loop.self c.loop.out) c.send_next.new.self c.send_next.new.out (omega (arith, c.loop-test.true)) sent.link sent.out ∙ c.loop.invariant.flow;
       few = omega (arith, sent.few, c.loop.invariant.few);
     }
 

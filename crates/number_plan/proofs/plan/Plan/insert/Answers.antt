@@ -1,7 +1,7 @@
 use Rattle.std.proofs.Common.{◌≡◌, true, length, arith, ap, ◌∙◌}
 use Rattle.number_plan.specs.Plan.{in_order, with_number}
 use Rattle.number_plan.specs.Search.{IsPlaceFor}
-use Rattle.number_plan.proofs.OrderFacts.{in_place, order_with, order_apart, length-with_number}
+use Rattle.number_plan.proofs.OrderFacts.{insert_in_place, order_with, order_apart, length-with_number}
 use Rattle.number_plan.proofs.Looks.{free_at_place}
 use Rattle.number_plan.proofs.plan.Plan.insert.Goals as goal
 
@@ -10,7 +10,7 @@ place c = rw c.self.view_is c.requires.place
 
 -- the number is put in its place
 put : (c : goal.In_ok-insert) → c.insert.new.self.items ≡ with_number c.self.inside.numbers.items c.args.number
-put c = c.in_ok-insert.ensures.items ∙ in_place _ c.args.number _ (place c)
+put c = c.in_ok-insert.ensures.items ∙ insert_in_place _ c.args.number _ (place c)
 
 order : (c : goal.In_ok-insert) → in_order c.insert.new.self.items ≡ true
 order c = ap in_order (put c) ∙ order_with _ c.args.number c.self.invariant.0 (free_at_place _ _ _ (place c))

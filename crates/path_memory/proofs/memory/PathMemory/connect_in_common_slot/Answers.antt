@@ -5,7 +5,7 @@ use Rattle.control_memory.specs.Connecting.{common_slot}
 use Rattle.control_memory.specs.Paths.{Fabric}
 use Rattle.paull_matrix.specs.Matrix.{Matrix, lowest_in_both}
 use Rattle.path_memory.specs.Memory.{IsPathMemory}
-use Rattle.path_memory.proofs.Kept.{InCommon, in_common, common_of, can_of, beside_of, kept_with}
+use Rattle.path_memory.proofs.Kept.{InCommon, in_common, lowest_in_both_common_of, can_of, beside_of, IsPathMemory-with_path}
 use Rattle.path_memory.proofs.memory.PathMemory.connect_in_common_slot.Goals as goal
 
 -- what holds where a slot is free in both lines, from what the call asks
@@ -14,7 +14,7 @@ found m f now is from to slot kept a b i o lowest = in_common m f from to slot k
 
 -- the look at the matrix, as one at the layout
 looked : (m : Matrix) (f now : Fabric) → f ≡ now → (from to : Slot) → IsPathMemory m f → lowest_in_both m from.line to.line ≡ common_slot now.slots now.layout from.line to.line
-looked m f now is from to kept = common_of m f from to kept ∙ ap (λ (x : Fabric). common_slot x.slots x.layout from.line to.line) is
+looked m f now is from to kept = lowest_in_both_common_of m f from to kept ∙ ap (λ (x : Fabric). common_slot x.slots x.layout from.line to.line) is
 
 pub returns-in_err-slot-clause-slot : goal.returns-in_err-slot-clause-slot
 returns-in_err-slot-clause-slot c =
@@ -42,7 +42,7 @@ invariant_of-self c =
     let f = c.self.inside.paths in
     let can = can_of f c.args.self.now c.self.view_is c.args.from c.args.to c.requires.from c.requires.to c.requires.inlet c.requires.outlet in
     let common = in_common m f c.args.from c.args.to c.in_ok-slot.slot c.self.invariant can c.in_ok-slot.ensures.lowest in
-    kept_with f.lines f.slots m f.layout c.args.from c.args.to c.in_ok-slot.slot c.place.new.self c.insert.new.self c.self.invariant.lines c.self.invariant.slots (beside_of m f c.self.invariant) can.from_inside can.to_inside common.below common.free
+    IsPathMemory-with_path f.lines f.slots m f.layout c.args.from c.args.to c.in_ok-slot.slot c.place.new.self c.insert.new.self c.self.invariant.lines c.self.invariant.slots (beside_of m f c.self.invariant) can.from_inside can.to_inside common.below common.free
     c.place.ensures.placed c.place.ensures.legal c.insert.ensures.layout c.insert.ensures.lines c.insert.ensures.slots
 
 pub returns-clause-slot : goal.returns-clause-slot

@@ -1,7 +1,7 @@
 use Rattle.std.proofs.Common.{◌≡◌, ◌∙◌, sym, subst, Some}
 use Rattle.control_memory.specs.Layout.{IsSlot, Joins, hop_of}
 use Rattle.control_memory.specs.Paths.{Fabric}
-use Rattle.path_memory.proofs.Kept.{lifts_entry, kept_without}
+use Rattle.path_memory.proofs.Kept.{lifts_entry, IsPathMemory-without_path}
 use Rattle.path_memory.proofs.memory.PathMemory.disconnect.Goals as goal
 
 pub lift-requires : goal.lift-requires
@@ -15,4 +15,4 @@ pub invariant_of-self : goal.invariant_of-self
 invariant_of-self c =
     let inside = subst (λ (x : Fabric). IsSlot x.lines c.args.from) (sym c.self.view_is) c.requires.from in
     let at : hop_of c.self.inside.paths.layout c.args.from ≡ Some c.in-Some.hop = sym c.get.ensures.hop ∙ c.in-Some.is in
-    kept_without c.self.inside.matrix c.self.inside.paths c.args.from c.in-Some.hop c.lift.new.self c.remove.new.self c.self.invariant inside at c.lift.ensures.lifted c.remove.ensures.layout c.remove.ensures.lines c.remove.ensures.slots
+    IsPathMemory-without_path c.self.inside.matrix c.self.inside.paths c.args.from c.in-Some.hop c.lift.new.self c.remove.new.self c.self.invariant inside at c.lift.ensures.lifted c.remove.ensures.layout c.remove.ensures.lines c.remove.ensures.slots

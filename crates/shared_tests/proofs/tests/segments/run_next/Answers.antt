@@ -1,6 +1,6 @@
 use Rattle.std.proofs.Common.{arith}
-use Rattle.segment_run.proofs.LoadLemmas.{turns_for}
-use Rattle.segment_run.proofs.OrderLemmas.{numbers_left, one_more, seen_done}
+use Rattle.segment_run.proofs.LoadLemmas.{length-events_of_segment-le}
+use Rattle.segment_run.proofs.OrderLemmas.{numbers_left, IsDoneBelow_one_more, seen_done}
 use Rattle.shared_tests.proofs.tests.segments.run_next.Goals as goal
 
 pub run_segment-requires-clause-numbers : goal.run_segment-requires-clause-numbers
@@ -10,11 +10,11 @@ pub run_segment-requires-clause-turns : goal.run_segment-requires-clause-turns
 run_segment-requires-clause-turns g c lifetimes outlive =
     let within = c.requires.segment in
     let v = g.B.Switchboard.known c.args.seat.now in
-    turns_for (g.B.Switchboard.board c.args.board.now) c.args.trace.now c.args.segment v c.requires.trace c.requires.sound within c.requires.chief
+    length-events_of_segment-le (g.B.Switchboard.board c.args.board.now) c.args.trace.now c.args.segment v c.requires.trace c.requires.sound within c.requires.chief
     (seen_done c.args.trace.now c.args.segment v c.requires.sound (omega (arith, within)) c.requires.done)
 
 pub returns-clause-done : goal.returns-clause-done
 returns-clause-done g c =
     let v = g.B.Switchboard.known c.args.seat.now in
     let w = g.B.Switchboard.known c.run_segment.new.seat in
-    one_more c.args.trace.now c.args.segment v w c.requires.done c.run_segment.ensures.ran c.in_ok-answer.ensures.whole
+    IsDoneBelow_one_more c.args.trace.now c.args.segment v w c.requires.done c.run_segment.ensures.ran c.in_ok-answer.ensures.whole

@@ -3,14 +3,14 @@ use Rattle.std.specs.Option.{is_some}
 use Rattle.std.proofs.lemmas.Bool.Decides.{nat_tests}
 use Rattle.exchange_events.specs.declared.trace.Event.{Event}
 use Rattle.exchange_events.specs.Orders.{event_at}
-use Rattle.exchange_events.proofs.EventNumbers.{number_is}
+use Rattle.exchange_events.proofs.EventNumbers.{event_at_number}
 use Rattle.shared_tests.proofs.tests.work.event_numbered.Goals as goal
 
 -- what is found one place before a number is the event with that number
 found : (o : Option (Bor Event)) (events : List Event) (n : ℕ) → 1 ≤ n → is_some o ≡ nat_lt (n - 1) (length events)
     → IfSome o (λ x. x.now ≡ slice_index_or events (n - 1) x.now) → IfSome o (λ x. event_at events n ≡ Some x.now)
 found None events n low some is = tt
-found (Some x) events n low some is = number_is events n x.now (low, grind (arith, nat_tests, some, low)) is
+found (Some x) events n low some is = event_at_number events n x.now (low, grind (arith, nat_tests, some, low)) is
 
 pub returns-clause-number : goal.returns-clause-number
 returns-clause-number c =
