@@ -73,7 +73,7 @@ pub unset_above : (marks row : ℕ) → marks < 2 ^ 64 → row < 64 → 64 - cou
 unset_above marks row small inside above =
     let digits = leading_length 64 marks small in
     let same : row % 64 ≡ row = mod-eq_of_lt inside in
-    ap (bit_at marks) same ∙ bit_at_above marks digits.0 row digits.1.1.0 (omega (arith, above, digits.1.0))
+    ap (bit_at marks) same ∙ bit_at_above marks digits.0 row digits.2 (omega (arith, above, digits.1))
 
 -- a number written, and the mark of its row
 marked_by : (rows columns limit : ℕ) (bytes : List ℕ) (marks : ℕ) (row column byte at : ℕ) → AreBytesOf rows columns limit bytes marks → row < rows → column < columns → byte < limit → at ≡ row * columns + column
