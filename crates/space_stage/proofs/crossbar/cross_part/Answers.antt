@@ -56,7 +56,7 @@ pub returns-clause-octets : goal.returns-clause-octets
 returns-clause-octets c =
     let m = c.args.image.now in
     let h = c.args.highway.now in
-    let reached : c.crossing_lines.result ≤ c.loop-line.line = search rules in
+    let reached : c.crossing_lines-line-end.result ≤ c.loop-line.line = search rules in
     rest_is_idle m.slots (gets m h) c.args.first (lines_of m) c.loop-line.line c.loop-line.part
     (subst (IsPart (lines_of m) m.slots c.args.first) (sym c.loop-line.invariant.size) (search rules)) c.loop-line.auto.line c.loop-line.invariant.done
-    (λ line at past inside near. ap (λ (o : Option ℕ). fetched o (λ l. octet_on h l at)) (c.crossing_lines.ensures.empty line at (omega (arith, reached, past)) inside near))
+    (λ line at past inside near. ap (λ (o : Option ℕ). fetched o (λ l. octet_on h l at)) (c.crossing_lines-line-end.ensures.empty line at (omega (arith, reached, past)) inside near))

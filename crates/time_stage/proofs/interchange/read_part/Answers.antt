@@ -46,7 +46,7 @@ loop-line-preserved c =
 pub returns-clause-octets : goal.returns-clause-octets
 returns-clause-octets c =
     let table = c.args.table.now in
-    let reached : c.reading_lines.result ≤ c.loop-line.line = search rules in
+    let reached : c.reading_lines-line-end.result ≤ c.loop-line.line = search rules in
     rest_is_idle 30 (reads table c.args.crossed.now) c.args.first (lines_of table) c.loop-line.line c.loop-line.part
     (subst (IsPart (lines_of table) 30 c.args.first) (sym c.loop-line.invariant.size) c.requires.part) c.loop-line.auto.line c.loop-line.invariant.done
-    (λ line at past inside near. ap (λ (o : Option ℕ). fetched o (octet_on c.args.crossed.now line)) (c.reading_lines.ensures.empty line at (omega (arith, reached, past)) inside near))
+    (λ line at past inside near. ap (λ (o : Option ℕ). fetched o (octet_on c.args.crossed.now line)) (c.reading_lines-line-end.ensures.empty line at (omega (arith, reached, past)) inside near))

@@ -55,7 +55,7 @@ loop-line-preserved c =
 pub returns-clause-octets : goal.returns-clause-octets
 returns-clause-octets c =
     let image = c.args.image.now in
-    let reached : c.sending_lines.result ≤ c.loop-line.line = search rules in
+    let reached : c.sending_lines-line-end.result ≤ c.loop-line.line = search rules in
     rest_is_idle c.args.slots (sends image c.args.buffer.now) c.args.first (lines_of image) c.loop-line.line c.loop-line.part
     (subst (IsPart (lines_of image) c.args.slots c.args.first) (sym c.loop-line.invariant.size) c.requires.part) c.loop-line.auto.line c.loop-line.invariant.done
-    (λ line at past inside near. ap (λ (o : Option ℕ). fetched o (λ place. octet_in_half c.args.buffer.now.readable (record { line = line; place = place }))) (c.sending_lines.ensures.empty line at (omega (arith, reached, past)) inside (search (rules, near))))
+    (λ line at past inside near. ap (λ (o : Option ℕ). fetched o (λ place. octet_in_half c.args.buffer.now.readable (record { line = line; place = place }))) (c.sending_lines-line-end.ensures.empty line at (omega (arith, reached, past)) inside (search (rules, near))))
