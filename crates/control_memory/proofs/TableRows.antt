@@ -1,11 +1,13 @@
 -- One row of a table that is kept row after row.
-use Rattle.std.proofs.Common.{◌≡◌, ◌≢◌, ℕ, ◌+◌, ◌*◌, ◌/◌, ◌%◌, ◌^◌, ◌<◌, ◌≤◌, eqb, List, length, length-set, get_or, set, get_or-set_other, map, take, drop, length-take-le, get_or-take, get_or-drop, Option, Some, None, IfSome, subst, sym, ap, ◌∙◌, ◌⊎◌, inl, inr, arith}
+use Rattle.std.proofs.Common.{◌≡◌, ◌≢◌, ℕ, ◌+◌, ◌*◌, ◌-◌, ◌/◌, ◌%◌, ◌^◌, ◌<◌, ◌≤◌, eqb, List, length, length-set, get_or, set, get_or-set_other, map, take, drop, length-take-le, get_or-take, get_or-drop, Option, Some, None, IfSome, subst, sym, ap, ◌∙◌, ◌⊎◌, inl, inr, arith}
 use Rattle.std.specs.Prelude.{bit_or, bit_and}
 use Rattle.std.specs.Int.{bit_at}
-use Rattle.std.proofs.lemmas.Nat.Bits.{bit_at-lt, bit_at_or, bit_at-pow_same, bit_at-pow_other, shr_and_one}
+use Rattle.std.proofs.lemmas.Nat.Bits.{bit_at-lt, bit_at_above, bit_at_or, bit_at-pow_same, bit_at-pow_other, shr_and_one}
 use Rattle.std.proofs.lemmas.Bool.{cases_eq, eq-eqb, ne_eqb, cond-true, cond-false}
 use Rattle.std.proofs.lemmas.List.{length-drop, get_or-map}
-use Rattle.std.proofs.lemmas.Nat.{mul-add-lt, same_from_place, one_shl, mod_below}
+use Rattle.std.proofs.lemmas.Nat.{mul-add-lt, same_from_place, one_shl, mod_below, leading_length}
+use Rattle.std.proofs.Math.Nat.{mod-eq_of_lt}
+use Rattle.std.specs.Int.Count.{count_leading_zeros}
 use Rattle.std.proofs.lemmas.Grind.{get_or-set_at}
 use Rattle.control_memory.specs.Tables.{number_in, entry_in, IsRow, AreBytesOf}
 
@@ -59,6 +61,19 @@ bare_entry rows columns limit bytes marks row column is inside near unmarked =
     let here : row * columns + column < length bytes = grind (arith, mul-add-lt row columns column rows inside near, size) in
     get_or-map number_in bytes (row * columns + column) 0 None here
     ∙ ap number_in (is.bare row column inside near (sym (shr_and_one marks (row % 64)) ∙ unmarked))
+
+-- the same of a row whose bit is not set
+pub unmarked_entry : (rows columns limit : ℕ) (bytes : List ℕ) (marks row column : ℕ) → AreBytesOf rows columns limit bytes marks → row < rows → column < columns → bit_at marks (row % 64) ≡ 0
+    → entry_in columns (map number_in bytes) row column ≡ None
+unmarked_entry rows columns limit bytes marks row column is inside near unmarked =
+    bare_entry rows columns limit bytes marks row column is inside near (shr_and_one marks (row % 64) ∙ unmarked)
+
+-- from the number of digits of a word on no bit is set
+pub unset_above : (marks row : ℕ) → marks < 2 ^ 64 → row < 64 → 64 - count_leading_zeros 64 marks ≤ row → bit_at marks (row % 64) ≡ 0
+unset_above marks row small inside above =
+    let digits = leading_length 64 marks small in
+    let same : row % 64 ≡ row = mod-eq_of_lt inside in
+    ap (bit_at marks) same ∙ bit_at_above marks digits.0 row digits.2 (omega (arith, above, digits.1))
 
 -- a number written, and the mark of its row
 marked_by : (rows columns limit : ℕ) (bytes : List ℕ) (marks : ℕ) (row column byte at : ℕ) → AreBytesOf rows columns limit bytes marks → row < rows → column < columns → byte < limit → at ≡ row * columns + column

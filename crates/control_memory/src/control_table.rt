@@ -1,5 +1,6 @@
 //! A control table: a number, or none, for each place of each row.
-ghost use Rattle.std.specs.Prelude.{◌≡◌, ℕ, ◌<◌, true, Some, None, IfOk, IfSome};
+ghost use Rattle.std.specs.Prelude.{◌≡◌, ℕ, ◌%◌, ◌<◌, ◌≤◌, true, Some, None, IfOk, IfSome};
+ghost use Rattle.std.specs.Int.{bit_at};
 ghost use Rattle.control_memory.specs.Tables.{entry, AreBare, HasSize, SameSize, Agree, IsRow, written, nothing};
 
 use circuit_model::CHANNELS_PER_LINE;
@@ -50,6 +51,19 @@ pub(crate) fn bare_tables(
     Ok((incoming, space, outgoing))
 }
 
+// Returns how many of n rows, from row 0 on, may have a mark. No row after them has one.
+pub(crate) fn marked_rows(rows: u8, marks: u64) -> u8
+    ensures within { result ≤ rows }
+    ensures unmarked { (row : ℕ) → result ≤ row → row < rows → bit_at marks (row % 64) ≡ 0 }
+{
+    let marked = 64 - marks.leading_zeros();
+    if rows <= 64 && marked < u32::from(rows) {
+        marked as u8
+    } else {
+        rows
+    }
+}
+
 impl ControlTable {
     /// Returns a table of n rows and m columns for numbers below `limit`, without any number.
     pub fn new(alloc: Global, rows: u8, columns: u8, limit: u8) -> Result<ControlTable, AllocError>
@@ -96,6 +110,14 @@ impl ControlTable {
         ensures { result ≡ true → (column : ℕ) → column < self.now.columns → entry self.now row column ≡ None }
     {
         (self.marks >> (row % 64)) & 1 == 0
+    }
+
+    /// Returns how many rows, from row 0 on, may have a number. No row after them has one.
+    pub fn used_rows(&self) -> u8
+        ensures within { result ≤ self.now.rows }
+        ensures empty { (row column : ℕ) → result ≤ row → row < self.now.rows → column < self.now.columns → entry self.now row column ≡ None }
+    {
+        marked_rows(self.rows, self.marks)
     }
 
     /// Writes a number into a column of a row.

@@ -196,6 +196,30 @@ impl Image {
         self.outgoing.is_known_empty(line)
     }
 
+    /// Returns how many lines, from line 0 on, may send a place. No line after them sends one.
+    pub fn sending_lines(&self) -> u8
+        ensures within { result ≤ lines_of self.now }
+        ensures empty { (line slot : ℕ) → result ≤ line → line < lines_of self.now → slot < self.now.slots → sent self.now line slot ≡ None }
+    {
+        self.incoming.used_rows()
+    }
+
+    /// Returns how many lines, from line 0 on, may get an octet. No line after them gets one.
+    pub fn crossing_lines(&self) -> u8
+        ensures within { result ≤ lines_of self.now }
+        ensures empty { (line slot : ℕ) → result ≤ line → line < lines_of self.now → slot < self.now.slots → received self.now line slot ≡ None }
+    {
+        self.space.used_rows()
+    }
+
+    /// Returns how many lines, from line 0 on, may have a place that reads a slot. No line after them has one.
+    pub fn reading_lines(&self) -> u8
+        ensures within { result ≤ lines_of self.now }
+        ensures empty { (line place : ℕ) → result ≤ line → line < lines_of self.now → place < 30 → read self.now line place ≡ None }
+    {
+        self.outgoing.used_rows()
+    }
+
     /// Returns the source of a slot's octets.
     pub fn heard(&self, at: Slot) -> Heard
         requires line { at.line < lines_of self.now }

@@ -36,7 +36,7 @@ pub fn cross_part(highway: &Highway, image: &Image, slots: u8, first: u8, part: 
     find_starts(highway, &mut starts);
     let slots = usize::from(slots);
     fill_idle(part);
-    for line in first..highway.lines() {
+    for line in first..image.crossing_lines() {
         if image.is_space_known_empty(line) {
             continue;
         }

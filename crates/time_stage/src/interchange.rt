@@ -36,7 +36,7 @@ pub(crate) fn send_part(buffer: &FrameBuffer, image: &Image, slots: u8, first: u
     let mut store = Store::new();
     let slots = usize::from(slots);
     fill_idle(part);
-    for line in first..buffer.lines() {
+    for line in first..image.sending_lines() {
         if image.is_incoming_known_empty(line) {
             continue;
         }
@@ -92,7 +92,7 @@ pub(crate) fn read_part(crossed: &Crossed, table: &Image, first: u8, part: &mut 
     let mut store = Store::new();
     let places = usize::from(CHANNELS_PER_LINE);
     fill_idle(part);
-    for line in first..crossed.lines() {
+    for line in first..table.reading_lines() {
         if table.is_outgoing_known_empty(line) {
             continue;
         }

@@ -1,8 +1,10 @@
 use Rattle.std.proofs.Common.{◌≡◌, ℕ, ◌+◌, ◌-◌, ◌*◌, ◌≤◌, length, Option, ◌∙◌, ap, sym, subst, arith, rules}
-use Rattle.frame_buffer.specs.Highways.{octet_on}
+use Rattle.control_memory.specs.Image.{lines_of}
+use Rattle.frame_buffer.specs.Highways.{octet_on, IsPart}
 use Rattle.control_memory.specs.Carrying.{fetched}
 use Rattle.space_stage.specs.Crossing.{gets}
 use Rattle.frame_buffer.proofs.Parts.{IsWrittenTo, row_fits, written_past, written_idle, written_row}
+use Rattle.space_stage.proofs.RowsAfter.{rest_is_idle}
 use Rattle.space_stage.proofs.crossbar.cross_part.Goals as goal
 use Rattle.space_stage.proofs.crossbar.cross_part.Goals.{then-start-part, else-start-part}
 
@@ -49,3 +51,12 @@ loop-line-preserved c =
             (written_past slots octet first line part from done (omega (arith, start, w.if-start-part.false)))
       ];
     }
+
+pub returns-clause-octets : goal.returns-clause-octets
+returns-clause-octets c =
+    let m = c.args.image.now in
+    let h = c.args.highway.now in
+    let reached : c.crossing_lines-line-end.result ≤ c.loop-line.line = search rules in
+    rest_is_idle m.slots (gets m h) c.args.first (lines_of m) c.loop-line.line c.loop-line.part
+    (subst (IsPart (lines_of m) m.slots c.args.first) (sym c.loop-line.invariant.size) (search rules)) c.loop-line.auto.line c.loop-line.invariant.done
+    (λ line at past inside near. ap (λ (o : Option ℕ). fetched o (λ l. octet_on h l at)) (c.crossing_lines-line-end.ensures.empty line at (omega (arith, reached, past)) inside near))

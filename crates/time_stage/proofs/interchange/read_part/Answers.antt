@@ -1,8 +1,10 @@
 use Rattle.std.proofs.Common.{◌≡◌, ℕ, ◌+◌, ◌-◌, ◌*◌, ◌≤◌, length, Option, ◌∙◌, ap, sym, subst, arith, rules}
 use Rattle.control_memory.specs.Carrying.{fetched}
-use Rattle.frame_buffer.specs.Highways.{octet_on}
+use Rattle.control_memory.specs.Image.{lines_of}
+use Rattle.frame_buffer.specs.Highways.{octet_on, IsPart}
 use Rattle.time_stage.specs.Interchange.{reads}
 use Rattle.frame_buffer.proofs.Parts.{IsWrittenTo, row_fits, written_past, written_idle, written_row}
+use Rattle.space_stage.proofs.RowsAfter.{rest_is_idle}
 use Rattle.time_stage.proofs.interchange.read_part.Goals as goal
 use Rattle.time_stage.proofs.interchange.read_part.Goals.{then-start-part, else-start-part}
 
@@ -40,3 +42,11 @@ loop-line-preserved c =
             (written_past 30 octet first line part from done (omega (arith, start, w.if-start-part.false)))
       ];
     }
+
+pub returns-clause-octets : goal.returns-clause-octets
+returns-clause-octets c =
+    let table = c.args.table.now in
+    let reached : c.reading_lines-line-end.result ≤ c.loop-line.line = search rules in
+    rest_is_idle 30 (reads table c.args.crossed.now) c.args.first (lines_of table) c.loop-line.line c.loop-line.part
+    (subst (IsPart (lines_of table) 30 c.args.first) (sym c.loop-line.invariant.size) c.requires.part) c.loop-line.auto.line c.loop-line.invariant.done
+    (λ line at past inside near. ap (λ (o : Option ℕ). fetched o (octet_on c.args.crossed.now line)) (c.reading_lines-line-end.ensures.empty line at (omega (arith, reached, past)) inside near))

@@ -4,7 +4,8 @@ use Rattle.control_memory.specs.Carrying.{fetched}
 use Rattle.time_stage.specs.Interchange.{sends}
 use Rattle.frame_buffer.specs.Highways.{IsPart}
 use Rattle.control_memory.specs.Image.{lines_of}
-use Rattle.frame_buffer.proofs.Parts.{IsWrittenTo, all_hold, row_fits, written_past, written_idle, written_row}
+use Rattle.frame_buffer.proofs.Parts.{IsWrittenTo, row_fits, written_past, written_idle, written_row}
+use Rattle.space_stage.proofs.RowsAfter.{rest_is_idle}
 use Rattle.time_stage.proofs.interchange.send_part.Goals as goal
 use Rattle.time_stage.proofs.interchange.send_part.Goals.{then-start-part, else-start-part}
 
@@ -54,6 +55,7 @@ loop-line-preserved c =
 pub returns-clause-octets : goal.returns-clause-octets
 returns-clause-octets c =
     let image = c.args.image.now in
-    let reached : lines_of image ≤ c.loop-line.line = search rules in
-    all_hold c.args.slots (sends image c.args.buffer.now) c.args.first (lines_of image) c.loop-line.line c.loop-line.part
-    (subst (IsPart (lines_of image) c.args.slots c.args.first) (sym c.loop-line.invariant.size) c.requires.part) reached c.loop-line.invariant.done.written
+    let reached : c.sending_lines-line-end.result ≤ c.loop-line.line = search rules in
+    rest_is_idle c.args.slots (sends image c.args.buffer.now) c.args.first (lines_of image) c.loop-line.line c.loop-line.part
+    (subst (IsPart (lines_of image) c.args.slots c.args.first) (sym c.loop-line.invariant.size) c.requires.part) c.loop-line.auto.line c.loop-line.invariant.done
+    (λ line at past inside near. ap (λ (o : Option ℕ). fetched o (λ place. octet_in_half c.args.buffer.now.readable (record { line = line; place = place }))) (c.sending_lines-line-end.ensures.empty line at (omega (arith, reached, past)) inside (search (rules, near))))
