@@ -4,3 +4,4 @@ mod hostile;
 mod schedules;
 mod sequences;
 mod table;
+mod tables;
