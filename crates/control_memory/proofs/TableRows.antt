@@ -62,7 +62,7 @@ bare_entry rows columns limit bytes marks row column is inside near unmarked =
     get_or-map number_in bytes (row * columns + column) 0 None here
     ∙ ap number_in (is.bare row column inside near (sym (shr_and_one marks (row % 64)) ∙ unmarked))
 
--- the same of a row whose bit is not set
+-- a row whose bit is not set has no entry
 pub unmarked_entry : (rows columns limit : ℕ) (bytes : List ℕ) (marks row column : ℕ) → AreBytesOf rows columns limit bytes marks → row < rows → column < columns → bit_at marks (row % 64) ≡ 0
     → entry_in columns (map number_in bytes) row column ≡ None
 unmarked_entry rows columns limit bytes marks row column is inside near unmarked =

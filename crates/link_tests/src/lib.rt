@@ -1,5 +1,5 @@
 //! The tests of the data link: the table of states and frames, worked sequences, random loss over two links, frames of
-//! untrusted senders, and the links of several lines.
+//! untrusted senders, and several lines.
 //!
 //! They are separate from the crates that they test, so that each of those is proved once. The crate guarantees
 //! nothing.
