@@ -1,5 +1,5 @@
 -- What a change of a data link makes, slot by slot, by what the map and the legs hold.
-use Rattle.std.proofs.Common.{◌≡◌, ℕ, suc, ◌+◌, ◌<◌, ◌≤◌, Bool, List, [], ◌++◌, Option, None, refl, sym, ◌∙◌, ap, subst, arith}
+use Rattle.std.proofs.Common.{◌≡◌, ℕ, suc, ◌+◌, ◌<◌, ◌≤◌, Bool, List, [], ◌++◌, Option, None, sym, ◌∙◌, ap, subst, arith}
 use Rattle.circuit_model.specs.declared.channel.Slot.{Slot}
 use Rattle.circuit_map.specs.Connections.{Connections}
 use Rattle.exchange_events.specs.declared.record.CallRecord.{CallRecord}

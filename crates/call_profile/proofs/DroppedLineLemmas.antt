@@ -16,16 +16,16 @@ use Rattle.call_states.specs.declared.leg.Side.TheVariants.{Caller, Called}
 use Rattle.tone_rules.specs.declared.tones.Tones.{Tones}
 use Rattle.exchange_events.specs.Sizes.{Dimensions, Setting}
 use Rattle.call_profile.specs.Acts.{in_disconnect_indication}
-use Rattle.call_profile.specs.Dropped.{CanFail, waiting_for_link, left_by_failure, OthersAreGone, ActiveWait, OtherLinesAreLeft}
+use Rattle.call_profile.specs.Dropped.{HasLine, waiting_for_link, left_by_failure, OthersAreGone, ActiveWait, OtherLinesAreLeft}
 use Rattle.call_profile.specs.LegStanding.{HasPeer, IsInCall, are_matched}
 use Rattle.call_profile.specs.Legs.{leg_at, retransmitted_from, waiting_from}
 use Rattle.call_profile.specs.LinkChanges.{whole_line, drop_leg, drop_slot, rule_of, with_line, outcome_of_link}
 use Rattle.call_profile.specs.Operations.{Operation, Making, Await, begun, making_after_all}
-use Rattle.call_profile.specs.Restarts.{MessageOutcome, outcome_at_slot, outcome_below, restarts_slot}
+use Rattle.call_profile.specs.Restarts.{MessageOutcome, outcome_below, restarts_slot}
 use Rattle.call_profile.specs.World.{World}
 use Rattle.call_profile.proofs.BesideLemmas.{entry_here, entry_else, same_or_apart}
 use Rattle.call_profile.proofs.ClearingLemmas.{Kept}
-use Rattle.call_profile.proofs.LinkLemmas.{at_held, drop_slot_kept, linked_kept}
+use Rattle.call_profile.proofs.LinkLemmas.{drop_slot_kept, linked_kept}
 use Rattle.call_profile.proofs.RestartedLegLemmas.{peer_after, leg_done}
 use Rattle.call_profile.proofs.RestartedLineLemmas.{was_restarted, same_where_apart, lt_true, lt_false, none_before, named_or_not}
 use Rattle.call_profile.proofs.RestartedSlotLemmas.{below_none, below_more}
@@ -339,7 +339,7 @@ module _ (s : Setting) (line : ℕ) (w : World) (below : line < s.dimensions.ext
 
 -- ---- what is left
 
-module _ (s : Setting) (w : World) (line : ℕ) (can : CanFail s w line) where
+module _ (s : Setting) (w : World) (line : ℕ) (can : HasLine s w line) where
   all : AreDropped s line w 30 (outcome_of_link s.dimensions s.tones true line w).making.world
   all = dropped_below s line w can.line_exists (can.stands.circuits, can.stands.legs) 30 (omega arith)
 

@@ -16,7 +16,7 @@ use Rattle.call_states.specs.declared.leg.Side.TheVariants.{Caller, Called}
 use Rattle.tone_rules.specs.declared.tones.Tones.{Tones}
 use Rattle.call_profile.specs.Acts.{in_release_request, tone_of}
 use Rattle.call_profile.specs.LegStanding.{LegStands, LegsStand, HasPeer, MayHear, IsInCall}
-use Rattle.call_profile.specs.Legs.{waiting_from, retransmitted_from, leg_at, with_entry}
+use Rattle.call_profile.specs.Legs.{waiting_from, leg_at, with_entry}
 use Rattle.call_profile.specs.World.{World}
 use Rattle.call_profile.proofs.BesideLemmas.{look, entry_here, entry_else, same_or_apart, named_back, Beside, each_stands, SameReferences, still_one}
 use Rattle.call_profile.proofs.HearingLemmas.{IsStrange}

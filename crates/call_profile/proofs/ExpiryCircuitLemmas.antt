@@ -18,7 +18,7 @@ use Rattle.circuit_model.proofs.Validity.{heard_by-listener}
 use Rattle.control_memory.specs.Layout.{Layout}
 use Rattle.control_memory.specs.Shown.{partner, without_both}
 use Rattle.q931_codec.specs.CallStates.{active}
-use Rattle.q931_codec.specs.Causes.{invalid_number_format, no_answer_from_user, no_user_responding, recovery_on_timer_expiry, destination_out_of_order}
+use Rattle.q931_codec.specs.Causes.{invalid_number_format, no_answer_from_user, no_user_responding, recovery_on_timer_expiry}
 use Rattle.call_timers.specs.declared.expiry.Expiry.{Expiry}
 use Rattle.call_timers.specs.declared.expiry.Expiry.TheVariants as expiry
 use Rattle.call_states.specs.Acts.{is_among}
@@ -42,7 +42,7 @@ use Rattle.call_profile.specs.World.{World, pass}
 use Rattle.call_profile.proofs.AnsweringLemmas.{ringing}
 use Rattle.call_profile.proofs.ClearingLemmas.{Kept, held_there}
 use Rattle.call_profile.proofs.CommandLemmas.{pass_kept}
-use Rattle.call_profile.proofs.ExpiringLemmas.{at_slot, each_line, place_within, slot_fine, slot_may, lines_none, lines_more, lines_kept}
+use Rattle.call_profile.proofs.ExpiringLemmas.{at_slot, place_within, slot_may, lines_none, lines_more, lines_kept}
 use Rattle.call_profile.proofs.ExpiryStateLemmas.{due_state}
 use Rattle.call_profile.proofs.FullPortLemmas.{made_matched}
 use Rattle.call_profile.proofs.HistoryLemmas.{made_pass, made_performed_all}

@@ -6,7 +6,6 @@ use Rattle.circuit_model.specs.FrameInput.{Input}
 use Rattle.circuit_model.specs.Holding.{Connect, Seat as Take_seat, Clear as Clear_slot}
 use Rattle.circuit_model.specs.Ports.{port_of, ports_with}
 use Rattle.control_memory.specs.Layout.{Layout}
-use Rattle.q931_codec.specs.Causes.{temporary_failure}
 use Rattle.call_states.specs.Acts.{act_on}
 use Rattle.clearing_rules.specs.declared.scope.Restart.{Restart}
 use Rattle.clearing_rules.specs.Restarting.{acknowledgement}
@@ -24,7 +23,7 @@ use Rattle.call_profile.specs.Fabrics.{with_slots, without_paths, without_moves,
 use Rattle.call_profile.specs.IdleSlots.{idle, is_nailed}
 use Rattle.call_profile.specs.Legs.{Legs}
 use Rattle.call_profile.specs.Operations.{Operation, Clear, Pair, Seat, Sound, Put, Wait, Expect, Repeat, Remove, Send, Making, making_at, making_after, making_after_all, moves_for, moves_of_seat, Await}
-use Rattle.call_profile.specs.Restarts.{MessageOutcome, outcome_then, outcome_at_slot, restart_slot, outcome_below, outcome_of_restart, restart_rule, SlotRule}
+use Rattle.call_profile.specs.Restarts.{MessageOutcome, outcome_then, outcome_at_slot, outcome_below, outcome_of_restart, restart_rule, SlotRule}
 use Rattle.call_profile.specs.Setup.{course_of_setup}
 use Rattle.call_profile.specs.Step.{reply, next, may_nail, may_seat, run, world_after_all, link_reply}
 use Rattle.call_profile.specs.World.{World, is_full, nail_reply, seat_reply, obey, pass, start}

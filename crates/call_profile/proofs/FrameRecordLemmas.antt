@@ -12,7 +12,7 @@ use Rattle.circuit_model.proofs.Slots.{true_or_false}
 use Rattle.control_memory.specs.Layout.{number_of}
 use Rattle.number_plan.specs.declared.plan.Number.{Number}
 use Rattle.q931_codec.specs.CallStates.{active}
-use Rattle.q931_codec.specs.Causes.{invalid_number_format, no_answer_from_user, no_user_responding, recovery_on_timer_expiry, destination_out_of_order}
+use Rattle.q931_codec.specs.Causes.{invalid_number_format, no_answer_from_user, no_user_responding, recovery_on_timer_expiry}
 use Rattle.call_timers.specs.declared.expiry.Expiry.{Expiry}
 use Rattle.call_timers.specs.declared.expiry.Expiry.TheVariants as expiry
 use Rattle.call_states.specs.Acts.{is_among}

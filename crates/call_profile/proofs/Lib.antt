@@ -62,6 +62,7 @@ pub mod ProgressLemmas
 pub mod RestartedLegLemmas
 pub mod RestartedLineLemmas
 pub mod DroppedLineLemmas
+pub mod ResumedLineLemmas
 pub mod RecordedCallLemmas
 pub mod RecordedMessageLemmas
 pub mod FrameRecordLemmas

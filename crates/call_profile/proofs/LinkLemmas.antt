@@ -1,5 +1,5 @@
 -- What a change of a data link does, slot by slot, keeps the legs consistent, is permitted, and is recorded.
-use Rattle.std.proofs.Common.{◌≡◌, ◌≢◌, ℕ, ◌<◌, ◌*◌, inl, inr, Bool, true, false, List, [], ◌∷◌, Option, Some, None, refl, sym, ◌∙◌, ap, arith, eqb-true, if◌then◌else◌}
+use Rattle.std.proofs.Common.{◌≡◌, ◌≢◌, ℕ, inl, inr, Bool, true, false, List, [], ◌∷◌, Option, Some, None, refl, sym, ◌∙◌, arith, eqb-true, if◌then◌else◌}
 use Rattle.std.specs.Prelude.{◌==◌, option_map, option_and_then}
 use Rattle.std.specs.List.{cons_option}
 use Rattle.circuit_model.specs.declared.channel.Slot.{Slot}
@@ -22,11 +22,10 @@ use Rattle.call_profile.specs.CallRecords.{records}
 use Rattle.call_profile.specs.EndedCalls.{dropped_record, dropped_records}
 use Rattle.call_profile.specs.KeptMessages.{awaiting_answer}
 use Rattle.call_profile.specs.Legs.{Legs, leg_at, retransmitted_from, waiting_from}
-use Rattle.call_profile.specs.LegStanding.{HasPeer, LegStands, LegsStand, alone}
-use Rattle.call_profile.specs.LinkChanges.{whole_line, start_waiting, drop_leg, drop_slot, drop_rule, report_state, resume_leg, resume_slot, resume_rule, rule_of, with_line}
-use Rattle.call_profile.specs.Operations.{Operation, Making, Await, Put, begun, making_after_all}
+use Rattle.call_profile.specs.LegStanding.{HasPeer, LegStands}
+use Rattle.call_profile.specs.LinkChanges.{whole_line, drop_leg, drop_slot, report_state, resume_leg, resume_slot, rule_of, with_line}
+use Rattle.call_profile.specs.Operations.{Operation, Making, Await, begun, making_after_all}
 use Rattle.call_profile.specs.Peers.{IsThere}
-use Rattle.call_profile.specs.Restarts.{SlotRule, restart_leg}
 use Rattle.call_profile.specs.World.{World}
 use Rattle.call_profile.proofs.ClearingLemmas.{Kept}
 use Rattle.call_profile.proofs.DigitsLemmas.{cleared_kept}

@@ -71,7 +71,7 @@ use Rattle.call_profile.proofs.RestartedSlotLemmas.{each_below}
 use Rattle.call_profile.proofs.RestartLemmas as restarting
 use Rattle.call_profile.proofs.RestartLemmas.{slot_kept}
 use Rattle.call_profile.specs.LinkChanges.{outcome_of_link, rule_of, with_line, whole_line, drop_leg, report_state, resume_leg}
-use Rattle.call_profile.proofs.LinkLemmas.{linked_kept, rule_kept, rule_may, started_may, reported_may, at_held}
+use Rattle.call_profile.proofs.LinkLemmas.{linked_kept, rule_kept, started_may, reported_may, at_held}
 
 -- ---- a call is made, by a SETUP or for more digits
 

@@ -1,6 +1,6 @@
 -- The exchange state after the failure of a data link. Source: ITU-T Q.931 (05/98), 5.8.9; the clearing of the rest of a
 -- call is this project's profile.
-use Rattle.std.specs.Prelude.{◌≡◌, ◌≢◌, ◌<◌, ℕ, ◌==◌, Bool, true, None, Some, ◌&&◌, not, Option, option_map, if◌then◌else◌}
+use Rattle.std.specs.Prelude.{◌≡◌, ◌≢◌, ◌<◌, ℕ, ◌==◌, None, Some, ◌&&◌, not, if◌then◌else◌}
 use Rattle.circuit_model.specs.declared.channel.Slot.{Slot}
 use Rattle.circuit_model.specs.Extent.{IsExternal}
 use Rattle.q931_codec.specs.CallStates.{active}
@@ -16,7 +16,7 @@ use Rattle.call_profile.specs.Operations.{begun}
 use Rattle.call_profile.specs.World.{World}
 
 -- the line exists, in an exchange in which circuits and legs are consistent
-pub record CanFail (s : Setting) (w : World) (line : ℕ) : Type 0 where
+pub record HasLine (s : Setting) (w : World) (line : ℕ) : Type 0 where
   pub stands : CallsStand s w
   pub line_exists : line < s.dimensions.external
 

@@ -30,6 +30,7 @@ pub mod Progress
 pub mod References
 pub mod Restarted
 pub mod Dropped
+pub mod Resumed
 pub mod Recorded
 pub mod WorkedMessages
 pub mod WorkedOverlap

@@ -9,7 +9,6 @@ use Rattle.clearing_rules.specs.declared.scope.Restart.{Restart}
 use Rattle.clearing_rules.specs.declared.scope.Restart.TheVariants.{Interface}
 use Rattle.tone_rules.specs.declared.tones.Tones.{Tones}
 use Rattle.call_states.specs.declared.leg.HeldLeg.{HeldLeg}
-use Rattle.call_states.specs.declared.leg.Leg.{Leg}
 use Rattle.call_states.specs.Status.{status}
 use Rattle.call_profile.specs.Acts.{send_to, clear_with}
 use Rattle.call_profile.specs.Legs.{Legs, held_at, with_link}

@@ -1,6 +1,5 @@
 -- Worked calls on lines whose data links go down and come up, on which the definitions are evaluated. Source: this project.
-use Rattle.std.specs.Prelude.{ℕ, true, false, List, [], ◌∷◌, ◌++◌}
-use Rattle.exchange_events.specs.declared.record.CallRecord.{CallRecord}
+use Rattle.std.specs.Prelude.{true, false, List, [], ◌∷◌, ◌++◌}
 use Rattle.exchange_events.specs.declared.record.Party.TheVariants as party
 use Rattle.exchange_events.specs.declared.reply.Reply.{Reply}
 use Rattle.exchange_events.specs.declared.trace.Event.{Event}
@@ -8,7 +7,7 @@ use Rattle.exchange_events.specs.declared.trace.Event.TheVariants.{Message, Link
 use Rattle.call_profile.specs.Step.{reply, next}
 use Rattle.call_profile.specs.World.{World}
 use Rattle.call_profile.specs.WorkedCalls.{at, to, own_call_offered, records_reply, sends_reply}
-use Rattle.call_profile.specs.WorkedExpiries.{alerted, begun_on_both, cleared_with, ended_in, hasty_lines, in_frame, offered, world_in}
+use Rattle.call_profile.specs.WorkedExpiries.{alerted, begun_on_both, cleared_with, ended_in, hasty_lines, offered, world_in}
 
 -- the link of line 1 goes down while its user is alerted: its leg is removed, and the caller is sent cause 27
 abbrev pub down_while_alerted : Reply

@@ -14,8 +14,9 @@ ghost use Rattle.exchange_events.specs.declared.record.CallRecord.{CallRecord};
 ghost use Rattle.exchange_events.specs.Sizes.{Setting};
 ghost use Rattle.call_profile.specs.ActCourse.{course_of};
 ghost use Rattle.call_profile.specs.Calls.{after_message, answer_back, answer_to};
-ghost use Rattle.exchange_events.specs.declared.trace.Event.TheVariants.{LinkDown};
-ghost use Rattle.call_profile.specs.Dropped.{CanFail, OthersAreGone, ActiveWait, OtherLinesAreLeft};
+ghost use Rattle.exchange_events.specs.declared.trace.Event.TheVariants.{LinkDown, LinkUp};
+ghost use Rattle.call_profile.specs.Dropped.{HasLine, OthersAreGone, ActiveWait, OtherLinesAreLeft};
+ghost use Rattle.call_profile.specs.Resumed.{LegsAreResumed};
 ghost use Rattle.call_profile.specs.Step.{next};
 ghost use Rattle.call_profile.specs.Expiring.{on_expiry, outcome_of_frame};
 ghost use Rattle.call_profile.specs.ExpiryBounds.{NoneIsLost};
@@ -92,7 +93,13 @@ pub fn law_of_frame_records()
 /// other leg of the line is removed. At the other lines, a leg whose peer was removed is in disconnect indication with
 /// cause 27, and each other leg is unchanged.
 pub fn law_of_link_failures()
-    ensures gone { (s : Setting) (w : World) (line : ℕ) → CanFail s w line → OthersAreGone s.dimensions.external line w (next s w (LinkDown line)) }
-    ensures waits { (s : Setting) (w : World) (line : ℕ) → CanFail s w line → ActiveWait s.dimensions.external line w (next s w (LinkDown line)) }
-    ensures others { (s : Setting) (w : World) (line : ℕ) → CanFail s w line → OtherLinesAreLeft s.dimensions.external line w (next s w (LinkDown line)) }
+    ensures gone { (s : Setting) (w : World) (line : ℕ) → HasLine s w line → OthersAreGone s.dimensions.external line w (next s w (LinkDown line)) }
+    ensures waits { (s : Setting) (w : World) (line : ℕ) → HasLine s w line → ActiveWait s.dimensions.external line w (next s w (LinkDown line)) }
+    ensures others { (s : Setting) (w : World) (line : ℕ) → HasLine s w line → OtherLinesAreLeft s.dimensions.external line w (next s w (LinkDown line)) }
+{}
+
+/// After the establishment of a data link, no leg of the line in state 10 waits for the link, each in state 2 is in
+/// disconnect indication with cause 41, and every other leg is unchanged.
+pub fn law_of_link_establishments()
+    ensures legs { (s : Setting) (w : World) (line : ℕ) → HasLine s w line → LegsAreResumed s.dimensions.external line w (next s w (LinkUp line)) }
 {}

@@ -19,8 +19,8 @@
 //!   ([`law_of_answered_calls`], [`law_of_granted_nails`]).
 //! - Theorems state the calls that a message and a frame record ([`law_of_records`], [`law_of_frame_records`]) and the
 //!   call reference of a new leg ([`law_of_references`]). They also state the legs after a RESTART
-//!   ([`law_of_restarts`]) and after the failure of a data link ([`law_of_link_failures`]), and the messages that inform
-//!   a user of a tone ([`law_of_progress`]).
+//!   ([`law_of_restarts`]), after the failure of a data link ([`law_of_link_failures`]) and after its establishment
+//!   ([`law_of_link_establishments`]), and the messages that inform a user of a tone ([`law_of_progress`]).
 //! - Allowed commands made the circuits of each frame ([`worlds_are_made`]), and later events do not change its octets
 //!   ([`later_frames_change_nothing`]).
 #![tactic(auto)]
@@ -40,8 +40,8 @@ pub use call_laws::{
 pub use command_laws::{law_of_granted_nails, law_of_refusals};
 pub use laws::{later_frames_change_nothing, law_of_fabrics, worlds_are_made};
 pub use leg_laws::{
-    law_of_frame_records, law_of_link_failures, law_of_progress, law_of_records, law_of_references,
-    law_of_restarts,
+    law_of_frame_records, law_of_link_establishments, law_of_link_failures, law_of_progress,
+    law_of_records, law_of_references, law_of_restarts,
 };
 pub use legs::{is_addressed_to, retransmitted_from, waiting_from};
 pub use records::{first_frame_of, is_calling, party_of};

@@ -1,4 +1,4 @@
-use Rattle.std.proofs.Common.{◌≡◌, ◌++◌, [], Option, sym, ◌∙◌, ap, subst}
+use Rattle.std.proofs.Common.{◌++◌, [], Option, sym, ◌∙◌, ap, subst}
 use Rattle.std.specs.Prelude.{IfSome}
 use Rattle.std.specs.List.{cons_option}
 use Rattle.exchange_events.specs.declared.record.CallRecord.{CallRecord}
