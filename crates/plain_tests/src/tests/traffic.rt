@@ -20,7 +20,7 @@ fn draw(alloc: Global, traces: u32, events: u32) -> Result<(Counts, Expiries, u3
 
 #[test]
 fn each_course_is_drawn(rt: HostRuntime) -> Result<(), Fail> {
-    let (counts, expiries, moved) = draw(rt.alloc(), 80, 250)?;
+    let (counts, expiries, moved) = draw(rt.alloc(), 160, 250)?;
     assert!(rt; counts.is_complete() && expiries.is_complete() && moved > 0);
     Ok(())
 }
