@@ -4,9 +4,11 @@ ghost use Rattle.circuit_model.specs.FrameInput.{Input as An_input};
 ghost use Rattle.exchange_core.specs.Beginnings.{IsUnused};
 ghost use Rattle.exchange_events.specs.declared.trace.Event.{Event as An_event};
 ghost use Rattle.exchange_events.specs.declared.trace.Event.TheVariants.{Frame};
+ghost use Rattle.exchange_events.specs.Kept.{kept_of};
 ghost use Rattle.exchange_events.specs.Responses.{reply_of};
 ghost use Rattle.exchange_events.specs.Sizes.{Setting};
 ghost use Rattle.exchange_events.specs.Sound.{Fits};
+ghost use Rattle.call_profile.specs.CallsTold.{calls_kept};
 ghost use Rattle.call_profile.specs.Step.{MovesAtMost};
 ghost use Rattle.call_profile.specs.World.{World};
 ghost use Rattle.lone_exchange.specs.At.{Appends, HasReplied, HasPlayed, IsSomewhere, Passes, PlaysDue, Replies, StartsAt};
@@ -16,7 +18,7 @@ use call_control::CallControl;
 use call_timers::Timers;
 use control_memory::PathMap;
 use exchange_core::{StepContext, Tool, happen};
-use exchange_events::{Event, Input, Response};
+use exchange_events::{CallRecord, Event, Input, Response};
 use frame_engine::Carrier;
 use number_plan::Plan;
 use report_text::append_line;
@@ -163,6 +165,23 @@ impl<P: PathMap, C: Carrier> LoneExchange<P, C> {
         let response = happen(control, plan, tones, timers, external, event, context);
         self.context.tool = tool;
         response
+    }
+
+    /// Returns the records of the calls that ended with the last event of [`happen`](LoneExchange::happen), which has this
+    /// response.
+    pub fn records(&self, response: Response) -> &[CallRecord]
+        ensures { result.now ≡ calls_kept (kept_of (reply_of response self.now.context.out)) }
+    {
+        match response {
+            Response::Sent => self.context.out.records.as_slice(),
+            Response::Frame(_) => self.context.out.records.as_slice(),
+            Response::Granted(_, _) => &[],
+            Response::Busy => &[],
+            Response::Seated(_, _) => &[],
+            Response::NoPort => &[],
+            Response::Freed => &[],
+            Response::NotNailed => &[],
+        }
     }
 
     /// Appends the line of the last event of [`happen`](LoneExchange::happen), with this number and this response, to a
