@@ -63,6 +63,10 @@ pub mod RestartedLegLemmas
 pub mod RestartedLineLemmas
 pub mod DroppedLineLemmas
 pub mod ResumedLineLemmas
+pub mod LinkStateLemmas
+pub mod OutageLemmas
+pub mod UnfailingLinkLemmas
+pub mod LostLegLemmas
 pub mod RecordedCallLemmas
 pub mod RecordedMessageLemmas
 pub mod FrameRecordLemmas

@@ -1,0 +1,11 @@
+use Rattle.call_profile.proofs.LostLegLemmas.{lost_vacated, left_disconnected, neither_changes}
+use Rattle.call_profile.proofs.outage_laws.law_of_lost_legs.Goals as goal
+
+pub returns-clause-gone : goal.returns-clause-gone
+returns-clause-gone c = lost_vacated
+
+pub returns-clause-peer : goal.returns-clause-peer
+returns-clause-peer c = left_disconnected
+
+pub returns-clause-others : goal.returns-clause-others
+returns-clause-others c = neither_changes
