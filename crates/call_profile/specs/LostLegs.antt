@@ -12,10 +12,12 @@ use Rattle.call_timers.specs.declared.expiry.Expiry.TheVariants as expiry
 use Rattle.call_timers.specs.declared.timers.Timers.{Timers}
 use Rattle.call_states.specs.declared.leg.Leg.{Leg}
 use Rattle.call_states.specs.declared.leg.Peer.TheVariants as peer
+use Rattle.exchange_events.specs.declared.record.CallRecord.{CallRecord}
 use Rattle.exchange_events.specs.declared.signal.Signal.{Signal}
 use Rattle.exchange_events.specs.Sizes.{Setting}
 use Rattle.tone_rules.specs.declared.tones.Tones.{Tones}
 use Rattle.call_profile.specs.Acts.{disconnect, in_disconnect_indication, tone_of, with_progress}
+use Rattle.call_profile.specs.EndedCalls.{record_ended}
 use Rattle.call_profile.specs.Expiring.{due_of, outcome_of_frame}
 use Rattle.call_profile.specs.Legs.{Legs, leg_at}
 use Rattle.call_profile.specs.Operations.{begun}
@@ -67,3 +69,10 @@ outage_signal tones y leg =
 pub record IsDisconnected (s : Setting) (w : World) (input : Input) (y : Slot) (leg : Leg) : Type 0 where
   pub cleared : leg_at (outcome_of_frame s w input).making.world.legs y ≡ Some (cleared_by_outage (pass w input) leg)
   pub sent : Contains (outcome_of_frame s w input).making.sends (outage_signal s.tones y leg)
+
+-- the frame has the record of the leg's call, with cause 27
+abbrev pub IsLossRecorded : Setting → World → Input → Slot → Leg → Type 0
+IsLossRecorded s w input x leg =
+    (told : CallRecord)
+    × (record_ended (pass w input) (record { slot = x; leg = leg }) destination_out_of_order ≡ Some told)
+    × Contains (outcome_of_frame s w input).recorded told

@@ -14,7 +14,7 @@ ghost use Rattle.call_profile.specs.ExpiryRecords.{IsFrameRecord, IsInFrame, Com
 ghost use Rattle.call_profile.specs.Fabrics.{world_of_run};
 ghost use Rattle.call_profile.specs.LegStanding.{CallsStand};
 ghost use Rattle.call_profile.specs.Legs.{is_down, leg_at};
-ghost use Rattle.call_profile.specs.LostLegs.{IsDisconnected, IsLeftBehind, IsLostFirst, IsVacated, NeitherIsLost};
+ghost use Rattle.call_profile.specs.LostLegs.{IsDisconnected, IsLeftBehind, IsLossRecorded, IsLostFirst, IsVacated, NeitherIsLost};
 ghost use Rattle.call_profile.specs.Outages.{down_after_all, HasNoFailure, NoLinkIsDown, OutagesStand};
 ghost use Rattle.call_profile.specs.Recorded.{HasEnded};
 ghost use Rattle.call_profile.specs.Step.{next};
@@ -58,13 +58,16 @@ pub fn law_of_unfailing_links()
 {}
 
 /// If T309 of a leg expires in a frame, the leg is removed, and no circuit uses its slot. The other leg of its call is
-/// cleared with cause 27, and its user is sent DISCONNECT. If T309 of both legs of a call expires in one frame, that of
-/// the lower line expires first, so that the other leg is cleared. Each other leg in state 10 is unchanged.
+/// cleared with cause 27, and its user is sent DISCONNECT. The frame has the record of the call with cause 27. If T309 of
+/// both legs of a call expires in one frame, that of the lower line expires first, and the other leg is cleared. Each
+/// other leg in state 10 is unchanged.
 pub fn law_of_lost_legs()
     ensures gone { (s : Setting) (w : World) (input : Input) → CallsStand s w → (x : Slot) (leg : Leg) → IsLostFirst s w x leg
         → IsVacated (outcome_of_frame s w input).making.world x }
     ensures peer { (s : Setting) (w : World) (input : Input) → CallsStand s w → (y : Slot) (other : Leg) → IsLeftBehind s w y other
         → IsDisconnected s w input y other }
+    ensures recorded { (s : Setting) (w : World) (input : Input) → CallsStand s w → (x : Slot) (leg : Leg) → IsLostFirst s w x leg
+        → IsLossRecorded s w input x leg }
     ensures others { (s : Setting) (w : World) (input : Input) → CallsStand s w → (x : Slot) (leg : Leg) → NeitherIsLost s w x leg
         → leg_at (outcome_of_frame s w input).making.world.legs x ≡ Some leg }
 {}
