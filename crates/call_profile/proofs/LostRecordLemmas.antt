@@ -327,8 +327,7 @@ module _ (s : Setting) (frame : ℕ) (w : World) (kept : Kept s.dimensions s.ton
 
     by_caller : leg.side ≡ Caller → Recorded
     by_caller side =
-        let e = recorded_by h (calling_active leg side up) (kept.1.each x leg in_x lost.at).peer (same_heard (heard_by w.holding.circuits x) refl (kept.1.each x leg in_x lost.at).hears) in
-        (
+        let e = recorded_by h (calling_active leg side up) (kept.1.each x leg in_x lost.at).peer (same_heard (heard_by w.holding.circuits x) refl (kept.1.each x leg in_x lost.at).hears) in (
           e.0,
           ended_caller w destination_out_of_order h (peer_of w.legs leg.peer) leg.side side ∙ e.1,
           ended_caller now destination_out_of_order h (peer_of now.legs leg.peer) leg.side side ∙ e.2,
@@ -344,8 +343,7 @@ module _ (s : Setting) (frame : ℕ) (w : World) (kept : Kept s.dimensions s.ton
         let in_there = there y other is at_y in
         let stands = kept.1.each y other in_there at_y in
         let e = recorded_by k (calling_active other call.calls (other_up y other is at_y)) stands.peer (same_other_heard y other is at_y (heard_by w.holding.circuits y) refl stands.hears) in
-        let at_now = other_before s frame w kept later x leg in_x lost first y other is at_y x.line (omega arith) in
-        (
+        let at_now = other_before s frame w kept later x leg in_x lost first y other is at_y x.line (omega arith) in (
           e.0,
           ended_called w destination_out_of_order h k (peer_of w.legs leg.peer) leg.side side (ap (peer_of w.legs) is ∙ held_there w.legs y other at_y) ∙ e.1,
           ended_called now destination_out_of_order h k (peer_of now.legs leg.peer) leg.side side (ap (peer_of now.legs) is ∙ held_there now.legs y other at_now) ∙ e.2,
