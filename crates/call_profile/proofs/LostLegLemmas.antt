@@ -1,21 +1,18 @@
 -- What a frame does in which T309 of a leg expires.
-use Rattle.std.proofs.Common.{◌≡◌, ◌≢◌, ℕ, zero, suc, ◌+◌, ◌-◌, ◌*◌, ◌<◌, ◌≤◌, ◌⊎◌, inl, inr, Bool, true, false, not, List, [], ◌∷◌, ◌++◌, length, Option, Some, None, refl, sym, ◌∙◌, ap, subst, arith, length-set, filter, Contains, is_some, IfSome}
+use Rattle.std.proofs.Common.{◌≡◌, ℕ, zero, suc, ◌+◌, ◌-◌, ◌*◌, ◌<◌, ◌≤◌, ◌⊎◌, inl, inr, true, false, not, List, [], ◌∷◌, ◌++◌, length, Option, Some, None, refl, sym, ◌∙◌, ap, subst, arith, length-set, filter, Contains, is_some, IfSome}
 use Rattle.std.specs.Prelude.{◌%◌}
 use Rattle.std.proofs.lemmas.Grind.{common_steps}
 use Rattle.std.proofs.lemmas.List.Elements.{Contains-append_left, Contains-push}
 use Rattle.circuit_model.specs.declared.channel.Slot.{Slot}
 use Rattle.circuit_model.specs.declared.circuit.Circuit.{Circuit}
 use Rattle.circuit_model.specs.declared.circuit.Circuit.TheVariants.{Tone}
-use Rattle.circuit_model.specs.declared.circuit.Kind.{Kind}
 use Rattle.circuit_model.specs.Circuits.{is_idle, names}
 use Rattle.circuit_model.specs.Extent.{IsExternal}
 use Rattle.circuit_model.specs.FrameInput.{Input}
-use Rattle.circuit_model.specs.Holding.{Holding, after}
 use Rattle.circuit_model.proofs.Slots.{filter_filter, naming-idle, is_idle-naming, same_slot-false}
 use Rattle.control_memory.specs.Layout.{number_of}
 use Rattle.q931_codec.specs.CallStates.{active}
 use Rattle.q931_codec.specs.Causes.{destination_out_of_order}
-use Rattle.q931_codec.specs.Outgoing.{encoding}
 use Rattle.call_timers.specs.declared.expiry.Expiry.{Expiry}
 use Rattle.call_timers.specs.declared.expiry.Expiry.TheVariants as expiry
 use Rattle.call_timers.specs.declared.timers.Timers.{Timers}
@@ -26,7 +23,7 @@ use Rattle.call_states.specs.declared.leg.Peer.TheVariants as peer
 use Rattle.exchange_events.specs.declared.signal.Signal.{Signal}
 use Rattle.exchange_events.specs.Sizes.{Setting, Dimensions}
 use Rattle.call_profile.specs.Acts.{in_disconnect_indication, peer_of, with_peer, clear_with, remove_leg}
-use Rattle.call_profile.specs.Expiring.{timed_state, on_expiry, outage_over, due_of, expire_slot, slot_looked_at, outcome_of_lines, outcome_of_frame}
+use Rattle.call_profile.specs.Expiring.{timed_state, outage_over, due_of, expire_slot, slot_looked_at, outcome_of_lines, outcome_of_frame}
 use Rattle.call_profile.specs.ExpiryBounds.{RunsOut, EitherRunsOut}
 use Rattle.call_profile.specs.Legs.{Legs, waiting_from, leg_at}
 use Rattle.call_profile.specs.LegStanding.{CallsStand, HasPeer, IsInCall}
@@ -40,7 +37,7 @@ use Rattle.call_profile.proofs.ClearingLemmas.{Kept, held_there, peers_apart}
 use Rattle.call_profile.proofs.CommandLemmas.{pass_kept}
 use Rattle.call_profile.proofs.DroppedLineLemmas.{call_active}
 use Rattle.call_profile.proofs.ExpiringLemmas.{at_slot, lines_kept, lines_none, lines_more, place_within}
-use Rattle.call_profile.proofs.ExpiryChangeLemmas.{Apart, Spares, SparesAll, leg_at-making_after_all_spared, expiry_spares, peer_cleared, due_since, unchanged_due, none_else_changes}
+use Rattle.call_profile.proofs.ExpiryChangeLemmas.{Apart, Spares, SparesAll, leg_at-making_after_all_spared, expiry_spares, due_since, unchanged_due, none_else_changes}
 use Rattle.call_profile.proofs.ExpirySinceLemmas.{outcome_of_lines_next}
 use Rattle.call_profile.proofs.ExpiryStateLemmas.{due_state}
 use Rattle.call_profile.proofs.ToneLemmas.{cleared_is_idle}

@@ -1,23 +1,21 @@
 -- The record of the call of a leg whose T309 expires.
-use Rattle.std.proofs.Common.{◌≡◌, ◌≢◌, ℕ, suc, ◌<◌, ◌≤◌, Bool, true, false, inl, inr, not, filter, find, List, [], ◌∷◌, ◌++◌, Option, Some, None, refl, sym, ◌∙◌, ap, subst, arith, Contains, IfSome, if◌then◌else◌}
-use Rattle.std.specs.Prelude.{◌==◌, IsTrue, option_map, option_and_then}
+use Rattle.std.proofs.Common.{◌≡◌, ℕ, suc, ◌<◌, ◌≤◌, Bool, true, false, inl, inr, not, filter, find, List, [], ◌∷◌, ◌++◌, Option, Some, None, refl, sym, ◌∙◌, ap, subst, arith, Contains, IfSome, if◌then◌else◌}
+use Rattle.std.specs.Prelude.{◌==◌, option_map, option_and_then}
 use Rattle.std.specs.List.{cons_option}
 use Rattle.std.proofs.lemmas.Grind.{common_steps}
 use Rattle.std.proofs.lemmas.List.Elements.{Contains-append_left, Contains-append_right}
 use Rattle.circuit_model.specs.declared.channel.Slot.{Slot}
 use Rattle.circuit_model.specs.declared.circuit.Circuit.{Circuit}
-use Rattle.circuit_model.specs.declared.circuit.Kind.{Kind}
-use Rattle.circuit_model.specs.declared.circuit.Circuit.TheVariants.{Pair, Member, Tone}
+use Rattle.circuit_model.specs.declared.circuit.Circuit.TheVariants.{Tone}
 use Rattle.circuit_model.specs.Circuits.{heard_by, listener, names, same_slot}
 use Rattle.circuit_model.specs.Extent.{IsExternal}
 use Rattle.circuit_model.specs.FrameInput.{Input}
 use Rattle.circuit_model.proofs.Hearing.{heard_by-stands}
 use Rattle.circuit_model.proofs.Slots.{true_or_false}
 use Rattle.q931_codec.specs.CallStates.{active}
-use Rattle.q931_codec.specs.Causes.{destination_out_of_order, invalid_number_format, no_answer_from_user, no_user_responding, recovery_on_timer_expiry}
+use Rattle.q931_codec.specs.Causes.{destination_out_of_order, no_answer_from_user, no_user_responding}
 use Rattle.call_timers.specs.declared.expiry.Expiry.{Expiry}
 use Rattle.call_timers.specs.declared.expiry.Expiry.TheVariants as expiry
-use Rattle.call_states.specs.Acts.{is_among}
 use Rattle.call_states.specs.declared.leg.HeldLeg.{HeldLeg}
 use Rattle.call_states.specs.declared.leg.Leg.{Leg}
 use Rattle.call_states.specs.declared.leg.Peer.{Peer}
@@ -29,9 +27,9 @@ use Rattle.exchange_events.specs.declared.record.Party.{Party}
 use Rattle.exchange_events.specs.Sizes.{Setting, Dimensions}
 use Rattle.tone_rules.specs.declared.tones.Tones.{Tones}
 use Rattle.call_profile.specs.Acts.{peer_of, with_peer, clear_with}
-use Rattle.call_profile.specs.CallRecords.{is_calling, party_of, record_of, records, since_heard}
+use Rattle.call_profile.specs.CallRecords.{is_calling, party_of, record_of, since_heard}
 use Rattle.call_profile.specs.EndedCalls.{caller_in, expired_records, record_calling, record_ended}
-use Rattle.call_profile.specs.Expiring.{cause_at, send_again, on_expiry, due_of, expire_slot, slot_looked_at, outcome_of_lines, outcome_of_frame}
+use Rattle.call_profile.specs.Expiring.{send_again, on_expiry, expire_slot, slot_looked_at, outcome_of_lines}
 use Rattle.call_profile.specs.Legs.{Legs, leg_at, kept_at}
 use Rattle.call_profile.specs.LegStanding.{CallsStand, HasPeer, IsInCall, MayHear}
 use Rattle.call_profile.specs.LostLegs.{IsLost, IsLostFirst, IsLossRecorded}
@@ -45,8 +43,8 @@ use Rattle.call_profile.proofs.ExpiredRecordLemmas.{records_slot_told}
 use Rattle.call_profile.proofs.ExpiringLemmas.{at_slot, lines_kept, lines_none, lines_more, place_within}
 use Rattle.call_profile.proofs.ExpiryChangeLemmas.{Apart}
 use Rattle.call_profile.proofs.ExpirySinceLemmas.{outcome_of_lines_next}
-use Rattle.call_profile.proofs.HearingLemmas.{IsStrange, names_unnamed}
-use Rattle.call_profile.proofs.LostLegLemmas.{IsAside, away_by, same_leg, through, leg_active, leg_aside_before, leg_before, other_aside_before, other_before, in_y, in_call, is_looked_at, other_active}
+use Rattle.call_profile.proofs.HearingLemmas.{names_unnamed}
+use Rattle.call_profile.proofs.LostLegLemmas.{IsAside, away_by, through, leg_active, leg_aside_before, leg_before, other_aside_before, other_before, in_y, in_call, is_looked_at, other_active}
 use Rattle.call_profile.proofs.RecordedCallLemmas.{calling_record}
 
 -- ---- a circuit that is found stays so

@@ -1,6 +1,6 @@
 -- The expiry of T309 in a frame. Source: ITU-T Q.931 (05/98), 5.8.9; the clearing of the rest of the call is this
 -- project's profile.
-use Rattle.std.specs.Prelude.{◌≡◌, ◌≤◌, ◌%◌, ℕ, Bool, true, Contains, Option, Some, None}
+use Rattle.std.specs.Prelude.{◌≡◌, ◌≤◌, ◌%◌, ℕ, true, Contains, Some, None}
 use Rattle.circuit_model.specs.declared.channel.Slot.{Slot}
 use Rattle.circuit_model.specs.Circuits.{is_idle}
 use Rattle.circuit_model.specs.Extent.{IsExternal}
