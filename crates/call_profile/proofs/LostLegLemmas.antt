@@ -171,7 +171,7 @@ module _ (s : Setting) (frame : ℕ) (w : World) (kept : Kept s.dimensions s.ton
     sent_then : (one : Signal) → Contains mid.sends one → Contains (made (suc line)).sends one
     sent_then one sent = subst (λ (n : Making). Contains n.sends one) (sym made_more) (sent_still_all d mid turn one sent)
 
-    -- a slot that is neither the slot of a leg whose timer expires nor that of its peer
+    -- a slot of no leg whose timer expires, and of no peer of such a leg
     module _ (z : Slot) (in_z : IsExternal d.external z) where
       abbrev pub IsAside : Type 0
       IsAside =

@@ -29,7 +29,7 @@ pub record IsLost (timers : Timers) (frame : ℕ) (legs : Legs) (x : Slot) (leg 
   pub at : leg_at legs x ≡ Some leg
   pub due : due_of timers frame leg ≡ Some expiry.Outage
 
--- T309 of a leg expires in the next frame, and not that of its peer on a lower line, which the frame would examine first
+-- T309 of a leg expires in the next frame, and its peer's does not on a lower line, which the frame would examine first
 pub record IsLostFirst (s : Setting) (w : World) (x : Slot) (leg : Leg) : Type 0 where
   pub within : IsExternal s.dimensions.external x
   pub lost : IsLost s.timers w.holding.next w.legs x leg
