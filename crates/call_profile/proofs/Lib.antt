@@ -67,6 +67,7 @@ pub mod LinkStateLemmas
 pub mod OutageLemmas
 pub mod UnfailingLinkLemmas
 pub mod LostLegLemmas
+pub mod LostRecordLemmas
 pub mod RecordedCallLemmas
 pub mod RecordedMessageLemmas
 pub mod FrameRecordLemmas

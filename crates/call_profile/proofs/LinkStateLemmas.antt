@@ -15,7 +15,7 @@ use Rattle.call_profile.specs.ActCourse.{course_of}
 use Rattle.call_profile.specs.Calls.{Request, For_leg, New_call, On_no_call, Restarts, Unanswered, request_of, answer_back, outcome_for}
 use Rattle.call_profile.specs.Expiring.{slot_looked_at, expire_slot}
 use Rattle.call_profile.specs.IdleSlots.{is_nailed}
-use Rattle.call_profile.specs.Legs.{is_down, no_legs}
+use Rattle.call_profile.specs.Legs.{is_down}
 use Rattle.call_profile.specs.LinkChanges.{outcome_of_link, rule_of, with_line}
 use Rattle.call_profile.specs.Operations as op
 use Rattle.call_profile.specs.Operations.{Operation, Making, making_at, making_after, making_after_all}

@@ -1,21 +1,18 @@
 -- What a frame does in which T309 of a leg expires.
-use Rattle.std.proofs.Common.{◌≡◌, ◌≢◌, ℕ, zero, suc, ◌+◌, ◌-◌, ◌*◌, ◌<◌, ◌≤◌, ◌⊎◌, inl, inr, Bool, true, false, not, List, [], ◌∷◌, ◌++◌, length, Option, Some, None, refl, sym, ◌∙◌, ap, subst, arith, length-set, filter, Contains, is_some, IfSome}
+use Rattle.std.proofs.Common.{◌≡◌, ℕ, zero, suc, ◌+◌, ◌-◌, ◌*◌, ◌<◌, ◌≤◌, ◌⊎◌, inl, inr, true, false, not, List, [], ◌∷◌, ◌++◌, length, Option, Some, None, refl, sym, ◌∙◌, ap, subst, arith, length-set, filter, Contains, is_some, IfSome}
 use Rattle.std.specs.Prelude.{◌%◌}
 use Rattle.std.proofs.lemmas.Grind.{common_steps}
 use Rattle.std.proofs.lemmas.List.Elements.{Contains-append_left, Contains-push}
 use Rattle.circuit_model.specs.declared.channel.Slot.{Slot}
 use Rattle.circuit_model.specs.declared.circuit.Circuit.{Circuit}
 use Rattle.circuit_model.specs.declared.circuit.Circuit.TheVariants.{Tone}
-use Rattle.circuit_model.specs.declared.circuit.Kind.{Kind}
 use Rattle.circuit_model.specs.Circuits.{is_idle, names}
 use Rattle.circuit_model.specs.Extent.{IsExternal}
 use Rattle.circuit_model.specs.FrameInput.{Input}
-use Rattle.circuit_model.specs.Holding.{Holding, after}
 use Rattle.circuit_model.proofs.Slots.{filter_filter, naming-idle, is_idle-naming, same_slot-false}
 use Rattle.control_memory.specs.Layout.{number_of}
 use Rattle.q931_codec.specs.CallStates.{active}
 use Rattle.q931_codec.specs.Causes.{destination_out_of_order}
-use Rattle.q931_codec.specs.Outgoing.{encoding}
 use Rattle.call_timers.specs.declared.expiry.Expiry.{Expiry}
 use Rattle.call_timers.specs.declared.expiry.Expiry.TheVariants as expiry
 use Rattle.call_timers.specs.declared.timers.Timers.{Timers}
@@ -26,7 +23,7 @@ use Rattle.call_states.specs.declared.leg.Peer.TheVariants as peer
 use Rattle.exchange_events.specs.declared.signal.Signal.{Signal}
 use Rattle.exchange_events.specs.Sizes.{Setting, Dimensions}
 use Rattle.call_profile.specs.Acts.{in_disconnect_indication, peer_of, with_peer, clear_with, remove_leg}
-use Rattle.call_profile.specs.Expiring.{timed_state, on_expiry, outage_over, due_of, expire_slot, slot_looked_at, outcome_of_lines, outcome_of_frame}
+use Rattle.call_profile.specs.Expiring.{timed_state, outage_over, due_of, expire_slot, slot_looked_at, outcome_of_lines, outcome_of_frame}
 use Rattle.call_profile.specs.ExpiryBounds.{RunsOut, EitherRunsOut}
 use Rattle.call_profile.specs.Legs.{Legs, waiting_from, leg_at}
 use Rattle.call_profile.specs.LegStanding.{CallsStand, HasPeer, IsInCall}
@@ -40,7 +37,7 @@ use Rattle.call_profile.proofs.ClearingLemmas.{Kept, held_there, peers_apart}
 use Rattle.call_profile.proofs.CommandLemmas.{pass_kept}
 use Rattle.call_profile.proofs.DroppedLineLemmas.{call_active}
 use Rattle.call_profile.proofs.ExpiringLemmas.{at_slot, lines_kept, lines_none, lines_more, place_within}
-use Rattle.call_profile.proofs.ExpiryChangeLemmas.{Apart, Spares, SparesAll, leg_at-making_after_all_spared, expiry_spares, peer_cleared, due_since, unchanged_due, none_else_changes}
+use Rattle.call_profile.proofs.ExpiryChangeLemmas.{Apart, Spares, SparesAll, leg_at-making_after_all_spared, expiry_spares, due_since, unchanged_due, none_else_changes}
 use Rattle.call_profile.proofs.ExpirySinceLemmas.{outcome_of_lines_next}
 use Rattle.call_profile.proofs.ExpiryStateLemmas.{due_state}
 use Rattle.call_profile.proofs.ToneLemmas.{cleared_is_idle}
@@ -121,7 +118,7 @@ late_quiet : (timers : Timers) (frame : ℕ) (leg : Leg) → frame < leg.since �
 late_quiet timers frame leg late None due = due
 late_quiet timers frame leg late (Some e) due = let early = due_since leg.state leg.resent leg.since frame timers e due in absurd (omega (arith, late, early))
 
-same_leg : (o : Option Leg) (k l : Leg) → o ≡ Some k → o ≡ Some l → k ≡ l
+pub same_leg : (o : Option Leg) (k l : Leg) → o ≡ Some k → o ≡ Some l → k ≡ l
 same_leg o k l at also = let e : Some k ≡ Some l = sym at ∙ also in cc
 
 -- ---- what every line keeps
@@ -132,7 +129,7 @@ through_more P first last begins more (suc n) few =
     let same : suc (n + first) ≡ suc n + first = omega arith in
     subst P same (more (n + first) (omega arith) (omega (arith, few)) (through_more P first last begins more n (omega (arith, few))))
 
-through : (P : ℕ → Type 0) (first last : ℕ) → P first → ((line : ℕ) → first ≤ line → line < last → P line → P (suc line)) → first ≤ last → P last
+pub through : (P : ℕ → Type 0) (first last : ℕ) → P first → ((line : ℕ) → first ≤ line → line < last → P line → P (suc line)) → first ≤ last → P last
 through P first last begins more few =
     let same : (last - first) + first ≡ last = omega (arith, few) in
     subst P same (through_more P first last begins more (last - first) (omega (arith, few)))
@@ -141,13 +138,13 @@ module _ (s : Setting) (frame : ℕ) (w : World) (kept : Kept s.dimensions s.ton
   abbrev d : Dimensions
   d = s.dimensions
 
-  abbrev made : ℕ → Making
+  abbrev pub made : ℕ → Making
   made n = (outcome_of_lines s frame w n).making
 
-  abbrev legs_after : ℕ → Legs
+  abbrev pub legs_after : ℕ → Legs
   legs_after n = (made n).world.legs
 
-  at_first : (z : Slot) (l : Leg) → leg_at w.legs z ≡ Some l → leg_at (legs_after 0) z ≡ Some l
+  pub at_first : (z : Slot) (l : Leg) → leg_at w.legs z ≡ Some l → leg_at (legs_after 0) z ≡ Some l
   at_first z l at = ap (λ (a : MessageOutcome). leg_at a.making.world.legs z) (lines_none s frame w) ∙ at
 
   -- ---- the turn of a line
@@ -162,10 +159,10 @@ module _ (s : Setting) (frame : ℕ) (w : World) (kept : Kept s.dimensions s.ton
     abbrev turn : List Operation
     turn = expire_slot s frame mid.world.legs here
 
-    in_here : IsExternal d.external here
+    pub in_here : IsExternal d.external here
     in_here = place_within d.external frame line small
 
-    kept_now : Kept d s.tones mid.world
+    pub kept_now : Kept d s.tones mid.world
     kept_now = lines_kept s frame w kept line (omega (arith, small))
 
     made_more : made (suc line) ≡ making_after_all d mid turn
@@ -174,14 +171,14 @@ module _ (s : Setting) (frame : ℕ) (w : World) (kept : Kept s.dimensions s.ton
     sent_then : (one : Signal) → Contains mid.sends one → Contains (made (suc line)).sends one
     sent_then one sent = subst (λ (n : Making). Contains n.sends one) (sym made_more) (sent_still_all d mid turn one sent)
 
-    -- a slot that is neither the slot of a leg whose timer expires nor that of its peer
+    -- a slot of no leg whose timer expires, and of no peer of such a leg
     module _ (z : Slot) (in_z : IsExternal d.external z) where
-      abbrev IsAside : Type 0
+      abbrev pub IsAside : Type 0
       IsAside =
           (leg : Leg) (e : Expiry) → leg_at mid.world.legs here ≡ Some leg → due_of s.timers frame leg ≡ Some e
           → (z ≡ here → ⊥) × ((other : Leg) → leg_at mid.world.legs z ≡ Some other → other.peer ≡ peer.Leg here → ⊥)
 
-      away_by : (leg : Leg) (p : Peer) → ((other : Leg) → leg_at mid.world.legs z ≡ Some other → other.peer ≡ peer.Leg here → ⊥) → HasPeer d.external mid.world.legs here leg p
+      pub away_by : (leg : Leg) (p : Peer) → ((other : Leg) → leg_at mid.world.legs z ≡ Some other → other.peer ≡ peer.Leg here → ⊥) → HasPeer d.external mid.world.legs here leg p
           → IfSome (peer_of mid.world.legs p) (λ k. Apart d z in_z k.slot)
       away_by leg peer.Alone unnamed has = tt
       away_by leg (peer.Leg y) unnamed has = elim (same_or_apart z y) [
@@ -227,10 +224,10 @@ module _ (s : Setting) (frame : ℕ) (w : World) (kept : Kept s.dimensions s.ton
 
   module _ (x : Slot) (leg : Leg) (in_x : IsExternal d.external x) (lost : IsLost s.timers frame w.legs x leg)
       (first : (y : Slot) (other : Leg) → leg.peer ≡ peer.Leg y → IsLost s.timers frame w.legs y other → x.line ≤ y.line) where
-    is_looked_at : slot_looked_at frame x.line ≡ x
+    pub is_looked_at : slot_looked_at frame x.line ≡ x
     is_looked_at = sym (same_parts x x.line (frame % 30) refl lost.looked)
 
-    leg_active : leg.state ≡ active
+    pub leg_active : leg.state ≡ active
     leg_active = due_state leg.state leg.resent leg.since frame s.timers expiry.Outage lost.due
 
     -- its peer
@@ -238,19 +235,19 @@ module _ (s : Setting) (frame : ℕ) (w : World) (kept : Kept s.dimensions s.ton
       has : HasPeer d.external w.legs x leg (peer.Leg y)
       has = subst (HasPeer d.external w.legs x leg) named (kept.1.each x leg in_x lost.at).peer
 
-      in_y : IsExternal d.external y
+      pub in_y : IsExternal d.external y
       in_y = has.0
 
-      in_call : IsInCall leg.side x leg y other
+      pub in_call : IsInCall leg.side x leg y other
       in_call = subst (λ (l : Leg). IsInCall leg.side x leg y l) (same_leg (leg_at w.legs y) has.1.0 other has.1.1 at_y) has.1.2
 
-      back : other.peer ≡ peer.Leg x
+      pub back : other.peer ≡ peer.Leg x
       back = peer_back leg.side x y leg other in_call
 
       not_x : y ≡ x → ⊥
       not_x = peers_apart w.legs x y leg other lost.at at_y in_call
 
-      other_active : other.state ≡ active
+      pub other_active : other.state ≡ active
       other_active = (call_active leg.side x y leg other in_call).0 leg_active
 
       -- its timer isn't due on a line before the leg's
@@ -266,29 +263,35 @@ module _ (s : Setting) (frame : ℕ) (w : World) (kept : Kept s.dimensions s.ton
     below : x.line < d.external
     below = in_x.0
 
-    leg_before : leg_at (legs_after x.line) x ≡ Some leg
-    leg_before = through (λ n. leg_at (legs_after n) x ≡ Some leg) 0 x.line (at_first x leg lost.at) (λ line low high so_far.
-        let small : line < d.external = omega (arith, high, below) in
-        leg_then line small x in_x (leg_aside line small x in_x leg so_far
+    pub leg_aside_before : (line : ℕ) → line < x.line → (small : line < d.external) → leg_at (legs_after line) x ≡ Some leg → IsAside line small x in_x
+    leg_aside_before line high small so_far = leg_aside line small x in_x leg so_far
         (λ same. let on : x.line ≡ line = ap (λ (q : Slot). q.line) same in absurd (omega (arith, on, high)))
-        (λ named other at_y. other_quiet (slot_looked_at frame line) other named at_y line high refl))
-        ∙ so_far) (omega arith)
+        (λ named other at_y. other_quiet (slot_looked_at frame line) other named at_y line high refl)
 
-    other_before : (y : Slot) (other : Leg) → leg.peer ≡ peer.Leg y → leg_at w.legs y ≡ Some other → leg_at (legs_after x.line) y ≡ Some other
-    other_before y other named at_y =
-        let within = in_y y other named at_y in
-        through (λ n. leg_at (legs_after n) y ≡ Some other) 0 x.line (at_first y other at_y) (λ line low high so_far.
-        let small : line < d.external = omega (arith, high, below) in
-        leg_then line small y within (leg_aside line small y within other so_far
+    pub leg_before : (n : ℕ) → n ≤ x.line → leg_at (legs_after n) x ≡ Some leg
+    leg_before n few = through (λ k. leg_at (legs_after k) x ≡ Some leg) 0 n (at_first x leg lost.at) (λ line low high so_far.
+        let small : line < d.external = omega (arith, high, few, below) in
+        leg_then line small x in_x (leg_aside_before line (omega (arith, high, few)) small so_far) ∙ so_far) (omega arith)
+
+    pub other_aside_before : (y : Slot) (other : Leg) (named : leg.peer ≡ peer.Leg y) (at_y : leg_at w.legs y ≡ Some other) (line : ℕ) → line < x.line → (small : line < d.external)
+        → leg_at (legs_after line) y ≡ Some other → IsAside line small y (in_y y other named at_y)
+    other_aside_before y other named at_y line high small so_far = leg_aside line small y (in_y y other named at_y) other so_far
         (λ same. other_quiet y other named at_y line high same)
         (λ names_line l at_l.
         let e : peer.Leg x ≡ peer.Leg (slot_looked_at frame line) = sym (back y other named at_y) ∙ names_line in
         let same : x ≡ slot_looked_at frame line = cc in
         let on : x.line ≡ line = ap (λ (q : Slot). q.line) same in
-        absurd (omega (arith, on, high))))
-        ∙ so_far) (omega arith)
+        absurd (omega (arith, on, high)))
+
+    pub other_before : (y : Slot) (other : Leg) → leg.peer ≡ peer.Leg y → leg_at w.legs y ≡ Some other → (n : ℕ) → n ≤ x.line → leg_at (legs_after n) y ≡ Some other
+    other_before y other named at_y n few = through (λ k. leg_at (legs_after k) y ≡ Some other) 0 n (at_first y other at_y) (λ line low high so_far.
+        let small : line < d.external = omega (arith, high, few, below) in
+        leg_then line small y (in_y y other named at_y) (other_aside_before y other named at_y line (omega (arith, high, few)) small so_far) ∙ so_far) (omega arith)
 
     -- ---- its line
+
+    leg_now : leg_at (legs_after x.line) x ≡ Some leg
+    leg_now = leg_before x.line (omega arith)
 
     abbrev h : HeldLeg
     h = record { slot = x; leg = leg }
@@ -296,7 +299,7 @@ module _ (s : Setting) (frame : ℕ) (w : World) (kept : Kept s.dimensions s.ton
     abbrev now : Making
     now = made x.line
 
-    now_kept : Kept d s.tones now.world
+    pub now_kept : Kept d s.tones now.world
     now_kept = lines_kept s frame w kept x.line (omega (arith, below))
 
     abbrev gone : Making
@@ -305,8 +308,8 @@ module _ (s : Setting) (frame : ℕ) (w : World) (kept : Kept s.dimensions s.ton
     abbrev rest : List Operation
     rest = with_peer (peer_of now.world.legs leg.peer) (clear_with s.tones destination_out_of_order)
 
-    turn_is : expire_slot s frame now.world.legs x ≡ outage_over s.tones now.world.legs h
-    turn_is = rw (leg_before, lost.due) refl
+    pub turn_is : expire_slot s frame now.world.legs x ≡ outage_over s.tones now.world.legs h
+    turn_is = rw (leg_now, lost.due) refl
 
     made_here : made (suc x.line) ≡ making_after_all d gone rest
     made_here =
@@ -317,12 +320,12 @@ module _ (s : Setting) (frame : ℕ) (w : World) (kept : Kept s.dimensions s.ton
     peer_spares : (p : Peer) → HasPeer d.external now.world.legs x leg p → SparesAll d x in_x (with_peer (peer_of now.world.legs p) (clear_with s.tones destination_out_of_order))
     peer_spares peer.Alone has_now = tt
     peer_spares (peer.Leg y) has_now =
-        let apart : x ≡ y → ⊥ = λ same. peers_apart now.world.legs x y leg has_now.1.0 leg_before has_now.1.1 has_now.1.2 (sym same) in
+        let apart : x ≡ y → ⊥ = λ same. peers_apart now.world.legs x y leg has_now.1.0 leg_now has_now.1.1 has_now.1.2 (sym same) in
         rw (held_there now.world.legs y has_now.1.0 has_now.1.1) (tt, ((has_now.0, apart), ((has_now.0, apart), (tt, tt))))
     peer_spares (peer.Room room) has_now = tt
 
     rest_spares : SparesAll d x in_x rest
-    rest_spares = peer_spares leg.peer (now_kept.1.each x leg in_x leg_before).peer
+    rest_spares = peer_spares leg.peer (now_kept.1.each x leg in_x leg_now).peer
 
     leg_gone : leg_at (legs_after (suc x.line)) x ≡ None
     leg_gone =
@@ -347,12 +350,12 @@ module _ (s : Setting) (frame : ℕ) (w : World) (kept : Kept s.dimensions s.ton
       within = in_y y other named at_y
 
       rest_is : rest ≡ clear_with s.tones destination_out_of_order k
-      rest_is = rw (named, other_before y other named at_y) refl
+      rest_is = rw (named, other_before y other named at_y x.line (omega arith)) refl
 
       made_both : made (suc x.line) ≡ making_after_all d gone (clear_with s.tones destination_out_of_order k)
       made_both = made_here ∙ ap (making_after_all d gone) rest_is
 
-      next_now : now.world.holding.next ≡ w.holding.next
+      pub next_now : now.world.holding.next ≡ w.holding.next
       next_now = outcome_of_lines_next s frame w kept x in_x x.line (omega (arith, below))
 
       abbrev cleared : Leg

@@ -1,5 +1,5 @@
 -- T309 of a leg runs only while the data link of its line is down.
-use Rattle.std.proofs.Common.{◌≡◌, ◌≢◌, ℕ, zero, suc, ◌+◌, ◌*◌, ◌/◌, ◌%◌, ◌<◌, ◌⊎◌, inl, inr, Bool, true, false, List, [], ◌∷◌, ◌++◌, length, Option, Some, None, refl, sym, ◌∙◌, ap, subst, arith, eqb-true, set, get_or, get_or-set_same, get_or-set_other, if◌then◌else◌}
+use Rattle.std.proofs.Common.{◌≡◌, ◌≢◌, ℕ, zero, suc, ◌*◌, ◌<◌, ◌⊎◌, inl, inr, Bool, true, false, List, [], ◌∷◌, length, Option, Some, None, refl, sym, ◌∙◌, ap, subst, arith, eqb-true, set, get_or, get_or-set_same, get_or-set_other, if◌then◌else◌}
 use Rattle.std.specs.Prelude.{◌==◌, All, slice_index_or, option_map}
 use Rattle.std.proofs.lemmas.Grind.{common_steps}
 use Rattle.std.proofs.lemmas.List.{length-replicate}
@@ -9,7 +9,7 @@ use Rattle.circuit_model.specs.FrameInput.{Input}
 use Rattle.circuit_model.specs.Holding.{Connect, Seat as Take_seat, Clear}
 use Rattle.circuit_model.proofs.Slots.{true_or_false}
 use Rattle.control_memory.specs.Layout.{number_of, slot_numbered}
-use Rattle.q931_codec.specs.Causes.{invalid_number_format, no_answer_from_user, no_user_responding, recovery_on_timer_expiry, destination_out_of_order, temporary_failure}
+use Rattle.q931_codec.specs.Causes.{no_answer_from_user, no_user_responding, destination_out_of_order, temporary_failure}
 use Rattle.q931_codec.specs.CallStates.{active, overlap_sending}
 use Rattle.q931_codec.specs.declared.message.Message.{Message as Q931}
 use Rattle.q931_codec.specs.Outgoing.{OutgoingMessage}
@@ -39,15 +39,15 @@ use Rattle.call_profile.specs.Dropped.{HasLine}
 use Rattle.call_profile.specs.Expiring.{timed_state, send_again, on_expiry, due_of, expire_slot, slot_looked_at}
 use Rattle.call_profile.specs.ExpiryBounds.{NoneIsLost}
 use Rattle.call_profile.specs.IdleSlots.{is_nailed}
-use Rattle.call_profile.specs.Legs.{Legs, waiting_from, retransmitted_from, leg_at, pending_at, kept_at, with_entry, no_legs, is_down}
+use Rattle.call_profile.specs.Legs.{Legs, waiting_from, retransmitted_from, leg_at, pending_at, kept_at, with_entry, no_legs}
 use Rattle.call_profile.specs.LegStanding.{CallsStand}
-use Rattle.call_profile.specs.LinkChanges.{whole_line, drop_leg, drop_slot, outcome_of_link, rule_of, with_line}
+use Rattle.call_profile.specs.LinkChanges.{whole_line, drop_leg, drop_slot, rule_of, with_line}
 use Rattle.call_profile.specs.Operations as op
 use Rattle.call_profile.specs.Operations.{Operation, Making, Await, begun, making_at, making_after, making_after_all}
-use Rattle.call_profile.specs.Outages.{AwaitsLink, OutagesStand, NoLinkIsDown, HasNoFailure}
+use Rattle.call_profile.specs.Outages.{AwaitsLink, OutagesStand, NoLinkIsDown, HasNoFailure, IsOnLineUp}
 use Rattle.call_profile.specs.Restarts.{restarts_slot, restart_peer, restart_leg, restart_slot, restart_rule}
 use Rattle.call_profile.specs.Resumed.{resumed, resumed_on}
-use Rattle.call_profile.specs.Setup.{refusal, setup, accept, accept_at, call, call_asked, await_digits, called_slot, caller_slot, target_of, target_dialled, course_of_setup}
+use Rattle.call_profile.specs.Setup.{refusal, setup, accept_at, call, call_asked, await_digits, called_slot, caller_slot, target_of, target_dialled, course_of_setup}
 use Rattle.call_profile.specs.Step.{next, may_nail, may_seat, world_after_all}
 use Rattle.call_profile.specs.World.{World, start, obey, pass}
 use Rattle.q931_codec.specs.Contents.{channel_in}
@@ -380,6 +380,11 @@ due_awaits timers frame leg is =
       ],
     )
 
+pub up_not_lost : (s : Setting) (w : World) (frame : ℕ) → OutagesStand s.dimensions.external w.legs → (x : Slot) (leg : Leg) → IsOnLineUp s w x leg → due_of s.timers frame leg ≢ Some expiry.Outage
+up_not_lost s w frame outages x leg is due =
+    let wrong : false ≡ true = sym is.up ∙ outages.waits x leg is.within is.at (due_awaits s.timers frame leg due) in
+    cc
+
 some_inside : (l : List (Option Leg)) (k : ℕ) (leg : Leg) → get_or l k None ≡ Some leg → k < length l
 some_inside [] k leg at = absurd cc
 some_inside (a ∷ rest) zero leg at = omega arith
@@ -394,8 +399,7 @@ none_is_lost s w frame stands outages up x leg at is =
     let in_y : IsExternal s.dimensions.external y = (omega (arith, inside, size), omega arith) in
     let same : number_of y ≡ n = omega arith in
     let at_y : leg_at w.legs y ≡ Some leg = ap (λ (k : ℕ). slice_index_or w.legs.held k None) same ∙ at in
-    let wrong : false ≡ true = sym (up y.line) ∙ outages.waits y leg in_y at_y (due_awaits s.timers frame leg is) in
-    absurd cc
+    up_not_lost s w frame outages y leg (record { within = in_y; at = at_y; up = up y.line }) is
 
 pub never_lost : (s : Setting) (es : List Event) (frame : ℕ) → HasNoFailure s es → NoneIsLost s.timers frame (world_after_all s (start s.dimensions) es).legs
 never_lost s es frame calm =

@@ -1,6 +1,6 @@
 -- The expiry of T309 in a frame. Source: ITU-T Q.931 (05/98), 5.8.9; the clearing of the rest of the call is this
 -- project's profile.
-use Rattle.std.specs.Prelude.{◌≡◌, ◌≤◌, ◌%◌, ℕ, Bool, true, Contains, Option, Some, None}
+use Rattle.std.specs.Prelude.{◌≡◌, ◌≤◌, ◌%◌, ℕ, true, Contains, Some, None}
 use Rattle.circuit_model.specs.declared.channel.Slot.{Slot}
 use Rattle.circuit_model.specs.Circuits.{is_idle}
 use Rattle.circuit_model.specs.Extent.{IsExternal}
@@ -12,10 +12,12 @@ use Rattle.call_timers.specs.declared.expiry.Expiry.TheVariants as expiry
 use Rattle.call_timers.specs.declared.timers.Timers.{Timers}
 use Rattle.call_states.specs.declared.leg.Leg.{Leg}
 use Rattle.call_states.specs.declared.leg.Peer.TheVariants as peer
+use Rattle.exchange_events.specs.declared.record.CallRecord.{CallRecord}
 use Rattle.exchange_events.specs.declared.signal.Signal.{Signal}
 use Rattle.exchange_events.specs.Sizes.{Setting}
 use Rattle.tone_rules.specs.declared.tones.Tones.{Tones}
 use Rattle.call_profile.specs.Acts.{disconnect, in_disconnect_indication, tone_of, with_progress}
+use Rattle.call_profile.specs.EndedCalls.{record_ended}
 use Rattle.call_profile.specs.Expiring.{due_of, outcome_of_frame}
 use Rattle.call_profile.specs.Legs.{Legs, leg_at}
 use Rattle.call_profile.specs.Operations.{begun}
@@ -27,7 +29,7 @@ pub record IsLost (timers : Timers) (frame : ℕ) (legs : Legs) (x : Slot) (leg 
   pub at : leg_at legs x ≡ Some leg
   pub due : due_of timers frame leg ≡ Some expiry.Outage
 
--- T309 of a leg expires in the next frame, and not that of its peer on a lower line, which the frame would examine first
+-- T309 of a leg expires in the next frame, and its peer's does not on a lower line, which the frame would examine first
 pub record IsLostFirst (s : Setting) (w : World) (x : Slot) (leg : Leg) : Type 0 where
   pub within : IsExternal s.dimensions.external x
   pub lost : IsLost s.timers w.holding.next w.legs x leg
@@ -67,3 +69,10 @@ outage_signal tones y leg =
 pub record IsDisconnected (s : Setting) (w : World) (input : Input) (y : Slot) (leg : Leg) : Type 0 where
   pub cleared : leg_at (outcome_of_frame s w input).making.world.legs y ≡ Some (cleared_by_outage (pass w input) leg)
   pub sent : Contains (outcome_of_frame s w input).making.sends (outage_signal s.tones y leg)
+
+-- the frame has the record of the leg's call, with cause 27
+abbrev pub IsLossRecorded : Setting → World → Input → Slot → Leg → Type 0
+IsLossRecorded s w input x leg =
+    (told : CallRecord)
+    × (record_ended (pass w input) (record { slot = x; leg = leg }) destination_out_of_order ≡ Some told)
+    × Contains (outcome_of_frame s w input).recorded told

@@ -9,6 +9,7 @@ use Rattle.exchange_events.specs.declared.trace.Event.TheVariants.{LinkUp, LinkD
 use Rattle.exchange_events.specs.Sizes.{Setting}
 use Rattle.exchange_events.specs.Sound.{Fits, IsPlanned}
 use Rattle.call_profile.specs.Legs.{Legs, leg_at, is_down}
+use Rattle.call_profile.specs.World.{World}
 
 -- ---- the data links
 
@@ -48,3 +49,9 @@ AwaitsLink leg = (leg.state ≡ active) × (leg.resent ≡ true)
 pub record OutagesStand (external : ℕ) (legs : Legs) : Type 0 where
   pub links : length legs.down ≡ external
   pub waits : (x : Slot) (leg : Leg) → IsExternal external x → leg_at legs x ≡ Some leg → AwaitsLink leg → is_down legs x.line ≡ true
+
+-- the leg is on a line whose data link is up
+pub record IsOnLineUp (s : Setting) (w : World) (x : Slot) (leg : Leg) : Type 0 where
+  pub within : IsExternal s.dimensions.external x
+  pub at : leg_at w.legs x ≡ Some leg
+  pub up : is_down w.legs x.line ≡ false

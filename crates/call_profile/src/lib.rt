@@ -12,6 +12,9 @@
 //! - The turn of a frame, in which timers expire (`Expiring`), sends at most two messages and records at most one call
 //!   for each external line. It changes only legs of calls with an expired timer, and no connection unless T309 expires
 //!   ([`law_of_expiries`]).
+//! - T309 of a leg runs only while the data link of its line is down ([`law_of_outages`]). In a trace in which no link
+//!   fails it never expires ([`law_of_unfailing_links`]). If it expires, the call is cleared and recorded
+//!   ([`law_of_lost_legs`]).
 //! - A number of several lines gets the lowest idle slot of the first line that has one ([`law_of_hunting`]).
 //! - Further digits are refused with cause 34 only if no slot is free, and with cause 42 only if no port is free. They
 //!   end no call, so nothing is recorded ([`law_of_digits`]).

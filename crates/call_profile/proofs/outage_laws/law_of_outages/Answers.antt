@@ -1,5 +1,5 @@
 use Rattle.call_profile.proofs.LinkStateLemmas.{links_are, none_fails}
-use Rattle.call_profile.proofs.OutageLemmas.{start_outages, outages_kept, outages_stand, none_is_lost, never_lost}
+use Rattle.call_profile.proofs.OutageLemmas.{start_outages, outages_kept, outages_stand, none_is_lost, never_lost, up_not_lost}
 use Rattle.call_profile.proofs.outage_laws.law_of_outages.Goals as goal
 
 pub returns-clause-begins : goal.returns-clause-begins
@@ -13,6 +13,9 @@ returns-clause-always c = outages_stand
 
 pub returns-clause-links : goal.returns-clause-links
 returns-clause-links c = links_are
+
+pub returns-clause-up : goal.returns-clause-up
+returns-clause-up c = up_not_lost
 
 pub returns-clause-calm : goal.returns-clause-calm
 returns-clause-calm c = none_is_lost
