@@ -1,6 +1,5 @@
 //! The steps of a table of links.
-ghost use Rattle.std.specs.Prelude.{◌≡◌, ◌≤◌, ◌<◌, length, None, IsOk, ◌↔◌, IsTrue};
-ghost use Rattle.link_table.specs.Tables.{has_link};
+ghost use Rattle.std.specs.Prelude.{◌≡◌, ◌≤◌, ◌<◌, length, None};
 ghost use Rattle.link_table.specs.Steps as spec;
 
 use crate::links::{finish_on, receive_on, submit_on, turn_on};
@@ -55,13 +54,14 @@ impl LinkTable {
         requires room { self.old.messages < 64 }
         ensures { self.new ≡ spec.submitted_on line octets.now at self.old }
     {
-        if self.has_link(line) {
-            submit_on(&mut self.links, line, octets, at, &mut self.frames);
-            mark(&mut self.lines, line, &self.frames);
-        } else {
+        if !self.has_link(line) {
             self.frames.push(octets);
             self.lines.push(line);
+            self.messages += 1;
+            return;
         }
+        submit_on(&mut self.links, line, octets, at, &mut self.frames);
+        mark(&mut self.lines, line, &self.frames);
         self.messages += 1;
     }
 
