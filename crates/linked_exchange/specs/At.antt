@@ -3,11 +3,14 @@ use Rattle.std.specs.Prelude.{◌≡◌, ℕ, ◌≤◌, Bool, List, [], length,
 use Rattle.circuit_model.specs.Dimensions.{Dimensions}
 use Rattle.circuit_model.specs.Hears.{Plays}
 use Rattle.exchange_events.specs.declared.outbox.Response.{Response}
+use Rattle.exchange_events.specs.declared.outbox.Response.TheVariants.{Sent}
 use Rattle.exchange_events.specs.declared.trace.Event.{Event}
 use Rattle.exchange_events.specs.Responses.{reply_of}
 use Rattle.exchange_events.specs.Sizes.{Setting}
 use Rattle.exchange_events.specs.Sound.{IsPlanned}
-use Rattle.lone_exchange.specs.At.{Carrying, HasPlayed, IsAt, IsGiven, size}
+use Rattle.call_profile.specs.Step.{world_after_all}
+use Rattle.lone_exchange.specs.declared.exchange.LoneExchange.{LoneExchange}
+use Rattle.lone_exchange.specs.At.{Carrying, EachAt, HasPlayed, IsAt, IsGiven, size}
 use Rattle.linked_exchange.specs.declared.exchange.LinkedExchange.{LinkedExchange}
 use Rattle.linked_exchange.specs.declared.settings.Settings.{Settings}
 use Rattle.linked_exchange.specs.Steps.{Joint, LinkedInput, derived, next_joint, reply_to}
@@ -44,6 +47,18 @@ IsPlannedFor d settings = IsPlanned (record { dimensions = d; plan = settings.pl
 abbrev pub StartsLinkedAt : {P E : Type 0} → Carrying E → (E → ℕ) → (E → Dimensions) → Settings → ℕ → ℕ → ℕ → List Bool → LinkedExchange P E → Type 0
 StartsLinkedAt carries frames sizes settings external bridges slots linked x =
     (s : Setting) → s.dimensions ≡ size external bridges slots → HasSettings settings s → IsLinkedAt carries frames sizes x s (start_joint s linked)
+
+-- ---- the event of a step
+
+-- in each state of an exchange x, these events change it to y
+abbrev pub PassesAll : {P E : Type 0} → Carrying E → (E → ℕ) → (E → Dimensions) → Settings → List Event → (x y : LoneExchange P E) → Type 0
+PassesAll carries frames sizes settings es x y =
+    EachAt carries frames sizes settings.plan.now settings.tones.now settings.timers.now x (λ s w. IsAt carries frames sizes y s (world_after_all s w es))
+
+-- in each state of an exchange x, the outbox of y is the reply to the first of these events
+abbrev pub RepliesFirst : {P E : Type 0} → Carrying E → (E → ℕ) → (E → Dimensions) → Settings → List Event → (x y : LoneExchange P E) → Type 0
+RepliesFirst carries frames sizes settings es x y =
+    EachAt carries frames sizes settings.plan.now settings.tones.now settings.timers.now x (λ s w. reply_of Sent y.context.out ≡ reply_to s w es)
 
 -- ---- a step
 

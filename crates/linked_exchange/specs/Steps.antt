@@ -8,7 +8,7 @@ use Rattle.exchange_events.specs.declared.signal.Signal.{Signal}
 use Rattle.exchange_events.specs.declared.trace.Event.{Event}
 use Rattle.exchange_events.specs.declared.trace.Event.TheVariants.{Message, LinkUp, LinkDown}
 use Rattle.exchange_events.specs.Sizes.{Setting}
-use Rattle.call_profile.specs.Step.{next, reply}
+use Rattle.call_profile.specs.Step.{reply, world_after_all}
 use Rattle.call_profile.specs.World.{World}
 use Rattle.link_procedures.specs.declared.state.Indication.{Indication}
 use Rattle.link_procedures.specs.declared.state.Indication.TheVariants.{Data, Established, Released}
@@ -78,31 +78,28 @@ sends_of (Sent sends moved records) = sends
 sends_of (Framed number sends records) = sends
 sends_of _ = []
 
--- an event and its messages
-abbrev pub after_event : Setting → Event → Joint → Joint
-after_event s e j = record {
-  world = next s j.world e;
-  links = submitted_all (next s j.world e).holding.next (sends_of (reply s j.world e)) j.links;
-}
-
-abbrev pub after_events : Setting → List Event → Joint → Joint
-after_events s [] j = j
-after_events s (e ∷ es) j = after_events s es (after_event s e j)
-
--- the end of a step: the link that received a frame sends what it may, and acknowledges the frame
-abbrev pub joint_ended : Joint → Joint
-joint_ended j = record j { links = ended (frames_so_far j) j.links }
-
--- the exchange state and the links after a step
-unfoldable pub next_joint : Setting → Timers → Joint → LinkedInput → Joint
-next_joint s timers j input = joint_ended (after_events s (derived timers j input) (record j { links = links_begun timers j input }))
-
--- ---- the results of a step
-
 -- the reply to the event of a step; a step without an event has the reply of an event that changes nothing
 abbrev pub reply_to : Setting → World → List Event → Reply
 reply_to s w [] = Sent [] None []
 reply_to s w (e ∷ es) = reply s w e
+
+-- the links at the end of a step that began with the links t, in an exchange with this number of frames: its messages are submitted, and the link that
+-- received a frame sends what it may, and acknowledges the frame
+abbrev pub links_ended : ℕ → List Signal → Table → Table
+links_ended at sends t = ended at (submitted_all at sends t)
+
+-- the exchange state after a step
+abbrev pub world_after : Setting → Timers → Joint → LinkedInput → World
+world_after s timers j input = world_after_all s j.world (derived timers j input)
+
+-- the exchange state and the links after a step
+unfoldable pub next_joint : Setting → Timers → Joint → LinkedInput → Joint
+next_joint s timers j input = record {
+  world = world_after s timers j input;
+  links = links_ended (world_after s timers j input).holding.next (sends_of (reply_to s j.world (derived timers j input))) (links_begun timers j input);
+}
+
+-- ---- the results of a step
 
 -- the indication to call control (ITU-T Q.921 (09/97), 4.1.1) after a received frame; an error on a line without a link
 abbrev pub indication_of : Notice → Indication

@@ -8,14 +8,15 @@ ghost use Rattle.exchange_events.specs.Sound.{Fits};
 ghost use Rattle.link_table.specs.Steps as table;
 ghost use Rattle.lone_exchange.specs.At.{size};
 ghost use Rattle.linked_exchange.specs.At.{IsPlannedFor, IsSomewhere, PlaysAt, RepliesTo, StartsLinkedAt, Steps};
-ghost use Rattle.linked_exchange.specs.Steps.{Happens, Receives, Turns, changed_events, event_of, indicated, sends_of, submitted_all};
+ghost use Rattle.linked_exchange.specs.Steps.{Happens, Receives, Turns, indicated, links_ended, sends_of, submitted_all};
 
+use crate::events::{process_change, process_notice, put_down};
 use crate::settings::Settings;
 use control_memory::PathMap;
 use exchange_events::{Event, Outbox, Response, Signal};
 use frame_engine::Carrier;
 use link_procedures::Indication;
-use link_table::{Change, LINES, LinkTable, NoLinkError, Notice};
+use link_table::{Change, LINES, LinkTable, NoLinkError};
 use lone_exchange::LoneExchange;
 use std::alloc::{AllocError, Global};
 use std::thread::Threads;
@@ -57,25 +58,13 @@ impl<P: PathMap + Drop, C: Carrier> LinkedExchange<P, C> {
         ensures bound { IfOk result (λ x. x.exchange.control.map.bound ≡ P.bound paths) }
     {
         let links = LinkTable::new(alloc, linked, 0)?;
-        let exchange = LoneExchange::new(alloc, external, bridges, *settings.timers, paths)?;
-        let mut linked_exchange = LinkedExchange { exchange, links };
-        linked_exchange.put_down(rt, settings, linked);
-        Ok(linked_exchange)
+        let mut exchange = LoneExchange::new(alloc, external, bridges, *settings.timers, paths)?;
+        put_down(&mut exchange, rt, settings, linked);
+        Ok(LinkedExchange { exchange, links })
     }
 }
 
 impl<P: PathMap, C: Carrier> LinkedExchange<P, C> {
-    // Processes the events of an exchange whose lines have these links: the link of each is down for call control.
-    fn put_down<R: Threads + Sync>(&mut self, rt: &R, settings: &Settings, linked: &[bool]) {
-        for (line, has_link) in linked.iter().enumerate() {
-            if *has_link {
-                let event = Event::LinkDown(line as u8);
-                self.exchange
-                    .happen(rt, settings.plan, settings.tones, settings.timers, &event);
-            }
-        }
-    }
-
     /// Processes one event, and submits its messages to the links of their lines. The messages and records of the event
     /// replace the content of the outbox of the exchange.
     pub fn happen<R: Threads + Sync>(
@@ -124,16 +113,11 @@ impl<P: PathMap, C: Carrier> LinkedExchange<P, C> {
         ensures few { MovesAtMost self.old.exchange.control.map.bound (reply_of Sent self.new.exchange.context.out) }
         ensures bound { self.new.exchange.control.map.bound ≡ self.old.exchange.control.map.bound }
     {
-        self.exchange.context.out.clear();
         let at = self.exchange.control.map.next_frame();
-        let Some(notice) = self.links.receive(line, octets, at)? else {
-            self.links.finish(at);
-            return Ok(None);
-        };
-        let indication = self.indicate(rt, settings, line, &notice);
-        self.submit(Response::Sent);
-        self.links.finish(at);
-        Ok(Some(indication))
+        let received = self.links.receive(line, octets, at);
+        let indication = process_notice(&mut self.exchange, rt, settings, line, received);
+        self.end(Response::Sent);
+        indication
     }
 
     /// Processes the turn of a link, after a frame of the exchange. Returns the change of the link, if there is one. Then
@@ -148,58 +132,25 @@ impl<P: PathMap, C: Carrier> LinkedExchange<P, C> {
         ensures few { MovesAtMost self.old.exchange.control.map.bound (reply_of Sent self.new.exchange.context.out) }
         ensures bound { self.new.exchange.control.map.bound ≡ self.old.exchange.control.map.bound }
     {
-        self.exchange.context.out.clear();
         let at = self.exchange.control.map.next_frame();
-        let change = self.links.turn(settings.link_timers, at)?;
-        self.change(rt, settings, (at % LINES) as u8, change);
-        self.submit(Response::Sent);
-        Some(change)
+        let line = (at % LINES) as u8;
+        let change = self.links.turn(settings.link_timers, at);
+        process_change(&mut self.exchange, rt, settings, line, change);
+        self.end(Response::Sent);
+        change
     }
 
-    // Processes the event of a notice on a line. Returns its indication.
-    fn indicate<R: Threads + Sync>(
-        &mut self,
-        rt: &R,
-        settings: &Settings,
-        line: u8,
-        notice: &Notice,
-    ) -> Indication {
-        match notice {
-            Notice::Message(information) => {
-                let octets = information.octets();
-                self.exchange
-                    .receive(settings.plan, settings.tones, line, octets);
-                Indication::Data
-            }
-            Notice::Link(Change::Up) => {
-                self.change(rt, settings, line, Change::Up);
-                Indication::Established
-            }
-            Notice::Link(Change::Down) => {
-                self.change(rt, settings, line, Change::Down);
-                Indication::Released
-            }
-        }
-    }
-
-    // Processes the event of a change of the link of a line.
-    fn change<R: Threads + Sync>(&mut self, rt: &R, settings: &Settings, line: u8, change: Change) {
-        let event = match change {
-            Change::Up => Event::LinkUp(line),
-            Change::Down => Event::LinkDown(line),
-        };
-        self.exchange
-            .happen(rt, settings.plan, settings.tones, settings.timers, &event);
-    }
-
-    // Submits the messages of the last event, which has this response, to the links of their lines.
-    fn submit(&mut self, response: Response) {
+    // Ends a step: submits the messages of its event, which has this response, to their lines.
+    fn end(&mut self, response: Response)
+        requires room { self.old.links.messages ≡ 0 }
+        ensures links { self.new.links ≡ links_ended self.old.exchange.control.map.next
+            (sends_of (reply_of response self.old.exchange.context.out)) self.old.links }
+        ensures exchange { self.new.exchange ≡ self.old.exchange }
+    {
         let at = self.exchange.control.map.next_frame();
-        submit_all(
-            &mut self.links,
-            sends_in(response, &self.exchange.context.out),
-            at,
-        );
+        let sends = sends_in(response, &self.exchange.context.out);
+        submit_all(&mut self.links, sends, at);
+        self.links.finish(at);
     }
 }
 

@@ -14,6 +14,7 @@
 //! No step allocates.
 #![tactic(auto)]
 
+mod events;
 mod exchange;
 mod laws;
 mod settings;

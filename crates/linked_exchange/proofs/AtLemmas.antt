@@ -1,0 +1,115 @@
+-- The exchange and its links after a step.
+use Rattle.std.proofs.Common.{◌≡◌, ℕ, ◌+◌, ◌<◌, ◌≤◌, Bool, true, false, List, [], ◌∷◌, length, drop, All, refl, sym, ap, ◌∙◌, subst, arith, Some, None, Ok, Err}
+use Rattle.std.specs.Prelude.{Option}
+use Rattle.std.specs.declared.result.Result.{Result}
+use Rattle.std.proofs.lemmas.List.Elements.{All-nil, All-cons}
+use Rattle.circuit_model.specs.Dimensions.{Dimensions}
+use Rattle.circuit_model.specs.FrameInput.{Input}
+use Rattle.exchange_events.specs.declared.outbox.Outbox.{Outbox}
+use Rattle.exchange_events.specs.declared.outbox.Response.{Response}
+use Rattle.exchange_events.specs.declared.outbox.Response.TheVariants as response
+use Rattle.exchange_events.specs.declared.record.CallRecord.{CallRecord}
+use Rattle.exchange_events.specs.declared.reply.Reply.{Reply}
+use Rattle.exchange_events.specs.declared.reply.Reply.TheVariants.{Sent}
+use Rattle.exchange_events.specs.declared.signal.Signal.{Signal}
+use Rattle.exchange_events.specs.declared.trace.Event.{Event}
+use Rattle.exchange_events.specs.declared.trace.Event.TheVariants.{Frame, LinkDown}
+use Rattle.exchange_events.specs.Responses.{reply_of}
+use Rattle.exchange_events.specs.Sizes.{Setting}
+use Rattle.exchange_events.specs.Sound.{Fits}
+use Rattle.call_profile.specs.Step.{next, reply, world_after_all}
+use Rattle.call_profile.specs.World.{World}
+use Rattle.call_profile.proofs.QuietEventLemmas.{SameFrames-next}
+use Rattle.link_procedures.specs.declared.state.Timers.{Timers}
+use Rattle.link_table.specs.declared.notice.Change.{Change}
+use Rattle.link_table.specs.declared.notice.Change.TheVariants.{Up, Down}
+use Rattle.link_table.specs.declared.notice.Notice.TheVariants as notice
+use Rattle.link_table.specs.Tables.{Table}
+use Rattle.lone_exchange.specs.declared.exchange.LoneExchange.{LoneExchange}
+use Rattle.lone_exchange.specs.At.{Carrying, IsAt}
+use Rattle.linked_exchange.specs.declared.exchange.LinkedExchange.{LinkedExchange}
+use Rattle.linked_exchange.specs.At.{IsLinkedAt}
+use Rattle.linked_exchange.specs.Runs.{links_down}
+use Rattle.linked_exchange.specs.Steps.{Joint, LinkedInput, derived, event_of, links_begun, links_ended, next_joint, reply_to, sends_of, submitted_all, world_after}
+use Rattle.linked_exchange.proofs.LinkLemmas.{receiving-ended}
+use Rattle.linked_exchange.proofs.PlainLemmas.{next_size}
+
+-- ---- the events of a link
+
+link_fits : (external line : ℕ) (change : Change) → line < external → Fits external (event_of line (notice.Link change))
+link_fits external line Up below = below
+link_fits external line Down below = below
+
+pub below_of : (external line : ℕ) (change : Change) → Fits external (event_of line (notice.Link change)) → line < external
+below_of external line Up fits = fits
+below_of external line Down fits = fits
+
+pub change_fits : (external line : ℕ) (change : Change) (e : Event) → e ≡ event_of line (notice.Link change) → line < external → Fits external e
+change_fits external line change e is below = subst (Fits external) (sym is) (link_fits external line change below)
+
+-- the reply to a change of a link has messages, moves and records
+sent_out : (response : Response) (out : Outbox) (sends : List Signal) (moved : Option (ℕ × ℕ)) (records : List CallRecord)
+    → reply_of response out ≡ Sent sends moved records → reply_of response.Sent out ≡ Sent sends moved records
+sent_out (response.Granted a b) out sends moved records e = absurd (cc)
+sent_out response.Busy out sends moved records e = absurd (cc)
+sent_out (response.Seated a b) out sends moved records e = absurd (cc)
+sent_out response.NoPort out sends moved records e = absurd (cc)
+sent_out response.Freed out sends moved records e = absurd (cc)
+sent_out response.NotNailed out sends moved records e = absurd (cc)
+sent_out response.Sent out sends moved records e = e
+sent_out (response.Frame n) out sends moved records e = absurd (cc)
+
+change_sent : (s : Setting) (w : World) (line : ℕ) (change : Change) (response : Response) (out : Outbox) → reply_of response out ≡ reply s w (event_of line (notice.Link change))
+    → reply_of response.Sent out ≡ reply s w (event_of line (notice.Link change))
+change_sent s w line Up response out e = sent_out response out _ _ _ e
+change_sent s w line Down response out e = sent_out response out _ _ _ e
+
+pub change_replied : (s : Setting) (w : World) (line : ℕ) (change : Change) (e : Event) (response : Response) (out : Outbox) → e ≡ event_of line (notice.Link change)
+    → reply_of response out ≡ reply s w e → reply_of response.Sent out ≡ reply s w (event_of line (notice.Link change))
+change_replied s w line change e response out is replied = change_sent s w line change response out (replied ∙ ap (reply s w) is)
+
+no_frame : (line : ℕ) (input : Input) → LinkDown line ≡ Frame input → ⊥
+no_frame line input e = absurd (cc)
+
+-- a link that goes down is no frame
+pub down_frames : (s : Setting) (w : World) (line : ℕ) → (next s w (LinkDown line)).holding.next ≡ w.holding.next
+down_frames s w line = (SameFrames-next s w (LinkDown line) (no_frame line)).next
+
+-- ---- an exchange without an event
+
+pub cleared_at : {P E : Type 0} (carries : Carrying E) (frames : E → ℕ) (sizes : E → Dimensions) (x y : LoneExchange P E) (s : Setting) (w : World)
+    → IsAt carries frames sizes x s w → y.control ≡ x.control → y.engine ≡ x.engine → y.context.tool ≡ x.context.tool → y.octets ≡ x.octets
+    → IsAt carries frames sizes y s w
+cleared_at carries frames sizes x y s w at control engine tool octets = record {
+  few = at.few;
+  work = rw control at.work;
+  came = at.came;
+  carried = rw engine at.carried;
+  number = rw engine at.number;
+  sized = rw engine at.sized;
+  image = rw tool at.image;
+  lines = rw octets at.lines;
+}
+
+-- the number of frames so far
+pub frames_at : {P E : Type 0} (carries : Carrying E) (frames : E → ℕ) (sizes : E → Dimensions) (x : LoneExchange P E) (s : Setting) (w : World)
+    → IsAt carries frames sizes x s w → x.control.map.next ≡ w.holding.next
+frames_at carries frames sizes x s w at = at.work.holds.circuits.holds.next
+
+pub external_at : {P E : Type 0} (carries : Carrying E) (frames : E → ℕ) (sizes : E → Dimensions) (x : LoneExchange P E) (s : Setting) (w : World)
+    → IsAt carries frames sizes x s w → x.control.map.external ≡ s.dimensions.external
+external_at carries frames sizes x s w at = ap (λ (d : Dimensions). d.external) at.work.holds.sizes
+
+-- ---- a step
+
+pub stepped : {P E : Type 0} (carries : Carrying E) (frames : E → ℕ) (sizes : E → Dimensions) (x y : LinkedExchange P E) (s : Setting) (timers : Timers) (j : Joint) (i : LinkedInput)
+    (at : ℕ) (sends : List Signal) (t : Table) → IsLinkedAt carries frames sizes x s j → IsAt carries frames sizes y.exchange s (world_after s timers j i)
+    → at ≡ (world_after s timers j i).holding.next → sends ≡ sends_of (reply_to s j.world (derived timers j i)) → t ≡ links_begun timers j i → y.links ≡ links_ended at sends t
+    → IsLinkedAt carries frames sizes y s (next_joint s timers j i)
+unfolding next_joint
+stepped carries frames sizes x y s timers j i at sends t before after at_is sends_are t_is links_are = record {
+  exchange = after;
+  links = links_are ∙ (λ k. links_ended (at_is k) (sends_are k) (t_is k));
+  ended = receiving-ended (world_after s timers j i).holding.next (submitted_all (world_after s timers j i).holding.next (sends_of (reply_to s j.world (derived timers j i))) (links_begun timers j i));
+  lines = let few = before.lines in let same = next_size s timers j i in omega (arith, few, same);
+}
