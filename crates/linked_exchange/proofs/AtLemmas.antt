@@ -102,14 +102,44 @@ external_at carries frames sizes x s w at = ap (λ (d : Dimensions). d.external)
 
 -- ---- a step
 
-pub stepped : {P E : Type 0} (carries : Carrying E) (frames : E → ℕ) (sizes : E → Dimensions) (x y : LinkedExchange P E) (s : Setting) (timers : Timers) (j : Joint) (i : LinkedInput)
-    (at : ℕ) (sends : List Signal) (t : Table) → IsLinkedAt carries frames sizes x s j → IsAt carries frames sizes y.exchange s (world_after s timers j i)
-    → at ≡ (world_after s timers j i).holding.next → sends ≡ sends_of (reply_to s j.world (derived timers j i)) → t ≡ links_begun timers j i → y.links ≡ links_ended at sends t
-    → IsLinkedAt carries frames sizes y s (next_joint s timers j i)
-unfolding next_joint
-stepped carries frames sizes x y s timers j i at sends t before after at_is sends_are t_is links_are = record {
-  exchange = after;
-  links = links_are ∙ (λ k. links_ended (at_is k) (sends_are k) (t_is k));
-  ended = receiving-ended (world_after s timers j i).holding.next (submitted_all (world_after s timers j i).holding.next (sends_of (reply_to s j.world (derived timers j i))) (links_begun timers j i));
-  lines = let few = before.lines in let same = next_size s timers j i in omega (arith, few, same);
-}
+module _ {P E : Type 0} (carries : Carrying E) (frames : E → ℕ) (sizes : E → Dimensions) (x : LinkedExchange P E) (s : Setting) (j : Joint) (before : IsLinkedAt carries frames sizes x s j) where
+  -- no link receives
+  pub free_at : x.links.receiving ≡ None
+  free_at = ap (λ (t : Table). t.receiving) before.links ∙ before.ended
+
+  -- each link belongs to an external line
+  pub few_at : length x.links.links ≤ x.exchange.control.map.external
+  few_at =
+      let few = before.lines in
+      let same = ap (λ (t : Table). length t.links) before.links in
+      let external = external_at carries frames sizes x.exchange s j.world before.exchange in
+      omega (arith, few, same, external)
+
+  pub time_at : x.exchange.control.map.next ≡ j.world.holding.next
+  time_at = frames_at carries frames sizes x.exchange s j.world before.exchange
+
+  module _ (timers : Timers) (i : LinkedInput) (es : List Event) (is : es ≡ derived timers j i) (z : LoneExchange P E) (response : Response) (y : LinkedExchange P E) (same : y.exchange ≡ z) where
+    -- the reply to the event of the step
+    pub replied_by : reply_of response z.context.out ≡ reply_to s j.world es → reply_of response y.exchange.context.out ≡ reply_to s j.world (derived timers j i)
+    replied_by replied = ap (λ (u : LoneExchange P E). reply_of response u.context.out) same ∙ (replied ∙ ap (reply_to s j.world) is)
+
+    -- the exchange after the event z, and the links after the end of the step
+    pub stepped_by : (t : Table) → IsAt carries frames sizes z s (world_after_all s j.world es) → reply_of response z.context.out ≡ reply_to s j.world es
+        → t ≡ links_begun timers j i → y.links ≡ links_ended z.control.map.next (sends_of (reply_of response z.context.out)) t
+        → IsLinkedAt carries frames sizes y s (next_joint s timers j i)
+    unfolding next_joint
+    stepped_by t passed replied begun ended =
+        let world = world_after s timers j i in
+        let sends = sends_of (reply_to s j.world (derived timers j i)) in
+        let after : IsAt carries frames sizes y.exchange s world =
+            subst (λ (u : LoneExchange P E). IsAt carries frames sizes u s world) (sym same) (subst (λ fs. IsAt carries frames sizes z s (world_after_all s j.world fs)) is passed) in
+        let time : z.control.map.next ≡ world.holding.next = frames_at carries frames sizes z s (world_after_all s j.world es) passed ∙ ap (λ fs. (world_after_all s j.world fs).holding.next) is in
+        let sent : sends_of (reply_of response z.context.out) ≡ sends = ap sends_of (replied ∙ ap (reply_to s j.world) is) in
+        let size = next_size s timers j i in
+        let few = before.lines in
+        record {
+          exchange = after;
+          links = ended ∙ (λ k. links_ended (time k) (sent k) (begun k));
+          ended = receiving-ended world.holding.next (submitted_all world.holding.next sends (links_begun timers j i));
+          lines = omega (arith, few, size);
+        }
