@@ -1,5 +1,5 @@
 -- The exchange and its links after a step.
-use Rattle.std.proofs.Common.{◌≡◌, ℕ, ◌+◌, ◌<◌, ◌≤◌, Bool, true, false, List, [], ◌∷◌, length, drop, All, refl, sym, ap, ◌∙◌, subst, arith, Some, None, Ok, Err}
+use Rattle.std.proofs.Common.{◌≡◌, ℕ, ◌+◌, ◌<◌, ◌≤◌, Bool, true, false, List, [], ◌∷◌, length, drop, get_or, drop_of_length-le, zero, suc, All, refl, sym, ap, ◌∙◌, subst, arith, Some, None, Ok, Err}
 use Rattle.std.specs.Prelude.{Option}
 use Rattle.std.specs.declared.result.Result.{Result}
 use Rattle.std.proofs.lemmas.List.Elements.{All-nil, All-cons}
@@ -100,6 +100,45 @@ pub external_at : {P E : Type 0} (carries : Carrying E) (frames : E → ℕ) (si
     → IsAt carries frames sizes x s w → x.control.map.external ≡ s.dimensions.external
 external_at carries frames sizes x s w at = ap (λ (d : Dimensions). d.external) at.work.holds.sizes
 
+-- ---- the links that are down at the start
+
+-- y is in a state in which the links of the lines before `line` are down, after the state w
+pub record IsDown {P E : Type 0} (carries : Carrying E) (frames : E → ℕ) (sizes : E → Dimensions) (y : LoneExchange P E) (linked : List Bool) (line : ℕ) (s : Setting) (w : World) : Type 0 where
+  pub state : World
+  pub at : IsAt carries frames sizes y s state
+  pub time : state.holding.next ≡ w.holding.next
+  pub rest : world_after_all s state (links_down line (drop line linked)) ≡ world_after_all s w (links_down 0 linked)
+
+drop_one : (linked : List Bool) (line : ℕ) (b : Bool) → line < length linked → get_or linked line false ≡ b → drop line linked ≡ b ∷ drop (line + 1) linked
+drop_one [] line b within is = absurd (omega (arith, within))
+drop_one (x ∷ xs) zero b within is = ap (λ y. y ∷ xs) is
+drop_one (x ∷ xs) (suc n) b within is = drop_one xs n b (omega (arith, within)) is
+
+module _ {P E : Type 0} (carries : Carrying E) (frames : E → ℕ) (sizes : E → Dimensions) (linked : List Bool) (line : ℕ) (s : Setting) (w : World) (within : line < length linked) where
+  -- a line without a link
+  pub down_same : (y : LoneExchange P E) → get_or linked line false ≡ false → IsDown carries frames sizes y linked line s w → IsDown carries frames sizes y linked (line + 1) s w
+  down_same y off h = record {
+    state = h.state;
+    at = h.at;
+    time = h.time;
+    rest = ap (λ l. world_after_all s h.state (links_down line l)) (sym (drop_one linked line false within off)) ∙ h.rest;
+  }
+
+  -- a line with a link
+  pub down_more : (y z : LoneExchange P E) → get_or linked line false ≡ true → (h : IsDown carries frames sizes y linked line s w)
+      → IsAt carries frames sizes z s (next s h.state (LinkDown line)) → IsDown carries frames sizes z linked (line + 1) s w
+  down_more y z on h at = record {
+    state = next s h.state (LinkDown line);
+    at = at;
+    time = down_frames s h.state line ∙ h.time;
+    rest = ap (λ l. world_after_all s h.state (links_down line l)) (sym (drop_one linked line true within on)) ∙ h.rest;
+  }
+
+pub down_all : {P E : Type 0} (carries : Carrying E) (frames : E → ℕ) (sizes : E → Dimensions) (y : LoneExchange P E) (linked : List Bool) (line : ℕ) (s : Setting) (w : World)
+    → length linked ≤ line → IsDown carries frames sizes y linked line s w → IsAt carries frames sizes y s (world_after_all s w (links_down 0 linked))
+down_all carries frames sizes y linked line s w past h =
+    subst (IsAt carries frames sizes y s) (ap (λ l. world_after_all s h.state (links_down line l)) (sym (drop_of_length-le linked past)) ∙ h.rest) h.at
+
 -- ---- a step
 
 module _ {P E : Type 0} (carries : Carrying E) (frames : E → ℕ) (sizes : E → Dimensions) (x : LinkedExchange P E) (s : Setting) (j : Joint) (before : IsLinkedAt carries frames sizes x s j) where
@@ -132,7 +171,7 @@ module _ {P E : Type 0} (carries : Carrying E) (frames : E → ℕ) (sizes : E �
         let world = world_after s timers j i in
         let sends = sends_of (reply_to s j.world (derived timers j i)) in
         let after : IsAt carries frames sizes y.exchange s world =
-            subst (λ (u : LoneExchange P E). IsAt carries frames sizes u s world) (sym same) (subst (λ fs. IsAt carries frames sizes z s (world_after_all s j.world fs)) is passed) in
+        subst (λ (u : LoneExchange P E). IsAt carries frames sizes u s world) (sym same) (subst (λ fs. IsAt carries frames sizes z s (world_after_all s j.world fs)) is passed) in
         let time : z.control.map.next ≡ world.holding.next = frames_at carries frames sizes z s (world_after_all s j.world es) passed ∙ ap (λ fs. (world_after_all s j.world fs).holding.next) is in
         let sent : sends_of (reply_of response z.context.out) ≡ sends = ap sends_of (replied ∙ ap (reply_to s j.world) is) in
         let size = next_size s timers j i in

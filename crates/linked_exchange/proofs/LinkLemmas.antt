@@ -57,7 +57,7 @@ pub size-ended : (at : ℕ) (t : Table) → length (ended at t).links ≡ length
 size-ended at t = ended_size t.receiving at t
 
 pub size-new_table : (linked : List Bool) (at : ℕ) → length (new_table linked at).links ≡ length linked
-size-new_table linked at = length-map (new_link at) linked
+size-new_table linked at = length-map linked (new_link at)
 
 -- ---- the link that receives
 

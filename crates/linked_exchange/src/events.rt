@@ -156,11 +156,10 @@ pub(crate) fn put_down<P: PathMap, C: Carrier, R: Threads + Sync>(
     ensures world { PassesAll C.carries C.next C.sizes settings.now (links_down 0 linked.now) exchange.old exchange.new }
     ensures bound { exchange.new.control.map.bound ≡ exchange.old.control.map.bound }
 {
-    let mut line: u8 = 0;
-    for has_link in linked {
-        if *has_link {
-            change_link(exchange, rt, settings, line, Change::Down);
+    for line in 0..linked.len() {
+        if !linked[line] {
+            continue;
         }
-        line += 1;
+        change_link(exchange, rt, settings, line as u8, Change::Down);
     }
 }
