@@ -6,8 +6,8 @@
 //! is submitted to the link of its line. After the step, [`frames`](LinkTable::frames) and [`lines`](LinkTable::lines)
 //! of the links have the frames to be sent, in the order of transmission.
 //!
-//! - After each call, the exchange state and the links are those of the definition `next_joint` (`step`). The reply is
-//!   the reply to the event (`reply`), and the octets of a frame are the output of the engine (`played`).
+//! - After each call, the exchange state and the links are the value of the definition `next_joint` (`step`). The reply
+//!   is the reply to the event (`reply`), and the octets of a frame are the output of the engine (`played`).
 //! - The events of a list of steps are a trace without data links. It fits the exchange, and gives the same exchange
 //!   state and the same replies ([`linked_runs_are_plain`]).
 //!
