@@ -108,7 +108,7 @@ active_due : (timers : Timers) (frame : ℕ) (leg : Leg) → leg.state ≡ activ
 active_due timers frame leg is None due = inl refl
 active_due timers frame leg is (Some e) due = inr (ap (λ (f : Expiry). Some f) (outage_only e (sym (due_state leg.state leg.resent leg.since frame timers e due) ∙ is)))
 
-active_quiet : (timers : Timers) (frame : ℕ) (leg : Leg) → leg.state ≡ active → (due_of timers frame leg ≡ Some expiry.Outage → ⊥) → due_of timers frame leg ≡ None
+pub active_quiet : (timers : Timers) (frame : ℕ) (leg : Leg) → leg.state ≡ active → (due_of timers frame leg ≡ Some expiry.Outage → ⊥) → due_of timers frame leg ≡ None
 active_quiet timers frame leg is never = elim (active_due timers frame leg is (due_of timers frame leg) refl) [
   | inl none ↦ none
   | inr out ↦ absurd (never out)
@@ -192,7 +192,7 @@ module _ (s : Setting) (frame : ℕ) (w : World) (kept : Kept s.dimensions s.ton
           let far = aside leg e at due in
           expiry_spares d z in_z s.tones mid.world.legs (record { slot = here; leg = leg }) (in_here, far.0) e (away_by leg leg.peer far.1 (kept_now.1.each here leg in_here at).peer))
 
-      leg_then : IsAside → leg_at (legs_after (suc line)) z ≡ leg_at mid.world.legs z
+      pub leg_then : IsAside → leg_at (legs_after (suc line)) z ≡ leg_at mid.world.legs z
       leg_then aside = ap (λ (n : Making). leg_at n.world.legs z) made_more ∙ leg_at-making_after_all_spared d z in_z mid turn (turn_spares aside)
 
       idle_then : IsAside → is_idle mid.world.holding.circuits z ≡ true → is_idle (made (suc line)).world.holding.circuits z ≡ true
@@ -206,7 +206,7 @@ module _ (s : Setting) (frame : ℕ) (w : World) (kept : Kept s.dimensions s.ton
       )
 
       -- a leg that isn't due in this turn, nor its peer
-      leg_aside : (l : Leg) → leg_at mid.world.legs z ≡ Some l → (z ≡ here → due_of s.timers frame l ≡ None)
+      pub leg_aside : (l : Leg) → leg_at mid.world.legs z ≡ Some l → (z ≡ here → due_of s.timers frame l ≡ None)
           → (l.peer ≡ peer.Leg here → (leg : Leg) → leg_at w.legs here ≡ Some leg → due_of s.timers frame leg ≡ None) → IsAside
       leg_aside l at_z own others leg e at due = (
         λ same.
@@ -404,33 +404,3 @@ module _ (s : Setting) (w : World) (input : Input) (stands : CallsStand s w) whe
         cleared = other_cleared s f (pass w input) passed_kept (omega arith) x leg first.within first.lost first.first y other named is.at;
         sent = other_sent s f (pass w input) passed_kept (omega arith) x leg first.within first.lost first.first y other named is.at;
       }
-
-  -- a leg whose timer runs out in active is lost
-  runs_lost : (x : Slot) (leg : Leg) → leg.state ≡ active → RunsOut s.timers w.holding.next w.legs x leg → IsLost s.timers w.holding.next w.legs x leg
-  runs_lost x leg is runs = record {
-    looked = runs.looked;
-    at = runs.at;
-    due = elim (active_due s.timers w.holding.next leg is (due_of s.timers w.holding.next leg) refl) [
-      | inl none ↦ let wrong : false ≡ true = ap (λ (o : Option Expiry). is_some o) (sym none) ∙ runs.due in absurd cc
-      | inr out ↦ out
-    ];
-  }
-
-  neither_out : (x : Slot) (leg : Leg) → NeitherIsLost s w x leg → EitherRunsOut s.timers w.holding.next w.legs x → ⊥
-  neither_out x leg is out =
-      let same = same_leg (leg_at w.legs x) out.0 leg out.1 is.at in
-      elim out.2 [
-        | inl own ↦ is.own (runs_lost x leg is.state (subst (RunsOut s.timers w.holding.next w.legs x) same own))
-        | inr other ↦
-            let named : leg.peer ≡ peer.Leg other.0 = ap (λ (l : Leg). l.peer) (sym same) ∙ other.2 in
-            let has_peer = subst (HasPeer s.dimensions.external w.legs x leg) named (stands.legs.each x leg is.within is.at).peer in
-            let there = same_leg (leg_at w.legs other.0) has_peer.1.0 other.1 has_peer.1.1 other.3.at in
-            let up = ap (λ (l : Leg). l.state) (sym there) ∙ (call_active leg.side x other.0 leg has_peer.1.0 has_peer.1.2).0 is.state in
-            is.others other.0 other.1 named (runs_lost other.0 other.1 up other.3)
-      ]
-
-  pub neither_changes : (x : Slot) (leg : Leg) → NeitherIsLost s w x leg → leg_at (outcome_of_frame s w input).making.world.legs x ≡ Some leg
-  neither_changes x leg is = elim (none_else_changes s w input stands x is.within) [
-    | inl stays ↦ stays ∙ is.at
-    | inr out ↦ absurd (neither_out x leg is out)
-  ]
