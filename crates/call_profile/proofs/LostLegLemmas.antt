@@ -1,5 +1,5 @@
 -- What a frame does in which T309 of a leg expires.
-use Rattle.std.proofs.Common.{◌≡◌, ℕ, zero, suc, ◌+◌, ◌-◌, ◌*◌, ◌<◌, ◌≤◌, ◌⊎◌, inl, inr, true, false, not, List, [], ◌∷◌, ◌++◌, length, Option, Some, None, refl, sym, ◌∙◌, ap, subst, arith, length-set, filter, Contains, is_some, IfSome}
+use Rattle.std.proofs.Common.{◌≡◌, ℕ, zero, suc, ◌+◌, ◌-◌, ◌*◌, ◌<◌, ◌≤◌, ◌⊎◌, inl, inr, true, false, not, List, [], ◌∷◌, ◌++◌, length, Option, Some, None, refl, sym, ◌∙◌, ap, subst, arith, length-set, filter, Contains, IfSome}
 use Rattle.std.specs.Prelude.{◌%◌}
 use Rattle.std.proofs.lemmas.Grind.{common_steps}
 use Rattle.std.proofs.lemmas.List.Elements.{Contains-append_left, Contains-push}
@@ -24,10 +24,9 @@ use Rattle.exchange_events.specs.declared.signal.Signal.{Signal}
 use Rattle.exchange_events.specs.Sizes.{Setting, Dimensions}
 use Rattle.call_profile.specs.Acts.{in_disconnect_indication, peer_of, with_peer, clear_with, remove_leg}
 use Rattle.call_profile.specs.Expiring.{timed_state, outage_over, due_of, expire_slot, slot_looked_at, outcome_of_lines, outcome_of_frame}
-use Rattle.call_profile.specs.ExpiryBounds.{RunsOut, EitherRunsOut}
 use Rattle.call_profile.specs.Legs.{Legs, waiting_from, leg_at}
 use Rattle.call_profile.specs.LegStanding.{CallsStand, HasPeer, IsInCall}
-use Rattle.call_profile.specs.LostLegs.{IsLost, IsLostFirst, IsLeftBehind, NeitherIsLost, IsVacated, IsDisconnected, cleared_by_outage, outage_signal}
+use Rattle.call_profile.specs.LostLegs.{IsLost, IsLostFirst, IsLeftBehind, IsVacated, IsDisconnected, cleared_by_outage, outage_signal}
 use Rattle.call_profile.specs.Operations as op
 use Rattle.call_profile.specs.Operations.{Operation, Making, making_after, making_after_all}
 use Rattle.call_profile.specs.Restarts.{MessageOutcome}
@@ -37,7 +36,7 @@ use Rattle.call_profile.proofs.ClearingLemmas.{Kept, held_there, peers_apart}
 use Rattle.call_profile.proofs.CommandLemmas.{pass_kept}
 use Rattle.call_profile.proofs.DroppedLineLemmas.{call_active}
 use Rattle.call_profile.proofs.ExpiringLemmas.{at_slot, lines_kept, lines_none, lines_more, place_within}
-use Rattle.call_profile.proofs.ExpiryChangeLemmas.{Apart, Spares, SparesAll, leg_at-making_after_all_spared, expiry_spares, due_since, unchanged_due, none_else_changes}
+use Rattle.call_profile.proofs.ExpiryChangeLemmas.{Apart, Spares, SparesAll, leg_at-making_after_all_spared, expiry_spares, due_since, unchanged_due}
 use Rattle.call_profile.proofs.ExpirySinceLemmas.{outcome_of_lines_next}
 use Rattle.call_profile.proofs.ExpiryStateLemmas.{due_state}
 use Rattle.call_profile.proofs.ToneLemmas.{cleared_is_idle}
