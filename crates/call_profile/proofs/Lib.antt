@@ -68,6 +68,7 @@ pub mod OutageLemmas
 pub mod UnfailingLinkLemmas
 pub mod LostLegLemmas
 pub mod LostRecordLemmas
+pub mod LastingCallLemmas
 pub mod RecordedCallLemmas
 pub mod RecordedMessageLemmas
 pub mod FrameRecordLemmas

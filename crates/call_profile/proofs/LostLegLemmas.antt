@@ -1,5 +1,5 @@
 -- What a frame does in which T309 of a leg expires.
-use Rattle.std.proofs.Common.{◌≡◌, ℕ, zero, suc, ◌+◌, ◌-◌, ◌*◌, ◌<◌, ◌≤◌, ◌⊎◌, inl, inr, true, false, not, List, [], ◌∷◌, ◌++◌, length, Option, Some, None, refl, sym, ◌∙◌, ap, subst, arith, length-set, filter, Contains, is_some, IfSome}
+use Rattle.std.proofs.Common.{◌≡◌, ℕ, zero, suc, ◌+◌, ◌-◌, ◌*◌, ◌<◌, ◌≤◌, ◌⊎◌, inl, inr, true, false, not, List, [], ◌∷◌, ◌++◌, length, Option, Some, None, refl, sym, ◌∙◌, ap, subst, arith, length-set, filter, Contains, IfSome}
 use Rattle.std.specs.Prelude.{◌%◌}
 use Rattle.std.proofs.lemmas.Grind.{common_steps}
 use Rattle.std.proofs.lemmas.List.Elements.{Contains-append_left, Contains-push}
@@ -24,10 +24,9 @@ use Rattle.exchange_events.specs.declared.signal.Signal.{Signal}
 use Rattle.exchange_events.specs.Sizes.{Setting, Dimensions}
 use Rattle.call_profile.specs.Acts.{in_disconnect_indication, peer_of, with_peer, clear_with, remove_leg}
 use Rattle.call_profile.specs.Expiring.{timed_state, outage_over, due_of, expire_slot, slot_looked_at, outcome_of_lines, outcome_of_frame}
-use Rattle.call_profile.specs.ExpiryBounds.{RunsOut, EitherRunsOut}
 use Rattle.call_profile.specs.Legs.{Legs, waiting_from, leg_at}
 use Rattle.call_profile.specs.LegStanding.{CallsStand, HasPeer, IsInCall}
-use Rattle.call_profile.specs.LostLegs.{IsLost, IsLostFirst, IsLeftBehind, NeitherIsLost, IsVacated, IsDisconnected, cleared_by_outage, outage_signal}
+use Rattle.call_profile.specs.LostLegs.{IsLost, IsLostFirst, IsLeftBehind, IsVacated, IsDisconnected, cleared_by_outage, outage_signal}
 use Rattle.call_profile.specs.Operations as op
 use Rattle.call_profile.specs.Operations.{Operation, Making, making_after, making_after_all}
 use Rattle.call_profile.specs.Restarts.{MessageOutcome}
@@ -37,7 +36,7 @@ use Rattle.call_profile.proofs.ClearingLemmas.{Kept, held_there, peers_apart}
 use Rattle.call_profile.proofs.CommandLemmas.{pass_kept}
 use Rattle.call_profile.proofs.DroppedLineLemmas.{call_active}
 use Rattle.call_profile.proofs.ExpiringLemmas.{at_slot, lines_kept, lines_none, lines_more, place_within}
-use Rattle.call_profile.proofs.ExpiryChangeLemmas.{Apart, Spares, SparesAll, leg_at-making_after_all_spared, expiry_spares, due_since, unchanged_due, none_else_changes}
+use Rattle.call_profile.proofs.ExpiryChangeLemmas.{Apart, Spares, SparesAll, leg_at-making_after_all_spared, expiry_spares, due_since, unchanged_due}
 use Rattle.call_profile.proofs.ExpirySinceLemmas.{outcome_of_lines_next}
 use Rattle.call_profile.proofs.ExpiryStateLemmas.{due_state}
 use Rattle.call_profile.proofs.ToneLemmas.{cleared_is_idle}
@@ -108,7 +107,7 @@ active_due : (timers : Timers) (frame : ℕ) (leg : Leg) → leg.state ≡ activ
 active_due timers frame leg is None due = inl refl
 active_due timers frame leg is (Some e) due = inr (ap (λ (f : Expiry). Some f) (outage_only e (sym (due_state leg.state leg.resent leg.since frame timers e due) ∙ is)))
 
-active_quiet : (timers : Timers) (frame : ℕ) (leg : Leg) → leg.state ≡ active → (due_of timers frame leg ≡ Some expiry.Outage → ⊥) → due_of timers frame leg ≡ None
+pub active_quiet : (timers : Timers) (frame : ℕ) (leg : Leg) → leg.state ≡ active → (due_of timers frame leg ≡ Some expiry.Outage → ⊥) → due_of timers frame leg ≡ None
 active_quiet timers frame leg is never = elim (active_due timers frame leg is (due_of timers frame leg) refl) [
   | inl none ↦ none
   | inr out ↦ absurd (never out)
@@ -192,7 +191,7 @@ module _ (s : Setting) (frame : ℕ) (w : World) (kept : Kept s.dimensions s.ton
           let far = aside leg e at due in
           expiry_spares d z in_z s.tones mid.world.legs (record { slot = here; leg = leg }) (in_here, far.0) e (away_by leg leg.peer far.1 (kept_now.1.each here leg in_here at).peer))
 
-      leg_then : IsAside → leg_at (legs_after (suc line)) z ≡ leg_at mid.world.legs z
+      pub leg_then : IsAside → leg_at (legs_after (suc line)) z ≡ leg_at mid.world.legs z
       leg_then aside = ap (λ (n : Making). leg_at n.world.legs z) made_more ∙ leg_at-making_after_all_spared d z in_z mid turn (turn_spares aside)
 
       idle_then : IsAside → is_idle mid.world.holding.circuits z ≡ true → is_idle (made (suc line)).world.holding.circuits z ≡ true
@@ -206,7 +205,7 @@ module _ (s : Setting) (frame : ℕ) (w : World) (kept : Kept s.dimensions s.ton
       )
 
       -- a leg that isn't due in this turn, nor its peer
-      leg_aside : (l : Leg) → leg_at mid.world.legs z ≡ Some l → (z ≡ here → due_of s.timers frame l ≡ None)
+      pub leg_aside : (l : Leg) → leg_at mid.world.legs z ≡ Some l → (z ≡ here → due_of s.timers frame l ≡ None)
           → (l.peer ≡ peer.Leg here → (leg : Leg) → leg_at w.legs here ≡ Some leg → due_of s.timers frame leg ≡ None) → IsAside
       leg_aside l at_z own others leg e at due = (
         λ same.
@@ -404,33 +403,3 @@ module _ (s : Setting) (w : World) (input : Input) (stands : CallsStand s w) whe
         cleared = other_cleared s f (pass w input) passed_kept (omega arith) x leg first.within first.lost first.first y other named is.at;
         sent = other_sent s f (pass w input) passed_kept (omega arith) x leg first.within first.lost first.first y other named is.at;
       }
-
-  -- a leg whose timer runs out in active is lost
-  runs_lost : (x : Slot) (leg : Leg) → leg.state ≡ active → RunsOut s.timers w.holding.next w.legs x leg → IsLost s.timers w.holding.next w.legs x leg
-  runs_lost x leg is runs = record {
-    looked = runs.looked;
-    at = runs.at;
-    due = elim (active_due s.timers w.holding.next leg is (due_of s.timers w.holding.next leg) refl) [
-      | inl none ↦ let wrong : false ≡ true = ap (λ (o : Option Expiry). is_some o) (sym none) ∙ runs.due in absurd cc
-      | inr out ↦ out
-    ];
-  }
-
-  neither_out : (x : Slot) (leg : Leg) → NeitherIsLost s w x leg → EitherRunsOut s.timers w.holding.next w.legs x → ⊥
-  neither_out x leg is out =
-      let same = same_leg (leg_at w.legs x) out.0 leg out.1 is.at in
-      elim out.2 [
-        | inl own ↦ is.own (runs_lost x leg is.state (subst (RunsOut s.timers w.holding.next w.legs x) same own))
-        | inr other ↦
-            let named : leg.peer ≡ peer.Leg other.0 = ap (λ (l : Leg). l.peer) (sym same) ∙ other.2 in
-            let has_peer = subst (HasPeer s.dimensions.external w.legs x leg) named (stands.legs.each x leg is.within is.at).peer in
-            let there = same_leg (leg_at w.legs other.0) has_peer.1.0 other.1 has_peer.1.1 other.3.at in
-            let up = ap (λ (l : Leg). l.state) (sym there) ∙ (call_active leg.side x other.0 leg has_peer.1.0 has_peer.1.2).0 is.state in
-            is.others other.0 other.1 named (runs_lost other.0 other.1 up other.3)
-      ]
-
-  pub neither_changes : (x : Slot) (leg : Leg) → NeitherIsLost s w x leg → leg_at (outcome_of_frame s w input).making.world.legs x ≡ Some leg
-  neither_changes x leg is = elim (none_else_changes s w input stands x is.within) [
-    | inl stays ↦ stays ∙ is.at
-    | inr out ↦ absurd (neither_out x leg is out)
-  ]

@@ -219,7 +219,7 @@ module _ (s : Setting) (frame : ℕ) (w : World) (kept : Kept s.dimensions s.ton
         (names_unnamed s.tones l z here c may hears far.0 (λ p is. ((others p is).1 leg e at due).0))
         (none_named s.tones l z c may hears o own peers))
 
-    heard_then : heard_by mid.world.holding.circuits z ≡ Some c → heard_by (made (suc line)).world.holding.circuits z ≡ Some c
+    pub heard_then : heard_by mid.world.holding.circuits z ≡ Some c → heard_by (made (suc line)).world.holding.circuits z ≡ Some c
     heard_then heard =
         subst (λ (n : Making). heard_by n.world.holding.circuits z ≡ Some c) (sym (ap (λ (a : MessageOutcome). a.making) (lines_more s frame w line)))
         (heard_still_all c d z mid turn (turn_keeps heard) heard)

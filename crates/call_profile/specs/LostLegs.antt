@@ -2,7 +2,7 @@
 -- project's profile.
 use Rattle.std.specs.Prelude.{◌≡◌, ◌≤◌, ◌%◌, ℕ, true, Contains, Some, None}
 use Rattle.circuit_model.specs.declared.channel.Slot.{Slot}
-use Rattle.circuit_model.specs.Circuits.{is_idle}
+use Rattle.circuit_model.specs.Circuits.{heard_by, is_idle}
 use Rattle.circuit_model.specs.Extent.{IsExternal}
 use Rattle.circuit_model.specs.FrameInput.{Input}
 use Rattle.q931_codec.specs.CallStates.{active}
@@ -76,3 +76,8 @@ IsLossRecorded s w input x leg =
     (told : CallRecord)
     × (record_ended (pass w input) (record { slot = x; leg = leg }) destination_out_of_order ≡ Some told)
     × Contains (outcome_of_frame s w input).recorded told
+
+-- the leg is unchanged, and so is the circuit by which its slot receives: its connection or its membership
+pub record IsUnchanged (s : Setting) (w : World) (input : Input) (x : Slot) (held : Leg) : Type 0 where
+  pub leg : leg_at (outcome_of_frame s w input).making.world.legs x ≡ Some held
+  pub hears : heard_by (outcome_of_frame s w input).making.world.holding.circuits x ≡ heard_by w.holding.circuits x

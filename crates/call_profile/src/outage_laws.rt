@@ -14,8 +14,8 @@ ghost use Rattle.call_profile.specs.ExpiryBounds.{NoneIsLost, UntimedStay, Conve
 ghost use Rattle.call_profile.specs.ExpiryRecords.{IsFrameRecord, IsInFrame, ComeByLine};
 ghost use Rattle.call_profile.specs.Fabrics.{world_of_run};
 ghost use Rattle.call_profile.specs.LegStanding.{CallsStand};
-ghost use Rattle.call_profile.specs.Legs.{is_down, leg_at};
-ghost use Rattle.call_profile.specs.LostLegs.{IsDisconnected, IsLeftBehind, IsLossRecorded, IsLostFirst, IsVacated, NeitherIsLost};
+ghost use Rattle.call_profile.specs.Legs.{is_down};
+ghost use Rattle.call_profile.specs.LostLegs.{IsDisconnected, IsLeftBehind, IsLossRecorded, IsLostFirst, IsUnchanged, IsVacated, NeitherIsLost};
 ghost use Rattle.call_profile.specs.Outages.{down_after_all, HasNoFailure, IsOnLineUp, NoLinkIsDown, OutagesStand};
 ghost use Rattle.call_profile.specs.Recorded.{HasEnded};
 ghost use Rattle.call_profile.specs.Step.{next};
@@ -64,7 +64,7 @@ pub fn law_of_unfailing_links()
 /// If T309 of a leg expires in a frame, the leg is removed, and no circuit uses its slot. The other leg of its call is
 /// cleared with cause 27, and its user is sent DISCONNECT. The frame has the record of the call with cause 27. If both
 /// legs of a call are due in one frame, the leg on the lower line expires, and the other leg is cleared. Each other leg
-/// in state 10 is unchanged.
+/// in state 10 is unchanged, and so is its connection or its membership.
 pub fn law_of_lost_legs()
     ensures gone { (s : Setting) (w : World) (input : Input) → CallsStand s w → (x : Slot) (leg : Leg) → IsLostFirst s w x leg
         → IsVacated (outcome_of_frame s w input).making.world x }
@@ -73,5 +73,5 @@ pub fn law_of_lost_legs()
     ensures recorded { (s : Setting) (w : World) (input : Input) → CallsStand s w → (x : Slot) (leg : Leg) → IsLostFirst s w x leg
         → IsLossRecorded s w input x leg }
     ensures others { (s : Setting) (w : World) (input : Input) → CallsStand s w → (x : Slot) (leg : Leg) → NeitherIsLost s w x leg
-        → leg_at (outcome_of_frame s w input).making.world.legs x ≡ Some leg }
+        → IsUnchanged s w input x leg }
 {}

@@ -1,4 +1,5 @@
-use Rattle.call_profile.proofs.LostLegLemmas.{lost_vacated, left_disconnected, neither_changes}
+use Rattle.call_profile.proofs.LastingCallLemmas.{neither_changes}
+use Rattle.call_profile.proofs.LostLegLemmas.{lost_vacated, left_disconnected}
 use Rattle.call_profile.proofs.LostRecordLemmas.{lost_recorded}
 use Rattle.call_profile.proofs.outage_laws.law_of_lost_legs.Goals as goal
 
