@@ -1,3 +1,4 @@
 mod LinkLemmas
 mod PlainLemmas
+mod QuietLemmas
 mod AtLemmas

@@ -1,4 +1,5 @@
 use Rattle.linked_exchange.proofs.PlainLemmas.{trace_fits, trace_replies, trace_short, trace_world}
+use Rattle.linked_exchange.proofs.QuietLemmas.{start_quiet}
 use Rattle.linked_exchange.proofs.laws.linked_runs_are_plain.Goals as goal
 
 pub returns-clause-fits : goal.returns-clause-fits
@@ -12,3 +13,6 @@ returns-clause-world c = λ s timers linked is. trace_world s timers linked is
 
 pub returns-clause-replies : goal.returns-clause-replies
 returns-clause-replies c = λ s timers linked is. trace_replies s timers linked is
+
+pub returns-clause-silent : goal.returns-clause-silent
+returns-clause-silent c = λ s linked. start_quiet s linked
