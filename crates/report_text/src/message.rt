@@ -25,8 +25,12 @@ pub(crate) fn put_message(
     out.extend_from_slice(b"\n")
 }
 
-// Appends the numbers of live paths that a connection or a seat moved, if there was one.
-fn put_moves(out: &mut Vec<u8>, moved: Option<(u32, u32)>) -> Result<(), AllocError>
+/// Appends the numbers of live paths that a connection or a seat moved, if there was one.
+///
+/// # Errors
+///
+/// [`AllocError`] if an allocation fails. Then `out` may have a prefix of the text.
+pub fn put_moves(out: &mut Vec<u8>, moved: Option<(u32, u32)>) -> Result<(), AllocError>
     ensures moves { OnOk result (out.new.items ≡ out.old.items ++ moves moved) }
     ensures front { take (length out.old.items) out.new.items ≡ out.old.items }
 {
@@ -77,9 +81,21 @@ fn put_signal(out: &mut Vec<u8>, sent: &Signal) -> Result<(), AllocError>
     ensures message { OnOk result (out.new.items ≡ out.old.items ++ on_line sent.now.line sent.now.octets) }
     ensures front { take (length out.old.items) out.new.items ≡ out.old.items }
 {
-    let octets = sent.octets.as_slice();
+    put_on_line(out, usize::from(sent.line), sent.octets.as_slice())
+}
+
+/// Appends octets that were sent, after the number of their line.
+///
+/// # Errors
+///
+/// [`AllocError`] if an allocation fails. Then `out` may have a prefix of the text.
+#[inline(always)]
+pub fn put_on_line(out: &mut Vec<u8>, line: usize, octets: &[u8]) -> Result<(), AllocError>
+    ensures message { OnOk result (out.new.items ≡ out.old.items ++ on_line line octets.now) }
+    ensures front { take (length out.old.items) out.new.items ≡ out.old.items }
+{
     let (first, others) = octets.split_at(octets.len().min(32));
-    put_first(out, usize::from(sent.line), first)?;
+    put_first(out, line, first)?;
     put_octets(out, others)
 }
 

@@ -186,9 +186,13 @@ fn put_not_nailed(out: &mut Vec<u8>, event: u32) -> Result<(), AllocError>
     put_word(out, event, b" notnailed\n")
 }
 
-// Appends a number and the word after it.
+/// Appends a number and the word after it.
+///
+/// # Errors
+///
+/// [`AllocError`] if an allocation fails. Then `out` may have a prefix of the text.
 #[inline(always)]
-pub(crate) fn put_word(out: &mut Vec<u8>, number: u32, word: &[u8]) -> Result<(), AllocError>
+pub fn put_word(out: &mut Vec<u8>, number: u32, word: &[u8]) -> Result<(), AllocError>
     requires { length word.now ≤ 16 }
     ensures word { OnOk result (out.new.items ≡ out.old.items ++ decimal number ++ word.now) }
     ensures front { take (length out.old.items) out.new.items ≡ out.old.items }
@@ -199,8 +203,12 @@ pub(crate) fn put_word(out: &mut Vec<u8>, number: u32, word: &[u8]) -> Result<()
     out.extend_from_slice(&text[start..])
 }
 
-// Appends a number, the word after it, and a second number.
-fn put_pair(out: &mut Vec<u8>, number: u32, word: &[u8], other: u32) -> Result<(), AllocError>
+/// Appends a number, the word after it, and a second number.
+///
+/// # Errors
+///
+/// [`AllocError`] if an allocation fails. Then `out` may have a prefix of the text.
+pub fn put_pair(out: &mut Vec<u8>, number: u32, word: &[u8], other: u32) -> Result<(), AllocError>
     requires { length word.now ≤ 16 }
     ensures pair { OnOk result (out.new.items ≡ out.old.items ++ decimal number ++ word.now ++ decimal other) }
     ensures front { take (length out.old.items) out.new.items ≡ out.old.items }
@@ -244,8 +252,12 @@ fn put_frame(
     out.extend_from_slice(b"\n")
 }
 
-// Appends the octets of each line that is not idle.
-fn put_parts(out: &mut Vec<u8>, octets: &[[u8; 30]]) -> Result<(), AllocError>
+/// Appends the octets of each line that is not idle.
+///
+/// # Errors
+///
+/// [`AllocError`] if an allocation fails. Then `out` may have a prefix of the text.
+pub fn put_parts(out: &mut Vec<u8>, octets: &[[u8; 30]]) -> Result<(), AllocError>
     ensures parts { OnOk result (out.new.items ≡ out.old.items ++ parts 0 (lines_sent (octet_of octets.now) (length octets.now))) }
     ensures front { take (length out.old.items) out.new.items ≡ out.old.items }
 {

@@ -19,6 +19,8 @@ mod headings;
 #[cfg(test)]
 mod keeper;
 #[cfg(test)]
+mod link_lines;
+#[cfg(test)]
 mod refusals;
 #[cfg(test)]
 mod reports;

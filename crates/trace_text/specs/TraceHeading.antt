@@ -17,6 +17,10 @@ happening_of Sync = happening.SegmentEnd
 happening_of Change = happening.Change
 happening_of other = happening.Nothing
 
+-- the result of the lines after one more event
+abbrev pub with_event : SoFar → SoFar
+with_event known = record known { events = known.events + 1 }
+
 -- the result of the lines after one more line with this content
 abbrev pub with_said : SoFar → Said → SoFar
 with_said known (Header sizes) = record known { sizes = Some sizes }

@@ -41,7 +41,7 @@ fn behind_spaces(line: &[u8]) -> &[u8]
 }
 
 /// Returns the first field and the octets after it. `None` if there is no field.
-pub(crate) fn first_word(line: &[u8]) -> Option<(&[u8], &[u8])>
+pub fn first_word(line: &[u8]) -> Option<(&[u8], &[u8])>
     ensures { MatchOption result (words line.now ≡ [])
         (λ cut. (words line.now ≡ cut.0.now ∷ words cut.1.now) × (length cut.1.now < length line.now)) }
 {
@@ -54,7 +54,7 @@ pub(crate) fn first_word(line: &[u8]) -> Option<(&[u8], &[u8])>
 }
 
 /// Returns the two fields. `None` if their number is not 2.
-pub(crate) fn two_words(line: &[u8]) -> Option<(&[u8], &[u8])>
+pub fn two_words(line: &[u8]) -> Option<(&[u8], &[u8])>
     ensures { option_map (λ both. (both.0.now, both.1.now)) result ≡ two (words line.now) }
 {
     let (one, rest) = first_word(line)?;
@@ -66,7 +66,7 @@ pub(crate) fn two_words(line: &[u8]) -> Option<(&[u8], &[u8])>
 }
 
 /// Returns the one or two fields, with an empty second field if there is one. `None` if their number is neither.
-pub(crate) fn one_or_two_words(line: &[u8]) -> Option<(&[u8], &[u8])>
+pub fn one_or_two_words(line: &[u8]) -> Option<(&[u8], &[u8])>
     ensures { option_map (λ both. (both.0.now, both.1.now)) result ≡ one_or_two (words line.now) }
 {
     let (one, rest) = first_word(line)?;
@@ -115,7 +115,7 @@ pub(crate) fn halves_at(mark: u8, word: &[u8]) -> Option<(&[u8], &[u8])>
 }
 
 /// Returns whether all octets of a line are printable.
-pub(crate) fn is_text(line: &[u8]) -> bool
+pub fn is_text(line: &[u8]) -> bool
     ensures { result ≡ list_all is_printable line.now }
 {
     // The loop has no early exit, so that it tests several octets at once.
@@ -128,7 +128,7 @@ pub(crate) fn is_text(line: &[u8]) -> bool
 
 /// Returns the value of a field. `None` if the field is not a decimal number of at most 9 digits without a leading
 /// zero.
-pub(crate) fn numeral_of(word: &[u8]) -> Option<u32>
+pub fn numeral_of(word: &[u8]) -> Option<u32>
     ensures { result ≡ numeral word.now }
 {
     if word.is_empty() || word.len() > 9 || (word.len() > 1 && word[0] == b'0') {

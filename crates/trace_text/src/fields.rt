@@ -8,7 +8,7 @@ use crate::said::Sizes;
 use circuit_model::{Slot, slot_of_channel};
 
 /// Returns the external line of a field. `None` if the field is not one of the exchange.
-pub(crate) fn line_of_word(external: u8, word: &[u8]) -> Option<u8>
+pub fn line_of_word(external: u8, word: &[u8]) -> Option<u8>
     ensures named { result ≡ external_line external word.now }
     ensures below { IfSome result (λ line. line < external) }
 {

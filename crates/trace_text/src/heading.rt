@@ -74,12 +74,13 @@ fn give(tones: &mut Tones, given: GivenTone)
 }
 
 impl Heading {
-    ghost use Rattle.std.specs.Prelude.{◌≡◌, [], IsTrue, Ok, OnOk, OnErr, IfOk, IfErr, IfSome};
+    ghost use Rattle.std.specs.Prelude.{◌≡◌, ◌<◌, ◌≤◌, [], IsTrue, Ok, OnOk, OnErr, IfOk, IfErr, IfSome};
+    ghost use Rattle.trace_text.specs.declared.fault.Reason.TheVariants.{Limit};
     ghost use Rattle.trace_text.specs.TraceWords.{words};
     ghost use Rattle.trace_text.specs.TraceTimers.{timers_by};
     ghost use Rattle.trace_text.specs.TraceLines.{number, numbered, tone, toned, timer, timed, before_events, by_kind, reads, joins, says, Fails, Gives};
     ghost use Rattle.trace_text.specs.TraceGrammar.{so_far};
-    ghost use Rattle.trace_text.specs.TraceHeading.{happening_of, with_said, Suits, IsLineRead};
+    ghost use Rattle.trace_text.specs.TraceHeading.{happening_of, with_event, with_said, Suits, IsLineRead};
 
     /// Returns the heading before the first line.
     pub fn new(alloc: Global) -> Heading
@@ -128,6 +129,24 @@ impl Heading {
         ensures { result ≡ self.now.events }
     {
         self.events
+    }
+
+    /// Counts an event that another reader read.
+    ///
+    /// # Errors
+    ///
+    /// [`Reason::Limit`] if the events are at their limit. The heading is unchanged then.
+    pub fn count_event(&mut self, limits: Limits) -> Result<(), Reason>
+        ensures counted { OnOk result (self.new ≡ with_event self.old) }
+        ensures few { OnOk result (self.old.events < limits.max_events) }
+        ensures refused { IfErr result (λ why. (why ≡ Limit) × (limits.max_events ≤ self.old.events)) }
+        ensures kept { OnErr result (self.new ≡ self.old) }
+    {
+        if self.events >= limits.max_events {
+            return Err(Reason::Limit);
+        }
+        self.events += 1;
+        Ok(())
     }
 
     /// Returns the number plan, the tones and the timers.

@@ -7,6 +7,8 @@
 //! - [`Heading::read_line`] reads one line after the lines before it, within [`Limits`], and returns its [`Happening`]
 //!   (`read`, `refused`). If it fails, the heading is unchanged (`kept`). It is the parser of a trace that arrives line
 //!   by line, and [`read_trace`] calls it.
+//! - A reader of further lines reads their fields by the same functions ([`first_word`], [`line_of_word`],
+//!   [`octets_at_most`]), and counts their events in the heading ([`Heading::count_event`]).
 //! - All bytes have exactly one reading, a trace or a refusal ([`one_reading`], [`some_reading`]).
 //! - Every trace that is read is sound: its lines exist, and its sizes are the sizes of an exchange
 //!   ([`traces_are_sound`]).
@@ -26,10 +28,14 @@ mod reader;
 mod said;
 mod timing;
 
+pub use cut::{first_word, is_text, numeral_of, one_or_two_words, two_words};
 pub use fault::{LineError, Reason, TraceFault};
+pub use fields::line_of_word;
 pub use heading::{Happening, Heading};
 pub use laws::{one_reading, some_reading, traces_are_sound};
 pub use limits::Limits;
+pub use line::only_line;
+pub use octets::octets_at_most;
 pub use reader::{MAX_BYTES, read_trace};
 pub use said::{GivenTone, Said, Sizes};
 pub use timing::{GivenTimer, GivenTimers, TimerName};

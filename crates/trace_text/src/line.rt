@@ -93,8 +93,12 @@ pub(crate) fn message_of(alloc: Global, external: u8, line: &[u8]) -> Result<Eve
     Ok(Event::Message(line, octets))
 }
 
-// Returns the line of the only field.
-fn only_line(external: u8, line: &[u8]) -> Result<u8, Reason>
+/// Returns the line of the only field.
+///
+/// # Errors
+///
+/// [`Reason::Word`] if there is not exactly one field, and [`Reason::Slot`] if it is not a line of the exchange.
+pub fn only_line(external: u8, line: &[u8]) -> Result<u8, Reason>
     ensures { result ≡ only_line external (words line.now) }
 {
     let (word, others) = first_word(line).ok_or(Reason::Word)?;

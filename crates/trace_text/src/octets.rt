@@ -176,14 +176,29 @@ fn few_octets(digits: &[u8]) -> Result<Octets, LineError>
     Ok(Octets::from_short_slice(&read[..digits.len() / 2]))
 }
 
-/// Returns the octets of a message, at most 260. Up to 16 octets do not allocate.
-pub(crate) fn message_octets(alloc: Global, digits: &[u8]) -> Result<Octets, LineError>
-    ensures { Gives result (at_most max_message_len (octets_written digits.now)) }
+/// Returns the octets of hexadecimal digits, at most `most`. Up to 16 octets do not allocate.
+///
+/// # Errors
+///
+/// - [`LineError::Refused`] with [`Reason::Hex`] if these are not pairs of hexadecimal digits, and otherwise with
+///   [`Reason::Length`] if they are too many.
+/// - [`LineError::Memory`] if the allocation fails.
+#[inline(always)]
+pub fn octets_at_most(alloc: Global, most: usize, digits: &[u8]) -> Result<Octets, LineError>
+    requires { (16 ≤ most) × (most < 2 ^ 32) }
+    ensures { Gives result (at_most most (octets_written digits.now)) }
 {
     if digits.len() <= 2 * INLINE_OCTETS && digits.len() % 2 == 0 {
         return few_octets(digits);
     }
-    Ok(Octets::of(octets_up_to(alloc, MAX_MESSAGE_LEN, digits)?))
+    Ok(Octets::of(octets_up_to(alloc, most, digits)?))
+}
+
+/// Returns the octets of a message, at most 260. Up to 16 octets do not allocate.
+pub(crate) fn message_octets(alloc: Global, digits: &[u8]) -> Result<Octets, LineError>
+    ensures { Gives result (at_most max_message_len (octets_written digits.now)) }
+{
+    octets_at_most(alloc, MAX_MESSAGE_LEN, digits)
 }
 
 /// Returns the octets of a tone, 1 to 8000.

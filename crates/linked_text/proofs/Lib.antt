@@ -1,0 +1,4 @@
+pub mod LinkLineLemmas
+pub mod PlainLineLemmas
+pub mod InTurnLemmas
+pub mod SentLemmas

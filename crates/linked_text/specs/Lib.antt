@@ -1,0 +1,4 @@
+pub mod LinkTimers
+pub mod LinkLines
+pub mod LinkEffects
+pub mod LinkReport

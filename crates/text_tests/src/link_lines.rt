@@ -1,0 +1,230 @@
+// The lines of a trace with data links, and their report lines.
+use arrayvec::ArrayVec;
+use link_frames::{Control, Frame, FrameOctets, Sender, write};
+use link_procedures::Indication;
+use link_table::Change;
+use linked_text::{
+    LinkHappening, LinkHeading, append_link_line, append_message_line, put_frame_end,
+    put_frame_start, put_turn,
+};
+use std::alloc::{AllocError, Global};
+use std::test::Fail;
+use trace_text::{Happening, Limits, LineError, Reason};
+
+// The result of reading a line.
+#[derive(Clone, Copy, PartialEq, Eq)]
+enum Came {
+    // The line is read, and it is not an event.
+    Read,
+    // It is an event of a trace without data links.
+    Event,
+    // This line receives this number of octets on its data link.
+    Frame(u8, usize),
+    // It is refused for this reason.
+    Refused(Reason),
+    // Memory is lacking.
+    Lacking,
+}
+
+// Lines in sequence, each with the result of reading it.
+const LINES: [(&str, Came); 49] = [
+    ("link 0", Came::Refused(Reason::Header)),
+    ("L 0 00", Came::Refused(Reason::Header)),
+    ("timer T200 8", Came::Refused(Reason::Header)),
+    ("exchange 1 3 1 2", Came::Read),
+    ("L 0 00017F", Came::Refused(Reason::Slot)),
+    ("M 0 0802800107", Came::Event),
+    ("link 0", Came::Refused(Reason::Word)),
+    ("timer T200 8", Came::Refused(Reason::Word)),
+    ("exchange 1 3 1 2", Came::Refused(Reason::Word)),
+    // The same header again, in a new heading.
+    ("", Came::Read),
+    ("exchange 1 3 1 2", Came::Read),
+    ("link", Came::Refused(Reason::Word)),
+    ("link 0 1", Came::Refused(Reason::Word)),
+    ("link 3", Came::Refused(Reason::Slot)),
+    ("link 00", Came::Refused(Reason::Slot)),
+    ("  link  2 ", Came::Read),
+    ("link 2", Came::Refused(Reason::Slot)),
+    ("link 0", Came::Read),
+    ("link 1\t", Came::Refused(Reason::Word)),
+    ("timer T303 8", Came::Read),
+    ("timer T200 0", Came::Refused(Reason::Number)),
+    ("timer T203", Came::Refused(Reason::Word)),
+    ("timer T204 8", Came::Refused(Reason::Word)),
+    ("timer T200 9", Came::Read),
+    ("timer T200 9", Came::Refused(Reason::Word)),
+    ("# link 1", Came::Read),
+    ("sync", Came::Read),
+    ("M 0 0802800107", Came::Refused(Reason::Slot)),
+    (" M 2 zz zz", Came::Refused(Reason::Slot)),
+    ("up 0", Came::Refused(Reason::Slot)),
+    ("down 2", Came::Refused(Reason::Slot)),
+    ("M 3", Came::Refused(Reason::Slot)),
+    ("M 1 0", Came::Refused(Reason::Hex)),
+    ("L", Came::Refused(Reason::Word)),
+    ("L 0 00 01", Came::Refused(Reason::Word)),
+    ("L 1 00017F", Came::Refused(Reason::Slot)),
+    ("L 3 00017F", Came::Refused(Reason::Slot)),
+    ("L 0 0", Came::Refused(Reason::Hex)),
+    ("l 0 00", Came::Refused(Reason::Word)),
+    ("number 12 line 1", Came::Read),
+    ("L 0 00017F", Came::Frame(0, 3)),
+    ("number 13 line 1", Came::Refused(Reason::Word)),
+    ("link 1", Came::Refused(Reason::Word)),
+    ("timer T203 7", Came::Refused(Reason::Word)),
+    ("  L  2 ", Came::Frame(2, 0)),
+    ("M 1 0802800107", Came::Event),
+    ("up 1", Came::Event),
+    ("down 1", Came::Event),
+    ("F", Came::Event),
+];
+
+// The number of events after all lines, and the number of lines before the second heading.
+const EVENTS: u32 = 6;
+
+const FIRST_LINES: usize = 9;
+
+fn came(read: Result<LinkHappening, LineError>) -> Came {
+    match read {
+        Ok(LinkHappening::Plain(Happening::Event(_))) => Came::Event,
+        Ok(LinkHappening::Plain(_)) => Came::Read,
+        Ok(LinkHappening::Received(line, octets)) => Came::Frame(line, octets.as_slice().len()),
+        Err(LineError::Refused(reason)) => Came::Refused(reason),
+        Err(LineError::Memory) => Came::Lacking,
+    }
+}
+
+fn read_each(heading: &mut LinkHeading, alloc: Global, rows: &[(&str, Came)]) -> bool {
+    for (line, wanted) in rows {
+        if came(heading.read_line(alloc, Limits::for_lines(), line.as_bytes())) != *wanted {
+            return false;
+        }
+    }
+    true
+}
+
+#[test]
+fn lines_with_data_links_are_read(rt: HostRuntime) -> Result<(), Fail> {
+    let alloc = rt.alloc();
+    let mut first = LinkHeading::new(alloc);
+    assert!(rt; read_each(&mut first, alloc, &LINES[..FIRST_LINES]));
+    assert!(rt; first.linked().as_slice().is_empty());
+    assert!(rt; first.link_timers().t200 == 8000);
+    let mut heading = LinkHeading::new(alloc);
+    assert!(rt; read_each(&mut heading, alloc, &LINES[FIRST_LINES..]));
+    assert!(rt; heading.linked().as_slice() == [2, 0].as_slice());
+    assert!(rt; heading.link_timers().t200 == 9);
+    assert!(rt; heading.link_timers().t203 == 80_000);
+    assert!(rt; heading.plain().timers().t303 == 8);
+    assert!(rt; heading.plain().event_count() == EVENTS);
+    Ok(())
+}
+
+// A line `L 0` with this number of octets.
+fn long_line(alloc: Global, octets: usize) -> Result<Vec<u8>, AllocError> {
+    let mut line = Vec::new(alloc);
+    line.extend_from_slice(b"L 0 ")?;
+    for _ in 0..octets {
+        line.extend_from_slice(b"7F")?;
+    }
+    Ok(line)
+}
+
+#[test]
+fn a_received_frame_has_at_most_265_octets(rt: HostRuntime) -> Result<(), Fail> {
+    let alloc = rt.alloc();
+    let mut heading = LinkHeading::new(alloc);
+    assert!(rt;
+        read_each(
+            &mut heading,
+            alloc,
+            &[("exchange 1 1 0 1", Came::Read), ("link 0", Came::Read)]
+        )
+    );
+    let most = Limits {
+        max_events: 1,
+        max_changes: 0,
+    };
+    let longest = long_line(alloc, 265)?;
+    let long = long_line(alloc, 266)?;
+    assert!(rt;
+        came(heading.read_line(alloc, most, long.as_slice())) == Came::Refused(Reason::Length)
+    );
+    assert!(rt; came(heading.read_line(alloc, most, longest.as_slice())) == Came::Frame(0, 265));
+    assert!(rt;
+        came(heading.read_line(alloc, most, longest.as_slice())) == Came::Refused(Reason::Limit)
+    );
+    assert!(rt; heading.plain().event_count() == 1);
+    Ok(())
+}
+
+// SABME with P = 1 and UA with F = 1 of the network.
+fn two_frames() -> ArrayVec<FrameOctets, 2> {
+    let mut frames = ArrayVec::new();
+    let sabme = Frame {
+        command: true,
+        control: Control::Sabme(true),
+    };
+    let acknowledgement = Frame {
+        command: false,
+        control: Control::Ua(true),
+    };
+    frames.push(write(Sender::Network, &sabme));
+    frames.push(write(Sender::Network, &acknowledgement));
+    frames
+}
+
+// The report lines of a trace with data links, in `text`.
+fn write_lines(text: &mut Vec<u8>) -> Result<(), AllocError> {
+    let frames = two_frames();
+    let sent = frames.as_slice();
+    append_link_line(
+        text,
+        1,
+        Some(Indication::Established),
+        None,
+        &[0],
+        &sent[1..],
+    )?;
+    append_link_line(
+        text,
+        2,
+        Some(Indication::Data),
+        Some((0, 1)),
+        &[31, 0],
+        sent,
+    )?;
+    append_link_line(text, 3, Some(Indication::Released), None, &[], &[])?;
+    append_link_line(text, 4, None, None, &[0], &sent[..1])?;
+    append_message_line(text, 5, None, &[1, 2], sent)?;
+    append_message_line(text, 6, Some((62, 0)), &[], &[])?;
+    put_frame_start(text, 7, 4_294_967_295, &[0, 1], sent)?;
+    put_turn(text, 31, Some(Change::Down), &[31], &sent[..1])?;
+    put_frame_end(text, &[[0xD5; 30], [0x11; 30]])?;
+    put_frame_start(text, 8, 0, &[], &[])?;
+    put_turn(text, 0, Some(Change::Up), &[], &[])?;
+    put_frame_end(text, &[])?;
+    put_frame_start(text, 9, 1, &[], &[])?;
+    put_turn(text, 1, None, &[1], &sent[1..])?;
+    put_frame_end(text, &[[0xD5; 30]])
+}
+
+const WRITTEN: &str = "1 link up 0:000173
+2 link took moved 0 1 31:02017F 0:000173
+3 link down
+4 link 0:02017F
+5 message 1:02017F 2:000173
+6 message moved 62 0
+7 frame 4294967295 send 0:02017F send 1:000173 down 31 send 31:02017F 1:111111111111111111111111111111111111111111111111111111111111
+8 frame 0 up 0
+9 frame 1 send 1:000173
+";
+
+#[test]
+fn report_lines_of_data_links_are_written(rt: HostRuntime) -> Result<(), Fail> {
+    let mut text = Vec::new(rt.alloc());
+    write_lines(&mut text)?;
+    assert!(rt; text.as_slice() == WRITTEN.as_bytes());
+    Ok(())
+}
