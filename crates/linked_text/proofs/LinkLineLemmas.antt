@@ -32,7 +32,7 @@ unkind : (k : LinkSoFar) (sizes : Option Sizes) (line : List ℕ) → ((external
 unkind k None line h = refl
 unkind k (Some sizes) line h = elim (list_all is_printable line) as (λ b. (if b then by_link_words k sizes.external (words line) else Ok None) ≡ Ok None) [ true ↦ h sizes.external | false ↦ refl ]
 
--- another octet than those of `is_link_octet`
+-- an octet for which `is_link_octet` does not hold
 record OthersOnly (x : ℕ) : Type 0 where
   pub space : eqb x 32 ≡ false
   pub frame : eqb x 76 ≡ false

@@ -26,8 +26,8 @@ use Rattle.linked_text.specs.declared.timing.GivenLinkTimer.{GivenLinkTimer}
 use Rattle.linked_text.specs.declared.timing.GivenLinkTimers.{GivenLinkTimers}
 use Rattle.linked_text.specs.LinkTimers.{link_timer_named, link_frames_given, with_link_timer}
 
--- the result of the lines so far, as far as the next line depends on it: that of a trace without data links, in which a received frame counts as an
--- event, the lines with a data link, and the timers of the links
+-- the result of the lines so far, as far as the next line depends on it: the result for a trace without data links, in which a received frame counts
+-- as an event, the lines with a data link, and the timers of the links
 pub record LinkSoFar : Type 0 where
   pub plain : SoFar
   pub linked : List ℕ
@@ -109,8 +109,8 @@ linked_line reading = reading >>= λ line. Ok (Linked line)
 abbrev pub timed_line : Result GivenLinkTimer Reason → Result LinkSaid Reason
 timed_line reading = reading >>= λ given. Ok (Timed given)
 
--- a line of a kind, from the fields after the first, in an exchange with `external` external lines; a line with a data link has no message, and no
--- change of a link, of its own
+-- a line of a kind, from the fields after the first, in an exchange with `external` external lines; the trace has no
+-- message of a line with a data link, and no change of its link
 abbrev pub by_link_kind : LinkSoFar → ℕ → LinkKind → List (List ℕ) → Result (Option LinkSaid) Reason
 by_link_kind k external kind.Received others = found (received external k.linked others)
 by_link_kind k external kind.Link others = found (before_first k (linked_line (link external k.linked others)))
@@ -137,7 +137,7 @@ joins_link limits k (Linked line) = if length k.linked == 32 then Err reason.Slo
 joins_link limits k (Received line octets) = if nat_lt k.plain.events limits.max_events then Ok (Received line octets) else Err reason.Limit
 joins_link limits k other = Ok other
 
--- the content of a line of a trace with data links: that of a trace without them, or one that concerns a link
+-- the content of a line of a trace with data links: the content of a line without them, or one that concerns a link
 pub data Content : Type 0 where
   Plain : Said → Content
   On_link : LinkSaid → Content

@@ -22,7 +22,7 @@ enum Came {
     Frame(u8, usize),
     // It is refused for this reason.
     Refused(Reason),
-    // Memory is lacking.
+    // An allocation fails.
     Lacking,
 }
 
