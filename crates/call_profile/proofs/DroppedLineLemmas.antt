@@ -36,7 +36,7 @@ use Rattle.call_profile.proofs.VacantSlotLemmas.{same_parts}
 both_active : (t s : ℕ) → IsTrue (are_matched t s) → (t ≡ active → s ≡ active) × (s ≡ active → t ≡ active)
 both_active t s matched = (λ is. grind (arith, common_steps, is, matched), λ is. grind (arith, common_steps, is, matched))
 
-call_active : (side : Side) (x y : Slot) (leg other : Leg) → IsInCall side x leg y other → (leg.state ≡ active → other.state ≡ active) × (other.state ≡ active → leg.state ≡ active)
+pub call_active : (side : Side) (x y : Slot) (leg other : Leg) → IsInCall side x leg y other → (leg.state ≡ active → other.state ≡ active) × (other.state ≡ active → leg.state ≡ active)
 call_active Caller x y leg other call = both_active leg.state other.state call.matched
 call_active Called x y leg other call = let both = both_active other.state leg.state call.matched in (both.1, both.0)
 

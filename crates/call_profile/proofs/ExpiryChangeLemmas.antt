@@ -40,14 +40,15 @@ use Rattle.call_profile.proofs.ExpiryStateLemmas.{due_state}
 -- ---- a slot that operations do not name
 
 module _ (d : Dimensions) (z : Slot) (in_z : IsExternal d.external z) where
-  abbrev Apart : Slot → Type 0
+  abbrev pub Apart : Slot → Type 0
   Apart x = IsExternal d.external x × (z ≡ x → ⊥)
 
-  abbrev Spares : Operation → Type 0
+  -- it is not written, and joins no circuit
+  abbrev pub Spares : Operation → Type 0
   Spares (op.Clear x) = Unit {0}
-  Spares (op.Pair x y) = Unit {0}
-  Spares (op.Seat x room) = Unit {0}
-  Spares (op.Sound x kind) = Unit {0}
+  Spares (op.Pair x y) = ⊥
+  Spares (op.Seat x room) = ⊥
+  Spares (op.Sound x kind) = Apart x
   Spares (op.Put x leg) = Apart x
   Spares (op.Wait x leg p) = Apart x
   Spares (op.Expect x leg message) = Apart x
@@ -56,7 +57,7 @@ module _ (d : Dimensions) (z : Slot) (in_z : IsExternal d.external z) where
   Spares (op.Remove x) = Apart x
   Spares (op.Send line message) = Unit {0}
 
-  abbrev SparesAll : List Operation → Type 0
+  abbrev pub SparesAll : List Operation → Type 0
   SparesAll [] = Unit {0}
   SparesAll (o ∷ os) = Spares o × SparesAll os
 
@@ -73,7 +74,7 @@ module _ (d : Dimensions) (z : Slot) (in_z : IsExternal d.external z) where
   leg_at_spared m (op.Remove x) may = leg_at-with_entry_else d.external m.world.legs x z None may.0 in_z may.1
   leg_at_spared m (op.Send line message) may = refl
 
-  leg_at-making_after_all_spared : (m : Making) (os : List Operation) → SparesAll os → leg_at (making_after_all d m os).world.legs z ≡ leg_at m.world.legs z
+  pub leg_at-making_after_all_spared : (m : Making) (os : List Operation) → SparesAll os → leg_at (making_after_all d m os).world.legs z ≡ leg_at m.world.legs z
   leg_at-making_after_all_spared m [] may = refl
   leg_at-making_after_all_spared m (o ∷ os) may = leg_at-making_after_all_spared (making_after d m o) os may.1 ∙ leg_at_spared m o may.0
 
@@ -85,9 +86,9 @@ module _ (d : Dimensions) (z : Slot) (in_z : IsExternal d.external z) where
 
   module _ (tones : Tones) (legs : Legs) (h : HeldLeg) (apart : Apart h.slot) where
     cleared : (cause : ℕ) (k : HeldLeg) → Apart k.slot → SparesAll (clear_with tones cause k)
-    cleared cause k away = (tt, (away, (tt, (tt, tt))))
+    cleared cause k away = (tt, (away, (away, (tt, tt))))
 
-    peer_cleared : (cause : ℕ) (o : Option HeldLeg) → IfSome o (λ k. Apart k.slot) → SparesAll (with_peer o (clear_with tones cause))
+    pub peer_cleared : (cause : ℕ) (o : Option HeldLeg) → IfSome o (λ k. Apart k.slot) → SparesAll (with_peer o (clear_with tones cause))
     peer_cleared cause None away = tt
     peer_cleared cause (Some k) away = cleared cause k away
 
@@ -99,7 +100,7 @@ module _ (d : Dimensions) (z : Slot) (in_z : IsExternal d.external z) where
     again None = tt
     again (Some octets) = (apart, tt)
 
-    expiry_spares : (e : Expiry) → IfSome (peer_of legs h.leg.peer) (λ k. Apart k.slot) → SparesAll (on_expiry tones legs h e)
+    pub expiry_spares : (e : Expiry) → IfSome (peer_of legs h.leg.peer) (λ k. Apart k.slot) → SparesAll (on_expiry tones legs h e)
     expiry_spares expiry.Digits away = cleared invalid_number_format h apart
     expiry_spares expiry.SetupAgain away = again (kept_at legs h.slot)
     expiry_spares expiry.SetupOver away = (tt, (apart, (tt, peer_cleared no_user_responding (peer_of legs h.leg.peer) away)))
@@ -122,7 +123,7 @@ due_in_since : (timers : Timers) (since frame : ℕ) (o : Option Expiry) (f : Ex
 due_in_since timers since frame None f is = absurd cc
 due_in_since timers since frame (Some e) f is = run_out_since timers since frame e f is
 
-due_since : (state : ℕ) (resent : Bool) (since frame : ℕ) (timers : Timers) (e : Expiry) → due state resent since frame timers ≡ Some e → since ≤ frame
+pub due_since : (state : ℕ) (resent : Bool) (since frame : ℕ) (timers : Timers) (e : Expiry) → due state resent since frame timers ≡ Some e → since ≤ frame
 due_since state resent since frame timers e is = due_in_since timers since frame (expiry_in state resent) e is
 
 -- ---- one slot is looked at

@@ -18,7 +18,7 @@ abbrev pub IsStrange : Leg → Slot → Type 0
 IsStrange leg x = (p : Slot) → leg.peer ≡ peer.Leg p → p ≡ x → ⊥
 
 -- a circuit by which a leg hears names no slot but its own and its peer's
-names_unnamed : (tones : Tones) (leg : Leg) (z x : Slot) (c : Circuit) → MayHear tones leg (Some c) → same_slot z (listener c) ≡ true → (z ≡ x → ⊥) → IsStrange leg x → names x c ≡ false
+pub names_unnamed : (tones : Tones) (leg : Leg) (z x : Slot) (c : Circuit) → MayHear tones leg (Some c) → same_slot z (listener c) ≡ true → (z ≡ x → ⊥) → IsStrange leg x → names x c ≡ false
 names_unnamed tones leg z x (Pair from to since) may hears apart strange =
     let not_from = same_slot-false x from (λ e. strange from may.1 (sym e)) in
     let not_to = same_slot-false x to (λ e. apart (same_slot-true z to hears ∙ sym e)) in

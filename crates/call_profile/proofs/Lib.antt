@@ -63,6 +63,12 @@ pub mod RestartedLegLemmas
 pub mod RestartedLineLemmas
 pub mod DroppedLineLemmas
 pub mod ResumedLineLemmas
+pub mod LinkStateLemmas
+pub mod OutageLemmas
+pub mod UnfailingLinkLemmas
+pub mod LostLegLemmas
+pub mod LostRecordLemmas
+pub mod LastingCallLemmas
 pub mod RecordedCallLemmas
 pub mod RecordedMessageLemmas
 pub mod FrameRecordLemmas

@@ -38,5 +38,7 @@ pub mod WorkedDigits
 pub mod WorkedExpiries
 pub mod WorkedLinks
 pub mod ExpiryBounds
+pub mod Outages
+pub mod LostLegs
 pub mod ExpiryRecords
 pub mod CallsTold

@@ -12,6 +12,9 @@
 //! - The turn of a frame, in which timers expire (`Expiring`), sends at most two messages and records at most one call
 //!   for each external line. It changes only legs of calls with an expired timer, and no connection unless T309 expires
 //!   ([`law_of_expiries`]).
+//! - T309 of a leg runs only while the data link of its line is down ([`law_of_outages`]). In a trace in which no link
+//!   fails it never expires ([`law_of_unfailing_links`]). If it expires, the call is cleared and recorded
+//!   ([`law_of_lost_legs`]).
 //! - A number of several lines gets the lowest idle slot of the first line that has one ([`law_of_hunting`]).
 //! - Further digits are refused with cause 34 only if no slot is free, and with cause 42 only if no port is free. They
 //!   end no call, so nothing is recorded ([`law_of_digits`]).
@@ -31,6 +34,7 @@ mod command_laws;
 mod laws;
 mod leg_laws;
 mod legs;
+mod outage_laws;
 mod records;
 mod worked;
 
@@ -45,5 +49,6 @@ pub use leg_laws::{
     law_of_records, law_of_references, law_of_restarts,
 };
 pub use legs::{is_addressed_to, retransmitted_from, waiting_from};
+pub use outage_laws::{law_of_lost_legs, law_of_outages, law_of_unfailing_links};
 pub use records::{first_frame_of, is_calling, party_of};
 pub use worked::{worked_digits, worked_expiries, worked_links, worked_messages, worked_overlap};

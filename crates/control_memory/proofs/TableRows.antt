@@ -3,10 +3,10 @@ use Rattle.std.proofs.Common.{◌≡◌, ◌≢◌, ℕ, ◌+◌, ◌*◌, ◌-�
 use Rattle.std.specs.Prelude.{bit_or, bit_and}
 use Rattle.std.specs.Int.{bit_at}
 use Rattle.std.proofs.lemmas.Nat.Bits.{bit_at-lt, bit_at_above, bit_at_or, bit_at-pow_same, bit_at-pow_other, shr_and_one}
-use Rattle.std.proofs.lemmas.Bool.{cases_eq, eq-eqb, ne_eqb, cond-true, cond-false}
-use Rattle.std.proofs.lemmas.List.{length-drop, get_or-map}
-use Rattle.std.proofs.lemmas.Nat.{mul-add-lt, same_from_place, one_shl, mod_below, leading_length}
-use Rattle.std.proofs.Math.Nat.{mod-eq_of_lt}
+use Rattle.std.proofs.lemmas.Bool.{cases_eq, cases_lt, eq-eqb, ne_eqb, cond-true, cond-false}
+use Rattle.std.proofs.lemmas.List.{length-drop, get_or-map, ext_get_or}
+use Rattle.std.proofs.lemmas.Nat.{mul-add-lt, same_from_place, one_shl, mod_below, leading_length, div-add-mod'}
+use Rattle.std.proofs.Math.Nat.{mod-eq_of_lt, div-lt_iff_lt-mul, le-div_iff_mul-le}
 use Rattle.std.specs.Int.Count.{count_leading_zeros}
 use Rattle.std.proofs.lemmas.Grind.{get_or-set_at}
 use Rattle.control_memory.specs.Tables.{number_in, entry_in, IsRow, AreBytesOf}
@@ -104,3 +104,48 @@ pub marked_set : (rows columns limit : ℕ) (bytes : List ℕ) (marks : ℕ) (ro
     → AreBytesOf rows columns limit (set bytes at byte) (bit_or marks (1 * 2 ^ (row % 64) % 2 ^ 64))
 marked_set rows columns limit bytes marks row column byte at is inside near small place =
     subst (λ mark. AreBytesOf rows columns limit (set bytes at byte) (bit_or marks mark)) (sym (one_shl (row % 64) 64 (mod_below row 64 (omega arith)))) (marked_by rows columns limit bytes marks row column byte at is inside near small place)
+
+-- ---- rows after the last marked one
+-- each of their bytes is an empty entry
+module _ (rows columns limit : ℕ) (bytes : List ℕ) (marks used : ℕ) (is : AreBytesOf rows columns limit bytes marks) (bare : (row : ℕ) → used ≤ row → row < rows → bit_at marks (row % 64) ≡ 0) where
+  nothing_in : columns ≡ 0 → ¬ (0 < length bytes)
+  nothing_in none some = let size = is.size in grind (arith, size, none, some)
+
+  pub get_or_unused : (i : ℕ) → i < length bytes → used * columns ≤ i → get_or bytes i 0 ≡ 255
+  get_or_unused i inside past = elim (cases_eq columns 0) [
+    | inl none ↦ absurd (nothing_in none (omega (arith, inside)))
+    | inr some ↦
+        let wide : 0 < columns = omega (arith, some) in
+        let size = is.size in
+        let row : i / columns < rows = (div-lt_iff_lt-mul wide).1 (omega (arith, inside, size)) in
+        let after : used ≤ i / columns = (le-div_iff_mul-le wide).1 past in
+        sym (ap (λ k. get_or bytes k 0) (div-add-mod' i columns)) ∙ is.bare (i / columns) (i % columns) row (mod_below i columns wide) (bare (i / columns) after row)
+  ]
+
+  -- once the bytes before them are emptied, all are
+  pub get_or_emptied : (new : List ℕ) (count : ℕ) → count ≡ used * columns → length new ≡ length bytes → ((i : ℕ) → i < count → get_or new i 0 ≡ 255) → ((i : ℕ) → count ≤ i → get_or new i 0 ≡ get_or bytes i 0)
+      → (i : ℕ) → i < length new → get_or new i 0 ≡ 255
+  get_or_emptied new count at size front others i inside = elim (cases_lt i count) [
+    | inl early ↦ front i early
+    | inr late ↦ others i late ∙ get_or_unused i (omega (arith, inside, size)) (omega (arith, late, at))
+  ]
+
+  -- once the bytes before them are copied from another table whose rows there are empty too, all are copied
+  pub copied : (other new : List ℕ) (others_marks count : ℕ) → AreBytesOf rows columns limit other others_marks → ((i : ℕ) → i < length other → used * columns ≤ i → get_or other i 0 ≡ 255)
+      → count ≡ used * columns → length new ≡ length bytes → ((i : ℕ) → i < count → get_or new i 0 ≡ get_or other i 0) → ((i : ℕ) → count ≤ i → get_or new i 0 ≡ get_or bytes i 0)
+      → new ≡ other
+  copied other new others_marks count there empty at size front others =
+      let here_size = is.size in
+      let there_size = there.size in
+      ext_get_or 0 new other (omega (arith, size, here_size, there_size)) (λ i inside. elim (cases_lt i count) [
+        | inl early ↦ front i early
+        | inr late ↦ others i late ∙ get_or_unused i (omega (arith, inside, size)) (omega (arith, late, at)) ∙ sym (empty i (omega (arith, inside, size, here_size, there_size)) (omega (arith, late, at)))
+      ])
+
+-- bytes of empty entries are a table without a mark
+pub are_empty_bytes : (rows columns limit : ℕ) (bytes : List ℕ) → length bytes ≡ rows * columns → ((i : ℕ) → i < length bytes → get_or bytes i 0 ≡ 255) → AreBytesOf rows columns limit bytes 0
+are_empty_bytes rows columns limit bytes size all = record {
+  size = size;
+  below = λ i inside some. absurd (some (all i inside));
+  bare = λ row column inside near _. all (row * columns + column) (grind (arith, mul-add-lt row columns column rows inside near, size));
+}

@@ -1,5 +1,5 @@
 //! A control table: a number, or none, for each place of each row.
-ghost use Rattle.std.specs.Prelude.{◌≡◌, ℕ, ◌%◌, ◌<◌, ◌≤◌, true, Some, None, IfOk, IfSome};
+ghost use Rattle.std.specs.Prelude.{◌≡◌, ℕ, ◌%◌, ◌<◌, ◌≤◌, true, Some, None, IfOk, IfSome, length, slice_index};
 ghost use Rattle.std.specs.Int.{bit_at};
 ghost use Rattle.control_memory.specs.Tables.{entry, AreBare, HasSize, SameSize, Agree, IsRow, written, nothing};
 
@@ -12,9 +12,9 @@ const NONE: u8 = 0xFF;
 
 /// A control table of a switching stage: rows of numbers below a limit, with empty entries.
 ///
-/// A row is one piece of memory with one byte for each entry, because a boundary copies whole tables. A word marks the
-/// rows that may have a number, so that a stage makes an unmarked row idle without reading it. Rows share a mark modulo
-/// 64, and a row keeps its mark until the table is cleared or overwritten.
+/// All rows are one piece of memory with one byte for each entry, because a boundary copies them in one copy, up to the
+/// last marked row. A word marks the rows that may have a number, so that a stage makes an unmarked row idle without
+/// reading it. Rows share a mark modulo 64, and a row keeps its mark until the table is cleared or overwritten.
 #[derive(Debug, Drop)]
 pub struct ControlTable {
     rows: u8,
@@ -144,21 +144,47 @@ impl ControlTable {
         self.bytes[at] = NONE;
     }
 
-    /// Removes every number.
+    /// Removes every number. Rows after the last marked one are not written.
     pub fn clear(&mut self)
         ensures size { SameSize self.old self.new }
         ensures empty { Agree self.old.rows self.old.columns (entry self.new) nothing }
     {
-        self.bytes.fill(NONE);
+        let rows = marked_rows(self.rows, self.marks);
+        let used = usize::from(rows) * usize::from(self.columns);
+        empty_front(&mut self.bytes, used);
         self.marks = 0;
     }
 
-    /// Copies the entries of a table of the same size, in one copy.
+    /// Copies the entries of a table of the same size, in one copy. Rows after the last one that is marked in either
+    /// table are not copied.
     pub(crate) fn copy_from(&mut self, other: &ControlTable)
         requires { SameSize self.old other.now }
         ensures { self.new ≡ other.now }
     {
-        self.bytes.copy_from_slice(&other.bytes);
+        let rows = marked_rows(self.rows, self.marks | other.marks);
+        let used = usize::from(rows) * usize::from(self.columns);
+        copy_front(&mut self.bytes, &other.bytes, used);
         self.marks = other.marks;
     }
+}
+
+// Writes an empty entry into each of the first n bytes.
+fn empty_front(bytes: &mut [u8], count: usize)
+    requires { count ≤ length bytes.old }
+    ensures size { length bytes.new ≡ length bytes.old }
+    ensures front { (at : ℕ) → at < count → slice_index bytes.new at ≡ 255 }
+    ensures others { (at : ℕ) → count ≤ at → slice_index bytes.new at ≡ slice_index bytes.old at }
+{
+    bytes[..count].fill(NONE);
+}
+
+// Copies the first n bytes.
+fn copy_front(to: &mut [u8], from: &[u8], count: usize)
+    requires to { count ≤ length to.old }
+    requires from { length from.now ≡ length to.old }
+    ensures size { length to.new ≡ length to.old }
+    ensures front { (at : ℕ) → at < count → slice_index to.new at ≡ slice_index from.now at }
+    ensures others { (at : ℕ) → count ≤ at → slice_index to.new at ≡ slice_index to.old at }
+{
+    to[..count].copy_from_slice(&from[..count]);
 }

@@ -4,6 +4,7 @@ ghost use Rattle.std.specs.Int.{bit_at};
 ghost use Rattle.control_memory.specs.Layout.{number_of};
 ghost use Rattle.control_memory.specs.HeardRows.{HearAlike, heard_on, IsSilent};
 
+use crate::control_table::marked_rows;
 use crate::heard::Heard;
 use crate::heard_word::HeardWord;
 use circuit_model::{CHANNELS_PER_LINE, Slot};
@@ -94,17 +95,15 @@ impl HeardTable {
         self.marks = 0;
     }
 
-    /// Copies the entries of a table of the same size. Skips the lines that are silent in both tables.
+    /// Copies the entries of a table of the same size. Skips the lines that are silent in both tables, and ends at the
+    /// last line that is not.
     pub(crate) fn copy_from(&mut self, other: &HeardTable)
         requires { length self.old ≡ length other.now }
         ensures { self.new ≡ other.now }
     {
-        copy_rows(
-            &mut self.words,
-            &other.words,
-            self.lines,
-            self.marks | other.marks,
-        );
+        let marks = self.marks | other.marks;
+        let lines = marked_rows(self.lines, marks);
+        copy_rows(&mut self.words, &other.words, lines, marks);
         self.marks = other.marks;
     }
 }
@@ -119,13 +118,14 @@ fn silence(words: &mut [HeardWord])
     }
 }
 
-// Copies the rows of the lines with a mark.
+// Copies the rows of the first n lines, if they have a mark.
 fn copy_rows(to: &mut Vec<HeardWord>, from: &[HeardWord], lines: u8, marks: u64)
-    requires to { length to.old.items ≡ 30 * lines }
-    requires from { length from.now ≡ 30 * lines }
-    ensures size { length to.new.items ≡ 30 * lines }
+    requires to { 30 * lines ≤ length to.old.items }
+    requires from { length from.now ≡ length to.old.items }
+    ensures size { length to.new.items ≡ length to.old.items }
     ensures marked { HearAlike 1 marks lines to.new.items from.now }
-    ensures others { HearAlike 0 marks lines to.new.items to.old.items }
+    ensures unmarked { HearAlike 0 marks lines to.new.items to.old.items }
+    ensures rest { (line place : ℕ) → lines ≤ line → place < 30 → heard_on to.new.items line place ≡ heard_on to.old.items line place }
 {
     for line in 0..lines {
         if (marks >> (line % 64)) & 1 == 0 {

@@ -1,5 +1,5 @@
 //! Messages to the users of lines, as octets.
-ghost use Rattle.std.specs.Prelude.{◌≡◌, ◌==◌, ◌<◌, ◌+◌, [], ◌∷◌, ◌++◌, length};
+ghost use Rattle.std.specs.Prelude.{◌≡◌, ◌==◌, ◌<◌, ◌≤◌, ◌+◌, [], ◌∷◌, ◌++◌, length};
 ghost use Rattle.std.specs.Slice.Iter.{iter_rest};
 ghost use Rattle.exchange_events.specs.Limits.{max_sends};
 
@@ -36,7 +36,8 @@ impl Encoded {
 
     /// Returns the octets in the order in which they are sent.
     pub fn as_slice(&self) -> &[u8]
-        ensures { result.now ≡ self.now }
+        ensures octets { result.now ≡ self.now }
+        ensures short { length result.now ≤ 112 }
     {
         self.octets.as_slice()
     }
@@ -129,7 +130,8 @@ impl Signals {
 
     /// Returns the messages in the order in which they are sent.
     pub fn as_slice(&self) -> &[Signal]
-        ensures { result.now ≡ self.now }
+        ensures sends { result.now ≡ self.now }
+        ensures few { length result.now ≤ max_sends }
     {
         &self.items.as_slice()[..self.count]
     }

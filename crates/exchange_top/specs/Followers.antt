@@ -6,7 +6,7 @@ use Rattle.std.specs.declared.dyn_box.DynBox.{DynBox}
 use Rattle.std.specs.declared.vec.Vec.{Vec}
 use Rattle.exchange_events.specs.declared.record.CallRecord.{CallRecord}
 use Rattle.frame_engine.specs.declared.carrier.Carrier.{Ghosts as CarrierKind}
-use Rattle.line_follower.specs.Following.{CountsReads, CountsWrites, Dues, HasFollowed, with_end}
+use Rattle.line_follower.specs.Following.{CountsReads, CountsWrites, Dues, HasFollowed, status_of, with_end}
 use Rattle.line_follower.specs.Progress.{HasStopped, IsUnderway, OwesText}
 use Rattle.line_follower.specs.declared.following.Following.{Following}
 use Rattle.line_wire.specs.declared.wire.Wire.{Ghosts as WireKind}
@@ -26,7 +26,7 @@ use Rattle.trace_text.specs.declared.said.Sizes.{Sizes}
 use Rattle.exchange_top.specs.Stepping.{HasHappened, IsEventDue, IsHeard, IsRunning}
 use Rattle.exchange_top.specs.declared.fabrics.Fabric.{Ghosts as FabricKind}
 use Rattle.exchange_top.specs.declared.follower.TraceFollower.{TraceFollower}
-use Rattle.exchange_top.specs.Following.{Course, FollowParties, FollowsTo, IsAnswered, IsInterrupted, course, follow_parties, followed_status}
+use Rattle.exchange_top.specs.Following.{Course, FollowParties, FollowsTo, IsAnswered, IsInterrupted, course, follow_parties}
 use Rattle.exchange_top.specs.Handling.{HasHandled, HasRead, handler_dues}
 
 -- ---- the call
@@ -45,7 +45,7 @@ module _ {V : Type 0} {F : V → Type 0} {E : Type 0} (m : (v : V) → MeterKind
 -- The call ended with this status, with the facts for its ending. Statuses 3 and 4 occur only after an error was counted,
 -- and no other status hides one.
 abbrev pub FollowEnds : {W : Type 0} → WireKind W → (before after : W) → FollowParties → ℕ → Type 0
-FollowEnds k before after x status = (ending : Following) × (status ≡ followed_status ending)
+FollowEnds k before after x status = (ending : Following) × (status ≡ status_of ending)
     × FollowsTo x (k.stands after) (k.ended after) ending
     × CountsReads ending (k.read_faults before) (k.read_faults after) × CountsWrites ending (k.write_faults before) (k.write_faults after)
 

@@ -198,14 +198,6 @@ dues_of x = record {
   refuses_end = IsEndRefused x;
 }
 
--- the status of each ending
-abbrev pub followed_status : Following → ℕ
-followed_status followed.Completed = 0
-followed_status followed.Refused = 1
-followed_status followed.ReadFailed = 3
-followed_status followed.WriteFailed = 4
-followed_status followed.OutOfMemory = 5
-
 -- the parameters that all endings share: the parameters of the story, the engine that is returned, and its absence
 pub record FollowParties : Type 1 where
   pub course : Course

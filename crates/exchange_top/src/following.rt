@@ -6,7 +6,7 @@ ghost use Rattle.report_check.specs.Checking.{slots_of};
 ghost use Rattle.exchange_top.specs.Commands.{moves_of};
 ghost use Rattle.exchange_top.specs.Followers.{FollowEnds, ReliesBy, parties_by};
 ghost use Rattle.exchange_top.specs.Handling.{engine_returned};
-ghost use Rattle.exchange_top.specs.Following.{FollowsTo, followed_status};
+ghost use Rattle.exchange_top.specs.Following.{FollowsTo};
 
 use crate::call_context::Metering;
 use crate::fabrics::Fabric;
@@ -41,19 +41,6 @@ pub struct FollowOutcome<C: Carrier> {
 struct CallEnd<C: Carrier> {
     ending: Following,
     engine: Option<C>,
-}
-
-// Returns the exit status of an ending.
-fn status_of(ending: Following) -> u8
-    ensures { result ≡ followed_status ending }
-{
-    match ending {
-        Following::Completed => 0,
-        Following::Refused => 1,
-        Following::ReadFailed => 3,
-        Following::WriteFailed => 4,
-        Following::OutOfMemory => 5,
-    }
 }
 
 // Returns the engine of an exchange, if all lines were processed.
@@ -151,7 +138,7 @@ pub fn follow<W: Wire, C: Carrier, R: Threads + Sync>(
         follow_on::<W, FabricMap, C, R>(rt, alloc, wire, meters, spare)
     };
     FollowOutcome {
-        status: status_of(ended.ending),
+        status: ended.ending.status(),
         engine: ended.engine,
     }
 }

@@ -1,5 +1,5 @@
 //! The segments of a run, and the text of each.
-ghost use Rattle.std.specs.Prelude.{◌≡◌, ◌⊎◌, ◌*◌, ◌<◌, ◌≤◌, ◌++◌, [], drop, length, IsSome, OnOk, OnErr};
+ghost use Rattle.std.specs.Prelude.{◌≡◌, ◌⊎◌, ◌*◌, ◌<◌, ◌≤◌, ◌++◌, [], length, IsSome, OnOk, OnErr};
 ghost use Rattle.std.specs.Io.KnownBytes.{Appends};
 ghost use Rattle.ex_io.specs.Ends.{Rose};
 ghost use Rattle.seat_history.specs.Seats.{first_seat};
@@ -8,7 +8,7 @@ ghost use Rattle.exchange_events.specs.Sound.{IsSound};
 ghost use Rattle.exchange_core.specs.Working.{order_of};
 ghost use Rattle.segment_run.specs.Segment.{IsChief, Ran, RanWhole};
 ghost use Rattle.segment_run.specs.Segments.{IsDoneBelow};
-ghost use Rattle.line_list.specs.Lines.{calls_of, text_of};
+ghost use Rattle.line_list.specs.Lines.{text_of};
 ghost use Rattle.report_check.specs.declared.ending.Ending.TheVariants.{WriteFailed};
 ghost use Rattle.exchange_top.specs.Outcomes.{IsFlushed};
 ghost use Rattle.exchange_top.specs.Running.{AreOfAnswers, GrowthIsTold, HasMachine, IsAdded, RunsOn, ending_of, run_part};
@@ -22,7 +22,6 @@ use crate::telling::tell;
 use call_processor::{AnswerSink, Machine, RunContext};
 use ex_io::{Failed, Sink};
 use exchange_core::Switchboard;
-use exchange_events::CallRecord;
 use frame_engine::Carrier;
 use gate::Gate;
 use line_list::{LineList, ListingKind};
@@ -170,15 +169,7 @@ fn report_segment<
         machine: done.machine,
         buffer_pool: done.buffer_pool,
     });
-    tell(meters, records_behind(lines, told))
-}
-
-// Returns the records of the calls that ended, after the first n.
-fn records_behind<L>(lines: &LineList<L>, told: usize) -> &[CallRecord]
-    requires { told ≤ length (calls_of lines.now) }
-    ensures { result.now ≡ drop told (calls_of lines.now) }
-{
-    &lines.records()[told..]
+    tell(meters, lines.records_after(told))
 }
 
 // Writes the pending text if it is a whole piece, or if a meter added its summary. If nothing is listed, there is none.

@@ -1,7 +1,6 @@
 //! One event of a trace that is followed.
 ghost use Rattle.std.specs.Prelude.{◌≡◌, ◌+◌, ◌<◌, ◌≤◌, IfOk, OnOk, OnErr, is_some, false};
 ghost use Rattle.exchange_events.specs.Kept.{kept_of};
-ghost use Rattle.exchange_events.specs.Responses.{reply_of};
 ghost use Rattle.exchange_events.specs.Sound.{Fits};
 ghost use Rattle.call_profile.specs.CallsTold.{calls_kept};
 ghost use Rattle.call_profile.specs.Step.{MovesAtMost, reply};
@@ -13,7 +12,7 @@ ghost use Rattle.exchange_top.specs.Telling.{AreTold, AreToldFront};
 use crate::fabrics::Fabric;
 use crate::telling::tell;
 use control_memory::PathMap;
-use exchange_events::{CallRecord, Event, Outbox, Response};
+use exchange_events::Event;
 use frame_engine::Carrier;
 use lone_exchange::LoneExchange;
 use meters::Meter;
@@ -137,22 +136,6 @@ fn process<P: PathMap, C: Carrier, R: Threads + Sync>(
 {
     let timers = heading.timers();
     let response = exchange.happen(rt, heading.plan(), heading.tones(), &timers, event);
-    tell(meters, records_in(response, &exchange.context.out))?;
+    tell(meters, exchange.records(response))?;
     exchange.append_line(out, heading.event_count(), response)
-}
-
-// Returns the records of the calls that ended with an event, by its response and its outbox.
-fn records_in(response: Response, out: &Outbox) -> &[CallRecord]
-    ensures { result.now ≡ calls_kept (kept_of (reply_of response out.now)) }
-{
-    match response {
-        Response::Sent => out.records.as_slice(),
-        Response::Frame(_) => out.records.as_slice(),
-        Response::Granted(_, _) => &[],
-        Response::Busy => &[],
-        Response::Seated(_, _) => &[],
-        Response::NoPort => &[],
-        Response::Freed => &[],
-        Response::NotNailed => &[],
-    }
 }

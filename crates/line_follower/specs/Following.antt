@@ -90,3 +90,11 @@ CountsWrites ended.Refused before now = now ≡ before
 CountsWrites ended.ReadFailed before now = now ≡ before
 CountsWrites ended.WriteFailed before now = Rose before now
 CountsWrites ended.OutOfMemory before now = now ≡ before
+
+-- the exit status of each ending
+abbrev pub status_of : Following → ℕ
+status_of ended.Completed = 0
+status_of ended.Refused = 1
+status_of ended.ReadFailed = 3
+status_of ended.WriteFailed = 4
+status_of ended.OutOfMemory = 5

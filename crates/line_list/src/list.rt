@@ -1,5 +1,5 @@
 //! The answer sink that stores lines, by its listing.
-ghost use Rattle.std.specs.Prelude.{◌≡◌, [], map};
+ghost use Rattle.std.specs.Prelude.{◌≡◌, ◌≤◌, [], drop, length, map};
 ghost use Rattle.line_list.specs.Lines.{calls_of, line_of, text_of};
 
 use crate::lines::Lines;
@@ -48,6 +48,14 @@ impl<L> LineList<L> {
         ensures { result.now ≡ calls_of self.now }
     {
         self.lines.records()
+    }
+
+    /// Returns the records of the calls that ended, after the first n.
+    pub fn records_after(&self, count: usize) -> &[CallRecord]
+        requires { count ≤ length (calls_of self.now) }
+        ensures { result.now ≡ drop count (calls_of self.now) }
+    {
+        &self.records()[count..]
     }
 }
 

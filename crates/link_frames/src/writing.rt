@@ -31,6 +31,20 @@ impl Model for FrameOctets {
 }
 
 impl FrameOctets {
+    /// Returns a copy of these octets, at most 116.
+    pub fn of(octets: &[u8]) -> FrameOctets
+        requires { length octets.now ≤ 116 }
+        ensures { result ≡ octets.now }
+    {
+        let mut copied = FrameOctets {
+            octets: ArrayVec::new(),
+        };
+        if copied.octets.try_extend_from_slice(octets).is_err() {
+            unreachable!();
+        }
+        copied
+    }
+
     /// Returns the octets in the order of transmission.
     pub fn as_slice(&self) -> &[u8]
         ensures { result.now ≡ self.now }

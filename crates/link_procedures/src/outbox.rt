@@ -52,6 +52,16 @@ impl Outbox {
         self.frames.push(write(Sender::Network, frame));
     }
 
+    /// Appends octets that are sent as they are, at most 116.
+    pub fn push(&mut self, octets: &[u8])
+        requires room { length self.old < 80 }
+        requires short { length octets.now ≤ 116 }
+        ensures sent { self.new ≡ self.old ++ octets.now ∷ [] }
+        ensures one { length self.new ≡ length self.old + 1 }
+    {
+        self.frames.push(FrameOctets::of(octets));
+    }
+
     /// Returns the frames in the order of transmission.
     pub fn as_slice(&self) -> &[FrameOctets]
         ensures { result.now ≡ self.now }

@@ -192,6 +192,31 @@ submitted_table t line at l m links lines frames h room short e links_are frames
     bounded_by None on = let a = one (no_line t.receiving line on) in let b : length t.frames ≤ 10 + t.messages = subst (λ r. IsBounded r t) on h.bounded in omega (arith, a, b)
     bounded_by (Some n) on = line_by n on (subst (λ r. IsBounded r t) on h.bounded) (cases_eq n line)
 
+-- a line without a link has no frames of layer 2
+pub plain_table : (t : Table) (line : ℕ) (m : List ℕ) (lines : List ℕ) (frames : List (List ℕ)) → IsTable t → t.messages < 64
+    → lines ≡ t.lines ++ line ∷ [] → frames ≡ t.frames ++ m ∷ []
+    → IsTable (record { links = t.links; receiving = t.receiving; messages = t.messages + 1; lines = lines; frames = frames })
+plain_table t line m lines frames h room lines_are frames_are =
+    let pairs = h.marked in record {
+      links = h.links;
+      bounded = bounded_by t.receiving h.bounded;
+      marked = omega (arith, pairs, one, line_more);
+      messages = omega (arith, room);
+    }
+  where
+    now : Table
+    now = record { links = t.links; receiving = t.receiving; messages = t.messages + 1; lines = lines; frames = frames }
+
+    one : length frames ≡ length t.frames + 1
+    one = ap length frames_are ∙ length-append t.frames (m ∷ [])
+
+    line_more : length lines ≡ length t.lines + 1
+    line_more = ap length lines_are ∙ length-append t.lines (line ∷ [])
+
+    bounded_by : (r : Option ℕ) → IsBounded r t → IsBounded r now
+    bounded_by None b = omega (arith, b, one)
+    bounded_by (Some n) b = within_more (link_of n t) t now (omega (arith, one)) refl b
+
 -- ---- the end of a step
 
 pub finished_table : (t : Table) (line at : ℕ) (l : DataLink) (links : List (Option DataLink)) (lines : List ℕ) (frames : List (List ℕ))

@@ -1,5 +1,5 @@
 -- The steps of a table of links: each is a step of the link of one line (ITU-T Q.921 (09/97), 5.5 to 5.8).
-use Rattle.std.specs.Prelude.{ℕ, ◌+◌, ◌-◌, ◌%◌, List, [], ◌++◌, length, replicate, Option, Some, None}
+use Rattle.std.specs.Prelude.{ℕ, ◌+◌, ◌-◌, ◌%◌, List, [], ◌∷◌, ◌++◌, length, replicate, Option, Some, None}
 use Rattle.std.specs.declared.result.Result.{Result}
 use Rattle.std.specs.declared.result.Result.TheVariants.{Ok, Err}
 use Rattle.link_frames.specs.declared.frame.Sender.TheVariants.{User}
@@ -66,8 +66,13 @@ noticed_on line octets at t = noticed_in (link_of line t) (reading User octets) 
 
 -- ---- a message of call control
 
+-- the message is sent as it is
+abbrev pub sent_plainly : ℕ → List ℕ → Table → Table
+sent_plainly line message t = record t { messages = t.messages + 1; lines = t.lines ++ line ∷ []; frames = t.frames ++ message ∷ [] }
+
+-- a line without a link has no frames of layer 2
 abbrev pub submitted_in : ℕ → Option DataLink → List ℕ → ℕ → Table → Table
-submitted_in line None message at t = t
+submitted_in line None message at t = sent_plainly line message t
 submitted_in line (Some l) message at t = record (after_step line (submitted message at (step l t.frames)) t) { messages = t.messages + 1 }
 
 abbrev pub submitted_on : ℕ → List ℕ → ℕ → Table → Table

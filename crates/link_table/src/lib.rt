@@ -8,7 +8,9 @@
 //!
 //! - The table after each call is the table of the definition in `specs/Steps.antt` (`table`), and so is the result.
 //!   These are the definitions of `link_procedures`, for the link of one line. The links of all other lines are
-//!   unchanged ([`law_of_other_lines`]). A line without a link has an error, and nothing changes.
+//!   unchanged ([`law_of_other_lines`]).
+//! - A line without a link speaks no layer 2. A message to it is sent as it is. A frame from it is an error, and no link
+//!   changes.
 //! - Each link has all facts of a link for any peer (`IsLink`): at most seven messages are sent and not acknowledged, and
 //!   at most 64 wait. Each link but the receiving one has sent all that it may (`IsAtRest`), so the end of a step
 //!   concerns only that link ([`law_of_rest`]).

@@ -1,6 +1,5 @@
 //! The steps of a table of links.
-ghost use Rattle.std.specs.Prelude.{◌≡◌, ◌≤◌, ◌<◌, length, None, IsOk, ◌↔◌, IsTrue};
-ghost use Rattle.link_table.specs.Tables.{has_link};
+ghost use Rattle.std.specs.Prelude.{◌≡◌, ◌≤◌, ◌<◌, length, None};
 ghost use Rattle.link_table.specs.Steps as spec;
 
 use crate::links::{finish_on, receive_on, submit_on, turn_on};
@@ -49,24 +48,21 @@ impl LinkTable {
     }
 
     /// Submits a message of call control, of at most 112 octets, to the link of a line. At most 64 messages are
-    /// submitted in a step.
-    ///
-    /// # Errors
-    ///
-    /// [`NoLinkError`] if the line has no link. Then nothing changes.
-    pub fn submit(&mut self, line: u8, octets: &[u8], at: u32) -> Result<(), NoLinkError>
+    /// submitted in a step. On a line without a link the message is sent as it is.
+    pub fn submit(&mut self, line: u8, octets: &[u8], at: u32)
         requires short { length octets.now ≤ 112 }
         requires room { self.old.messages < 64 }
-        ensures table { self.new ≡ spec.submitted_on line octets.now at self.old }
-        ensures linked { IsOk result ↔ IsTrue (has_link line self.old) }
+        ensures { self.new ≡ spec.submitted_on line octets.now at self.old }
     {
         if !self.has_link(line) {
-            return Err(NoLinkError);
+            self.frames.push(octets);
+            self.lines.push(line);
+            self.messages += 1;
+            return;
         }
         submit_on(&mut self.links, line, octets, at, &mut self.frames);
         mark(&mut self.lines, line, &self.frames);
         self.messages += 1;
-        Ok(())
     }
 
     /// Ends a step: the link that received a frame sends what it may, and acknowledges the frame.

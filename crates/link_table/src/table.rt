@@ -91,7 +91,8 @@ impl LinkTable {
         self.messages
     }
 
-    /// Returns the frames sent in the step, in the order of transmission.
+    /// Returns the frames sent in the step, in the order of transmission. A message on a line without a link is one of
+    /// them.
     pub fn frames(&self) -> &[FrameOctets]
         ensures frames { result.now ≡ self.now.frames }
         ensures few { length result.now ≤ 10 + self.now.messages }

@@ -3,20 +3,24 @@ ghost use Rattle.std.specs.Prelude.{◌≡◌, ◌+◌, ◌<◌, ◌≤◌, ◌+
 ghost use Rattle.circuit_model.specs.FrameInput.{Input as An_input};
 ghost use Rattle.exchange_core.specs.Beginnings.{IsUnused};
 ghost use Rattle.exchange_events.specs.declared.trace.Event.{Event as An_event};
-ghost use Rattle.exchange_events.specs.declared.trace.Event.TheVariants.{Frame};
+ghost use Rattle.exchange_events.specs.declared.trace.Event.TheVariants.{Frame, Message};
+ghost use Rattle.exchange_events.specs.declared.outbox.Response.TheVariants.{Sent};
+ghost use Rattle.exchange_events.specs.Kept.{kept_of};
+ghost use Rattle.call_timers.specs.declared.timers.Timers.{Timers as The_timers};
 ghost use Rattle.exchange_events.specs.Responses.{reply_of};
 ghost use Rattle.exchange_events.specs.Sizes.{Setting};
 ghost use Rattle.exchange_events.specs.Sound.{Fits};
+ghost use Rattle.call_profile.specs.CallsTold.{calls_kept};
 ghost use Rattle.call_profile.specs.Step.{MovesAtMost};
 ghost use Rattle.call_profile.specs.World.{World};
 ghost use Rattle.lone_exchange.specs.At.{Appends, HasReplied, HasPlayed, IsSomewhere, Passes, PlaysDue, Replies, StartsAt};
 
 use crate::opening::{frame_parts, lines_of};
-use call_control::CallControl;
+use call_control::{CallControl, Received};
 use call_timers::Timers;
 use control_memory::PathMap;
 use exchange_core::{StepContext, Tool, happen};
-use exchange_events::{Event, Input, Response};
+use exchange_events::{CallRecord, Event, Input, Response};
 use frame_engine::Carrier;
 use number_plan::Plan;
 use report_text::append_line;
@@ -105,6 +109,29 @@ impl<P: PathMap, C: Carrier> LoneExchange<P, C> {
         }
     }
 
+    /// Processes a message from the user of a line, of any length, without a copy of its octets. The messages and records
+    /// of the event replace the content of the outbox of the context. The response is [`Response::Sent`].
+    pub fn receive(&mut self, plan: &Plan, tones: &Tones, line: u8, octets: &[u8])
+        requires at { (timers : The_timers) × IsSomewhere C.carries C.next C.sizes plan.now tones.now timers self.old }
+        requires fits { Fits self.old.control.map.external (Message line octets.now) }
+        ensures world { (timers : The_timers) → Passes C.carries C.next C.sizes plan.now tones.now timers
+            (Message line octets.now) self.old self.new }
+        ensures reply { (timers : The_timers) → Replies C.carries C.next C.sizes plan.now tones.now timers
+            (Message line octets.now) self.old Sent self.new }
+        ensures few { MovesAtMost self.old.control.map.bound (reply_of Sent self.new.context.out) }
+        ensures bound { self.new.control.map.bound ≡ self.old.control.map.bound }
+    {
+        self.context.out.clear();
+        self.context.ahead = None;
+        let received = Received {
+            octets,
+            ahead: None,
+        };
+        let out = &mut self.context.out;
+        self.control
+            .handle_message(out, plan, tones, line, &received);
+    }
+
     // Processes a frame: its boundary, and its octets.
     fn carry<R: Threads + Sync>(
         &mut self,
@@ -163,6 +190,23 @@ impl<P: PathMap, C: Carrier> LoneExchange<P, C> {
         let response = happen(control, plan, tones, timers, external, event, context);
         self.context.tool = tool;
         response
+    }
+
+    /// Returns the records of the calls that ended with the last event of [`happen`](LoneExchange::happen), which has this
+    /// response.
+    pub fn records(&self, response: Response) -> &[CallRecord]
+        ensures { result.now ≡ calls_kept (kept_of (reply_of response self.now.context.out)) }
+    {
+        match response {
+            Response::Sent => self.context.out.records.as_slice(),
+            Response::Frame(_) => self.context.out.records.as_slice(),
+            Response::Granted(_, _) => &[],
+            Response::Busy => &[],
+            Response::Seated(_, _) => &[],
+            Response::NoPort => &[],
+            Response::Freed => &[],
+            Response::NotNailed => &[],
+        }
     }
 
     /// Appends the line of the last event of [`happen`](LoneExchange::happen), with this number and this response, to a

@@ -39,8 +39,8 @@ const UA_OF_USER: &[u8] = b"\x02\x01\x73";
 
 const DISC: &[u8] = b"\x00\x01\x53";
 
-// Lines 0 and 3 have links. T200 of line 3 expires before its turn. The loss of line 3 leaves line 0 untouched.
-static ROWS: [Row; 16] = [
+// Lines 0 and 3 have links, and line 1 has none. T200 of line 3 expires before its turn. The loss of line 3 leaves line 0 untouched.
+static ROWS: [Row; 17] = [
     (8_000, Act::Turn, Told::Nothing, &[(0, CALL)]),
     (8_001, Act::Turn, Told::Nothing, &[]),
     (8_003, Act::Turn, Told::Nothing, &[(3, CALL)]),
@@ -68,6 +68,12 @@ static ROWS: [Row; 16] = [
         Act::Messages(3, 0),
         Told::Nothing,
         &[(0, b"\x02\x01\x02\x02m")],
+    ),
+    (
+        8_023,
+        Act::Messages(1, 0),
+        Told::Nothing,
+        &[(1, b"m"), (0, b"\x02\x01\x04\x02m")],
     ),
     (
         16_032,
@@ -114,9 +120,13 @@ fn is_changed(change: Option<Change>, wanted: Told) -> bool {
     }
 }
 
-// Submits a message. Returns whether the line has a link.
+// Submits a message. Returns whether the step has capacity for it.
 fn submit(table: &mut LinkTable, line: u8, message: &[u8], at: u32) -> bool {
-    table.messages() < 64 && message.len() <= 112 && table.submit(line, message, at).is_ok()
+    let has_capacity = table.messages() < 64 && message.len() <= 112;
+    if has_capacity {
+        table.submit(line, message, at);
+    }
+    has_capacity
 }
 
 fn holds(table: &mut LinkTable, row: &Row) -> bool {

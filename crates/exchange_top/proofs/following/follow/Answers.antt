@@ -7,8 +7,8 @@ returns g c =
     elim c.if-strict.branch [
       | then-strict w ↦
           let e = w.follow_on-ended.ensures in
-          rw (w.if-strict.true, w.wire-is, w.meters-is, w.spare-is, w.ended-is) (record { ends = (w.follow_on-ended.result.ending, rw w.ended-is at c.status_of.ensures, e.ends, e.reads, e.writes) })
+          rw (w.if-strict.true, w.wire-is, w.meters-is, w.spare-is, w.ended-is) (record { ends = (w.follow_on-ended.result.ending, rw w.ended-is at c.status.ensures, e.ends, e.reads, e.writes) })
       | else-strict w ↦
           let e = w.follow_on-ended-else-strict.ensures in
-          rw (w.if-strict.false, w.wire-is, w.meters-is, w.spare-is, w.ended-is) (record { ends = (w.follow_on-ended-else-strict.result.ending, rw w.ended-is at c.status_of.ensures, e.ends, e.reads, e.writes) })
+          rw (w.if-strict.false, w.wire-is, w.meters-is, w.spare-is, w.ended-is) (record { ends = (w.follow_on-ended-else-strict.result.ending, rw w.ended-is at c.status.ensures, e.ends, e.reads, e.writes) })
     ]

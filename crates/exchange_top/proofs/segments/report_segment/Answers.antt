@@ -28,8 +28,8 @@ pub run_segment_with-requires-clause-ready : goal.run_segment_with-requires-clau
 run_segment_with-requires-clause-ready g c lifetimes outlive =
     at_some (λ carried. IsReady g.C.Carrier.carries g.C.Carrier.next g.C.Carrier.sizes (g.B.Switchboard.board c.args.cx.now.board.now) (g.B.Switchboard.known c.args.seat.now).seen carried.machine.value.engine carried.machine.value.context.tool) _ c.taken-machine.result (sym c.taken-machine.ensures) c.requires.ready
 
-pub records_behind-requires : goal.records_behind-requires
-records_behind-requires g c =
+pub records_after-requires : goal.records_after-requires
+records_after-requires g c =
     let a = added _ _ _ _ _ _ _ _ _ c.requires.trace c.run_segment_with.ensures.ran c.requires.kept c.in_ok-done.ensures.answered in
     told_within _ _ _ _ _ _ _ a _ (ap length c.records-told.ensures)
 
@@ -45,9 +45,9 @@ returns-clause-added g c = on_ok c.tell.result (added _ _ _ _ _ _ _ _ _ c.requir
 pub returns-clause-told : goal.returns-clause-told
 returns-clause-told g c =
     let a = added _ _ _ _ _ _ _ _ _ c.requires.trace c.run_segment_with.ensures.ran c.requires.kept c.in_ok-done.ensures.answered in
-    on_ok_then c.tell.result c.tell.ensures.told (subst (AreTold _ _ c.args.meters.now.items c.tell.new.meters.items) (c.records_behind.ensures ∙ told_behind _ _ _ _ _ _ _ a _ (ap length c.records-told.ensures)))
+    on_ok_then c.tell.result c.tell.ensures.told (subst (AreTold _ _ c.args.meters.now.items c.tell.new.meters.items) (c.records_after.ensures ∙ told_behind _ _ _ _ _ _ _ a _ (ap length c.records-told.ensures)))
 
 pub returns-clause-told_front : goal.returns-clause-told_front
 returns-clause-told_front g c =
     let a = added _ _ _ _ _ _ _ _ _ c.requires.trace c.run_segment_with.ensures.ran c.requires.kept c.in_ok-done.ensures.answered in
-    on_err_then c.tell.result c.tell.ensures.front (subst (AreToldFront _ _ c.args.meters.now.items c.tell.new.meters.items) (c.records_behind.ensures ∙ told_behind _ _ _ _ _ _ _ a _ (ap length c.records-told.ensures)))
+    on_err_then c.tell.result c.tell.ensures.front (subst (AreToldFront _ _ c.args.meters.now.items c.tell.new.meters.items) (c.records_after.ensures ∙ told_behind _ _ _ _ _ _ _ a _ (ap length c.records-told.ensures)))

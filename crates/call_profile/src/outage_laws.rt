@@ -1,0 +1,77 @@
+//! Theorems on T309, which runs while the data link of a line is down.
+ghost use Rattle.std.specs.Prelude.{◌≡◌, ◌≢◌, ℕ, false, All, List, Contains, Some};
+ghost use Rattle.circuit_model.specs.declared.channel.Slot.{Slot};
+ghost use Rattle.circuit_model.specs.FrameInput.{Input};
+ghost use Rattle.call_timers.specs.declared.expiry.Expiry.TheVariants as expiry;
+ghost use Rattle.call_states.specs.declared.leg.HeldLeg.{HeldLeg};
+ghost use Rattle.call_states.specs.declared.leg.Leg.{Leg};
+ghost use Rattle.exchange_events.specs.declared.record.CallRecord.{CallRecord};
+ghost use Rattle.exchange_events.specs.declared.trace.Event.{Event};
+ghost use Rattle.exchange_events.specs.Sizes.{Setting};
+ghost use Rattle.exchange_events.specs.Sound.{Fits, IsPlanned};
+ghost use Rattle.call_profile.specs.Expiring.{due_of, outcome_of_frame};
+ghost use Rattle.call_profile.specs.ExpiryBounds.{NoneIsLost, UntimedStay, ConversationsStay, LayoutStays, PortsStay};
+ghost use Rattle.call_profile.specs.ExpiryRecords.{IsFrameRecord, IsInFrame, ComeByLine};
+ghost use Rattle.call_profile.specs.Fabrics.{world_of_run};
+ghost use Rattle.call_profile.specs.LegStanding.{CallsStand};
+ghost use Rattle.call_profile.specs.Legs.{is_down};
+ghost use Rattle.call_profile.specs.LostLegs.{IsDisconnected, IsLeftBehind, IsLossRecorded, IsLostFirst, IsUnchanged, IsVacated, NeitherIsLost};
+ghost use Rattle.call_profile.specs.Outages.{down_after_all, HasNoFailure, IsOnLineUp, NoLinkIsDown, OutagesStand};
+ghost use Rattle.call_profile.specs.Recorded.{HasEnded};
+ghost use Rattle.call_profile.specs.Step.{next};
+ghost use Rattle.call_profile.specs.World.{World, start};
+
+/// T309 of a leg runs only while the data link of its line is down. Every event, and so every run, preserves this. A
+/// data link is down if and only if its last change was a failure. A leg on a line whose link is up is not due. If no
+/// link is down, T309 of no leg expires in any frame. In a trace in which no link fails, none is ever down, and T309
+/// never expires.
+pub fn law_of_outages()
+    ensures begins { (s : Setting) → OutagesStand s.dimensions.external (start s.dimensions).legs }
+    ensures kept { (s : Setting) (w : World) (e : Event) → Fits s.dimensions.external e → CallsStand s w
+        → OutagesStand s.dimensions.external w.legs → OutagesStand s.dimensions.external (next s w e).legs }
+    ensures always { (s : Setting) (es : List Event) → IsPlanned s → All (Fits s.dimensions.external) es
+        → OutagesStand s.dimensions.external (world_of_run s es).legs }
+    ensures links { (s : Setting) (es : List Event) (line : ℕ) → All (Fits s.dimensions.external) es
+        → is_down (world_of_run s es).legs line ≡ down_after_all line false es }
+    ensures up { (s : Setting) (w : World) (frame : ℕ) → OutagesStand s.dimensions.external w.legs → (x : Slot) (leg : Leg)
+        → IsOnLineUp s w x leg → due_of s.timers frame leg ≢ Some expiry.Outage }
+    ensures calm { (s : Setting) (w : World) (frame : ℕ) → CallsStand s w → OutagesStand s.dimensions.external w.legs
+        → NoLinkIsDown w.legs → NoneIsLost s.timers frame w.legs }
+    ensures none_fails { (s : Setting) (es : List Event) → HasNoFailure s es → NoLinkIsDown (world_of_run s es).legs }
+    ensures none_is_lost { (s : Setting) (es : List Event) (frame : ℕ) → HasNoFailure s es
+        → NoneIsLost s.timers frame (world_of_run s es).legs }
+{}
+
+/// In a trace in which no data link fails, a frame changes no leg in state 10, no connection, no membership, no path and
+/// no port. It has the record of a call if and only if a caller's leg leaves states 3, 4 and 10 in it. The records come
+/// by the line of the called slot. So [`law_of_expiries`](crate::law_of_expiries) and
+/// [`law_of_frame_records`](crate::law_of_frame_records) need no premise on T309 there.
+pub fn law_of_unfailing_links()
+    ensures untimed { (s : Setting) (es : List Event) (input : Input) → HasNoFailure s es → UntimedStay s (world_of_run s es) input }
+    ensures conversations { (s : Setting) (es : List Event) (input : Input) → HasNoFailure s es → ConversationsStay s (world_of_run s es) input }
+    ensures layout { (s : Setting) (es : List Event) (input : Input) → HasNoFailure s es → LayoutStays s (world_of_run s es) input }
+    ensures ports { (s : Setting) (es : List Event) (input : Input) → HasNoFailure s es → PortsStay s (world_of_run s es) input }
+    ensures told { (s : Setting) (es : List Event) (input : Input) → HasNoFailure s es → (told : CallRecord)
+        → Contains (outcome_of_frame s (world_of_run s es) input).recorded told
+        → (h : HeldLeg) × IsFrameRecord s (world_of_run s es) input h told }
+    ensures ended { (s : Setting) (es : List Event) (input : Input) → HasNoFailure s es → (h : HeldLeg)
+        → HasEnded s.dimensions.external (world_of_run s es) (outcome_of_frame s (world_of_run s es) input).making.world h
+        → IsInFrame s (world_of_run s es) input h }
+    ensures order { (s : Setting) (es : List Event) (input : Input) → HasNoFailure s es
+        → ComeByLine (outcome_of_frame s (world_of_run s es) input).recorded }
+{}
+
+/// If T309 of a leg expires in a frame, the leg is removed, and no circuit uses its slot. The other leg of its call is
+/// cleared with cause 27, and its user is sent DISCONNECT. The frame has the record of the call with cause 27. If both
+/// legs of a call are due in one frame, the leg on the lower line expires, and the other leg is cleared. Each other leg
+/// in state 10 is unchanged, and so is its connection or its membership.
+pub fn law_of_lost_legs()
+    ensures gone { (s : Setting) (w : World) (input : Input) → CallsStand s w → (x : Slot) (leg : Leg) → IsLostFirst s w x leg
+        → IsVacated (outcome_of_frame s w input).making.world x }
+    ensures peer { (s : Setting) (w : World) (input : Input) → CallsStand s w → (y : Slot) (other : Leg) → IsLeftBehind s w y other
+        → IsDisconnected s w input y other }
+    ensures recorded { (s : Setting) (w : World) (input : Input) → CallsStand s w → (x : Slot) (leg : Leg) → IsLostFirst s w x leg
+        → IsLossRecorded s w input x leg }
+    ensures others { (s : Setting) (w : World) (input : Input) → CallsStand s w → (x : Slot) (leg : Leg) → NeitherIsLost s w x leg
+        → IsUnchanged s w input x leg }
+{}

@@ -1,0 +1,4 @@
+mod LinkLemmas
+mod PlainLemmas
+mod QuietLemmas
+mod AtLemmas

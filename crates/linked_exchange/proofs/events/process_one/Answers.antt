@@ -1,0 +1,23 @@
+use Rattle.std.proofs.Common.{◌≡◌, [], ◌∷◌, List, ℕ, refl, sym, ap, ◌∙◌, subst}
+use Rattle.exchange_events.specs.declared.outbox.Response.TheVariants.{Sent}
+use Rattle.exchange_events.specs.declared.trace.Event.TheVariants.{Message}
+use Rattle.exchange_events.specs.Responses.{reply_of}
+use Rattle.exchange_events.specs.Sound.{Fits}
+use Rattle.call_profile.specs.Step.{next, reply}
+use Rattle.link_table.specs.declared.notice.Notice.{Notice}
+use Rattle.lone_exchange.specs.At.{IsAt}
+use Rattle.linked_exchange.specs.Steps.{event_of}
+use Rattle.linked_exchange.proofs.AtLemmas.{below_of}
+use Rattle.linked_exchange.proofs.events.process_one.Goals as goal
+
+pub receive-requires-clause-at : goal.receive-requires-clause-at
+receive-requires-clause-at g c = (c.args.settings.now.timers.now, c.requires.at)
+
+pub receive-requires-clause-fits : goal.receive-requires-clause-fits
+receive-requires-clause-fits g c =
+    subst (λ (m : List ℕ). Fits c.args.exchange.now.control.map.external (Message c.args.line m)) (sym c.octets-octets.ensures)
+    (subst (λ (n : Notice). Fits c.args.exchange.now.control.map.external (event_of c.args.line n)) c.in-Message.is c.requires.fits)
+
+pub change_link-requires-clause-line : goal.change_link-requires-clause-line
+change_link-requires-clause-line g c =
+    below_of c.args.exchange.now.control.map.external c.args.line _ (subst (λ (n : Notice). Fits c.args.exchange.now.control.map.external (event_of c.args.line n)) c.in-Link.is c.requires.fits)
