@@ -32,11 +32,7 @@ unkind : (k : LinkSoFar) (sizes : Option Sizes) (line : List ℕ) → ((external
 unkind k None line h = refl
 unkind k (Some sizes) line h = elim (list_all is_printable line) as (λ b. (if b then by_link_words k sizes.external (words line) else Ok None) ≡ Ok None) [ true ↦ h sizes.external | false ↦ refl ]
 
-<<<<<<< HEAD
 -- an octet that begins no line about a data link
-=======
--- an octet for which `is_link_octet` does not hold
->>>>>>> 08f1af82a25759cfca129783ef6802fac04fcc75
 record OthersOnly (x : ℕ) : Type 0 where
   pub space : eqb x 32 ≡ false
   pub frame : eqb x 76 ≡ false
