@@ -1,5 +1,5 @@
 -- The table of links in a step: its size, its messages, and the link that receives.
-use Rattle.std.proofs.Common.{◌≡◌, ℕ, zero, suc, ◌+◌, ◌<◌, ◌≤◌, Bool, List, [], ◌∷◌, length, map, refl, sym, ap, ◌∙◌, arith, Some, None, Ok, Err, if◌then◌else◌}
+use Rattle.std.proofs.Common.{◌≡◌, ℕ, zero, suc, ◌+◌, ◌<◌, ◌≤◌, Bool, List, [], ◌∷◌, length, map, get_or, drop, drop_of_length-le, refl, sym, ap, ◌∙◌, arith, Some, None, Ok, Err, if◌then◌else◌}
 use Rattle.std.specs.Prelude.{Option, slice_index_or}
 use Rattle.std.proofs.lemmas.List.{length-set, length-map}
 use Rattle.exchange_events.specs.declared.signal.Signal.{Signal}
@@ -111,3 +111,18 @@ turned_count line (Some l) timers at t = refl
 
 pub messages-turned_at : (timers : Timers) (at : ℕ) (t : Table) → (turned_at timers at t).messages ≡ 0
 messages-turned_at timers at t = turned_count (line_of_turn at) (link_of (line_of_turn at) t) timers at (begun t)
+
+-- ---- one message more
+
+pub submitted_more : (at : ℕ) (ms : List Signal) (i : ℕ) (d : Signal) (t : Table) → i < length ms
+    → submitted_all at (drop (i + 1) ms) (submitted_on (get_or ms i d).line (get_or ms i d).octets at t) ≡ submitted_all at (drop i ms) t
+unfolding submitted_all
+submitted_more at [] i d t within = absurd (omega (arith, within))
+submitted_more at (m ∷ ms) zero d t within = refl
+submitted_more at (m ∷ ms) (suc i) d t within =
+    let e : suc i + 1 ≡ suc (i + 1) = omega arith in
+    ap (λ k. submitted_all at (drop k (m ∷ ms)) (submitted_on (get_or ms i d).line (get_or ms i d).octets at t)) e ∙ submitted_more at ms i d t (omega (arith, within))
+
+pub submitted_none : (at : ℕ) (ms : List Signal) (i : ℕ) (t : Table) → length ms ≤ i → submitted_all at (drop i ms) t ≡ t
+unfolding submitted_all
+submitted_none at ms i t past = ap (λ l. submitted_all at l t) (drop_of_length-le ms past)

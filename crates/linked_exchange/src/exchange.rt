@@ -86,7 +86,8 @@ impl<P: PathMap, C: Carrier> LinkedExchange<P, C> {
         let response = self
             .exchange
             .happen(rt, settings.plan, settings.tones, settings.timers, event);
-        self.submit(response);
+        let at = self.exchange.control.map.next_frame();
+        end_step(&mut self.links, response, &self.exchange.context.out, at);
         response
     }
 
@@ -116,7 +117,13 @@ impl<P: PathMap, C: Carrier> LinkedExchange<P, C> {
         let at = self.exchange.control.map.next_frame();
         let received = self.links.receive(line, octets, at);
         let indication = process_notice(&mut self.exchange, rt, settings, line, received);
-        self.end(Response::Sent);
+        let end = self.exchange.control.map.next_frame();
+        end_step(
+            &mut self.links,
+            Response::Sent,
+            &self.exchange.context.out,
+            end,
+        );
         indication
     }
 
@@ -136,22 +143,24 @@ impl<P: PathMap, C: Carrier> LinkedExchange<P, C> {
         let line = (at % LINES) as u8;
         let change = self.links.turn(settings.link_timers, at);
         process_change(&mut self.exchange, rt, settings, line, change);
-        self.end(Response::Sent);
+        let end = self.exchange.control.map.next_frame();
+        end_step(
+            &mut self.links,
+            Response::Sent,
+            &self.exchange.context.out,
+            end,
+        );
         change
     }
+}
 
-    // Ends a step: submits the messages of its event, which has this response, to their lines.
-    fn end(&mut self, response: Response)
-        requires room { self.old.links.messages ≡ 0 }
-        ensures links { self.new.links ≡ links_ended self.old.exchange.control.map.next
-            (sends_of (reply_of response self.old.exchange.context.out)) self.old.links }
-        ensures exchange { self.new.exchange ≡ self.old.exchange }
-    {
-        let at = self.exchange.control.map.next_frame();
-        let sends = sends_in(response, &self.exchange.context.out);
-        submit_all(&mut self.links, sends, at);
-        self.links.finish(at);
-    }
+// Ends a step: submits the messages of its event, by its response and its outbox, to their lines.
+fn end_step(links: &mut LinkTable, response: Response, out: &Outbox, at: u32)
+    requires { links.old.messages ≡ 0 }
+    ensures { links.new ≡ links_ended at (sends_of (reply_of response out.now)) links.old }
+{
+    submit_all(links, sends_in(response, out), at);
+    links.finish(at);
 }
 
 // Returns the messages of an event, by its response and its outbox.

@@ -24,6 +24,3 @@ pub use laws::linked_runs_are_plain;
 pub use link_procedures::Indication;
 pub use link_table::{Change, LinkTable, NoLinkError};
 pub use settings::Settings;
-
-#[test]
-fn compiles() {}

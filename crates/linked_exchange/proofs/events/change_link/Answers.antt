@@ -1,13 +1,12 @@
 use Rattle.std.proofs.Common.{◌≡◌, refl, sym, ap, ◌∙◌, subst}
 use Rattle.exchange_events.specs.declared.trace.Event.{Event}
-use Rattle.exchange_events.specs.Responses.{reply_of}
 use Rattle.call_profile.specs.Step.{MovesAtMost, next, reply}
 use Rattle.lone_exchange.specs.At.{IsAt}
 use Rattle.linked_exchange.proofs.AtLemmas.{change_fits, change_replied}
 use Rattle.linked_exchange.proofs.events.change_link.Goals as goal
 
 pub happen-requires-clause-fits : goal.happen-requires-clause-fits
-happen-requires-clause-fits g c = change_fits _ c.args.line c.args.change c.event_of-event.result c.event_of-event.ensures c.requires.line
+happen-requires-clause-fits g c lifetimes outlive = change_fits c.args.exchange.now.control.map.external c.args.line c.args.change c.event_of-event.result c.event_of-event.ensures c.requires.line
 
 pub returns-clause-world : goal.returns-clause-world
 returns-clause-world g c s w given at =
