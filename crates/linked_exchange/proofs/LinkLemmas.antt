@@ -115,13 +115,13 @@ messages-turned_at timers at t = turned_count (line_of_turn at) (link_of (line_o
 -- ---- one message more
 
 pub submitted_more : (at : ℕ) (ms : List Signal) (i : ℕ) (d : Signal) (t : Table) → i < length ms
-    → submitted_all at (drop (i + 1) ms) (submitted_on (get_or ms i d).line (get_or ms i d).octets at t) ≡ submitted_all at (drop i ms) t
+    → submitted_all at (drop (i + 1) ms) (submitted_all at (get_or ms i d ∷ []) t) ≡ submitted_all at (drop i ms) t
 unfolding submitted_all
 submitted_more at [] i d t within = absurd (omega (arith, within))
 submitted_more at (m ∷ ms) zero d t within = refl
 submitted_more at (m ∷ ms) (suc i) d t within =
     let e : suc i + 1 ≡ suc (i + 1) = omega arith in
-    ap (λ k. submitted_all at (drop k (m ∷ ms)) (submitted_on (get_or ms i d).line (get_or ms i d).octets at t)) e ∙ submitted_more at ms i d t (omega (arith, within))
+    ap (λ k. submitted_all at (drop k (m ∷ ms)) (submitted_all at (get_or ms i d ∷ []) t)) e ∙ submitted_more at ms i d t (omega (arith, within))
 
 pub submitted_none : (at : ℕ) (ms : List Signal) (i : ℕ) (t : Table) → length ms ≤ i → submitted_all at (drop i ms) t ≡ t
 unfolding submitted_all
