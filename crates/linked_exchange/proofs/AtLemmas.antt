@@ -1,15 +1,13 @@
 -- The exchange and its links after a step.
-use Rattle.std.proofs.Common.{◌≡◌, ℕ, ◌+◌, ◌<◌, ◌≤◌, Bool, true, false, List, [], ◌∷◌, length, drop, get_or, drop_of_length-le, zero, suc, All, refl, sym, ap, ◌∙◌, subst, arith, Some, None, Ok, Err}
+use Rattle.std.proofs.Common.{◌≡◌, ℕ, ◌+◌, ◌<◌, ◌≤◌, Bool, true, false, List, [], ◌∷◌, length, drop, get_or, drop_of_length-le, zero, suc, sym, ap, ◌∙◌, subst, arith, None}
 use Rattle.std.specs.Prelude.{Option}
 use Rattle.std.specs.declared.result.Result.{Result}
-use Rattle.std.proofs.lemmas.List.Elements.{All-nil, All-cons}
 use Rattle.circuit_model.specs.Dimensions.{Dimensions}
 use Rattle.circuit_model.specs.FrameInput.{Input}
 use Rattle.exchange_events.specs.declared.outbox.Outbox.{Outbox}
 use Rattle.exchange_events.specs.declared.outbox.Response.{Response}
 use Rattle.exchange_events.specs.declared.outbox.Response.TheVariants as response
 use Rattle.exchange_events.specs.declared.record.CallRecord.{CallRecord}
-use Rattle.exchange_events.specs.declared.reply.Reply.{Reply}
 use Rattle.exchange_events.specs.declared.reply.Reply.TheVariants.{Sent}
 use Rattle.exchange_events.specs.declared.signal.Signal.{Signal}
 use Rattle.exchange_events.specs.declared.trace.Event.{Event}

@@ -1,4 +1,4 @@
-use Rattle.std.proofs.Common.{◌≡◌, ◌+◌, ◌<◌, [], ◌∷◌, drop, refl, sym, ap, ◌∙◌, arith}
+use Rattle.std.proofs.Common.{◌+◌, [], ◌∷◌, drop, refl, sym, ap, ◌∙◌, arith}
 use Rattle.exchange_events.specs.declared.signal.Signal.{Signal}
 use Rattle.linked_exchange.specs.Steps.{submitted_all}
 use Rattle.linked_exchange.proofs.LinkLemmas.{submitted_more, submitted_none}

@@ -1,4 +1,4 @@
-use Rattle.std.proofs.Common.{◌≡◌, [], ◌∷◌, refl, sym, ap, ◌∙◌}
+use Rattle.std.proofs.Common.{[], ◌∷◌, refl, ap, ◌∙◌}
 use Rattle.link_table.specs.Steps.{begun}
 use Rattle.link_table.specs.Tables.{Table}
 use Rattle.linked_exchange.specs.Steps.{Happens}

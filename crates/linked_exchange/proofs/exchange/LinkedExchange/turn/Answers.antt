@@ -1,4 +1,4 @@
-use Rattle.std.proofs.Common.{◌≡◌, [], ◌∷◌, All, refl, sym, ap, ◌∙◌, subst}
+use Rattle.std.proofs.Common.{All, sym, ap, ◌∙◌, subst}
 use Rattle.exchange_events.specs.declared.outbox.Response.TheVariants.{Sent}
 use Rattle.exchange_events.specs.Sound.{Fits}
 use Rattle.link_table.specs.Steps.{changed_at, line_of_turn, turned_at}
