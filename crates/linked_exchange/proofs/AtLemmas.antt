@@ -1,15 +1,13 @@
 -- The exchange and its links after a step.
-use Rattle.std.proofs.Common.{◌≡◌, ℕ, ◌+◌, ◌<◌, ◌≤◌, Bool, true, false, List, [], ◌∷◌, length, drop, get_or, drop_of_length-le, zero, suc, All, refl, sym, ap, ◌∙◌, subst, arith, Some, None, Ok, Err}
+use Rattle.std.proofs.Common.{◌≡◌, ℕ, ◌+◌, ◌<◌, ◌≤◌, Bool, true, false, List, [], ◌∷◌, length, drop, get_or, drop_of_length-le, zero, suc, sym, ap, ◌∙◌, subst, arith, None}
 use Rattle.std.specs.Prelude.{Option}
 use Rattle.std.specs.declared.result.Result.{Result}
-use Rattle.std.proofs.lemmas.List.Elements.{All-nil, All-cons}
 use Rattle.circuit_model.specs.Dimensions.{Dimensions}
 use Rattle.circuit_model.specs.FrameInput.{Input}
 use Rattle.exchange_events.specs.declared.outbox.Outbox.{Outbox}
 use Rattle.exchange_events.specs.declared.outbox.Response.{Response}
 use Rattle.exchange_events.specs.declared.outbox.Response.TheVariants as response
 use Rattle.exchange_events.specs.declared.record.CallRecord.{CallRecord}
-use Rattle.exchange_events.specs.declared.reply.Reply.{Reply}
 use Rattle.exchange_events.specs.declared.reply.Reply.TheVariants.{Sent}
 use Rattle.exchange_events.specs.declared.signal.Signal.{Signal}
 use Rattle.exchange_events.specs.declared.trace.Event.{Event}
@@ -181,17 +179,17 @@ module _ {P E : Type 0} (carries : Carrying E) (frames : E → ℕ) (sizes : E �
   pub time_at : x.exchange.control.map.next ≡ j.world.holding.next
   time_at = frames_at carries frames sizes x.exchange s j.world before.exchange
 
-  module _ (timers : Timers) (i : LinkedInput) (es : List Event) (is : es ≡ derived timers j i) (got : Response) (y : LinkedExchange P E) where
+  module _ (timers : Timers) (i : LinkedInput) (es : List Event) (is : es ≡ derived timers j i) (got : Response) where
     -- the reply to the event of the step
-    pub replied_by : reply_of got y.exchange.context.out ≡ reply_to s j.world es → reply_of got y.exchange.context.out ≡ reply_to s j.world (derived timers j i)
-    replied_by replied = replied ∙ ap (reply_to s j.world) is
+    pub replied_by : (out : Outbox) → reply_of got out ≡ reply_to s j.world es → reply_of got out ≡ reply_to s j.world (derived timers j i)
+    replied_by out replied = replied ∙ ap (reply_to s j.world) is
 
     -- the exchange after the event, and the links after the end of the step
-    pub stepped_by : (t : Table) (at : ℕ) → IsAt carries frames sizes y.exchange s (world_after_all s j.world es) → reply_of got y.exchange.context.out ≡ reply_to s j.world es
+    pub stepped_by : (y : LinkedExchange P E) (t : Table) (at : ℕ) → IsAt carries frames sizes y.exchange s (world_after_all s j.world es) → reply_of got y.exchange.context.out ≡ reply_to s j.world es
         → at ≡ y.exchange.control.map.next → t ≡ links_begun timers j i → y.links ≡ links_ended at (sends_of (reply_of got y.exchange.context.out)) t
         → IsLinkedAt carries frames sizes y s (next_joint s timers j i)
     unfolding next_joint
-    stepped_by t at passed replied now begun ended =
+    stepped_by y t at passed replied now begun ended =
         let world = world_after s timers j i in
         let sends = sends_of (reply_to s j.world (derived timers j i)) in
         let time : at ≡ world.holding.next =

@@ -1,6 +1,6 @@
 -- The table of links in a step: its size, its messages, and the link that receives.
-use Rattle.std.proofs.Common.{◌≡◌, ℕ, zero, suc, ◌+◌, ◌<◌, ◌≤◌, Bool, List, [], ◌∷◌, length, map, get_or, drop, drop_of_length-le, refl, sym, ap, ◌∙◌, arith, Some, None, Ok, Err, if◌then◌else◌}
-use Rattle.std.specs.Prelude.{Option, slice_index_or}
+use Rattle.std.proofs.Common.{◌≡◌, ℕ, zero, suc, ◌+◌, ◌<◌, ◌≤◌, Bool, List, [], ◌∷◌, length, get_or, drop, drop_of_length-le, refl, ap, ◌∙◌, arith, Some, None}
+use Rattle.std.specs.Prelude.{Option}
 use Rattle.std.proofs.lemmas.List.{length-set, length-map}
 use Rattle.exchange_events.specs.declared.signal.Signal.{Signal}
 use Rattle.link_frames.specs.declared.frame.Frame.{Frame}
@@ -8,7 +8,7 @@ use Rattle.link_frames.specs.declared.frame.Sender.TheVariants.{User}
 use Rattle.link_frames.specs.Reading.{reading}
 use Rattle.link_procedures.specs.declared.state.Timers.{Timers}
 use Rattle.link_procedures.specs.Links.{DataLink}
-use Rattle.link_table.specs.Tables.{Table, IsLinkOf, link_of, new_link, new_table, with_link}
+use Rattle.link_table.specs.Tables.{Table, IsLinkOf, link_of, new_link, new_table}
 use Rattle.link_table.specs.Steps.{begun, received_in, received_on, submitted_in, submitted_on, finished_in, finished_at, ended, turned_in, turned_at, line_of_turn}
 use Rattle.linked_exchange.specs.Steps.{submitted_all}
 
@@ -115,13 +115,13 @@ messages-turned_at timers at t = turned_count (line_of_turn at) (link_of (line_o
 -- ---- one message more
 
 pub submitted_more : (at : ℕ) (ms : List Signal) (i : ℕ) (d : Signal) (t : Table) → i < length ms
-    → submitted_all at (drop (i + 1) ms) (submitted_on (get_or ms i d).line (get_or ms i d).octets at t) ≡ submitted_all at (drop i ms) t
+    → submitted_all at (drop (i + 1) ms) (submitted_all at (get_or ms i d ∷ []) t) ≡ submitted_all at (drop i ms) t
 unfolding submitted_all
 submitted_more at [] i d t within = absurd (omega (arith, within))
 submitted_more at (m ∷ ms) zero d t within = refl
 submitted_more at (m ∷ ms) (suc i) d t within =
     let e : suc i + 1 ≡ suc (i + 1) = omega arith in
-    ap (λ k. submitted_all at (drop k (m ∷ ms)) (submitted_on (get_or ms i d).line (get_or ms i d).octets at t)) e ∙ submitted_more at ms i d t (omega (arith, within))
+    ap (λ k. submitted_all at (drop k (m ∷ ms)) (submitted_all at (get_or ms i d ∷ []) t)) e ∙ submitted_more at ms i d t (omega (arith, within))
 
 pub submitted_none : (at : ℕ) (ms : List Signal) (i : ℕ) (t : Table) → length ms ≤ i → submitted_all at (drop i ms) t ≡ t
 unfolding submitted_all

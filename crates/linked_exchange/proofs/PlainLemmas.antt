@@ -1,10 +1,8 @@
 -- The steps of an exchange with data links as a trace without them.
-use Rattle.std.proofs.Common.{◌≡◌, ℕ, zero, suc, ◌+◌, ◌<◌, ◌≤◌, ◌%◌, Bool, true, false, ◌==◌, ◌&&◌, not, nat_le, List, [], ◌∷◌, ◌++◌, length, All, refl, sym, ap, ◌∙◌, subst, arith, Some, None, Ok, Err, if◌then◌else◌}
+use Rattle.std.proofs.Common.{◌≡◌, ℕ, ◌+◌, ◌<◌, ◌≤◌, ◌%◌, Bool, true, false, ◌==◌, ◌&&◌, not, nat_le, List, [], ◌∷◌, ◌++◌, length, All, refl, sym, ap, ◌∙◌, arith, Some, None, Ok, if◌then◌else◌}
 use Rattle.std.specs.Prelude.{Option, slice_index_or}
-use Rattle.std.specs.declared.result.Result.{Result}
 use Rattle.std.proofs.lemmas.Bool.{leb-true}
 use Rattle.std.proofs.lemmas.List.Elements.{All-nil, All-cons, All-append, All-head, All-tail}
-use Rattle.exchange_events.specs.declared.reply.Reply.{Reply}
 use Rattle.exchange_events.specs.declared.trace.Event.{Event}
 use Rattle.exchange_events.specs.declared.trace.Event.TheVariants.{Message, LinkUp, LinkDown}
 use Rattle.exchange_events.specs.Sizes.{Setting}
@@ -12,13 +10,12 @@ use Rattle.exchange_events.specs.Sound.{Fits}
 use Rattle.call_profile.specs.Step.{next, reply, run, world_after_all}
 use Rattle.call_profile.specs.World.{World, start}
 use Rattle.link_frames.specs.declared.frame.Control.{Control}
-use Rattle.link_frames.specs.declared.frame.Control.TheVariants as control
 use Rattle.link_frames.specs.declared.frame.Frame.{Frame}
 use Rattle.link_frames.specs.declared.frame.Sender.{Sender}
 use Rattle.link_frames.specs.declared.frame.Sender.TheVariants.{User}
 use Rattle.link_frames.specs.declared.frame.Supervisory.{Supervisory}
 use Rattle.link_frames.specs.Fields.{tei_octet, sabme, disc, ua, dm, frmr, ui, xid, modifier, poll_final, max_information_len}
-use Rattle.link_frames.specs.Reading.{reading, frame_of, frame_with, framed, command_of, control_of, any_unnumbered, without_information, unnumbered, supervisory, supervisory_with, kind_of, numbered_information, information_with}
+use Rattle.link_frames.specs.Reading.{reading, frame_of, frame_with, framed, command_of, control_of, any_unnumbered, without_information, unnumbered, supervisory, supervisory_with, kind_of, numbered_information}
 use Rattle.link_frames.specs.Writing.{information_in}
 use Rattle.link_procedures.specs.declared.state.Indication.{Indication}
 use Rattle.link_procedures.specs.declared.state.Indication.TheVariants.{Data, Established, Released}
@@ -26,11 +23,9 @@ use Rattle.link_procedures.specs.declared.state.Timers.{Timers}
 use Rattle.link_procedures.specs.Links.{DataLink, step}
 use Rattle.link_procedures.specs.Receiving.{received}
 use Rattle.link_procedures.specs.Timing.{turned}
-use Rattle.link_table.specs.declared.notice.Change.{Change}
-use Rattle.link_table.specs.declared.notice.Change.TheVariants.{Up, Down}
-use Rattle.link_table.specs.Tables.{Table, IsLinkOf, link_of, new_table}
+use Rattle.link_table.specs.Tables.{Table, IsLinkOf, link_of}
 use Rattle.link_table.specs.Steps.{notice_of, noticed_in, noticed_on, change_of, changed_in, changed_at, line_of_turn}
-use Rattle.linked_exchange.specs.Steps.{Joint, LinkedInput, Happens, Receives, Turns, frames_so_far, event_of, noticed_events, changed_events, derived, links_begun, reply_to, sends_of, submitted_all, world_after, next_joint}
+use Rattle.linked_exchange.specs.Steps.{Joint, LinkedInput, Happens, Receives, Turns, frames_so_far, noticed_events, changed_events, derived, links_begun, reply_to, sends_of, submitted_all, world_after, next_joint}
 use Rattle.linked_exchange.specs.Runs.{links_down, start_joint, joint_after_all, derived_all, replies_all, derived_trace, FitsLinked, IsShortEvent, IsShortInput}
 use Rattle.linked_exchange.proofs.LinkLemmas.{inside, size-received_on, size-turned_at, size-submitted_all, size-ended, size-new_table}
 

@@ -1,5 +1,5 @@
 -- The links that are down before the first step: call control has no legs, and sends nothing.
-use Rattle.std.proofs.Common.{◌≡◌, ℕ, zero, suc, ◌+◌, ◌*◌, ◌<◌, ◌≤◌, Bool, true, false, List, [], ◌∷◌, All, replicate, get_or, refl, sym, ap, ◌∙◌, subst, arith, Some, None}
+use Rattle.std.proofs.Common.{◌≡◌, ℕ, zero, suc, ◌+◌, ◌*◌, Bool, true, false, List, [], ◌∷◌, All, replicate, get_or, refl, ap, ◌∙◌, arith, None}
 use Rattle.std.specs.Prelude.{Option, option_map}
 use Rattle.std.proofs.lemmas.List.Elements.{All-nil, All-cons}
 use Rattle.circuit_model.specs.Dimensions.{Dimensions}
@@ -8,11 +8,10 @@ use Rattle.control_memory.specs.Layout.{number_of}
 use Rattle.q931_codec.specs.Causes.{destination_out_of_order}
 use Rattle.tone_rules.specs.declared.tones.Tones.{Tones}
 use Rattle.call_states.specs.declared.leg.Leg.{Leg}
-use Rattle.exchange_events.specs.declared.reply.Reply.{Reply}
 use Rattle.exchange_events.specs.declared.reply.Reply.TheVariants.{Sent}
 use Rattle.exchange_events.specs.declared.trace.Event.TheVariants.{LinkDown}
 use Rattle.exchange_events.specs.Sizes.{Setting}
-use Rattle.call_profile.specs.Legs.{held_at, leg_at}
+use Rattle.call_profile.specs.Legs.{held_at}
 use Rattle.call_profile.specs.LinkChanges.{drop_leg, outcome_of_link, rule_of, with_line}
 use Rattle.call_profile.specs.Operations.{making_at}
 use Rattle.call_profile.specs.Restarts.{MessageOutcome, outcome_at_slot, outcome_then}

@@ -31,11 +31,11 @@ pub(crate) fn process_notice<P: PathMap, C: Carrier, R: Threads + Sync>(
     requires at { IsSomewhere C.carries C.next C.sizes settings.now.plan.now settings.now.tones.now settings.now.timers.now exchange.old }
     requires fits { All (Fits exchange.old.control.map.external) (noticed_events line received) }
     requires room { exchange.old.control.map.next < 4294967295 }
-    ensures world { PassesAll C.carries C.next C.sizes settings.now (noticed_events line received) exchange.old exchange.new }
-    ensures reply { RepliesFirst C.carries C.next C.sizes settings.now (noticed_events line received) exchange.old exchange.new }
+    ensures world { PassesAll C.carries C.next C.sizes settings.now (noticed_events line received.entry) exchange.old exchange.new }
+    ensures reply { RepliesFirst C.carries C.next C.sizes settings.now (noticed_events line received.entry) exchange.old exchange.new }
     ensures few { MovesAtMost exchange.old.control.map.bound (reply_of Sent exchange.new.context.out) }
     ensures bound { exchange.new.control.map.bound ≡ exchange.old.control.map.bound }
-    ensures indication { result ≡ indicated received }
+    ensures indication { result ≡ indicated received.entry }
 {
     match received {
         Ok(Some(notice)) => Ok(Some(process_one(exchange, rt, settings, line, &notice))),

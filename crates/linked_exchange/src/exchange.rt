@@ -186,6 +186,16 @@ fn submit_all(links: &mut LinkTable, signals: &[Signal], at: u32)
     ensures { links.new ≡ submitted_all at signals.now links.old }
 {
     for signal in signals {
-        links.submit(signal.line, signal.octets.as_slice(), at);
+        submit_one(links, signal, at);
     }
+}
+
+// Submits a message to its line.
+#[tactic(auto, unfolding(crate::specs::Steps::submitted_all))]
+fn submit_one(links: &mut LinkTable, signal: &Signal, at: u32)
+    requires { links.old.messages < 64 }
+    ensures submitted { links.new ≡ submitted_all at (signal.now ∷ []) links.old }
+    ensures count { links.new.messages ≡ links.old.messages + 1 }
+{
+    links.submit(signal.line, signal.octets.as_slice(), at);
 }

@@ -1,4 +1,4 @@
-use Rattle.std.proofs.Common.{◌≡◌, refl, sym, ap, ◌∙◌, subst}
+use Rattle.std.proofs.Common.{sym, ap, ◌∙◌, subst}
 use Rattle.exchange_events.specs.declared.trace.Event.{Event}
 use Rattle.call_profile.specs.Step.{MovesAtMost, next, reply}
 use Rattle.lone_exchange.specs.At.{IsAt}

@@ -1,7 +1,5 @@
-use Rattle.std.proofs.Common.{◌≡◌, [], ◌∷◌, List, ℕ, refl, sym, ap, ◌∙◌, subst}
-use Rattle.exchange_events.specs.declared.outbox.Response.TheVariants.{Sent}
+use Rattle.std.proofs.Common.{List, ℕ, sym, ap, ◌∙◌, subst}
 use Rattle.exchange_events.specs.declared.trace.Event.TheVariants.{Message}
-use Rattle.exchange_events.specs.Responses.{reply_of}
 use Rattle.exchange_events.specs.Sound.{Fits}
 use Rattle.call_profile.specs.Step.{next, reply}
 use Rattle.link_table.specs.declared.notice.Notice.{Notice}

@@ -1,4 +1,4 @@
-use Rattle.std.proofs.Common.{◌≡◌, ◌<◌, refl, sym, ap, ◌∙◌, arith}
+use Rattle.std.proofs.Common.{refl, ◌∙◌, arith}
 use Rattle.linked_exchange.proofs.AtLemmas.{down_all, down_more, down_same, external_at, frames_at}
 use Rattle.linked_exchange.proofs.events.put_down.Goals as goal
 

@@ -23,7 +23,7 @@ loop-rest-preserved c =
     rows_more _ _ _ _ _ _ c.loop-rest.invariant (λ e. absurd (grind (arith, nat_tests, e, c.is_empty.ensures, c.loop-rest-test.true))) (sym c.in-Some.ensures.read)
     (omega (arith, c.if-line-len.false, c.len.ensures, c.from-line.ensures))
     (pushed c.in-Some.sent c.from-line.result c.loop-rest.rows.items c.fill_before.new.rows.items c.push.new.self.items c.row_of.result c.from-line.ensures c.in_ok-fill_before.ensures
-    (c.row_of.ensures ∙ c.as_slice.ensures) c.in_ok-push.ensures.items)
+    (c.row_of.ensures ∙ c.as_slice.ensures.octets) c.in_ok-push.ensures.items)
 
 pub returns : goal.returns
 returns c = rw c.of.ensures (sym (rows_end _ _ _ c.loop-rest.invariant (grind (arith, nat_tests, c.is_empty.ensures, c.loop-rest-test.false))))

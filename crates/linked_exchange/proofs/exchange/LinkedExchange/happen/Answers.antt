@@ -1,4 +1,4 @@
-use Rattle.std.proofs.Common.{◌≡◌, [], ◌∷◌, refl, sym, ap, ◌∙◌}
+use Rattle.std.proofs.Common.{[], ◌∷◌, refl, ap, ◌∙◌}
 use Rattle.link_table.specs.Steps.{begun}
 use Rattle.link_table.specs.Tables.{Table}
 use Rattle.linked_exchange.specs.Steps.{Happens}
@@ -24,3 +24,6 @@ returns-clause-step g c s j given at =
     c.happen-response.result _ c.begin.new.self c.next_frame-at.result
     (c.happen-response.ensures.world s j.world given at.exchange) (c.happen-response.ensures.reply s j.world given at.exchange)
     c.next_frame-at.ensures.number (c.begin.ensures ∙ ap begun at.links) c.end_step.ensures
+
+pub returns-clause-played : goal.returns-clause-played
+returns-clause-played g c s j given at = c.happen-response.ensures.played s j.world given at.exchange

@@ -1,7 +1,6 @@
-use Rattle.std.proofs.Common.{◌≡◌, ◌≤◌, ◌<◌, length, refl, sym, ap, ◌∙◌, subst, arith}
+use Rattle.std.proofs.Common.{◌≡◌, refl, ap, arith}
 use Rattle.circuit_model.specs.Dimensions.{Dimensions}
 use Rattle.exchange_events.specs.Sizes.{Setting}
-use Rattle.exchange_events.specs.Sound.{IsPlanned}
 use Rattle.call_profile.specs.World.{start}
 use Rattle.lone_exchange.specs.At.{size}
 use Rattle.linked_exchange.proofs.AtLemmas.{external_at, frames_at, planned_by}

@@ -1,4 +1,4 @@
-use Rattle.std.proofs.Common.{◌≡◌, [], ◌∷◌, All, refl, sym, ap, ◌∙◌, subst}
+use Rattle.std.proofs.Common.{All, sym, ap, ◌∙◌, subst}
 use Rattle.exchange_events.specs.declared.outbox.Response.TheVariants.{Sent}
 use Rattle.exchange_events.specs.Sound.{Fits}
 use Rattle.link_table.specs.Steps.{noticed_on, received_on}
@@ -49,7 +49,7 @@ returns-clause-reply g c s j given at =
     let time = c.next_frame-at.ensures.number ∙ time_at g.C.Carrier.carries g.C.Carrier.next g.C.Carrier.sizes c.args.self.now s j at in
     replied_by g.C.Carrier.carries g.C.Carrier.next g.C.Carrier.sizes c.args.self.now s j at c.args.settings.now.link_timers.now (Receives line octets)
     (noticed_events line c.receive-received.result) (ap (noticed_events line) (c.receive-received.ensures.notice ∙ (λ k. noticed_on line octets (time k) (at.links k))))
-    Sent _ (c.process_notice-indication.ensures.reply s j.world given at.exchange)
+    Sent c.process_notice-indication.new.exchange.context.out (c.process_notice-indication.ensures.reply s j.world given at.exchange)
 
 pub returns-clause-indication : goal.returns-clause-indication
 returns-clause-indication g c =

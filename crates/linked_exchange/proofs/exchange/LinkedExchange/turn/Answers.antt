@@ -1,4 +1,4 @@
-use Rattle.std.proofs.Common.{◌≡◌, [], ◌∷◌, All, refl, sym, ap, ◌∙◌, subst}
+use Rattle.std.proofs.Common.{All, sym, ap, ◌∙◌, subst}
 use Rattle.exchange_events.specs.declared.outbox.Response.TheVariants.{Sent}
 use Rattle.exchange_events.specs.Sound.{Fits}
 use Rattle.link_table.specs.Steps.{changed_at, line_of_turn, turned_at}
@@ -49,7 +49,7 @@ returns-clause-reply g c s j given at =
     replied_by g.C.Carrier.carries g.C.Carrier.next g.C.Carrier.sizes c.args.self.now s j at timers Turns
     (changed_events (line_of_turn c.next_frame-at.result) c.turn-change.result)
     (ap (changed_events (line_of_turn c.next_frame-at.result)) c.turn-change.ensures.change ∙ (λ k. changed_events (line_of_turn (time k)) (changed_at timers (time k) (at.links k))))
-    Sent _ (c.process_change.ensures.reply s j.world given at.exchange)
+    Sent c.process_change.new.exchange.context.out (c.process_change.ensures.reply s j.world given at.exchange)
 
 pub returns-clause-change : goal.returns-clause-change
 returns-clause-change g c =
