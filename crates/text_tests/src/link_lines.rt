@@ -85,7 +85,7 @@ const EVENTS: u32 = 6;
 
 const FIRST_LINES: usize = 9;
 
-fn came(read: Result<LinkHappening, LineError>) -> Came {
+fn result_of(read: Result<LinkHappening, LineError>) -> Came {
     match read {
         Ok(LinkHappening::Plain(Happening::Event(_))) => Came::Event,
         Ok(LinkHappening::Plain(_)) => Came::Read,
@@ -97,7 +97,7 @@ fn came(read: Result<LinkHappening, LineError>) -> Came {
 
 fn read_each(heading: &mut LinkHeading, alloc: Global, rows: &[(&str, Came)]) -> bool {
     for (line, wanted) in rows {
-        if came(heading.read_line(alloc, Limits::for_lines(), line.as_bytes())) != *wanted {
+        if result_of(heading.read_line(alloc, Limits::for_lines(), line.as_bytes())) != *wanted {
             return false;
         }
     }
@@ -149,11 +149,14 @@ fn a_received_frame_has_at_most_265_octets(rt: HostRuntime) -> Result<(), Fail> 
     let longest = long_line(alloc, 265)?;
     let long = long_line(alloc, 266)?;
     assert!(rt;
-        came(heading.read_line(alloc, most, long.as_slice())) == Came::Refused(Reason::Length)
+        result_of(heading.read_line(alloc, most, long.as_slice())) == Came::Refused(Reason::Length)
     );
-    assert!(rt; came(heading.read_line(alloc, most, longest.as_slice())) == Came::Frame(0, 265));
     assert!(rt;
-        came(heading.read_line(alloc, most, longest.as_slice())) == Came::Refused(Reason::Limit)
+        result_of(heading.read_line(alloc, most, longest.as_slice())) == Came::Frame(0, 265)
+    );
+    assert!(rt;
+        result_of(heading.read_line(alloc, most, longest.as_slice()))
+            == Came::Refused(Reason::Limit)
     );
     assert!(rt; heading.plain().event_count() == 1);
     Ok(())
