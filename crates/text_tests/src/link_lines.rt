@@ -1,5 +1,4 @@
 // The lines of a trace with data links, and their report lines.
-use arrayvec::ArrayVec;
 use link_frames::{Control, Frame, FrameOctets, Sender, write};
 use link_procedures::Indication;
 use link_table::Change;
@@ -26,8 +25,8 @@ enum Came {
     Lacking,
 }
 
-// Lines in sequence, each with the result of reading it.
-const LINES: [(&str, Came); 49] = [
+// Lines of a trace without data links, each with the result of reading it.
+const UNLINKED: [(&str, Came); 9] = [
     ("link 0", Came::Refused(Reason::Header)),
     ("L 0 00", Came::Refused(Reason::Header)),
     ("timer T200 8", Came::Refused(Reason::Header)),
@@ -37,8 +36,10 @@ const LINES: [(&str, Came); 49] = [
     ("link 0", Came::Refused(Reason::Word)),
     ("timer T200 8", Came::Refused(Reason::Word)),
     ("exchange 1 3 1 2", Came::Refused(Reason::Word)),
-    // The same header again, in a new heading.
-    ("", Came::Read),
+];
+
+// Lines of a trace with data links.
+const LINKED: [(&str, Came); 39] = [
     ("exchange 1 3 1 2", Came::Read),
     ("link", Came::Refused(Reason::Word)),
     ("link 0 1", Came::Refused(Reason::Word)),
@@ -80,12 +81,7 @@ const LINES: [(&str, Came); 49] = [
     ("F", Came::Event),
 ];
 
-// The number of events after all lines, and the number of lines before the second heading.
-const EVENTS: u32 = 6;
-
-const FIRST_LINES: usize = 9;
-
-fn came(read: Result<LinkHappening, LineError>) -> Came {
+fn result_of(read: Result<LinkHappening, LineError>) -> Came {
     match read {
         Ok(LinkHappening::Plain(Happening::Event(_))) => Came::Event,
         Ok(LinkHappening::Plain(_)) => Came::Read,
@@ -97,7 +93,7 @@ fn came(read: Result<LinkHappening, LineError>) -> Came {
 
 fn read_each(heading: &mut LinkHeading, alloc: Global, rows: &[(&str, Came)]) -> bool {
     for (line, wanted) in rows {
-        if came(heading.read_line(alloc, Limits::for_lines(), line.as_bytes())) != *wanted {
+        if result_of(heading.read_line(alloc, Limits::for_lines(), line.as_bytes())) != *wanted {
             return false;
         }
     }
@@ -108,16 +104,16 @@ fn read_each(heading: &mut LinkHeading, alloc: Global, rows: &[(&str, Came)]) ->
 fn lines_with_data_links_are_read(rt: HostRuntime) -> Result<(), Fail> {
     let alloc = rt.alloc();
     let mut first = LinkHeading::new(alloc);
-    assert!(rt; read_each(&mut first, alloc, &LINES[..FIRST_LINES]));
+    assert!(rt; read_each(&mut first, alloc, &UNLINKED));
     assert!(rt; first.linked().as_slice().is_empty());
     assert!(rt; first.link_timers().t200 == 8000);
     let mut heading = LinkHeading::new(alloc);
-    assert!(rt; read_each(&mut heading, alloc, &LINES[FIRST_LINES..]));
+    assert!(rt; read_each(&mut heading, alloc, &LINKED));
     assert!(rt; heading.linked().as_slice() == [2, 0].as_slice());
     assert!(rt; heading.link_timers().t200 == 9);
     assert!(rt; heading.link_timers().t203 == 80_000);
     assert!(rt; heading.plain().timers().t303 == 8);
-    assert!(rt; heading.plain().event_count() == EVENTS);
+    assert!(rt; heading.plain().event_count() == 6);
     Ok(())
 }
 
@@ -149,64 +145,74 @@ fn a_received_frame_has_at_most_265_octets(rt: HostRuntime) -> Result<(), Fail> 
     let longest = long_line(alloc, 265)?;
     let long = long_line(alloc, 266)?;
     assert!(rt;
-        came(heading.read_line(alloc, most, long.as_slice())) == Came::Refused(Reason::Length)
+        result_of(heading.read_line(alloc, most, long.as_slice())) == Came::Refused(Reason::Length)
     );
-    assert!(rt; came(heading.read_line(alloc, most, longest.as_slice())) == Came::Frame(0, 265));
     assert!(rt;
-        came(heading.read_line(alloc, most, longest.as_slice())) == Came::Refused(Reason::Limit)
+        result_of(heading.read_line(alloc, most, longest.as_slice())) == Came::Frame(0, 265)
+    );
+    assert!(rt;
+        result_of(heading.read_line(alloc, most, longest.as_slice()))
+            == Came::Refused(Reason::Limit)
     );
     assert!(rt; heading.plain().event_count() == 1);
     Ok(())
 }
 
-// SABME with P = 1 and UA with F = 1 of the network.
-fn two_frames() -> ArrayVec<FrameOctets, 2> {
-    let mut frames = ArrayVec::new();
-    let sabme = Frame {
-        command: true,
-        control: Control::Sabme(true),
-    };
-    let acknowledgement = Frame {
-        command: false,
-        control: Control::Ua(true),
-    };
-    frames.push(write(Sender::Network, &sabme));
-    frames.push(write(Sender::Network, &acknowledgement));
-    frames
+// SABME with P = 1 of the network.
+fn establishment() -> FrameOctets {
+    write(
+        Sender::Network,
+        &Frame {
+            command: true,
+            control: Control::Sabme(true),
+        },
+    )
 }
 
-// The report lines of a trace with data links, in `text`.
-fn write_lines(text: &mut Vec<u8>) -> Result<(), AllocError> {
-    let frames = two_frames();
-    let sent = frames.as_slice();
-    append_link_line(
-        text,
-        1,
-        Some(Indication::Established),
-        None,
-        &[0],
-        &sent[1..],
-    )?;
+// UA with F = 1 of the network.
+fn acknowledgement() -> FrameOctets {
+    write(
+        Sender::Network,
+        &Frame {
+            command: false,
+            control: Control::Ua(true),
+        },
+    )
+}
+
+// The lines of received frames and of messages, in `text`.
+fn append_lines(text: &mut Vec<u8>) -> Result<(), AllocError> {
+    let first = [establishment()];
+    let second = [acknowledgement()];
+    let both = [establishment(), acknowledgement()];
+    append_link_line(text, 1, Some(Indication::Established), None, &[0], &second)?;
     append_link_line(
         text,
         2,
         Some(Indication::Data),
         Some((0, 1)),
         &[31, 0],
-        sent,
+        &both,
     )?;
     append_link_line(text, 3, Some(Indication::Released), None, &[], &[])?;
-    append_link_line(text, 4, None, None, &[0], &sent[..1])?;
-    append_message_line(text, 5, None, &[1, 2], sent)?;
-    append_message_line(text, 6, Some((62, 0)), &[], &[])?;
-    put_frame_start(text, 7, 4_294_967_295, &[0, 1], sent)?;
-    put_turn(text, 31, Some(Change::Down), &[31], &sent[..1])?;
+    append_link_line(text, 4, None, None, &[0], &first)?;
+    append_message_line(text, 5, None, &[1, 2], &both)?;
+    append_message_line(text, 6, Some((62, 0)), &[], &[])
+}
+
+// The lines of frames of the exchange, in `text`.
+fn put_frames(text: &mut Vec<u8>) -> Result<(), AllocError> {
+    let first = [establishment()];
+    let second = [acknowledgement()];
+    let both = [establishment(), acknowledgement()];
+    put_frame_start(text, 7, 4_294_967_295, &[0, 1], &both)?;
+    put_turn(text, 31, Some(Change::Down), &[31], &first)?;
     put_frame_end(text, &[[0xD5; 30], [0x11; 30]])?;
     put_frame_start(text, 8, 0, &[], &[])?;
     put_turn(text, 0, Some(Change::Up), &[], &[])?;
     put_frame_end(text, &[])?;
     put_frame_start(text, 9, 1, &[], &[])?;
-    put_turn(text, 1, None, &[1], &sent[1..])?;
+    put_turn(text, 1, None, &[1], &second)?;
     put_frame_end(text, &[[0xD5; 30]])
 }
 
@@ -224,7 +230,8 @@ const WRITTEN: &str = "1 link up 0:000173
 #[test]
 fn report_lines_of_data_links_are_written(rt: HostRuntime) -> Result<(), Fail> {
     let mut text = Vec::new(rt.alloc());
-    write_lines(&mut text)?;
+    append_lines(&mut text)?;
+    put_frames(&mut text)?;
     assert!(rt; text.as_slice() == WRITTEN.as_bytes());
     Ok(())
 }
