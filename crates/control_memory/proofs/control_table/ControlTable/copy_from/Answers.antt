@@ -5,7 +5,7 @@ use Rattle.control_memory.proofs.HeardLines.{first_unmarked, second_unmarked}
 use Rattle.control_memory.proofs.TableRows.{get_or_unused, copied}
 use Rattle.control_memory.proofs.control_table.ControlTable.copy_from.Goals as goal
 
--- the bytes are those of the other table
+-- the bytes equal the other table's bytes
 whole : (c : goal.After-self-2-1) → c.copy_front.new.to ≡ c.other.inside.bytes.items
 whole c =
     let t = c.self.inside in
