@@ -1,9 +1,12 @@
 -- Rows of octets, and the octets of their slots.
-use Rattle.std.proofs.Common.{◌≡◌, ℕ, ◌+◌, ◌<◌, List, [], ◌∷◌, length, map, drop, slice_index, get_or, arith, ap, refl, sym, ◌∙◌}
-use Rattle.std.specs.List.{range_with_len}
+use Rattle.std.proofs.Common.{◌≡◌, ◌==◌, ℕ, ◌+◌, ◌<◌, ◌++◌, true, List, [], ◌∷◌, length, map, drop, slice_index, get_or, arith, ap, refl, sym, ◌∙◌}
+use Rattle.std.specs.List.{range_with_len, flat_map, list_all}
+use Rattle.circuit_model.specs.FrameInput.{idle_octet}
 use Rattle.circuit_model.specs.declared.channel.Slot.{Slot}
-use Rattle.report_text.specs.Report.{line_octets, lines_sent, octet_of}
+use Rattle.report_text.specs.Report.{line_octets, lines_sent, octet_of, part, parts}
+use Rattle.std.proofs.lemmas.Bool.{and_parts, cond-true}
 use Rattle.std.proofs.lemmas.List.{drop_more}
+use Rattle.std.proofs.lemmas.List.Folds.{list_all-append}
 use Rattle.std.proofs.lemmas.List.FromFn.{fill_by_all, length-map-range_with_len, get_or-map-range_with_len}
 
 -- a row of thirty octets is what its line sends
@@ -32,3 +35,15 @@ line_octets_same f g line same = fill_by_all (λ place. g (record { line = line;
 pub sent_same : (f g : Slot → ℕ) (lines : ℕ) → ((line place : ℕ) → line < lines → place < 30 → f (record { line = line; place = place }) ≡ g (record { line = line; place = place })) → lines_sent f lines ≡ lines_sent g lines
 sent_same f g lines same = fill_by_all (line_octets g) (lines_sent f lines) lines [] (length-map-range_with_len (line_octets f) 0 lines)
     (λ k within. get_or-map-range_with_len (line_octets f) 0 lines k k [] within (omega arith) ∙ line_octets_same f g k (λ place. same k place within))
+
+-- rows of thirty octets are what their lines send
+pub lines_sent_rows : (rows : List (List ℕ)) → ((line : ℕ) → line < length rows → length (get_or rows line []) ≡ 30) → lines_sent (octet_of rows) (length rows) ≡ rows
+lines_sent_rows rows thirty = sym (fill_by_all (line_octets (octet_of rows)) rows (length rows) [] refl (λ k within. sym (sym (line_octets_row_of rows k) ∙ line_octets_row k (get_or rows k []) (thirty k within))))
+
+-- idle rows have no part
+pub parts_idle : (line : ℕ) (rows : List (List ℕ)) → list_all (λ octet. octet == idle_octet) (flat_map (λ row. row) rows) ≡ true → parts line rows ≡ []
+parts_idle line [] idle = refl
+parts_idle line (row ∷ rest) idle =
+    let both = and_parts _ _ (sym (list_all-append (λ octet. octet == idle_octet) row (flat_map (λ r. r) rest)) ∙ idle) in
+    let none : part line row ≡ [] = cond-true _ [] _ both.0 in
+    ap (λ first. first ++ parts (line + 1) rest) none ∙ parts_idle (line + 1) rest both.1

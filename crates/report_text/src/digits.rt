@@ -2,7 +2,7 @@
 //
 // The octets of a line are processed as a row of 32, so that loops of fixed length become vector code.
 ghost use Rattle.std.specs.Prelude.{◌≡◌, ◌==◌, ◌++◌, ◌-◌, ◌<◌, ◌≤◌, length, drop, slice_index, replicate};
-ghost use Rattle.std.specs.List.{list_all};
+ghost use Rattle.std.specs.List.{flat_map, list_all};
 ghost use Rattle.hex.specs.Hex.{encode_upper, upper_digits};
 ghost use Rattle.circuit_model.specs.FrameInput.{idle_octet};
 
@@ -25,6 +25,18 @@ pub(crate) fn is_idle(octets: &[u8; 30]) -> bool
     let mut all = true;
     for octet in octets {
         all &= *octet == IDLE;
+    }
+    all
+}
+
+// Returns whether all octets of all lines are idle. Every octet is tested, many at once.
+pub(crate) fn are_idle(lines: &[[u8; 30]]) -> bool
+    ensures { result ≡ list_all (λ octet. octet == idle_octet) (flat_map (λ line. line) lines.now) }
+{
+    let octets = lines.as_flattened();
+    let mut all = true;
+    for one in octets {
+        all &= *one == IDLE;
     }
     all
 }

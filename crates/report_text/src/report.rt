@@ -4,7 +4,7 @@ ghost use Rattle.hex.specs.Hex.{encode_upper};
 ghost use Rattle.exchange_events.specs.declared.answer.Kept.TheVariants.{Granted, Busy, Seated, NoPort, Freed, NotNailed};
 ghost use Rattle.report_text.specs.Report.{answer_line, frame_line, line_octets, lines_sent, moved_kept, octet_of, part, parts, parts_line, report_line, response_kept, response_line, sends_kept};
 
-use crate::digits::{is_idle, put_row_digits, wide_row};
+use crate::digits::{are_idle, is_idle, put_row_digits, wide_row};
 use crate::message::{put_frame_signals, put_message};
 use crate::text::{put_before, put_line_before, put_number_before};
 use exchange_events::{Answer, Kept, Outbox, Response, Signal};
@@ -252,7 +252,7 @@ fn put_frame(
     out.extend_from_slice(b"\n")
 }
 
-/// Appends the octets of each line that is not idle.
+/// Appends the octets of each line that is not idle. In most frames without calls all are idle, so that is tested first.
 ///
 /// # Errors
 ///
@@ -261,6 +261,9 @@ pub fn put_parts(out: &mut Vec<u8>, octets: &[[u8; 30]]) -> Result<(), AllocErro
     ensures parts { OnOk result (out.new.items ≡ out.old.items ++ parts 0 (lines_sent (octet_of octets.now) (length octets.now))) }
     ensures front { take (length out.old.items) out.new.items ≡ out.old.items }
 {
+    if are_idle(octets) {
+        return Ok(());
+    }
     for (line, row) in octets.iter().enumerate() {
         put_row(out, line, row)?;
     }

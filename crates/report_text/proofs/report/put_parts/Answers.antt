@@ -1,9 +1,9 @@
-use Rattle.std.proofs.Common.{◌≡◌, ◌∙◌, ℕ, ◌+◌, ◌≤◌, ◌++◌, List, [], arith, ap, sym, length, drop, get_or, slice_index}
+use Rattle.std.proofs.Common.{◌≡◌, ◌∙◌, ℕ, ◌+◌, ◌≤◌, ◌++◌, List, [], rules, arith, ap, sym, length, drop, get_or, slice_index}
 use Rattle.std.proofs.lemmas.List.{append_assoc, append-nil, drop_all}
 use Rattle.std.proofs.lemmas.List.FromFn.{length-map-range_with_len}
 use Rattle.std.proofs.Transfers.{starts_with_trans}
 use Rattle.report_text.specs.Report.{line_octets, lines_sent, octet_of, part, parts}
-use Rattle.report_text.proofs.Rows.{drop_sent, line_octets_row_of}
+use Rattle.report_text.proofs.Rows.{drop_sent, line_octets_row_of, lines_sent_rows, parts_idle}
 use Rattle.report_text.proofs.report.put_parts.Goals as goal
 
 pub loop-line-preserved : goal.loop-line-preserved
@@ -30,3 +30,10 @@ returns-clause-parts c =
     sym (append-nil c.loop-line.out.items)
     ∙ sym (ap (λ lines. c.loop-line.out.items ++ parts c.loop-line.line lines) (drop_all c.loop-line.line all over))
     ∙ c.loop-line.invariant.done
+
+pub returns-then-are_idle-clause-parts : goal.returns-then-are_idle-clause-parts
+returns-then-are_idle-clause-parts c =
+    let rows : List (List ℕ) = c.args.octets.now in
+    let out : List ℕ = c.args.out.now.items in
+    let none : parts 0 (lines_sent (octet_of rows) (length rows)) ≡ [] = ap (parts 0) (lines_sent_rows rows (λ line inside. search rules)) ∙ parts_idle 0 rows (search rules) in
+    sym (append-nil out) ∙ sym (ap (λ more. out ++ more) none)
