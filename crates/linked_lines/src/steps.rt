@@ -1,20 +1,16 @@
 //! One step of an exchange with data links, with its part of the report.
 ghost use Rattle.std.specs.Prelude.{◌≡◌, ◌++◌, ◌<◌, ◌≤◌, All, length, take, IfOk, OnOk};
 ghost use Rattle.exchange_events.specs.declared.outbox.Response.TheVariants.{Sent};
-ghost use Rattle.exchange_events.specs.Kept.{kept_of};
 ghost use Rattle.exchange_events.specs.Responses.{reply_of};
 ghost use Rattle.exchange_events.specs.Sound.{Fits};
-ghost use Rattle.call_profile.specs.CallsTold.{calls_kept};
-ghost use Rattle.call_profile.specs.Step.{MovesAtMost};
-ghost use Rattle.link_table.specs.Steps as table;
+ghost use Rattle.link_table.specs.Steps.{noticed_on};
 ghost use Rattle.linked_exchange.specs.At.{IsSomewhere, PlaysAt, RepliesTo, Steps};
 ghost use Rattle.linked_exchange.specs.Runs.{FitsLinked};
 ghost use Rattle.linked_exchange.specs.Steps.{Happens, Receives, Turns, indicated};
-ghost use Rattle.linked_text.specs.LinkReport.{frame_end, turn_text};
-ghost use Rattle.linked_lines.specs.LinkedLines.{PlaysOn, Writes, indication_in, input_of, received_line, reply_line};
+ghost use Rattle.linked_lines.specs.LinkedLines.{MovesFew, PlaysOn, RepliesIfOk, Writes, WritesTurn, input_of, reply_line};
 
 use control_memory::PathMap;
-use exchange_events::{CallRecord, Event, Octets, Outbox, Response};
+use exchange_events::{Event, Octets, Response};
 use frame_engine::Carrier;
 use link_table::LINES;
 use linked_exchange::{LinkedExchange, Settings};
@@ -46,12 +42,12 @@ fn put_event<P: PathMap, C: Carrier, R: Threads + Sync>(
     requires fits { Fits exchange.old.exchange.control.map.external event.now }
     requires room { exchange.old.exchange.control.map.next < 4294967295 }
     ensures step { Steps C.carries C.next C.sizes settings.now (Happens event.now) exchange.old exchange.new }
-    ensures reply { IfOk result (λ response. RepliesTo C.carries C.next C.sizes settings.now (Happens event.now) exchange.old response exchange.new) }
+    ensures reply { RepliesIfOk C.carries C.next C.sizes settings.now (Happens event.now) exchange.old result exchange.new }
     ensures played { PlaysAt C.carries C.next C.sizes C.plays settings.now event.now exchange.old exchange.new }
-    ensures few { IfOk result (λ response. MovesAtMost exchange.old.exchange.control.map.bound (reply_of response exchange.new.exchange.context.out)) }
+    ensures few { IfOk result (λ response. MovesFew response exchange.old exchange.new) }
     ensures bound { exchange.new.exchange.control.map.bound ≡ exchange.old.exchange.control.map.bound }
-    ensures line { IfOk result (λ response. out.new.items
-        ≡ out.old.items ++ reply_line number exchange.new.links (reply_of response exchange.new.exchange.context.out)) }
+    ensures line { OnOk result
+        (Writes C.carries C.next C.sizes settings.now (Happens event.now) number exchange.old out.old.items out.new.items) }
     ensures front { take (length out.old.items) out.new.items ≡ out.old.items }
 {
     let response = exchange.happen(rt, settings, event);
@@ -100,11 +96,10 @@ fn put_received<P: PathMap, C: Carrier, R: Threads + Sync>(
     requires room { exchange.old.exchange.control.map.next < 4294967295 }
     ensures step { Steps C.carries C.next C.sizes settings.now (Receives line octets.now) exchange.old exchange.new }
     ensures reply { RepliesTo C.carries C.next C.sizes settings.now (Receives line octets.now) exchange.old Sent exchange.new }
-    ensures few { MovesAtMost exchange.old.exchange.control.map.bound (reply_of Sent exchange.new.exchange.context.out) }
+    ensures few { MovesFew Sent exchange.old exchange.new }
     ensures bound { exchange.new.exchange.control.map.bound ≡ exchange.old.exchange.control.map.bound }
-    ensures line { OnOk result (out.new.items ≡ out.old.items ++ received_line number exchange.new.links
-        (indication_in (indicated (table.noticed_on line octets.now exchange.old.exchange.control.map.next exchange.old.links)))
-        (reply_of Sent exchange.new.exchange.context.out)) }
+    ensures line { OnOk result (Writes C.carries C.next C.sizes settings.now (Receives line octets.now) number exchange.old
+        out.old.items out.new.items) }
     ensures front { take (length out.old.items) out.new.items ≡ out.old.items }
 {
     // A line without a link has no indication.
@@ -139,11 +134,12 @@ pub fn put_step<P: PathMap, C: Carrier, R: Threads + Sync>(
     requires fits { FitsLinked exchange.old.exchange.control.map.external (input_of event.now) }
     requires room { exchange.old.exchange.control.map.next < 4294967295 }
     ensures step { Steps C.carries C.next C.sizes settings.now (input_of event.now) exchange.old exchange.new }
-    ensures reply { IfOk result (λ response. RepliesTo C.carries C.next C.sizes settings.now (input_of event.now) exchange.old response exchange.new) }
+    ensures reply { RepliesIfOk C.carries C.next C.sizes settings.now (input_of event.now) exchange.old result exchange.new }
     ensures played { PlaysOn C.carries C.next C.sizes C.plays settings.now (input_of event.now) exchange.old exchange.new }
-    ensures few { IfOk result (λ response. MovesAtMost exchange.old.exchange.control.map.bound (reply_of response exchange.new.exchange.context.out)) }
+    ensures few { IfOk result (λ response. MovesFew response exchange.old exchange.new) }
     ensures bound { exchange.new.exchange.control.map.bound ≡ exchange.old.exchange.control.map.bound }
-    ensures line { OnOk result (Writes C.carries C.next C.sizes settings.now (input_of event.now) number exchange.old out.old.items out.new.items) }
+    ensures line { OnOk result
+        (Writes C.carries C.next C.sizes settings.now (input_of event.now) number exchange.old out.old.items out.new.items) }
     ensures front { take (length out.old.items) out.new.items ≡ out.old.items }
 {
     match event {
@@ -155,7 +151,8 @@ pub fn put_step<P: PathMap, C: Carrier, R: Threads + Sync>(
     }
 }
 
-/// Processes the turn of a link after a frame of the exchange, and appends the rest of the report line of the frame.
+/// Processes the turn of a link after a frame of the exchange, and appends the rest of the report line of the frame. Its
+/// octets are the octets of the exchange after the turn (`rest`).
 ///
 /// # Errors
 ///
@@ -170,11 +167,10 @@ pub fn put_turn_step<P: PathMap, C: Carrier, R: Threads + Sync>(
     requires room { exchange.old.exchange.control.map.next < 4294967295 }
     ensures step { Steps C.carries C.next C.sizes settings.now Turns exchange.old exchange.new }
     ensures reply { RepliesTo C.carries C.next C.sizes settings.now Turns exchange.old Sent exchange.new }
-    ensures few { MovesAtMost exchange.old.exchange.control.map.bound (reply_of Sent exchange.new.exchange.context.out) }
+    ensures few { MovesFew Sent exchange.old exchange.new }
     ensures bound { exchange.new.exchange.control.map.bound ≡ exchange.old.exchange.control.map.bound }
-    ensures rest { OnOk result (out.new.items ≡ out.old.items ++ turn_text (table.line_of_turn exchange.old.exchange.control.map.next)
-        (table.changed_at settings.now.link_timers.now exchange.old.exchange.control.map.next exchange.old.links)
-        exchange.new.links.lines exchange.new.links.frames ++ frame_end exchange.new.exchange.octets.items) }
+    ensures rest { OnOk result
+        (WritesTurn C.carries C.next C.sizes settings.now exchange.old exchange.new out.old.items out.new.items) }
     ensures front { take (length out.old.items) out.new.items ≡ out.old.items }
 {
     let line = (exchange.exchange.control.map.next_frame() % LINES) as u8;
@@ -187,20 +183,4 @@ pub fn put_turn_step<P: PathMap, C: Carrier, R: Threads + Sync>(
         exchange.links.frames(),
     )?;
     put_frame_end(out, exchange.exchange.octets.as_slice())
-}
-
-/// Returns the records of the calls that ended with an event, by its response and its outbox.
-pub fn records_in(response: Response, out: &Outbox) -> &[CallRecord]
-    ensures { result.now ≡ calls_kept (kept_of (reply_of response out.now)) }
-{
-    match response {
-        Response::Sent => out.records.as_slice(),
-        Response::Frame(_) => out.records.as_slice(),
-        Response::Granted(_, _) => &[],
-        Response::Busy => &[],
-        Response::Seated(_, _) => &[],
-        Response::NoPort => &[],
-        Response::Freed => &[],
-        Response::NotNailed => &[],
-    }
 }
