@@ -1,12 +1,11 @@
 //! One step of an exchange with data links, with its part of the report.
-ghost use Rattle.std.specs.Prelude.{◌≡◌, ◌++◌, ◌<◌, ◌≤◌, All, length, take, IfOk, OnOk};
+ghost use Rattle.std.specs.Prelude.{◌≡◌, ◌++◌, ◌<◌, All, length, take, IfOk, OnOk};
 ghost use Rattle.exchange_events.specs.declared.outbox.Response.TheVariants.{Sent};
 ghost use Rattle.exchange_events.specs.Responses.{reply_of};
 ghost use Rattle.exchange_events.specs.Sound.{Fits};
-ghost use Rattle.link_table.specs.Steps.{noticed_on};
 ghost use Rattle.linked_exchange.specs.At.{IsSomewhere, PlaysAt, RepliesTo, Steps};
 ghost use Rattle.linked_exchange.specs.Runs.{FitsLinked};
-ghost use Rattle.linked_exchange.specs.Steps.{Happens, Receives, Turns, indicated};
+ghost use Rattle.linked_exchange.specs.Steps.{Happens, Receives, Turns};
 ghost use Rattle.linked_lines.specs.LinkedLines.{MovesFew, PlaysOn, RepliesIfOk, Writes, WritesTurn, input_of, reply_line};
 
 use control_memory::PathMap;
@@ -14,7 +13,9 @@ use exchange_events::{Event, Octets, Response};
 use frame_engine::Carrier;
 use link_table::LINES;
 use linked_exchange::{LinkedExchange, Settings};
-use linked_text::{append_link_line, append_message_line, put_frame_end, put_frame_start, put_turn};
+use linked_text::{
+    append_link_line, append_message_line, put_frame_end, put_frame_start, put_turn,
+};
 use report_text::append_line;
 use std::alloc::AllocError;
 use std::thread::Threads;
@@ -103,9 +104,7 @@ fn put_received<P: PathMap, C: Carrier, R: Threads + Sync>(
     ensures front { take (length out.old.items) out.new.items ≡ out.old.items }
 {
     // A line without a link has no indication.
-    let indication = exchange
-        .receive(rt, settings, line, octets)
-        .unwrap_or(None);
+    let indication = exchange.receive(rt, settings, line, octets).unwrap_or(None);
     append_link_line(
         out,
         number,
@@ -145,7 +144,15 @@ pub fn put_step<P: PathMap, C: Carrier, R: Threads + Sync>(
     match event {
         LinkedEvent::Event(event) => put_event(rt, exchange, settings, number, event, out),
         LinkedEvent::Received(line, octets) => {
-            put_received(rt, exchange, settings, number, *line, octets.as_slice(), out)?;
+            put_received(
+                rt,
+                exchange,
+                settings,
+                number,
+                *line,
+                octets.as_slice(),
+                out,
+            )?;
             Ok(Response::Sent)
         }
     }
