@@ -1,0 +1,2 @@
+pub mod LinkedLines
+pub mod LinkedStory
