@@ -5,11 +5,13 @@ use Rattle.circuit_model.specs.Hears.{Plays}
 use Rattle.exchange_events.specs.declared.record.CallRecord.{CallRecord}
 use Rattle.std.specs.Option.{option_map}
 use Rattle.meters.specs.Changing.{handed_in, steps_text}
-use Rattle.trace_text.specs.TraceLines.{SoFar}
+use Rattle.linked_exchange.specs.declared.exchange.LinkedExchange.{LinkedExchange}
+use Rattle.linked_text.specs.LinkLines.{LinkSoFar}
+use Rattle.exchange_top.specs.InTurn.{setting_in_turn, world_in_turn}
 use Rattle.lone_exchange.specs.declared.exchange.LoneExchange.{LoneExchange}
 use Rattle.lone_exchange.specs.At.{Carrying}
-use Rattle.exchange_top.specs.Following.{AreAnswered, FollowsTo, HasReturned, IsAnswered, IsEngineOf, course, dues_of, follow_parties, setting_said, world_said}
-use Rattle.exchange_top.specs.Handling.{HasHandled, IsEngineAfter, engine_returned, handler_dues}
+use Rattle.exchange_top.specs.Following.{AreAnswered, FollowsTo, HasReturned, IsAnswered, IsEngineOf, course, dues_of, follow_parties}
+use Rattle.exchange_top.specs.Handling.{HasHandled, IsEngineAfter, engine_returned, exchange_of, handler_dues}
 use Rattle.exchange_top.specs.Outcomes.{HandsOut}
 use Rattle.line_follower.specs.Following.{Dues, HasFollowed, IsSettled, with_end}
 use Rattle.line_follower.specs.declared.following.Following.{Following}
@@ -19,9 +21,9 @@ use Rattle.line_follower.proofs.Endings.{IsToo, followed_too, settled_too, with_
 -- ---- a handler of a trace
 
 module _ {M P E : Type 0} (stands : M → List CallRecord → Type 0) (text : M → List CallRecord → List ℕ) (carries : Carrying E) (frames : E → ℕ) (sizes : E → Dimensions)
-    (plays : Plays) (slots : ℕ) (moves : ℕ → ℕ) (old old_spare on spare : List M) (heading : SoFar) (count : ℕ) (exchange : Option (LoneExchange P E)) where
+    (plays : Plays) (slots : ℕ) (moves : ℕ → ℕ) (old old_spare on spare : List M) (heading : LinkSoFar) (count : ℕ) (exchange : Option (LoneExchange P E)) (linked : Option (LinkedExchange P E)) where
   abbrev mine : Dues
-  mine = handler_dues stands text carries frames sizes plays slots moves old old_spare on spare heading count exchange
+  mine = handler_dues stands text carries frames sizes plays slots moves old old_spare on spare heading count exchange linked
 
   handler_too : IsToo mine (dues_of (course plays slots moves stands text old old_spare on spare))
   handler_too = record {
@@ -32,25 +34,25 @@ module _ {M P E : Type 0} (stands : M → List CallRecord → Type 0) (text : M 
     refuses_end = λ ls said due. due;
   }
 
-  pub answered : (heard said : List ℕ) → IsSettled (HasHandled carries frames sizes (course plays slots moves stands text old old_spare on spare) heading count exchange) heard said
+  pub answered : (heard said : List ℕ) → IsSettled (HasHandled carries frames sizes (course plays slots moves stands text old old_spare on spare) heading count exchange linked) heard said
       → IsAnswered plays slots (λ steps. steps_text text steps (handed_in old old_spare)) heard said
   answered heard said settled =
-      settled_too (HasHandled carries frames sizes (course plays slots moves stands text old old_spare on spare) heading count exchange) (AreAnswered plays slots (λ steps. steps_text text steps (handed_in old old_spare)))
+      settled_too (HasHandled carries frames sizes (course plays slots moves stands text old old_spare on spare) heading count exchange linked) (AreAnswered plays slots (λ steps. steps_text text steps (handed_in old old_spare)))
       (λ ls s h. record { told = h.told; meets = h.meets; text = h.text }) heard said settled
 
-  engine_after : (ls : List (List ℕ)) → IsEngineAfter carries frames sizes slots moves ls exchange
-      → IsEngineOf (follow_parties plays slots moves sizes carries (option_map (λ (x : LoneExchange P E). x.engine) exchange) stands text old old_spare on spare) ls
+  engine_after : (ls : List (List ℕ)) → IsEngineAfter carries frames sizes slots moves ls exchange linked
+      → IsEngineOf (follow_parties plays slots moves sizes carries (option_map (λ (x : LoneExchange P E). x.engine) (exchange_of exchange linked)) stands text old old_spare on spare) ls
   engine_after ls a = record {
     told = a.told;
     meets = a.meets;
-    sizes = a.after.header;
-    header = a.after.given;
-    engine = subst (λ (o : Option (LoneExchange P E)). HandsOut sizes carries (option_map (λ (x : LoneExchange P E). x.engine) o) (setting_said slots a.after.header a.told).dimensions (world_said slots a.after.header a.told))
-        (sym a.is) (a.after.at.sized, a.after.at.carried);
+    sizes = a.header;
+    header = a.given;
+    engine = subst (λ (o : Option (LoneExchange P E)). HandsOut sizes carries (option_map (λ (x : LoneExchange P E). x.engine) o) (setting_in_turn slots a.header a.told).dimensions (world_in_turn slots a.header a.told))
+        (sym a.is) (a.sized, a.carried);
   }
 
   returned : (over : Type 0) (ending : Following) (heard said : List ℕ) → HasFollowed ending (with_end over mine) heard said
-      → HasReturned (follow_parties plays slots moves sizes carries (engine_returned ending (option_map (λ (x : LoneExchange P E). x.engine) exchange)) stands text old old_spare on spare) ending heard
+      → HasReturned (follow_parties plays slots moves sizes carries (engine_returned ending (option_map (λ (x : LoneExchange P E). x.engine) (exchange_of exchange linked))) stands text old old_spare on spare) ending heard
   returned over ended.Completed heard said due = engine_after _ due.1.engine
   returned over ended.Refused heard said due = refl
   returned over ended.ReadFailed heard said due = refl
@@ -59,7 +61,7 @@ module _ {M P E : Type 0} (stands : M → List CallRecord → Type 0) (text : M 
 
   pub follows_to : (stood : List ℕ → List ℕ → Type 0) (over : Type 0) (ending : Following) (heard said : List ℕ) → stood heard said
       → HasFollowed ending (with_end over mine) heard said
-      → FollowsTo (follow_parties plays slots moves sizes carries (engine_returned ending (option_map (λ (x : LoneExchange P E). x.engine) exchange)) stands text old old_spare on spare) stood over ending
+      → FollowsTo (follow_parties plays slots moves sizes carries (engine_returned ending (option_map (λ (x : LoneExchange P E). x.engine) (exchange_of exchange linked))) stands text old old_spare on spare) stood over ending
   follows_to stood over ending heard said stands_so due = record {
     heard = heard;
     said = said;

@@ -27,14 +27,27 @@ use Rattle.trace_text.specs.TraceLines.{SoFar, line_limits, says}
 use Rattle.trace_text.proofs.TraceHolds.{events_more, push, step}
 use Rattle.lone_exchange.specs.declared.exchange.LoneExchange.{LoneExchange}
 use Rattle.lone_exchange.specs.At.{Carrying, IsAt}
-use Rattle.exchange_top.specs.Following.{IsInterrupted, IsLineRefused, MovesFewIn, No_line, Read, Unread, course, follows, setting_said, story_said, world_said}
-use Rattle.exchange_top.specs.Handling.{HasHandled, IsAfter, IsDriven, IsSaid}
+use Rattle.exchange_top.specs.Told.{MovesFewIn, setting_said, world_said}
+use Rattle.exchange_top.specs.InTurn.{events_by, events_in_turn, follows_in_turn, joint_said, link_timers_said, setting_in_turn, story_in_turn}
+use Rattle.exchange_top.specs.Following.{IsInterrupted, IsLineRefused, No_line, Read, Unread, course}
+use Rattle.exchange_top.specs.Handling.{AreDriven, HasHandled, IsAfter, IsDriven, IsDrivenBy, IsLinkedAfter, IsLinkedDriven, IsSaid}
 use Rattle.report_check.specs.Refusals.{refusal}
 use Rattle.exchange_top.specs.Telling.{AreTold, AreToldFront}
-use Rattle.exchange_top.proofs.FollowedLines.{each_length, each_push, follows_as, follows_long, follows_many}
-use Rattle.exchange_top.proofs.FollowedSteps.{due_by, due_steps, setting_by, story_more}
-use Rattle.exchange_top.proofs.PlacedLines.{IsPlaced}
-use Rattle.exchange_top.proofs.SaidLines.{IsLine, quiet_before, said_more, said_none, says_line}
+use Rattle.exchange_top.proofs.FollowedSteps.{setting_by}
+use Rattle.exchange_top.proofs.PlacedLines.{IsKnown, IsPlaced}
+use Rattle.exchange_top.proofs.SaidLines.{quiet_before, said_event, said_more, said_none}
+use Rattle.exchange_top.proofs.TurnLines.{IsTurnFine, IsTurnLine, each_length, each_push, follows_as, follows_long, follows_many, turn_line}
+use Rattle.exchange_top.proofs.TurnSteps.{IsTurnPlaced, due_in_turn, inputs_at, inputs_more, joint_by, linked_more, no_events, plain_known, plain_more, plain_placed, turn_more, with_plain}
+use Rattle.linked_exchange.specs.declared.exchange.LinkedExchange.{LinkedExchange}
+use Rattle.linked_exchange.specs.At.{IsLinkedAt}
+use Rattle.linked_exchange.specs.Runs.{derived_trace, start_joint}
+use Rattle.linked_exchange.specs.Steps.{Joint, LinkedInput}
+use Rattle.linked_lines.specs.LinkedStory.{inputs_in}
+use Rattle.linked_text.specs.declared.said.LinkHappening.{LinkHappening}
+use Rattle.linked_text.specs.declared.said.LinkSaid.TheVariants.{Linked, Received, Timed as Link_timed}
+use Rattle.linked_text.specs.LinkEffects.{IsInTurnRead, in_turn, link_row, linked_in, plain_told}
+use Rattle.linked_text.specs.LinkLines.{Content, LinkSoFar, On_link, Plain, plain_of, says_in_turn, with_content}
+use Rattle.linked_text.specs.LinkTimers.{link_timers_by}
 use Rattle.exchange_top.proofs.Tellings.{beyond_none, both_beyond}
 
 -- ---- one more line at an exchange
@@ -89,20 +102,166 @@ module _ {P E : Type 0} (carries : Carrying E) (frames : E → ℕ) (sizes : E �
   driven_more (Toned given) more placed none = comes_at carries frames sizes slots moves told (Toned given) more (λ z known. placed) none
   driven_more (Timed given) more placed none = comes_at carries frames sizes slots moves told (Timed given) more (λ z known. placed) none
 
+-- ---- one more line at an exchange with links
+
+-- the events of what is known
+abbrev pub trace_by : ℕ → Sizes → LinkSoFar → List LinkedInput → List Event
+trace_by slots z k is = derived_trace (setting_by slots z k.plain) (link_timers_by k.timers) (link_row z.external k.linked) is
+
+pub events_linked : (linked : List ℕ) (slots : ℕ) (z : Sizes) (told : List Content) → 1 ≤ length linked → linked_in told ≡ linked → events_in_turn slots z told ≡ trace_by slots z (in_turn told) (inputs_in told)
+events_linked [] slots z told some is = absurd (omega (arith, some))
+events_linked (line ∷ linked) slots z told some is =
+    ap (λ (ls : List ℕ). events_by ls slots z told) is
+    ∙ ap (λ (ls : List ℕ). derived_trace (setting_in_turn slots z told) (link_timers_said told) (link_row z.external ls) (inputs_in told)) (sym is)
+
+-- it is at the joint of what is known
+pub record IsAtKnown {P E : Type 0} (carries : Carrying E) (frames : E → ℕ) (sizes : E → Dimensions) (slots : ℕ) (moves : ℕ → ℕ) (k : LinkSoFar) (is : List LinkedInput) (x : LinkedExchange P E) : Type 0 where
+  pub header : Sizes
+  pub given : k.plain.sizes ≡ Some header
+  pub at : IsLinkedAt carries frames sizes x (setting_by slots header k.plain) (joint_by slots header k is)
+  pub bound : x.exchange.control.map.bound ≡ moves (header.external + header.bridges)
+  pub few : MovesFewIn moves (setting_by slots header k.plain) (trace_by slots header k is)
+
+module _ {P E : Type 0} (carries : Carrying E) (frames : E → ℕ) (sizes : E → Dimensions) (slots : ℕ) (moves : ℕ → ℕ) (told : List Content) (some : 1 ≤ length (linked_in told)) (x : LinkedExchange P E) where
+  pub known_after : IsLinkedAfter carries frames sizes slots moves told x → IsAtKnown carries frames sizes slots moves (in_turn told) (inputs_in told) x
+  known_after a = record { header = a.header; given = a.given; at = a.at; bound = a.bound; few = subst (MovesFewIn moves (setting_in_turn slots a.header told)) (events_linked (linked_in told) slots a.header told some refl) a.few }
+
+  pub after_known : IsAtKnown carries frames sizes slots moves (in_turn told) (inputs_in told) x → IsLinkedAfter carries frames sizes slots moves told x
+  after_known a = record { header = a.header; given = a.given; at = a.at; bound = a.bound; few = subst (MovesFewIn moves (setting_in_turn slots a.header told)) (sym (events_linked (linked_in told) slots a.header told some refl)) a.few }
+
+longer : (xs ys : List ℕ) → 1 ≤ length xs → 1 ≤ length (xs ++ ys)
+longer xs ys some = let long = length-append xs ys in omega (arith, some, long)
+
+some_more : (told : List Content) (c : Content) → 1 ≤ length (linked_in told) → 1 ≤ length (linked_in (told ++ c ∷ []))
+some_more told c some = subst (λ (ls : List ℕ). 1 ≤ length ls) (sym (linked_more told c)) (longer (linked_in told) _ some)
+
+same_plain_events : (told : List Content) (c : Content) → event_said (plain_of c) ≡ None → events_in (plain_told (told ++ c ∷ [])) ≡ events_in (plain_told told)
+same_plain_events told c none = ap events_in (plain_more told c) ∙ same_events (plain_told told) (plain_of c) none
+
+by_some : {P E : Type 0} (carries : Carrying E) (frames : E → ℕ) (sizes : E → Dimensions) (slots : ℕ) (moves : ℕ → ℕ) (told : List Content) (ls : List ℕ) → 1 ≤ length ls → (x : Option (LoneExchange P E)) (y : Option (LinkedExchange P E))
+    → x ≡ None → IsLinkedDriven carries frames sizes slots moves told y → IsDrivenBy carries frames sizes slots moves ls told x y
+by_some carries frames sizes slots moves told [] some x y none driven = absurd (omega (arith, some))
+by_some carries frames sizes slots moves told (l ∷ ls) some x y none driven = (none, driven)
+
+module _ {P E : Type 0} (carries : Carrying E) (frames : E → ℕ) (sizes : E → Dimensions) (slots : ℕ) (moves : ℕ → ℕ) (told : List Content) (c : Content)
+    (more : with_content (in_turn told) c ≡ in_turn (told ++ c ∷ [])) where
+  -- the setting stays
+  linked_stays : 1 ≤ length (linked_in told) → event_said (plain_of c) ≡ None → inputs_at c ≡ []
+      → ((x : LinkedExchange P E) → IsAtKnown carries frames sizes slots moves (in_turn told) (inputs_in told) x → IsAtKnown carries frames sizes slots moves (with_content (in_turn told) c) (inputs_in told) x)
+      → (x : Option (LinkedExchange P E)) → IsLinkedDriven carries frames sizes slots moves told x → IsLinkedDriven carries frames sizes slots moves (told ++ c ∷ []) x
+  linked_stays some none silent still None driven = same_plain_events told c none ∙ driven
+  linked_stays some none silent still (Some x) driven =
+      let inputs : inputs_in told ≡ inputs_in (told ++ c ∷ []) = sym (inputs_more told c ∙ (ap (λ (is : List LinkedInput). inputs_in told ++ is) silent ∙ append-nil (inputs_in told))) in (
+        subst (λ (es : List Event). 1 ≤ length es) (sym (same_plain_events told c none)) driven.0,
+        after_known carries frames sizes slots moves (told ++ c ∷ []) (some_more told c some) x
+        (subst (λ (is : List LinkedInput). IsAtKnown carries frames sizes slots moves (in_turn (told ++ c ∷ [])) is x) inputs
+        (subst (λ (k : LinkSoFar). IsAtKnown carries frames sizes slots moves k (inputs_in told) x) more (still x (known_after carries frames sizes slots moves told some x driven.1)))),
+      )
+
+  -- the setting changes before the first event
+  linked_comes : events_in (plain_told told) ≡ [] → event_said (plain_of c) ≡ None
+      → (x : Option (LinkedExchange P E)) → IsLinkedDriven carries frames sizes slots moves told x → IsLinkedDriven carries frames sizes slots moves (told ++ c ∷ []) x
+  linked_comes early none None driven = same_plain_events told c none ∙ driven
+  linked_comes early none (Some x) driven = let long : length (events_in (plain_told told)) ≡ 0 = ap length early in let some = driven.0 in absurd (omega (arith, long, some))
+
+  -- without links
+  plain_driven_more : IsPlaced (so_far (plain_told told)) (plain_of c) → event_said (plain_of c) ≡ None → (with_content (in_turn told) c).linked ≡ []
+      → (x : Option (LoneExchange P E)) (y : Option (LinkedExchange P E)) → IsDrivenBy carries frames sizes slots moves [] told x y → AreDriven carries frames sizes slots moves (told ++ c ∷ []) x y
+  plain_driven_more placed none still x y driven =
+      let unlinked : linked_in (told ++ c ∷ []) ≡ [] = ap (λ (k : LinkSoFar). k.linked) (sym more) ∙ still in
+      subst (λ (ls : List ℕ). IsDrivenBy carries frames sizes slots moves ls (told ++ c ∷ []) x y) (sym unlinked)
+      (subst (λ (ps : List Said). IsDriven carries frames sizes slots moves ps x) (sym (plain_more told c))
+      (driven_more carries frames sizes slots moves (plain_told told) (plain_of c) (plain_known told c more) placed none x driven.0), driven.1)
+
+  pub linked_driven : 1 ≤ length (linked_in told) → (x : Option (LoneExchange P E)) (y : Option (LinkedExchange P E))
+      → x ≡ None → IsLinkedDriven carries frames sizes slots moves (told ++ c ∷ []) y → AreDriven carries frames sizes slots moves (told ++ c ∷ []) x y
+  linked_driven some x y none driven = by_some carries frames sizes slots moves (told ++ c ∷ []) (linked_in (told ++ c ∷ [])) (some_more told c some) x y none driven
+
+module _ {P E : Type 0} (carries : Carrying E) (frames : E → ℕ) (sizes : E → Dimensions) (slots : ℕ) (moves : ℕ → ℕ) (told : List Content) where
+  pub split_driven : (ls : List ℕ) → 1 ≤ length ls → (x : Option (LoneExchange P E)) (y : Option (LinkedExchange P E)) → IsDrivenBy carries frames sizes slots moves ls told x y
+      → (x ≡ None) × IsLinkedDriven carries frames sizes slots moves told y
+  split_driven [] some x y driven = absurd (omega (arith, some))
+  split_driven (l ∷ ls) some x y driven = driven
+
+  none_driven : events_in (plain_told told) ≡ [] → (x : Option (LoneExchange P E)) → IsDriven carries frames sizes slots moves (plain_told told) x → x ≡ None
+  none_driven early None driven = refl
+  none_driven early (Some x) driven = let long : length (events_in (plain_told told)) ≡ 0 = ap length early in let some = driven.0 in absurd (omega (arith, long, some))
+
+  after_line : 1 ≤ length (linked_in told) → (c : Content) → with_content (in_turn told) c ≡ in_turn (told ++ c ∷ []) → IsTurnPlaced (in_turn told) c → event_said (plain_of c) ≡ None
+      → (1 ≤ length (linked_in told) → IsKnown (so_far (plain_told told))) → (y : Option (LinkedExchange P E)) → IsLinkedDriven carries frames sizes slots moves told y → IsLinkedDriven carries frames sizes slots moves (told ++ c ∷ []) y
+  after_line some (Plain Nothing) more placed none first = linked_stays carries frames sizes slots moves told (Plain Nothing) more some none refl (λ x a. a)
+  after_line some (Plain Sync) more placed none first = linked_stays carries frames sizes slots moves told (Plain Sync) more some none refl (λ x a. a)
+  after_line some (Plain Change) more placed none first = linked_stays carries frames sizes slots moves told (Plain Change) more some none refl
+      (λ x a. record { header = a.header; given = a.given; at = a.at; bound = a.bound; few = a.few })
+  after_line some (Plain (Happens e)) more placed none first = absurd (grind (arith, none))
+  after_line some (On_link (Received line octets)) more placed none first = absurd (grind (arith, none))
+  after_line some (Plain (Header z)) more placed none first = let known = first some in let both : None ≡ Some known.0 = sym placed ∙ known.1 in absurd (grind (arith, both))
+  after_line some (Plain (Numbered n)) more placed none first = linked_comes carries frames sizes slots moves told (Plain (Numbered n)) more (no_events (events_in (plain_told told)) placed) none
+  after_line some (Plain (Toned given)) more placed none first = linked_comes carries frames sizes slots moves told (Plain (Toned given)) more (no_events (events_in (plain_told told)) placed) none
+  after_line some (Plain (Timed given)) more placed none first = linked_comes carries frames sizes slots moves told (Plain (Timed given)) more (no_events (events_in (plain_told told)) placed) none
+  after_line some (On_link (Linked line)) more placed none first = linked_comes carries frames sizes slots moves told (On_link (Linked line)) more (no_events (events_in (plain_told told)) placed.1) none
+  after_line some (On_link (Link_timed given)) more placed none first = linked_comes carries frames sizes slots moves told (On_link (Link_timed given)) more (no_events (events_in (plain_told told)) placed) none
+
+  -- a line that gives no event
+  pub driven_by : (ls : List ℕ) → linked_in told ≡ ls → (c : Content) → with_content (in_turn told) c ≡ in_turn (told ++ c ∷ []) → IsTurnPlaced (in_turn told) c → event_said (plain_of c) ≡ None
+      → (1 ≤ length (linked_in told) → IsKnown (so_far (plain_told told))) → (x : Option (LoneExchange P E)) (y : Option (LinkedExchange P E)) → IsDrivenBy carries frames sizes slots moves ls told x y → AreDriven carries frames sizes slots moves (told ++ c ∷ []) x y
+  driven_by [] is (Plain said) more placed none first x y driven = plain_driven_more carries frames sizes slots moves told (Plain said) more placed none is x y driven
+  driven_by [] is (On_link (Link_timed given)) more placed none first x y driven = plain_driven_more carries frames sizes slots moves told (On_link (Link_timed given)) more tt none is x y driven
+  driven_by ls is (On_link (Received line octets)) more placed none first x y driven = absurd (grind (arith, none))
+  driven_by [] is (On_link (Linked line)) more placed none first x y driven =
+      let early = no_events (events_in (plain_told told)) placed.1 in
+      let all = told ++ On_link (Linked line) ∷ [] in
+      let one : linked_in all ≡ line ∷ [] = ap (λ (k : LinkSoFar). k.linked) (sym more) ∙ ap (λ (ls : List ℕ). ls ++ line ∷ []) is in
+      let still : IsLinkedDriven carries frames sizes slots moves all (let nothing : Option (LinkedExchange P E) = None in nothing) = same_plain_events told (On_link (Linked line)) none ∙ early in
+      subst (λ (ls : List ℕ). IsDrivenBy carries frames sizes slots moves ls all x y) (sym one)
+      (none_driven early x driven.0, subst (λ (o : Option (LinkedExchange P E)). IsLinkedDriven carries frames sizes slots moves all o) (sym driven.1) still)
+  driven_by (l ∷ ls) is c more placed none first x y driven =
+      let some : 1 ≤ length (linked_in told) = subst (λ (ms : List ℕ). 1 ≤ length ms) (sym is) (let one : 1 ≤ length (l ∷ ls) = omega arith in one) in
+      linked_driven carries frames sizes slots moves told c more some x y driven.0 (after_line some c more placed none first y driven.1)
+
+known_with : (k : LinkSoFar) (c : Content) → (1 ≤ length k.linked → IsKnown k.plain) → IsTurnPlaced k c → 1 ≤ length (with_content k c).linked → IsKnown (with_content k c).plain
+known_with k (Plain Nothing) first placed some = first some
+known_with k (Plain Sync) first placed some = first some
+known_with k (Plain Change) first placed some = placed
+known_with k (Plain (Happens e)) first placed some = placed
+known_with k (Plain (Header z)) first placed some = (z, refl)
+known_with k (Plain (Numbered n)) first placed some = first some
+known_with k (Plain (Toned given)) first placed some = first some
+known_with k (Plain (Timed given)) first placed some = first some
+known_with k (On_link (Linked line)) first placed some = placed.0
+known_with k (On_link (Received line octets)) first placed some = placed.0
+known_with k (On_link (Link_timed given)) first placed some = first some
+
+-- the header comes before the links
+pub known_first : (told : List Content) (c : Content) → (1 ≤ length (linked_in told) → IsKnown (so_far (plain_told told))) → with_content (in_turn told) c ≡ in_turn (told ++ c ∷ []) → IsTurnPlaced (in_turn told) c
+    → 1 ≤ length (linked_in (told ++ c ∷ [])) → IsKnown (so_far (plain_told (told ++ c ∷ [])))
+known_first told c first more placed some = subst (λ (k : LinkSoFar). IsKnown k.plain) more (known_with (in_turn told) c first placed (subst (λ (k : LinkSoFar). 1 ≤ length k.linked) (sym more) some)) 
+
+-- what is known of the lines stays true
+sound_with : (k : LinkSoFar) (c : Content) → IsSaid k.plain → IsTurnFine k c → IsTurnPlaced k c → IsSaid (with_content k c).plain
+sound_with k (Plain said) sound fine placed = said_more k.plain sound said fine placed
+sound_with k (On_link (Linked line)) sound fine placed = sound
+sound_with k (On_link (Received line octets)) sound fine placed = said_event k.plain sound placed.0
+sound_with k (On_link (Link_timed given)) sound fine placed = sound
+
+sound_more : (told : List Content) (c : Content) → with_content (in_turn told) c ≡ in_turn (told ++ c ∷ []) → IsSaid (so_far (plain_told told)) → IsTurnFine (in_turn told) c → IsTurnPlaced (in_turn told) c
+    → IsSaid (so_far (plain_told (told ++ c ∷ [])))
+sound_more told c more sound fine placed = subst (λ (k : LinkSoFar). IsSaid k.plain) more (sound_with (in_turn told) c sound fine placed)
+
 -- ---- one more line
 
 module _ {M P E : Type 0} (stands : M → List CallRecord → Type 0) (text : M → List CallRecord → List ℕ) (carries : Carrying E) (frames : E → ℕ) (sizes : E → Dimensions)
     (plays : Plays) (slots : ℕ) (moves : ℕ → ℕ) (old old_spare : List M) where
-  abbrev pub Handled : List M → List M → SoFar → ℕ → Option (LoneExchange P E) → List (List ℕ) → List ℕ → Type 0
-  Handled on spare heading count exchange ls said = HasHandled carries frames sizes (course plays slots moves stands text old old_spare on spare) heading count exchange ls said
+  abbrev pub Handled : List M → List M → LinkSoFar → ℕ → Option (LoneExchange P E) → Option (LinkedExchange P E) → List (List ℕ) → List ℕ → Type 0
+  Handled on spare heading count exchange linked ls said = HasHandled carries frames sizes (course plays slots moves stands text old old_spare on spare) heading count exchange linked ls said
 
-  pub handled_none : Handled old old_spare (so_far []) 0 None [] []
-  handled_none = record { told = []; meets = tt; text = refl; meters = metered-first stands text old old_spare; known = refl; sound = said_none; counted = refl; driven = refl }
+  pub handled_none : Handled old old_spare (in_turn []) 0 None None [] []
+  handled_none = record { told = []; meets = tt; text = refl; meters = metered-first stands text old old_spare; known = refl; sound = said_none; counted = refl; first = λ some. absurd (omega (arith, some)); driven = (refl, refl) }
 
-  refused_here : (on spare : List M) (before : SoFar) (count : ℕ) (exchange : Option (LoneExchange P E)) (ls : List (List ℕ)) (said line : List ℕ) (h : Handled on spare before count exchange ls said)
-      (why : Reason) (all : List ℕ) → follows h.told line ≡ Err why → all ≡ said ++ refusal (count + 1) why
+  refused_here : (on spare : List M) (before : LinkSoFar) (count : ℕ) (exchange : Option (LoneExchange P E)) (linked : Option (LinkedExchange P E)) (ls : List (List ℕ)) (said line : List ℕ) (h : Handled on spare before count exchange linked ls said)
+      (why : Reason) (all : List ℕ) → follows_in_turn h.told line ≡ Err why → all ≡ said ++ refusal (count + 1) why
       → IsLineRefused (course plays slots moves stands text old old_spare on spare) (ls ++ line ∷ []) all
-  refused_here on spare before count exchange ls said line h why all fails is = record {
+  refused_here on spare before count exchange linked ls said line h why all fails is = record {
     before = ls;
     line = line;
     told = h.told;
@@ -116,50 +275,51 @@ module _ {M P E : Type 0} (stands : M → List CallRecord → Type 0) (text : M 
     meters = h.meters;
   }
 
-  module _ (on spare : List M) (before after : SoFar) (count : ℕ) (exchange : Option (LoneExchange P E)) (ls : List (List ℕ)) (said line : List ℕ) (h : Handled on spare before count exchange ls said)
+  module _ (on spare : List M) (before after : LinkSoFar) (count : ℕ) (exchange : Option (LoneExchange P E)) (linked : Option (LinkedExchange P E)) (ls : List (List ℕ)) (said line : List ℕ) (h : Handled on spare before count exchange linked ls said)
       (short : length line ≤ 65535) (few : count < 4294967294) where
     few_told : length h.told < 4294967294
     few_told = let same = each_length [] h.told ls h.meets in let is = h.counted in omega (arith, same, is, few)
 
-    pub follows_here : follows h.told line ≡ says line_limits before line
-    follows_here = follows_as h.told line short few_told ∙ ap (λ (k : SoFar). says line_limits k line) (sym h.known)
+    pub follows_here : follows_in_turn h.told line ≡ says_in_turn line_limits before line
+    follows_here = follows_as h.told line short few_told ∙ ap (λ (k : LinkSoFar). says_in_turn line_limits k line) (sym h.known)
 
-    module _ (hap : Happening) (r : IsLineRead line_limits before line hap after) where
-      abbrev pub all : List Said
-      all = h.told ++ r.said ∷ []
+    module _ (hap : LinkHappening) (r : IsInTurnRead line_limits before line hap after) where
+      abbrev pub all : List Content
+      all = h.told ++ r.content ∷ []
 
-      pub follows_said : follows h.told line ≡ Ok r.said
+      pub follows_said : follows_in_turn h.told line ≡ Ok r.content
       follows_said = follows_here ∙ r.meets
 
-      pub more : with_said (so_far h.told) r.said ≡ so_far all
-      more = ap (λ (k : SoFar). with_said k r.said) (sym h.known) ∙ (sym r.known ∙ r.behind h.told h.known)
+      pub more : with_content (in_turn h.told) r.content ≡ in_turn all
+      more = ap (λ (k : LinkSoFar). with_content k r.content) (sym h.known) ∙ (sym r.known ∙ r.behind h.told h.known)
 
-      pub line_is : IsLine (so_far h.told) r.said
-      line_is = says_line (so_far h.told) line r.said (ap (λ (k : SoFar). says line_limits k line) (sym h.known) ∙ r.meets)
+      pub line_is : IsTurnLine (in_turn h.told) r.content
+      line_is = turn_line (in_turn h.told) line r.content (ap (λ (k : LinkSoFar). says_in_turn line_limits k line) (sym h.known) ∙ r.meets)
 
       abbrev pub dues : List Step
-      dues = due_steps plays slots h.told r.said
+      dues = due_in_turn plays slots h.told r.content
 
-      pub story_is : story_said plays slots all ≡ story_said plays slots h.told ++ dues
-      story_is = story_more plays slots h.told r.said more line_is.placed (quiet_before h.told h.sound)
+      pub story_is : story_in_turn plays slots all ≡ story_in_turn plays slots h.told ++ dues
+      story_is = turn_more plays slots h.told h.first r.content more line_is.placed (quiet_before (plain_told h.told) h.sound)
 
       -- the meters and the text after its steps
-      pub handled_more : (on' spare' : List M) (exchange' : Option (LoneExchange P E)) (said' : List ℕ)
-          → AreMetered stands text (after_steps dues (after_steps (story_said plays slots h.told) (handed_in old old_spare))) on' spare'
-          → said' ≡ said ++ steps_text text dues (after_steps (story_said plays slots h.told) (handed_in old old_spare))
-          → IsDriven carries frames sizes slots moves all exchange' → Handled on' spare' after (count + 1) exchange' (ls ++ line ∷ []) said'
-      handled_more on' spare' exchange' said' metered added driven =
-          let story = story_said plays slots h.told in
+      pub handled_more : (on' spare' : List M) (exchange' : Option (LoneExchange P E)) (linked' : Option (LinkedExchange P E)) (said' : List ℕ)
+          → AreMetered stands text (after_steps dues (after_steps (story_in_turn plays slots h.told) (handed_in old old_spare))) on' spare'
+          → said' ≡ said ++ steps_text text dues (after_steps (story_in_turn plays slots h.told) (handed_in old old_spare))
+          → AreDriven carries frames sizes slots moves all exchange' linked' → Handled on' spare' after (count + 1) exchange' linked' (ls ++ line ∷ []) said'
+      handled_more on' spare' exchange' linked' said' metered added driven =
+          let story = story_in_turn plays slots h.told in
           record {
             told = all;
-            meets = each_push [] h.told ls line r.said h.meets follows_said;
+            meets = each_push [] h.told ls line r.content h.meets follows_said;
             text = added
                 ∙ (ap (λ (t : List ℕ). t ++ steps_text text dues (after_steps story (handed_in old old_spare))) h.text
                 ∙ (sym (text-append text story dues (handed_in old old_spare)) ∙ ap (λ (steps : List Step). steps_text text steps (handed_in old old_spare)) (sym story_is)));
             meters = subst (λ (s : Metering M). AreMetered stands text s on' spare') (sym (ap (λ (steps : List Step). after_steps steps (handed_in old old_spare)) story_is ∙ after-append story dues (handed_in old old_spare))) metered;
             known = r.behind h.told h.known;
-            sound = subst IsSaid more (said_more (so_far h.told) h.sound r.said line_is.fine line_is.placed);
+            sound = sound_more h.told r.content more h.sound line_is.fine line_is.placed;
             counted = let is = h.counted in omega (arith, is, length-append ls (line ∷ []));
+            first = known_first h.told r.content h.first more line_is.placed;
             driven = driven;
           }
 
@@ -173,25 +333,25 @@ module _ {M P E : Type 0} (stands : M → List CallRecord → Type 0) (text : M 
         others = dues;
         parts = refl;
         meets = h.meets;
-        next = Read line r.said dues follows_said story_is;
+        next = Read line r.content dues follows_said story_is;
         text = h.text;
-        meters = both_beyond stands text (after_steps (story_said plays slots h.told) (handed_in old old_spare)) on on' spare (records_of dues) h.meters front;
+        meters = both_beyond stands text (after_steps (story_in_turn plays slots h.told) (handed_in old old_spare)) on on' spare (records_of dues) h.meters front;
       }
 
     -- it is refused, by a check
-    pub refused_more : (why : Reason) (all : List ℕ) → says line_limits before line ≡ Err why → all ≡ said ++ refusal (count + 1) why
+    pub refused_more : (why : Reason) (all : List ℕ) → says_in_turn line_limits before line ≡ Err why → all ≡ said ++ refusal (count + 1) why
         → IsLineRefused (course plays slots moves stands text old old_spare on spare) (ls ++ line ∷ []) all
-    refused_more why all fails is = refused_here on spare before count exchange ls said line h why all (follows_here ∙ fails) is
+    refused_more why all fails is = refused_here on spare before count exchange linked ls said line h why all (follows_here ∙ fails) is
 
-  module _ (on spare : List M) (before : SoFar) (count : ℕ) (exchange : Option (LoneExchange P E)) (ls : List (List ℕ)) (said line : List ℕ) (h : Handled on spare before count exchange ls said) where
+  module _ (on spare : List M) (before : LinkSoFar) (count : ℕ) (exchange : Option (LoneExchange P E)) (linked : Option (LinkedExchange P E)) (ls : List (List ℕ)) (said line : List ℕ) (h : Handled on spare before count exchange linked ls said) where
     -- it is too long, or there are too many lines before it
     pub refused_long : (all : List ℕ) → (65535 < length line) ⊎ (4294967294 ≤ count) → all ≡ said ++ refusal (count + 1) reason.Limit
         → IsLineRefused (course plays slots moves stands text old old_spare on spare) (ls ++ line ∷ []) all
-    refused_long all (inl long) is = refused_here on spare before count exchange ls said line h reason.Limit all (follows_long h.told line long) is
+    refused_long all (inl long) is = refused_here on spare before count exchange linked ls said line h reason.Limit all (follows_long h.told line long) is
     refused_long all (inr many) is =
         let same = each_length [] h.told ls h.meets in
         let counted = h.counted in
-        refused_here on spare before count exchange ls said line h reason.Limit all (follows_many h.told line (omega (arith, same, counted, many))) is
+        refused_here on spare before count exchange linked ls said line h reason.Limit all (follows_many h.told line (omega (arith, same, counted, many))) is
 
     -- an allocation failed before it was read
     pub interrupted_here : IsInterrupted (course plays slots moves stands text old old_spare on spare) (ls ++ line ∷ []) said
@@ -204,7 +364,7 @@ module _ {M P E : Type 0} (stands : M → List CallRecord → Type 0) (text : M 
       meets = h.meets;
       next = Unread line;
       text = h.text;
-      meters = beyond_none stands text (after_steps (story_said plays slots h.told) (handed_in old old_spare)) on spare h.meters;
+      meters = beyond_none stands text (after_steps (story_in_turn plays slots h.told) (handed_in old old_spare)) on spare h.meters;
     }
 
     -- or at the end
@@ -218,5 +378,5 @@ module _ {M P E : Type 0} (stands : M → List CallRecord → Type 0) (text : M 
       meets = h.meets;
       next = No_line;
       text = h.text;
-      meters = beyond_none stands text (after_steps (story_said plays slots h.told) (handed_in old old_spare)) on spare h.meters;
+      meters = beyond_none stands text (after_steps (story_in_turn plays slots h.told) (handed_in old old_spare)) on spare h.meters;
     }

@@ -15,7 +15,12 @@ pub mod FollowedStories
 pub mod PlacedLines
 pub mod FollowedSteps
 pub mod SaidLines
+pub mod TurnSteps
+pub mod TurnLines
+pub mod PlainInTurn
 pub mod Handled
 pub mod HandledSteps
+pub mod LinkedEvents
 pub mod SteppingLemmas
+pub mod LinkedSteppingLemmas
 pub mod FollowedEndings

@@ -10,13 +10,13 @@ use Rattle.trace_text.specs.declared.said.Said.{Said}
 use Rattle.trace_text.specs.declared.said.Said.TheVariants.{Nothing, Header, Numbered, Toned, Timed, Happens, Sync, Change}
 use Rattle.trace_text.specs.declared.said.Sizes.{Sizes}
 use Rattle.trace_text.specs.TraceGrammar.{changes_in, events_in, sizes_in, so_far}
-use Rattle.trace_text.specs.TraceHeading.{with_said}
+use Rattle.trace_text.specs.TraceHeading.{with_event, with_said}
 use Rattle.trace_text.specs.TraceLines.{SoFar, line_limits, reads, says}
 use Rattle.trace_text.proofs.SoundLemmas.{IsFine, reads_fine}
 use Rattle.exchange_top.specs.Handling.{IsSaid}
 use Rattle.exchange_top.proofs.FollowedLines.{says_reads}
 use Rattle.exchange_top.proofs.FollowedSteps.{AreQuiet}
-use Rattle.exchange_top.proofs.PlacedLines.{IsPlaced, reads_placed}
+use Rattle.exchange_top.proofs.PlacedLines.{IsKnown, IsPlaced, reads_placed}
 
 pub said_none : IsSaid (so_far [])
 said_none = record {
@@ -74,6 +74,18 @@ module _ (k : SoFar) (is : IsSaid k) where
     unplanned = is.unplanned;
     no_events = is.no_events;
     no_changes = λ none. let both : Some placed.0 ≡ None = sym placed.1 ∙ none in absurd (grind (arith, both));
+  }
+
+  -- one more event, after the header
+  pub said_event : IsKnown k → IsSaid (with_event k)
+  said_event known = record {
+    some = is.some;
+    few = is.few;
+    bridges = is.bridges;
+    planned = is.planned;
+    unplanned = is.unplanned;
+    no_events = λ none. let both : Some known.0 ≡ None = sym known.1 ∙ none in absurd (grind (arith, both));
+    no_changes = is.no_changes;
   }
 
 -- what the checks of a line give

@@ -1,6 +1,6 @@
 -- The statements of a follower's contracts: on its whole value, by the members of its meters (m), its engine (c) and its
 -- fabric (f). Source: this project.
-use Rattle.std.specs.Prelude.{◌≡◌, ℕ, List, [], ◌∷◌, ◌++◌, Option}
+use Rattle.std.specs.Prelude.{◌≡◌, ℕ, List, [], ◌∷◌, ◌++◌, ◌+◌, Option}
 use Rattle.std.specs.declared.alloc.Global.{Global}
 use Rattle.std.specs.declared.dyn_box.DynBox.{DynBox}
 use Rattle.std.specs.declared.vec.Vec.{Vec}
@@ -13,7 +13,7 @@ use Rattle.line_wire.specs.declared.wire.Wire.{Ghosts as WireKind}
 use Rattle.meters.specs.Changing.{handed_in, steps_text}
 use Rattle.meters.specs.declared.meter.Meter.{Ghosts as MeterKind}
 use Rattle.trace_text.specs.TraceWords.{lines as lines_of}
-use Rattle.trace_text.specs.declared.heading.Happening.{Happening}
+use Rattle.linked_text.specs.declared.said.LinkHappening.{LinkHappening}
 use Rattle.exchange_events.specs.declared.trace.Event.{Event}
 use Rattle.exchange_events.specs.Sizes.{Setting}
 use Rattle.call_profile.specs.World.{World}
@@ -23,6 +23,10 @@ use Rattle.trace_text.specs.TraceLines.{SoFar}
 use Rattle.trace_text.specs.TraceTimers.{timers_by}
 use Rattle.trace_text.specs.declared.said.Said.{Said}
 use Rattle.trace_text.specs.declared.said.Sizes.{Sizes}
+use Rattle.linked_exchange.specs.declared.exchange.LinkedExchange.{LinkedExchange}
+use Rattle.linked_lines.specs.declared.steps.LinkedEvent.{LinkedEvent}
+use Rattle.linked_text.specs.LinkLines.{Content, LinkSoFar}
+use Rattle.exchange_top.specs.LinkedStepping.{HasLinkedHappened, IsLinkedDue, IsLinkedHeard, IsLinkedReady, IsLinkedRunning}
 use Rattle.exchange_top.specs.Stepping.{HasHappened, IsEventDue, IsHeard, IsRunning}
 use Rattle.exchange_top.specs.declared.fabrics.Fabric.{Ghosts as FabricKind}
 use Rattle.exchange_top.specs.declared.follower.TraceFollower.{TraceFollower}
@@ -89,6 +93,41 @@ module _ {P E : Type 0} (c : CarrierKind E) (f : FabricKind P) where
       HasHappened c.plays c.carries c.next c.sizes f.slots f.moves (λ (b : DynBox V Global F). (m b.vtable).stands b.value) (λ (b : DynBox V Global F). (m b.vtable).text b.value)
       told z k.events e old.items new.items before.items after.items x
 
+-- ---- one event of a trace with data links
+
+module _ {P E : Type 0} (c : CarrierKind E) (f : FabricKind P) where
+  -- some lines with a header and a data link were processed; a statement on them and their header
+  abbrev pub IsLinkedHeardSome : LinkSoFar → Option (LinkedExchange P E) → Type 0
+  IsLinkedHeardSome k x = (told : List Content) × (z : Sizes) × IsLinkedHeard c.carries c.next c.sizes f.slots f.moves told z k x
+
+  abbrev pub EachLinkedHeard : LinkSoFar → Option (LinkedExchange P E) → (List Content → Sizes → Type 0) → Type 0
+  EachLinkedHeard k x Says = (told : List Content) (z : Sizes) → IsLinkedHeard c.carries c.next c.sizes f.slots f.moves told z k x → Says told z
+
+  -- there is an exchange with links, in the state after these lines
+  abbrev pub LinkedRunsAfter : List Content → Sizes → Option (LinkedExchange P E) → Type 0
+  LinkedRunsAfter told z x = IsLinkedRunning c.carries c.next c.sizes f.slots f.moves told z x
+
+  -- an event can happen after some lines; a statement on them and their header
+  abbrev pub IsLinkedDueSome : LinkSoFar → Option (LinkedExchange P E) → LinkedEvent → Type 0
+  IsLinkedDueSome k x e = (told : List Content) × (z : Sizes) × IsLinkedDue c.carries c.next c.sizes f.slots f.moves told z k x e
+
+  abbrev pub EachLinkedDue : LinkSoFar → Option (LinkedExchange P E) → LinkedEvent → (List Content → Sizes → Type 0) → Type 0
+  EachLinkedDue k x e Says = (told : List Content) (z : Sizes) → IsLinkedDue c.carries c.next c.sizes f.slots f.moves told z k x e → Says told z
+
+  -- the same on an exchange
+  abbrev pub IsLinkedReadySome : LinkSoFar → LinkedExchange P E → LinkedEvent → Type 0
+  IsLinkedReadySome k x e = (told : List Content) × (z : Sizes) × IsLinkedReady c.carries c.next c.sizes f.slots f.moves told z k x e
+
+  abbrev pub EachLinkedReady : LinkSoFar → LinkedExchange P E → LinkedEvent → (List Content → Sizes → Type 0) → Type 0
+  EachLinkedReady k x e Says = (told : List Content) (z : Sizes) → IsLinkedReady c.carries c.next c.sizes f.slots f.moves told z k x e → Says told z
+
+  -- it happened
+  abbrev pub LinkedHappensBy : {V : Type 0} {F : V → Type 0} → ((v : V) → MeterKind (F v)) → List Content → Sizes → LinkedEvent
+      → (old new : Vec (DynBox V Global F) Global) (before after : Vec ℕ Global) → Option (LinkedExchange P E) → Type 0
+  LinkedHappensBy {V} {F} m told z e old new before after x =
+      HasLinkedHappened c.plays c.carries c.next c.sizes f.slots f.moves (λ (b : DynBox V Global F). (m b.vtable).stands b.value) (λ (b : DynBox V Global F). (m b.vtable).text b.value)
+      told z e old.items new.items before.items after.items x
+
 -- ---- the lines of a call
 
 module _ {V : Type 0} {F : V → Type 0} (m : (v : V) → MeterKind (F v)) where
@@ -105,7 +144,12 @@ module _ {V : Type 0} {F : V → Type 0} {P E R : Type 0} (m : (v : V) → Meter
 
   abbrev pub dues_from : (old old_spare : List (DynBox V Global F)) → TraceFollower P E R V F → Dues
   dues_from old old_spare x =
-      handler_dues (meter_stands m) (meter_text m) c.carries c.next c.sizes c.plays f.slots f.moves old old_spare x.metering.on.items x.metering.spare.items x.heading x.lines x.exchange
+      handler_dues (meter_stands m) (meter_text m) c.carries c.next c.sizes c.plays f.slots f.moves old old_spare x.metering.on.items x.metering.spare.items x.heading x.lines x.exchange x.linked
+
+  -- the same, once one more line is counted
+  abbrev pub dues_counted : (old old_spare : List (DynBox V Global F)) → TraceFollower P E R V F → Dues
+  dues_counted old old_spare x =
+      handler_dues (meter_stands m) (meter_text m) c.carries c.next c.sizes c.plays f.slots f.moves old old_spare x.metering.on.items x.metering.spare.items x.heading (x.lines + 1) x.exchange x.linked
 
   -- ---- one line
 
@@ -114,19 +158,19 @@ module _ {V : Type 0} {F : V → Type 0} {P E R : Type 0} (m : (v : V) → Meter
   IsFollowing x = (old old_spare : List (DynBox V Global F)) × (ls : List (List ℕ)) × (said : List ℕ) × (dues_from old old_spare x).answers ls said
 
   -- it processed some lines and read a further one, at which this happens
-  abbrev pub HasReadFrom : (old old_spare : List (DynBox V Global F)) → TraceFollower P E R V F → List (List ℕ) → List ℕ → List ℕ → Happening → Type 0
-  HasReadFrom old old_spare x ls line said hap = HasRead c.carries c.next c.sizes (course_from old old_spare x) x.heading x.lines x.exchange ls line said hap
+  abbrev pub HasReadFrom : (old old_spare : List (DynBox V Global F)) → TraceFollower P E R V F → List (List ℕ) → List ℕ → List ℕ → LinkHappening → Type 0
+  HasReadFrom old old_spare x ls line said hap = HasRead c.carries c.next c.sizes (course_from old old_spare x) x.heading x.lines x.exchange x.linked ls line said hap
 
-  abbrev pub IsAtLine : TraceFollower P E R V F → Happening → Type 0
+  abbrev pub IsAtLine : TraceFollower P E R V F → LinkHappening → Type 0
   IsAtLine x hap = (old old_spare : List (DynBox V Global F)) × (ls : List (List ℕ)) × (line : List ℕ) × (said : List ℕ) × HasReadFrom old old_spare x ls line said hap
 
-  -- processing this line takes the follower from x to y, and the octets due from t to u
-  abbrev pub TakesLine : (x y : TraceFollower P E R V F) → Happening → (t u : Vec ℕ Global) → Type 0
+  -- processing this line takes the follower from x to y, and the octets due from t to u; the line is not counted yet
+  abbrev pub TakesLine : (x y : TraceFollower P E R V F) → LinkHappening → (t u : Vec ℕ Global) → Type 0
   TakesLine x y hap t u = (old old_spare : List (DynBox V Global F)) (ls : List (List ℕ)) (line front : List ℕ) → HasReadFrom old old_spare x ls line (front ++ t.items) hap
-      → (dues_from old old_spare y).answers (ls ++ line ∷ []) (front ++ u.items)
+      → (dues_counted old old_spare y).answers (ls ++ line ∷ []) (front ++ u.items)
 
   -- an allocation failed in it
-  abbrev pub StrandsIn : (x y : TraceFollower P E R V F) → Happening → (t u : Vec ℕ Global) → Type 0
+  abbrev pub StrandsIn : (x y : TraceFollower P E R V F) → LinkHappening → (t u : Vec ℕ Global) → Type 0
   StrandsIn x y hap t u = (old old_spare : List (DynBox V Global F)) (ls : List (List ℕ)) (line front : List ℕ) → HasReadFrom old old_spare x ls line (front ++ t.items) hap
       → IsInterrupted (course_from old old_spare y) (ls ++ line ∷ []) (front ++ u.items)
 

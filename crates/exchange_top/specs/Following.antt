@@ -29,80 +29,10 @@ use Rattle.call_processor.specs.Frames.{Carrying}
 use Rattle.exchange_top.specs.Outcomes.{HandsOut}
 use Rattle.report_check.specs.Refusals.{refusal}
 use Rattle.exchange_top.specs.Telling.{MeterStory, meter_story}
-
--- ---- lines that follow one another
-
--- the maximum number of octets in a line
-abbrev pub max_line : ℕ
-max_line = 65535
-
--- the maximum number of lines
-abbrev pub max_lines : ℕ
-max_lines = 4294967294
-
--- the content of a line after the lines with these contents, or the reason for which it is refused: it is too long,
--- there are too many lines before it, or a check of it fails
-abbrev pub follows : List Said → List ℕ → Result Said Reason
-follows told line =
-    if nat_lt max_line (length line) then Err reason.Limit
-    else if nat_lt (length told) max_lines then says line_limits (so_far told) line
-    else Err reason.Limit
-
--- each line follows the lines before it, and has the content in its place
-abbrev pub EachFollows : List Said → List (List ℕ) → List Said → Type 0
-EachFollows before [] [] = Unit {0}
-EachFollows before [] (said ∷ told) = ⊥
-EachFollows before (line ∷ others) [] = ⊥
-EachFollows before (line ∷ others) (said ∷ told) = (follows before line ≡ Ok said) × EachFollows (before ++ said ∷ []) others told
-
--- ---- the story of lines
-
--- the setting of the header, the numbers, the tones and the timers, over a fabric of n internal slots
-abbrev pub setting_said : ℕ → Sizes → List Said → Setting
-setting_said slots sizes told = record {
-  dimensions = record { external = sizes.external; bridges = sizes.bridges; slots = slots };
-  plan = plan_of (numbers_in told);
-  tones = tones_of (tones_in told);
-  timers = timers_by (timers_of (timers_in told));
-}
-
--- the exchange state after the events of these lines
-abbrev pub world_said : ℕ → Sizes → List Said → World
-world_said slots sizes told = let s = setting_said slots sizes told in world_after_all s (start s.dimensions) (events_in told)
-
--- in a run of these events, a new path moves at most this number of live paths, which depends on the number of lines
-abbrev pub MovesFewIn : (ℕ → ℕ) → Setting → List Event → Type 0
-MovesFewIn moves s events = All (MovesAtMost (moves (s.dimensions.external + s.dimensions.bridges))) (run s (start s.dimensions) events)
-
--- the same for the events of these lines
-abbrev pub MovesFewSaid : ℕ → (ℕ → ℕ) → Sizes → List Said → Type 0
-MovesFewSaid slots moves sizes told = MovesFewIn moves (setting_said slots sizes told) (events_in told)
-
--- the events and the changes of meters of these lines, from an exchange state and after n events: each event has its
--- numbered line, and the records of the calls that ended with it
-abbrev pub steps_said : Played → Setting → World → ℕ → List Said → List Step
-steps_said played s w n [] = []
-steps_said played s w n (Happens e ∷ told) =
-    Event_done (event_line played s w (n + 1) e) (calls_kept (kept_of (reply s w e))) ∷ steps_said played s (next s w e) (n + 1) told
-steps_said played s w n (Change ∷ told) = Meters_changed ∷ steps_said played s w n told
-steps_said played s w n (said ∷ told) = steps_said played s w n told
-
--- the story of these lines in an exchange of these sizes; before the header it has no step
-abbrev pub story_by : Plays → ℕ → Option Sizes → List Said → List Step
-story_by plays slots None told = []
-story_by plays slots (Some sizes) told =
-    let s = setting_said slots sizes told in steps_said (plays (table_of s.tones)) s (start s.dimensions) 0 told
-
--- the story of these lines: their events and changes of meters, in the order of the lines
-abbrev pub story_said : Plays → ℕ → List Said → List Step
-story_said plays slots told = story_by plays slots (sizes_in told) told
-
--- If the bytes that are followed are a trace that changes no meters, the text of their story is a valid report of the
--- trace, on every fabric and for all meters of this type.
-abbrev pub HasValidStories : {M : Type 0} → (M → List CallRecord → List ℕ) → Type 0
-HasValidStories {M} text =
-    (slots : ℕ) (bytes : List ℕ) (t : Trace) (told : List Said) (old spare : List M) → IsTrace bytes t → EachFollows [] (lines bytes) told → t.changes ≡ []
-    → IsValid slots t (steps_text text (story_said hears slots told) (handed_in old spare))
+use Rattle.linked_text.specs.LinkEffects.{plain_told}
+use Rattle.linked_text.specs.LinkLines.{Content}
+use Rattle.exchange_top.specs.InTurn.{EachInTurn, MovesFewInTurn, follows_in_turn, setting_in_turn, story_in_turn, world_in_turn}
+pub use Rattle.exchange_top.specs.Told.{max_line, max_lines, follows, EachFollows, setting_said, world_said, MovesFewIn, MovesFewSaid, steps_said, story_by, story_said, HasValidStories}
 
 -- ---- the facts about lines that were followed
 
@@ -120,9 +50,9 @@ course plays slots moves stands text old spare new new_spare = record { plays = 
 
 -- the octets that are due for these lines are the text of their story
 pub record AreAnswered (plays : Plays) (slots : ℕ) (written : List Step → List ℕ) (ls : List (List ℕ)) (said : List ℕ) : Type 0 where
-  pub told : List Said
-  pub meets : EachFollows [] ls told
-  pub text : said ≡ written (story_said plays slots told)
+  pub told : List Content
+  pub meets : EachInTurn [] ls told
+  pub text : said ≡ written (story_in_turn plays slots told)
 
 -- all whole lines of an input were processed, and exactly the text of their story was written
 abbrev pub IsAnswered : Plays → ℕ → (List Step → List ℕ) → (heard said : List ℕ) → Type 0
@@ -130,61 +60,61 @@ IsAnswered plays slots written heard said = IsSettled (AreAnswered plays slots w
 
 -- these lines were processed: the text of their story is due, and the meters are its result
 pub record AreProcessed (x : Course) (ls : List (List ℕ)) (said : List ℕ) : Type 0 where
-  pub told : List Said
-  pub meets : EachFollows [] ls told
-  pub text : said ≡ x.meters.written (story_said x.plays x.slots told)
-  pub meters : x.meters.left (story_said x.plays x.slots told)
+  pub told : List Content
+  pub meets : EachInTurn [] ls told
+  pub text : said ≡ x.meters.written (story_in_turn x.plays x.slots told)
+  pub meters : x.meters.left (story_in_turn x.plays x.slots told)
 
 -- these lines were processed, the header is among them, and each new path moved few live paths
 pub record IsWhole (x : Course) (ls : List (List ℕ)) (said : List ℕ) : Type 0 where
-  pub told : List Said
-  pub meets : EachFollows [] ls told
+  pub told : List Content
+  pub meets : EachInTurn [] ls told
   pub sizes : Sizes
-  pub header : sizes_in told ≡ Some sizes
-  pub few : MovesFewSaid x.slots x.moves sizes told
-  pub text : said ≡ x.meters.written (story_said x.plays x.slots told)
-  pub meters : x.meters.left (story_said x.plays x.slots told)
+  pub header : sizes_in (plain_told told) ≡ Some sizes
+  pub few : MovesFewInTurn x.slots x.moves sizes told
+  pub text : said ≡ x.meters.written (story_in_turn x.plays x.slots told)
+  pub meters : x.meters.left (story_in_turn x.plays x.slots told)
 
 -- the last of these lines is the first that is refused: its refusal is due after the text of the lines before it
 pub record IsLineRefused (x : Course) (ls : List (List ℕ)) (said : List ℕ) : Type 0 where
   pub before : List (List ℕ)
   pub line : List ℕ
-  pub told : List Said
+  pub told : List Content
   pub why : Reason
   pub parts : ls ≡ before ++ line ∷ []
-  pub meets : EachFollows [] before told
-  pub fails : follows told line ≡ Err why
-  pub text : said ≡ x.meters.written (story_said x.plays x.slots told) ++ refusal (length ls) why
-  pub meters : x.meters.left (story_said x.plays x.slots told)
+  pub meets : EachInTurn [] before told
+  pub fails : follows_in_turn told line ≡ Err why
+  pub text : said ≡ x.meters.written (story_in_turn x.plays x.slots told) ++ refusal (length ls) why
+  pub meters : x.meters.left (story_in_turn x.plays x.slots told)
 
 -- no line is refused, and there is no header: the refusal is at the line after the last
 pub record IsEndRefused (x : Course) (ls : List (List ℕ)) (said : List ℕ) : Type 0 where
-  pub told : List Said
-  pub meets : EachFollows [] ls told
-  pub none : sizes_in told ≡ None
+  pub told : List Content
+  pub meets : EachInTurn [] ls told
+  pub none : sizes_in (plain_told told) ≡ None
   pub text : said ≡ refusal (length ls + 1) reason.Header
   pub meters : x.meters.left []
 
 -- the steps of the lines that remain of an interrupted input: no line remains, or its content could not be stored, or
 -- its content has these steps
-pub data IsNext (x : Course) (told : List Said) : List (List ℕ) → List Step → Type 0 where
+pub data IsNext (x : Course) (told : List Content) : List (List ℕ) → List Step → Type 0 where
   No_line : IsNext x told [] []
   Unread : (line : List ℕ) → IsNext x told (line ∷ []) []
-  Read : (line : List ℕ) (said : Said) (others : List Step) → follows told line ≡ Ok said
-      → story_said x.plays x.slots (told ++ said ∷ []) ≡ story_said x.plays x.slots told ++ others → IsNext x told (line ∷ []) others
+  Read : (line : List ℕ) (content : Content) (others : List Step) → follows_in_turn told line ≡ Ok content
+      → story_in_turn x.plays x.slots (told ++ content ∷ []) ≡ story_in_turn x.plays x.slots told ++ others → IsNext x told (line ∷ []) others
 
 -- An allocation failed after these lines, or in the last of them. The text of the lines before it is due. The meters
 -- are the result of their story, and may have recorded a prefix of the calls that ended in the last line.
 pub record IsInterrupted (x : Course) (ls : List (List ℕ)) (said : List ℕ) : Type 0 where
   pub before : List (List ℕ)
   pub rest : List (List ℕ)
-  pub told : List Said
+  pub told : List Content
   pub others : List Step
   pub parts : ls ≡ before ++ rest
-  pub meets : EachFollows [] before told
+  pub meets : EachInTurn [] before told
   pub next : IsNext x told rest others
-  pub text : said ≡ x.meters.written (story_said x.plays x.slots told)
-  pub meters : x.meters.left_beyond (story_said x.plays x.slots told) (records_of others)
+  pub text : said ≡ x.meters.written (story_in_turn x.plays x.slots told)
+  pub meters : x.meters.left_beyond (story_in_turn x.plays x.slots told) (records_of others)
 
 -- ---- the ending of the call
 
@@ -215,11 +145,11 @@ follow_parties plays slots moves sizes carries engine stands text old spare new 
 
 -- the returned engine has the size of the exchange, and carries the frames of these lines
 pub record IsEngineOf (x : FollowParties) (ls : List (List ℕ)) : Type 0 where
-  pub told : List Said
-  pub meets : EachFollows [] ls told
+  pub told : List Content
+  pub meets : EachInTurn [] ls told
   pub sizes : Sizes
-  pub header : sizes_in told ≡ Some sizes
-  pub engine : x.handed (setting_said x.course.slots sizes told).dimensions (world_said x.course.slots sizes told)
+  pub header : sizes_in (plain_told told) ≡ Some sizes
+  pub engine : x.handed (setting_in_turn x.course.slots sizes told).dimensions (world_in_turn x.course.slots sizes told)
 
 -- the engine that a call returns: the engine of all lines if they were all processed, and otherwise none
 abbrev pub HasReturned : FollowParties → Following → List ℕ → Type 0

@@ -16,7 +16,7 @@ use Rattle.trace_text.specs.declared.said.Said.{Said}
 use Rattle.trace_text.specs.declared.said.Sizes.{Sizes}
 use Rattle.trace_text.specs.TraceGrammar.{events_in, numbers_in, plan_of, sizes_in, so_far, timers_in, timers_of, tones_in, tones_of}
 use Rattle.trace_text.specs.TraceLines.{SoFar}
-use Rattle.exchange_top.specs.Following.{MovesFewIn, MovesFewSaid, setting_said, world_said}
+use Rattle.exchange_top.specs.Told.{MovesFewIn, MovesFewSaid, setting_said, world_said}
 use Rattle.exchange_top.specs.Handling.{IsDriven, IsSaid}
 use Rattle.exchange_top.specs.Telling.{AreTold}
 

@@ -6,16 +6,20 @@ ghost use Rattle.report_check.specs.Refusals.{refusal};
 use crate::call_context::Metering;
 use crate::changing::change_once;
 use crate::fabrics::Fabric;
+use crate::linked_stepping::{advance_linked, ready_linked};
 use crate::stepping::{advance, ready};
 use control_memory::PathMap;
 use frame_engine::Carrier;
 use line_follower::Stop;
+use linked_exchange::LinkedExchange;
+use linked_lines::LinkedEvent;
+use linked_text::{LinkHappening, LinkHeading};
 use lone_exchange::LoneExchange;
 use meters::Meter;
 use report_check::refusal;
 use std::alloc::{AllocError, Global};
 use std::thread::Threads;
-use trace_text::{Happening, Heading, Limits, LineError, Reason};
+use trace_text::{Happening, Limits, LineError, Reason};
 
 // The maximum number of octets in a line.
 const MAX_LINE: usize = 65_535;
@@ -31,11 +35,13 @@ pub struct TraceFollower<'a, P: PathMap + Drop, C: Carrier, R> {
     /// The allocator.
     pub alloc: Global,
     /// The content of the lines so far.
-    pub heading: Heading,
+    pub heading: LinkHeading,
     /// The number of lines so far.
     pub lines: u32,
     /// The exchange, from the first event on.
     pub exchange: Option<LoneExchange<P, C>>,
+    /// The exchange with data links, from the first event on, if a line has a data link.
+    pub linked: Option<LinkedExchange<P, C>>,
     /// The active and the spare meters.
     pub metering: Metering,
     /// The buffer for the summary of a meter.
@@ -44,37 +50,64 @@ pub struct TraceFollower<'a, P: PathMap + Drop, C: Carrier, R> {
 
 impl<'a, P: Fabric, C: Carrier, R: Threads + Sync> TraceFollower<'a, P, C, R> {
     ghost use Rattle.exchange_top.specs.Followers.{FinishesLines, HandlesLine, IsAtLine, IsFollowing, RefusesEnd, RefusesLine, StrandsAt, StrandsEnd, StrandsIn, TakesLine};
+    ghost use Rattle.exchange_top.specs.LinkedStepping.{effect_in};
 
-    // Processes the effect of a line, and counts the line.
-    fn take(&mut self, happening: Happening, out: &mut Vec<u8>) -> Result<(), AllocError>
+    // Processes the effect of a line.
+    fn take(&mut self, happening: LinkHappening, out: &mut Vec<u8>) -> Result<(), AllocError>
         requires read { IsAtLine ⟦<dyn Meter as Meter>⟧ C.Carrier P.Fabric.own self.old happening }
         ensures done { OnOk result (TakesLine ⟦<dyn Meter as Meter>⟧ C.Carrier P.Fabric.own
             self.old self.new happening out.old out.new) }
         ensures stranded { OnErr result (StrandsIn ⟦<dyn Meter as Meter>⟧ C.Carrier P.Fabric.own
             self.old self.new happening out.old out.new) }
+        ensures lines { self.new.lines ≡ self.old.lines }
     {
         match happening {
-            Happening::Nothing => {}
-            Happening::SegmentEnd => {}
-            Happening::Event(event) => {
-                let meters = &mut self.metering.on;
-                advance(
-                    self.rt,
-                    self.alloc,
-                    &self.heading,
-                    &mut self.exchange,
-                    meters,
-                    &event,
-                    out,
-                )?;
+            LinkHappening::Plain(Happening::Nothing) => Ok(()),
+            LinkHappening::Plain(Happening::SegmentEnd) => Ok(()),
+            LinkHappening::Plain(Happening::Event(event)) => {
+                self.process(&LinkedEvent::Event(&event), out)
             }
-            Happening::Change => {
+            LinkHappening::Received(line, octets) => {
+                self.process(&LinkedEvent::Received(line, &octets), out)
+            }
+            LinkHappening::Plain(Happening::Change) => {
                 let metering = &mut self.metering;
-                change_once(&mut metering.on, &mut metering.spare, &mut self.said, out)?;
+                change_once(&mut metering.on, &mut metering.spare, &mut self.said, out)
             }
         }
-        self.lines += 1;
-        Ok(())
+    }
+
+    // Processes an event, on the exchange with data links if a line has one.
+    fn process(&mut self, event: &LinkedEvent, out: &mut Vec<u8>) -> Result<(), AllocError>
+        requires read { IsAtLine ⟦<dyn Meter as Meter>⟧ C.Carrier P.Fabric.own self.old (effect_in event.now) }
+        ensures done { OnOk result (TakesLine ⟦<dyn Meter as Meter>⟧ C.Carrier P.Fabric.own
+            self.old self.new (effect_in event.now) out.old out.new) }
+        ensures stranded { OnErr result (StrandsIn ⟦<dyn Meter as Meter>⟧ C.Carrier P.Fabric.own
+            self.old self.new (effect_in event.now) out.old out.new) }
+        ensures lines { self.new.lines ≡ self.old.lines }
+    {
+        let unlinked = self.heading.linked().as_slice().is_empty();
+        let meters = &mut self.metering.on;
+        match event {
+            LinkedEvent::Event(event) if unlinked => advance(
+                self.rt,
+                self.alloc,
+                self.heading.plain(),
+                &mut self.exchange,
+                meters,
+                event,
+                out,
+            ),
+            _ => advance_linked(
+                self.rt,
+                self.alloc,
+                &self.heading,
+                &mut self.linked,
+                meters,
+                event,
+                out,
+            ),
+        }
     }
 
     /// Processes the next line, given without its line feed, and appends the octets that are due for it.
@@ -104,7 +137,10 @@ impl<'a, P: Fabric, C: Carrier, R: Threads + Sync> TraceFollower<'a, P, C, R> {
             .read_line(self.alloc, Limits::for_lines(), line)
         {
             Ok(happening) => match self.take(happening, out) {
-                Ok(()) => Ok(()),
+                Ok(()) => {
+                    self.lines += 1;
+                    Ok(())
+                }
                 Err(_) => Err(Stop::OutOfMemory),
             },
             Err(LineError::Memory) => Err(Stop::OutOfMemory),
@@ -131,10 +167,15 @@ impl<'a, P: Fabric, C: Carrier, R: Threads + Sync> TraceFollower<'a, P, C, R> {
         ensures stranded { IsErrOf result Stop.OutOfMemory → StrandsEnd ⟦<dyn Meter as Meter>⟧ C.Carrier P.Fabric.own
             self.old self.new out.old out.new }
     {
-        if self.heading.sizes().is_none() {
+        if self.heading.plain().sizes().is_none() {
             return Err(refuse(self.alloc, self.lines + 1, Reason::Header, out));
         }
-        match ready(self.alloc, &self.heading, &mut self.exchange) {
+        let made = if self.heading.linked().as_slice().is_empty() {
+            ready(self.alloc, self.heading.plain(), &mut self.exchange)
+        } else {
+            ready_linked(self.rt, self.alloc, &self.heading, &mut self.linked)
+        };
+        match made {
             Ok(()) => Ok(()),
             Err(_) => Err(Stop::OutOfMemory),
         }

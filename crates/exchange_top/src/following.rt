@@ -5,7 +5,7 @@ ghost use Rattle.line_follower.specs.Following.{CountsReads, CountsWrites};
 ghost use Rattle.report_check.specs.Checking.{slots_of};
 ghost use Rattle.exchange_top.specs.Commands.{moves_of};
 ghost use Rattle.exchange_top.specs.Followers.{FollowEnds, ReliesBy, parties_by};
-ghost use Rattle.exchange_top.specs.Handling.{engine_returned};
+ghost use Rattle.exchange_top.specs.Handling.{engine_returned, exchange_of};
 ghost use Rattle.exchange_top.specs.Following.{FollowsTo};
 
 use crate::call_context::Metering;
@@ -17,6 +17,8 @@ use fabric_map::FabricMap;
 use frame_engine::Carrier;
 use line_follower::Following;
 use line_wire::Wire;
+use linked_exchange::LinkedExchange;
+use linked_text::LinkHeading;
 use lone_exchange::LoneExchange;
 use meters::Meter;
 use std::alloc::Global;
@@ -24,7 +26,6 @@ use std::collections::VecDeque;
 use std::mem;
 use std::thread::Threads;
 use strict_map::StrictMap;
-use trace_text::Heading;
 
 /// The result of a call of [`follow`].
 #[derive(Debug, Drop)]
@@ -60,6 +61,19 @@ fn engine_of<P: PathMap + Drop, C: Carrier>(
     }
 }
 
+// Returns the exchange with data links if there is one, and otherwise the exchange without them.
+fn exchange_of<P: PathMap + Drop, C: Carrier>(
+    exchange: Option<LoneExchange<P, C>>,
+    linked: Option<LinkedExchange<P, C>>,
+) -> Option<LoneExchange<P, C>>
+    ensures { result ≡ exchange_of exchange linked }
+{
+    match linked {
+        Some(driver) => Some(driver.exchange),
+        None => exchange,
+    }
+}
+
 // Follows the trace of a wire on one kind of fabric.
 fn follow_on<W: Wire, P: Fabric, C: Carrier, R: Threads + Sync>(
     rt: &R,
@@ -79,9 +93,10 @@ fn follow_on<W: Wire, P: Fabric, C: Carrier, R: Threads + Sync>(
     let mut follower: TraceFollower<P, C, R> = TraceFollower {
         rt,
         alloc,
-        heading: Heading::new(alloc),
+        heading: LinkHeading::new(alloc),
         lines: 0,
         exchange: None,
+        linked: None,
         metering: Metering {
             on: mem::replace(meters, Vec::new(alloc)),
             spare: mem::replace(spare, VecDeque::new(alloc)),
@@ -91,6 +106,7 @@ fn follow_on<W: Wire, P: Fabric, C: Carrier, R: Threads + Sync>(
     let ending = follow_lines(alloc, wire, &mut follower);
     let TraceFollower {
         exchange,
+        linked,
         metering,
         ..
     } = follower;
@@ -99,7 +115,7 @@ fn follow_on<W: Wire, P: Fabric, C: Carrier, R: Threads + Sync>(
     *spare = left;
     CallEnd {
         ending,
-        engine: engine_of(ending, exchange),
+        engine: engine_of(ending, exchange_of(exchange, linked)),
     }
 }
 

@@ -24,7 +24,8 @@
 //! [`follow`] processes the lines of a trace when they arrive. Before each read it has written exactly the text of the
 //! lines read so far (`promise`), and its clause `ends` has a case for each ending (`FollowsTo`). It processes the end
 //! of the input only if the wire has ended (`with_end`). A followed trace has the report of a run in file order
-//! ([`followed_traces_are_runs`]), and each trace with short lines is followed ([`traces_are_followed`]).
+//! ([`followed_traces_are_runs`]), and each trace with short lines is followed ([`traces_are_followed`],
+//! [`plain_lines_are_followed`]). The lines that are followed may have data links (`EachInTurn`, `story_in_turn`).
 //!
 //! Statuses 3 and 4 occur only after an error was counted (`HasReadFailed`, `HasWriteFailed`), and no other status
 //! hides one (`reads`, `writes`). With status 4 a prefix of the text was written. With status 5 it is a prefix that
@@ -40,6 +41,7 @@ mod follow_loop;
 mod follower;
 mod following;
 mod laws;
+mod linked_stepping;
 mod run;
 mod segments;
 mod stepping;
@@ -49,7 +51,7 @@ mod telling;
 pub use call::{Outcome, exchange};
 pub use following::{FollowOutcome, follow};
 pub use laws::{
-    followed_traces_are_runs, law_of_unchanged_meters, strict_runs_move_nothing,
-    traces_are_followed,
+    followed_traces_are_runs, law_of_unchanged_meters, plain_lines_are_followed,
+    strict_runs_move_nothing, traces_are_followed,
 };
 pub use report_check::{Ending, law_of_divisions};

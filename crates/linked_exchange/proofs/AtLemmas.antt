@@ -11,7 +11,7 @@ use Rattle.exchange_events.specs.declared.record.CallRecord.{CallRecord}
 use Rattle.exchange_events.specs.declared.reply.Reply.TheVariants.{Sent}
 use Rattle.exchange_events.specs.declared.signal.Signal.{Signal}
 use Rattle.exchange_events.specs.declared.trace.Event.{Event}
-use Rattle.exchange_events.specs.declared.trace.Event.TheVariants.{Frame, LinkDown}
+use Rattle.exchange_events.specs.declared.trace.Event.TheVariants.{Frame, LinkDown, LinkUp}
 use Rattle.exchange_events.specs.Responses.{reply_of}
 use Rattle.exchange_events.specs.Sizes.{Setting}
 use Rattle.exchange_events.specs.Sound.{Fits, IsPlanned}
@@ -71,6 +71,17 @@ change_replied s w line change e got out is replied = change_sent s w line chang
 
 no_frame : (line : ℕ) (input : Input) → LinkDown line ≡ Frame input → ⊥
 no_frame line input e = absurd (cc)
+
+no_frame_up : (line : ℕ) (input : Input) → LinkUp line ≡ Frame input → ⊥
+no_frame_up line input e = absurd (cc)
+
+-- a change of a link is no frame
+link_no_frame : (line : ℕ) (change : Change) (input : Input) → event_of line (notice.Link change) ≡ Frame input → ⊥
+link_no_frame line Up input e = no_frame_up line input e
+link_no_frame line Down input e = no_frame line input e
+
+pub change_no_frame : (line : ℕ) (change : Change) (e : Event) → e ≡ event_of line (notice.Link change) → (input : Input) → e ≡ Frame input → ⊥
+change_no_frame line change e is input same = link_no_frame line change input (sym is ∙ same)
 
 -- a link that goes down is no frame
 pub down_frames : (s : Setting) (w : World) (line : ℕ) → (next s w (LinkDown line)).holding.next ≡ w.holding.next

@@ -1,4 +1,4 @@
 mod LinkLemmas
-mod PlainLemmas
-mod QuietLemmas
-mod AtLemmas
+pub mod PlainLemmas
+pub mod QuietLemmas
+pub mod AtLemmas

@@ -65,6 +65,7 @@ pub(crate) fn process_change<P: PathMap, C: Carrier, R: Threads + Sync>(
     ensures reply { RepliesFirst C.carries C.next C.sizes settings.now (changed_events line change) exchange.old exchange.new }
     ensures few { MovesAtMost exchange.old.control.map.bound (reply_of Sent exchange.new.context.out) }
     ensures bound { exchange.new.control.map.bound ≡ exchange.old.control.map.bound }
+    ensures octets { exchange.new.octets ≡ exchange.old.octets }
 {
     match change {
         Some(change) => change_link(exchange, rt, settings, line, change),
@@ -127,6 +128,7 @@ fn change_link<P: PathMap, C: Carrier, R: Threads + Sync>(
     ensures reply { RepliesFirst C.carries C.next C.sizes settings.now (event_of line (Link change) ∷ []) exchange.old exchange.new }
     ensures few { MovesAtMost exchange.old.control.map.bound (reply_of Sent exchange.new.context.out) }
     ensures bound { exchange.new.control.map.bound ≡ exchange.old.control.map.bound }
+    ensures octets { exchange.new.octets ≡ exchange.old.octets }
 {
     let event = event_of(line, change);
     let plan = settings.plan;

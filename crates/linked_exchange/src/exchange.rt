@@ -138,6 +138,7 @@ impl<P: PathMap, C: Carrier> LinkedExchange<P, C> {
             ≡ table.changed_at settings.now.link_timers.now self.old.exchange.control.map.next self.old.links }
         ensures few { MovesAtMost self.old.exchange.control.map.bound (reply_of Sent self.new.exchange.context.out) }
         ensures bound { self.new.exchange.control.map.bound ≡ self.old.exchange.control.map.bound }
+        ensures octets { self.new.exchange.octets ≡ self.old.exchange.octets }
     {
         let at = self.exchange.control.map.next_frame();
         let line = (at % LINES) as u8;

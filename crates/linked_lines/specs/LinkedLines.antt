@@ -1,5 +1,5 @@
 -- The report lines of an exchange with data links. Source: this project.
-use Rattle.std.specs.Prelude.{◌≡◌, ℕ, List, [], ◌++◌, codes, Option, None, IfOk}
+use Rattle.std.specs.Prelude.{◌≡◌, ℕ, List, [], ◌∷◌, ◌++◌, codes, Option, Some, None, IfOk}
 use Rattle.std.specs.declared.result.Result.{Result}
 use Rattle.std.specs.declared.result.Result.TheVariants.{Ok, Err}
 use Rattle.circuit_model.specs.Dimensions.{Dimensions}
@@ -101,7 +101,7 @@ abbrev pub RepliesIfOk : {P E F : Type 0} → Carrying E → (E → ℕ) → (E 
     → (y : LinkedExchange P E) → Type 0
 RepliesIfOk carries frames sizes settings input x result y = IfOk result (λ response. RepliesTo carries frames sizes settings input x response y)
 
--- by the response and the outbox, the live paths that the step moved are within the bound of the path map
+-- by the response and the outbox, the step moved at most as many live paths as the path map may move in one step
 abbrev pub MovesFew : {P E : Type 0} → Response → (x y : LinkedExchange P E) → Type 0
 MovesFew response x y = MovesAtMost x.exchange.control.map.bound (reply_of response y.exchange.context.out)
 

@@ -1,11 +1,12 @@
 //! One step of an exchange with data links, with its part of the report.
-ghost use Rattle.std.specs.Prelude.{◌≡◌, ◌++◌, ◌<◌, All, length, take, IfOk, OnOk};
+ghost use Rattle.std.specs.Prelude.{◌≡◌, ◌++◌, ◌<◌, ◌≤◌, All, length, take, IfOk, OnOk};
 ghost use Rattle.exchange_events.specs.declared.outbox.Response.TheVariants.{Sent};
 ghost use Rattle.exchange_events.specs.Responses.{reply_of};
 ghost use Rattle.exchange_events.specs.Sound.{Fits};
+ghost use Rattle.link_table.specs.Steps.{noticed_on};
 ghost use Rattle.linked_exchange.specs.At.{IsSomewhere, PlaysAt, RepliesTo, Steps};
 ghost use Rattle.linked_exchange.specs.Runs.{FitsLinked};
-ghost use Rattle.linked_exchange.specs.Steps.{Happens, Receives, Turns};
+ghost use Rattle.linked_exchange.specs.Steps.{Happens, Receives, Turns, indicated};
 ghost use Rattle.linked_lines.specs.LinkedLines.{MovesFew, PlaysOn, RepliesIfOk, Writes, WritesTurn, input_of, reply_line};
 
 use control_memory::PathMap;
@@ -176,6 +177,7 @@ pub fn put_turn_step<P: PathMap, C: Carrier, R: Threads + Sync>(
     ensures reply { RepliesTo C.carries C.next C.sizes settings.now Turns exchange.old Sent exchange.new }
     ensures few { MovesFew Sent exchange.old exchange.new }
     ensures bound { exchange.new.exchange.control.map.bound ≡ exchange.old.exchange.control.map.bound }
+    ensures octets { exchange.new.exchange.octets ≡ exchange.old.exchange.octets }
     ensures rest { OnOk result
         (WritesTurn C.carries C.next C.sizes settings.now exchange.old exchange.new out.old.items out.new.items) }
     ensures front { take (length out.old.items) out.new.items ≡ out.old.items }

@@ -97,6 +97,7 @@ impl<P: PathMap, C: Carrier> LoneExchange<P, C> {
         ensures bound { self.new.control.map.bound ≡ self.old.control.map.bound }
         ensures played { PlaysDue C.carries C.next C.sizes C.plays plan.now tones.now timers.now
             event.now self.old self.new }
+        ensures octets { ((input : An_input) → event.now ≡ Frame input → ⊥) → self.new.octets ≡ self.old.octets }
     {
         match event {
             Event::Frame(input) => self.carry(rt, plan, tones, timers, event, input),
@@ -180,6 +181,7 @@ impl<P: PathMap, C: Carrier> LoneExchange<P, C> {
             event.now self.old result self.new }
         ensures few { MovesAtMost self.old.control.map.bound (reply_of result self.new.context.out) }
         ensures bound { self.new.control.map.bound ≡ self.old.control.map.bound }
+        ensures octets { self.new.octets ≡ self.old.octets }
     {
         let external = self.octets.len() as u8;
         self.context.out.clear();

@@ -15,7 +15,7 @@ read_after-requires-clause-settled g c =
       u.answered.said,
       u.answered.stood,
       c.requires.promise heard u.answered.said
-          (answered (λ m. (goal.Meter-dyn g (m.vtable, m.value)).stands m.value) (λ m. (goal.Meter-dyn g (m.vtable, m.value)).text m.value) g.C.Carrier.carries g.C.Carrier.next g.C.Carrier.sizes g.C.Carrier.plays g.P.Fabric.slots g.P.Fabric.moves c.args.handler.now.metering.on.items c.args.handler.now.metering.spare.items c.loop-more.handler.metering.on.items c.loop-more.handler.metering.spare.items c.loop-more.handler.heading c.loop-more.handler.lines c.loop-more.handler.exchange heard u.answered.said
+          (answered (λ m. (goal.Meter-dyn g (m.vtable, m.value)).stands m.value) (λ m. (goal.Meter-dyn g (m.vtable, m.value)).text m.value) g.C.Carrier.carries g.C.Carrier.next g.C.Carrier.sizes g.C.Carrier.plays g.P.Fabric.slots g.P.Fabric.moves c.args.handler.now.metering.on.items c.args.handler.now.metering.spare.items c.loop-more.handler.metering.on.items c.loop-more.handler.metering.spare.items c.loop-more.handler.heading c.loop-more.handler.lines c.loop-more.handler.exchange c.loop-more.handler.linked heard u.answered.said
           (settled_of _ _ heard _ _ _ u inv.blank inv.partial)),
     )
 

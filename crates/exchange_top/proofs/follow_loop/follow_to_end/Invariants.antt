@@ -12,7 +12,7 @@ invariant-loop-more g l = record {
   few : l.handler.lines ≤ 4294967294;
   partial : HasNoFeed (take l.held l.buffer);
   underway : (heard : List ℕ)
-      × IsUnderway (g.W.Wire.stands l.wire) (handler_dues (λ m. (goal.Meter-dyn g (m.vtable, m.value)).stands m.value) (λ m. (goal.Meter-dyn g (m.vtable, m.value)).text m.value) g.C.Carrier.carries g.C.Carrier.next g.C.Carrier.sizes g.C.Carrier.plays g.P.Fabric.slots g.P.Fabric.moves l.fn.handler.metering.on.items l.fn.handler.metering.spare.items l.handler.metering.on.items l.handler.metering.spare.items l.handler.heading l.handler.lines l.handler.exchange).answers heard (take l.held l.buffer) l.text.items l.handler.lines;
+      × IsUnderway (g.W.Wire.stands l.wire) (handler_dues (λ m. (goal.Meter-dyn g (m.vtable, m.value)).stands m.value) (λ m. (goal.Meter-dyn g (m.vtable, m.value)).text m.value) g.C.Carrier.carries g.C.Carrier.next g.C.Carrier.sizes g.C.Carrier.plays g.P.Fabric.slots g.P.Fabric.moves l.fn.handler.metering.on.items l.fn.handler.metering.spare.items l.handler.metering.on.items l.handler.metering.spare.items l.handler.heading l.handler.lines l.handler.exchange l.handler.linked).answers heard (take l.held l.buffer) l.text.items l.handler.lines;
   steady : g.W.Wire.write_faults l.wire ≡ g.W.Wire.write_faults l.fn.wire;
   reads : g.W.Wire.read_faults l.wire ≡ g.W.Wire.read_faults l.fn.wire;
 }

@@ -13,7 +13,7 @@ returns-in-WriteFailed-clause-followed g c =
 
 pub returns-in-Ok-clause-followed : goal.returns-in-Ok-clause-followed
 returns-in-Ok-clause-followed g c =
-    let due = handler_dues (λ m. (goal.Meter-dyn g (m.vtable, m.value)).stands m.value) (λ m. (goal.Meter-dyn g (m.vtable, m.value)).text m.value) g.C.Carrier.carries g.C.Carrier.next g.C.Carrier.sizes g.C.Carrier.plays g.P.Fabric.slots g.P.Fabric.moves c.args.handler.now.metering.on.items c.args.handler.now.metering.spare.items c.follow_to_end-why.new.handler.metering.on.items c.follow_to_end-why.new.handler.metering.spare.items c.follow_to_end-why.new.handler.heading c.follow_to_end-why.new.handler.lines c.follow_to_end-why.new.handler.exchange in
+    let due = handler_dues (λ m. (goal.Meter-dyn g (m.vtable, m.value)).stands m.value) (λ m. (goal.Meter-dyn g (m.vtable, m.value)).text m.value) g.C.Carrier.carries g.C.Carrier.next g.C.Carrier.sizes g.C.Carrier.plays g.P.Fabric.slots g.P.Fabric.moves c.args.handler.now.metering.on.items c.args.handler.now.metering.spare.items c.follow_to_end-why.new.handler.metering.on.items c.follow_to_end-why.new.handler.metering.spare.items c.follow_to_end-why.new.handler.heading c.follow_to_end-why.new.handler.lines c.follow_to_end-why.new.handler.exchange c.follow_to_end-why.new.handler.linked in
     let before = g.W.Wire.ended c.follow_to_end-why.new.wire in
     let after = g.W.Wire.ended c.write_all.new.wire in
     let (heard, said, stood, has) = c.follow_to_end-why.ensures.ended in
@@ -23,7 +23,7 @@ returns-in-Ok-clause-followed g c =
 
 pub returns-in-Err : goal.returns-in-Err
 returns-in-Err g c =
-    let due = handler_dues (λ m. (goal.Meter-dyn g (m.vtable, m.value)).stands m.value) (λ m. (goal.Meter-dyn g (m.vtable, m.value)).text m.value) g.C.Carrier.carries g.C.Carrier.next g.C.Carrier.sizes g.C.Carrier.plays g.P.Fabric.slots g.P.Fabric.moves c.args.handler.now.metering.on.items c.args.handler.now.metering.spare.items c.follow_to_end-why.new.handler.metering.on.items c.follow_to_end-why.new.handler.metering.spare.items c.follow_to_end-why.new.handler.heading c.follow_to_end-why.new.handler.lines c.follow_to_end-why.new.handler.exchange in
+    let due = handler_dues (λ m. (goal.Meter-dyn g (m.vtable, m.value)).stands m.value) (λ m. (goal.Meter-dyn g (m.vtable, m.value)).text m.value) g.C.Carrier.carries g.C.Carrier.next g.C.Carrier.sizes g.C.Carrier.plays g.P.Fabric.slots g.P.Fabric.moves c.args.handler.now.metering.on.items c.args.handler.now.metering.spare.items c.follow_to_end-why.new.handler.metering.on.items c.follow_to_end-why.new.handler.metering.spare.items c.follow_to_end-why.new.handler.heading c.follow_to_end-why.new.handler.lines c.follow_to_end-why.new.handler.exchange c.follow_to_end-why.new.handler.linked in
     let before = g.W.Wire.ended c.follow_to_end-why.new.wire in
     let after = g.W.Wire.ended c.write_all.new.wire in
     let (heard, said, stood, has) = c.follow_to_end-why.ensures.ended in

@@ -23,7 +23,7 @@ returns-in-Err-clause-stopped g c old old_spare heard done a =
     let (front, back, is, stood) = c.in-Err.ensures.front heard a.said a.stood in (
       a.said ++ front,
       stood,
-      unwritten ((handler_dues (λ m. (goal.Meter-dyn g (m.vtable, m.value)).stands m.value) (λ m. (goal.Meter-dyn g (m.vtable, m.value)).text m.value) g.C.Carrier.carries g.C.Carrier.next g.C.Carrier.sizes g.C.Carrier.plays g.P.Fabric.slots g.P.Fabric.moves old old_spare c.handle_next.new.handler.metering.on.items c.handle_next.new.handler.metering.spare.items c.handle_next.new.handler.heading c.handle_next.new.handler.lines c.handle_next.new.handler.exchange).answers (done ++ c.args.line.now ∷ []))
+      unwritten ((handler_dues (λ m. (goal.Meter-dyn g (m.vtable, m.value)).stands m.value) (λ m. (goal.Meter-dyn g (m.vtable, m.value)).text m.value) g.C.Carrier.carries g.C.Carrier.next g.C.Carrier.sizes g.C.Carrier.plays g.P.Fabric.slots g.P.Fabric.moves old old_spare c.handle_next.new.handler.metering.on.items c.handle_next.new.handler.metering.spare.items c.handle_next.new.handler.heading c.handle_next.new.handler.lines c.handle_next.new.handler.exchange c.handle_next.new.handler.linked).answers (done ++ c.args.line.now ∷ []))
           a.said c.handle_next.new.text.items front back c.flush.new.text.items is c.flush.ensures.blank
           (c.in_ok-handle_next.ensures.done old old_spare done a.said a.due),
     )

@@ -6,8 +6,8 @@ use Rattle.exchange_top.proofs.follow_loop.handle_lines.Given as goal
 abbrev pub invariant-loop-line : goal.invariant-loop-line
 invariant-loop-line g l = record {
   underway : (old old_spare : List _) (heard : List ℕ)
-      → IsUnderway (g.W.Wire.stands l.fn.wire) (handler_dues (λ m. (goal.Meter-dyn g (m.vtable, m.value)).stands m.value) (λ m. (goal.Meter-dyn g (m.vtable, m.value)).text m.value) g.C.Carrier.carries g.C.Carrier.next g.C.Carrier.sizes g.C.Carrier.plays g.P.Fabric.slots g.P.Fabric.moves old old_spare l.fn.handler.metering.on.items l.fn.handler.metering.spare.items l.fn.handler.heading l.fn.handler.lines l.fn.handler.exchange).answers heard l.fn.bytes l.fn.text.items l.fn.handler.lines
-      → IsUnderway (g.W.Wire.stands l.wire) (handler_dues (λ m. (goal.Meter-dyn g (m.vtable, m.value)).stands m.value) (λ m. (goal.Meter-dyn g (m.vtable, m.value)).text m.value) g.C.Carrier.carries g.C.Carrier.next g.C.Carrier.sizes g.C.Carrier.plays g.P.Fabric.slots g.P.Fabric.moves old old_spare l.handler.metering.on.items l.handler.metering.spare.items l.handler.heading l.handler.lines l.handler.exchange).answers heard l.rest l.text.items l.handler.lines;
+      → IsUnderway (g.W.Wire.stands l.fn.wire) (handler_dues (λ m. (goal.Meter-dyn g (m.vtable, m.value)).stands m.value) (λ m. (goal.Meter-dyn g (m.vtable, m.value)).text m.value) g.C.Carrier.carries g.C.Carrier.next g.C.Carrier.sizes g.C.Carrier.plays g.P.Fabric.slots g.P.Fabric.moves old old_spare l.fn.handler.metering.on.items l.fn.handler.metering.spare.items l.fn.handler.heading l.fn.handler.lines l.fn.handler.exchange l.fn.handler.linked).answers heard l.fn.bytes l.fn.text.items l.fn.handler.lines
+      → IsUnderway (g.W.Wire.stands l.wire) (handler_dues (λ m. (goal.Meter-dyn g (m.vtable, m.value)).stands m.value) (λ m. (goal.Meter-dyn g (m.vtable, m.value)).text m.value) g.C.Carrier.carries g.C.Carrier.next g.C.Carrier.sizes g.C.Carrier.plays g.P.Fabric.slots g.P.Fabric.moves old old_spare l.handler.metering.on.items l.handler.metering.spare.items l.handler.heading l.handler.lines l.handler.exchange l.handler.linked).answers heard l.rest l.text.items l.handler.lines;
   within : length l.rest ≤ length l.fn.bytes;
   behind : drop (length l.fn.bytes - length l.rest) l.fn.bytes ≡ l.rest;
   counted : (l.rest ≡ l.fn.bytes) ⊎ (l.fn.handler.lines < l.handler.lines);

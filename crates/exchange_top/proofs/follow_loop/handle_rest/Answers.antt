@@ -16,7 +16,7 @@ returns-clause-stopped g c =
     (λ why step old old_spare heard u. stopped_next (g.W.Wire.stands c.args.wire.now) (g.W.Wire.stands c.handle_line.new.wire)
     (g.W.Wire.ended c.handle_line.new.wire)
     _
-    (handler_dues (λ m. (goal.Meter-dyn g (m.vtable, m.value)).stands m.value) (λ m. (goal.Meter-dyn g (m.vtable, m.value)).text m.value) g.C.Carrier.carries g.C.Carrier.next g.C.Carrier.sizes g.C.Carrier.plays g.P.Fabric.slots g.P.Fabric.moves old old_spare c.handle_line.new.handler.metering.on.items c.handle_line.new.handler.metering.spare.items c.handle_line.new.handler.heading c.handle_line.new.handler.lines c.handle_line.new.handler.exchange)
+    (handler_dues (λ m. (goal.Meter-dyn g (m.vtable, m.value)).stands m.value) (λ m. (goal.Meter-dyn g (m.vtable, m.value)).text m.value) g.C.Carrier.carries g.C.Carrier.next g.C.Carrier.sizes g.C.Carrier.plays g.P.Fabric.slots g.P.Fabric.moves old old_spare c.handle_line.new.handler.metering.on.items c.handle_line.new.handler.metering.spare.items c.handle_line.new.handler.heading c.handle_line.new.handler.lines c.handle_line.new.handler.exchange c.handle_line.new.handler.linked)
     why heard c.args.rest.now c.args.rest.now [] c.args.text.now.items c.handle_line.new.text.items c.args.handler.now.lines u
     (has_unfed c.args.rest.now some c.requires.partial) c.requires.room (step old old_spare heard))
     c.handle_line.ensures.stopped
