@@ -17,7 +17,8 @@ use tone_rules::{Tones, tone_octet};
 
 const IDLE_LINE: [u8; 30] = [IDLE; 30];
 
-// Writes the octet that each external slot sends.
+// Writes the octet that each external slot sends. The lines after the last one that may receive something are idle, and
+// are written at once.
 pub(crate) fn play(read: &FrameBuffer, image: &Image, tones: &Tones, out: &mut [[u8; 30]])
     requires read { read.now.lines ≡ lines_of image.now }
     requires lines { lines_of image.now ≤ 255 }
@@ -41,7 +42,7 @@ fn playing_lines(image: &Image) -> u8
     image.receiving_lines().min(image.external())
 }
 
-// Writes the idle octet over the rows from one on.
+// Writes the idle octet over the rows from one on. The loop compiles to one fill of memory.
 fn fill_idle_from(out: &mut [[u8; 30]], first: usize)
     requires { first ≤ length out.old }
     ensures size { length out.new ≡ length out.old }
