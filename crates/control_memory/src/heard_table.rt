@@ -76,6 +76,14 @@ impl HeardTable {
         (self.marks >> (line % 64)) & 1 == 0
     }
 
+    /// Returns how many lines, from line 0 on, may receive something. Every line after them is silent.
+    pub(crate) fn receiving_lines(&self) -> u8
+        ensures within { 30 * result ≤ length self.now }
+        ensures silent { (line : ℕ) → result ≤ line → 30 * line + 30 ≤ length self.now → IsSilent self.now line }
+    {
+        marked_rows(self.lines, self.marks)
+    }
+
     /// Writes the source of the slot with a number.
     pub fn set(&mut self, number: usize, heard: Heard)
         requires { number < length self.old }

@@ -220,6 +220,14 @@ impl Image {
         self.outgoing.used_rows()
     }
 
+    /// Returns how many lines, from line 0 on, may receive something. Every place of a line after them is silent.
+    pub fn receiving_lines(&self) -> u8
+        ensures within { result ≤ lines_of self.now }
+        ensures empty { (line place : ℕ) → result ≤ line → line < lines_of self.now → place < 30 → heard_at self.now (record { line = line; place = place }) ≡ Heard.Silent }
+    {
+        self.heard.receiving_lines()
+    }
+
     /// Returns the source of a slot's octets.
     pub fn heard(&self, at: Slot) -> Heard
         requires line { at.line < lines_of self.now }

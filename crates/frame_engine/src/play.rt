@@ -1,7 +1,9 @@
 //! The octet that each external slot sends in a frame: of its path, of its tone, or idle.
 
-ghost use Rattle.std.specs.Prelude.{◌≡◌, ◌↔◌, ℕ, IsTrue, ◌<◌, ◌≤◌, length, slice_index};
+ghost use Rattle.std.specs.Prelude.{◌≡◌, ◌↔◌, ℕ, IsTrue, ◌<◌, ◌≤◌, [], length, replicate, slice_index, slice_index_or};
+ghost use Rattle.circuit_model.specs.declared.channel.Slot.{Slot};
 ghost use Rattle.circuit_model.specs.declared.circuit.Kind.{Kind};
+ghost use Rattle.circuit_model.specs.FrameInput.{idle_octet};
 ghost use Rattle.frame_buffer.specs.Speech.{octet_in_half};
 ghost use Rattle.control_memory.specs.Image.{lines_of, heard_at};
 ghost use Rattle.tone_rules.specs.Tables.{table_of, IsGiven};
@@ -15,7 +17,8 @@ use tone_rules::{Tones, tone_octet};
 
 const IDLE_LINE: [u8; 30] = [IDLE; 30];
 
-// Writes the octet that each external slot sends.
+// Writes the octet that each external slot sends. The lines after the last one that may receive something are idle, and
+// are written at once.
 pub(crate) fn play(read: &FrameBuffer, image: &Image, tones: &Tones, out: &mut [[u8; 30]])
     requires read { read.now.lines ≡ lines_of image.now }
     requires lines { lines_of image.now ≤ 255 }
@@ -23,9 +26,31 @@ pub(crate) fn play(read: &FrameBuffer, image: &Image, tones: &Tones, out: &mut [
     requires tones { TonesGiven tones.now image.now }
     ensures { PlaysOut image.now.external (played_at (table_of tones.now) image.now (octet_in_half read.now.readable)) out.new }
 {
-    for line in 0..image.external() {
+    let lines = playing_lines(image);
+    for line in 0..lines {
         let octets = &mut out[usize::from(line)];
         play_line(read.row(line), image, line, tones, octets);
+    }
+    fill_idle_from(out, usize::from(lines));
+}
+
+// Returns how many external lines, from line 0 on, may receive something.
+fn playing_lines(image: &Image) -> u8
+    ensures within { result ≤ image.now.external }
+    ensures silent { (at : Slot) → result ≤ at.line → at.line < image.now.external → at.place < 30 → heard_at image.now at ≡ Heard.Silent }
+{
+    image.receiving_lines().min(image.external())
+}
+
+// Writes the idle octet over the rows from one on. The loop compiles to one fill of memory.
+fn fill_idle_from(out: &mut [[u8; 30]], first: usize)
+    requires { first ≤ length out.old }
+    ensures size { length out.new ≡ length out.old }
+    ensures before { (row : ℕ) → row < first → slice_index_or out.new row [] ≡ slice_index_or out.old row [] }
+    ensures idle { (row : ℕ) → first ≤ row → row < length out.new → slice_index_or out.new row [] ≡ replicate 30 idle_octet }
+{
+    for row in first..out.len() {
+        out[row] = IDLE_LINE;
     }
 }
 
