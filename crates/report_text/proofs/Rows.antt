@@ -1,5 +1,5 @@
 -- Rows of octets, and the octets of their slots.
-use Rattle.std.proofs.Common.{◌≡◌, ◌==◌, ℕ, ◌+◌, ◌<◌, ◌++◌, true, List, [], ◌∷◌, length, map, drop, slice_index, get_or, arith, ap, refl, sym, ◌∙◌}
+use Rattle.std.proofs.Common.{◌≡◌, ◌==◌, ℕ, ◌+◌, ◌<◌, ◌++◌, true, false, List, [], ◌∷◌, length, map, drop, slice_index, get_or, arith, ap, refl, sym, ◌∙◌}
 use Rattle.std.specs.List.{range_with_len, flat_map, list_all}
 use Rattle.circuit_model.specs.FrameInput.{idle_octet}
 use Rattle.circuit_model.specs.declared.channel.Slot.{Slot}
@@ -47,3 +47,12 @@ parts_idle line (row ∷ rest) idle =
     let both = and_parts _ _ (sym (list_all-append (λ octet. octet == idle_octet) row (flat_map (λ r. r) rest)) ∙ idle) in
     let none : part line row ≡ [] = cond-true _ [] _ both.0 in
     ap (λ first. first ++ parts (line + 1) rest) none ∙ parts_idle (line + 1) rest both.1
+
+-- a piece with another octet decides
+pub idle_until : (all piece rest : List ℕ) → all ≡ piece ++ rest → list_all (λ octet. octet == idle_octet) piece ≡ false → list_all (λ octet. octet == idle_octet) all ≡ false
+idle_until all piece rest parts other = ap (list_all (λ octet. octet == idle_octet)) parts ∙ list_all-append (λ octet. octet == idle_octet) piece rest ∙ rw other refl
+
+-- after an idle piece, the rest decides
+pub idle_after : (all piece rest : List ℕ) → all ≡ piece ++ rest → list_all (λ octet. octet == idle_octet) piece ≡ true
+    → list_all (λ octet. octet == idle_octet) all ≡ list_all (λ octet. octet == idle_octet) rest
+idle_after all piece rest parts idle = ap (list_all (λ octet. octet == idle_octet)) parts ∙ list_all-append (λ octet. octet == idle_octet) piece rest ∙ rw idle refl
