@@ -1,6 +1,7 @@
 //! The crossbar of the space stage, one outgoing line after another.
 
 ghost use Rattle.std.specs.Prelude.{◌≡◌, ℕ, ◌<◌, length, slice_index};
+ghost use Rattle.circuit_model.specs.FrameInput.{idle_octet};
 ghost use Rattle.frame_buffer.specs.Highways.{SameHighwaySize, IsPart};
 ghost use Rattle.control_memory.specs.Image.{lines_of};
 ghost use Rattle.space_stage.specs.Crossing.{gets, IsCrossedPart, IsCrossed, AreStarts};
@@ -32,10 +33,26 @@ pub fn cross_part(highway: &Highway, image: &Image, slots: u8, first: u8, part: 
     ensures size { length part.new ≡ length part.old }
     ensures octets { IsCrossedPart image.now highway.now first part.new }
 {
+    fill_idle(part);
+    if first < image.crossing_lines() {
+        cross_used(highway, image, slots, first, part);
+    }
+}
+
+// Crosses one frame to some outgoing lines whose rows are idle. It is called only if one of them may get an octet, so
+// that a frame without octets makes no list of starts.
+fn cross_used(highway: &Highway, image: &Image, slots: u8, first: u8, part: &mut [u8])
+    requires lines { highway.now.lines ≡ lines_of image.now }
+    requires highway { highway.now.slots ≡ slots }
+    requires image { image.now.slots ≡ slots }
+    requires part { IsPart (lines_of image.now) slots first (length part.old) }
+    requires idle { (at : ℕ) → at < length part.old → slice_index part.old at ≡ idle_octet }
+    ensures size { length part.new ≡ length part.old }
+    ensures octets { IsCrossedPart image.now highway.now first part.new }
+{
     let mut starts = [0; 256];
     find_starts(highway, &mut starts);
     let slots = usize::from(slots);
-    fill_idle(part);
     for line in first..image.crossing_lines() {
         if image.is_space_known_empty(line) {
             continue;

@@ -1,6 +1,7 @@
 //! The time slot interchange on both sides of the space stage.
 
 ghost use Rattle.std.specs.Prelude.{◌≡◌, ℕ, ◌<◌, length, slice_index};
+ghost use Rattle.circuit_model.specs.FrameInput.{idle_octet};
 ghost use Rattle.frame_buffer.specs.Highways.{SameHighwaySize, IsPart, RowsHold};
 ghost use Rattle.control_memory.specs.Image.{lines_of};
 ghost use Rattle.time_stage.specs.Interchange.{sends, reads, IsSent, IsRead};
@@ -33,9 +34,24 @@ pub(crate) fn send_part(buffer: &FrameBuffer, image: &Image, slots: u8, first: u
     ensures size { length part.new ≡ length part.old }
     ensures octets { RowsHold slots (sends image.now buffer.now) first part.new }
 {
+    fill_idle(part);
+    if first < image.sending_lines() {
+        send_used(buffer, image, slots, first, part);
+    }
+}
+
+// Writes the octets that some lines send into idle rows. It is called only if one of them may send, so that a frame
+// without octets makes no store.
+fn send_used(buffer: &FrameBuffer, image: &Image, slots: u8, first: u8, part: &mut [u8])
+    requires buffer { buffer.now.lines ≡ lines_of image.now }
+    requires slots { image.now.slots ≡ slots }
+    requires part { IsPart (lines_of image.now) slots first (length part.old) }
+    requires idle { (at : ℕ) → at < length part.old → slice_index part.old at ≡ idle_octet }
+    ensures size { length part.new ≡ length part.old }
+    ensures octets { RowsHold slots (sends image.now buffer.now) first part.new }
+{
     let mut store = Store::new();
     let slots = usize::from(slots);
-    fill_idle(part);
     for line in first..image.sending_lines() {
         if image.is_incoming_known_empty(line) {
             continue;
@@ -89,9 +105,23 @@ pub(crate) fn read_part(crossed: &Crossed, table: &Image, first: u8, part: &mut 
     ensures size { length part.new ≡ length part.old }
     ensures octets { RowsHold 30 (reads table.now crossed.now) first part.new }
 {
+    fill_idle(part);
+    if first < table.reading_lines() {
+        read_used(crossed, table, first, part);
+    }
+}
+
+// Writes the octets that some lines read into idle rows. It is called only if one of them may read.
+fn read_used(crossed: &Crossed, table: &Image, first: u8, part: &mut [u8])
+    requires crossed { crossed.now.lines ≡ lines_of table.now }
+    requires slots { crossed.now.slots ≡ table.now.slots }
+    requires part { IsPart (lines_of table.now) 30 first (length part.old) }
+    requires idle { (at : ℕ) → at < length part.old → slice_index part.old at ≡ idle_octet }
+    ensures size { length part.new ≡ length part.old }
+    ensures octets { RowsHold 30 (reads table.now crossed.now) first part.new }
+{
     let mut store = Store::new();
     let places = usize::from(CHANNELS_PER_LINE);
-    fill_idle(part);
     for line in first..table.reading_lines() {
         if table.is_outgoing_known_empty(line) {
             continue;

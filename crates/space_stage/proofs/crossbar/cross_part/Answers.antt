@@ -1,62 +1,20 @@
-use Rattle.std.proofs.Common.{◌≡◌, ℕ, ◌+◌, ◌-◌, ◌*◌, ◌≤◌, length, Option, ◌∙◌, ap, sym, subst, arith, rules}
+use Rattle.std.proofs.Common.{ℕ, ◌≤◌, Option, ap, subst, sym, arith, rules}
 use Rattle.control_memory.specs.Image.{lines_of}
-use Rattle.frame_buffer.specs.Highways.{octet_on, IsPart}
 use Rattle.control_memory.specs.Carrying.{fetched}
+use Rattle.frame_buffer.specs.Highways.{octet_on, IsPart}
+use Rattle.frame_buffer.proofs.Parts.{none_written}
 use Rattle.space_stage.specs.Crossing.{gets}
-use Rattle.frame_buffer.proofs.Parts.{IsWrittenTo, row_fits, written_past, written_idle, written_row}
 use Rattle.space_stage.proofs.RowsAfter.{rest_is_idle}
 use Rattle.space_stage.proofs.crossbar.cross_part.Goals as goal
-use Rattle.space_stage.proofs.crossbar.cross_part.Goals.{then-start-part, else-start-part}
 
-pub slice_bounds-gather_row-end : goal.slice_bounds-gather_row-end
-slice_bounds-gather_row-end c = let fits = row_fits (length c.loop-line.part) c.requires.part.rows c.args.slots (c.loop-line.line - c.args.first) (search rules) (search rules) in search (rules, fits)
-
-pub loop-line-preserved-then-is_space_known_empty : goal.loop-line-preserved-then-is_space_known_empty
-loop-line-preserved-then-is_space_known_empty c =
+pub returns-else-first-crossing_lines-clause-octets : goal.returns-else-first-crossing_lines-clause-octets
+returns-else-first-crossing_lines-clause-octets c =
     let m = c.args.image.now in
     let h = c.args.highway.now in
-    let line = c.loop-line.line in
-    let part = c.loop-line.part in
-    let whole : length part ≡ c.requires.part.rows * m.slots = search rules in
-    record {
-      size = c.loop-line.invariant.size;
-      done = written_idle m.slots (gets m h) c.args.first line part c.loop-line.auto.line c.loop-line.invariant.done c.requires.part.rows whole
-          (λ at near. ap (λ (o : Option ℕ). fetched o (λ l. octet_on h l at)) (c.is_space_known_empty.ensures c.if-is_space_known_empty.true at near));
-    }
-
-pub loop-line-preserved : goal.loop-line-preserved
-loop-line-preserved c =
-    let m = c.args.image.now in
-    let slots = m.slots in
-    let octet = gets m c.args.highway.now in
-    let first = c.args.first in
-    let line = c.loop-line.line in
-    let part = c.loop-line.part in
-    let from : first ≤ line = c.loop-line.auto.line in
-    let done : IsWrittenTo slots octet first line part = c.loop-line.invariant.done in
-    let start : c.from.result * c.from-slots.result ≡ (line - first) * slots = search rules in
-    record {
-      size = c.if-start-part.auto.part ∙ c.loop-line.invariant.size;
-      done = elim c.if-start-part.branch [
-        | then-start-part w ↦
-            let a = c.from.result * c.from-slots.result in
-            let k = a + c.from-slots.result - a in
-            let wide : k ≡ slots = omega (arith, c.from-slots.ensures, c.requires.image) in
-            let whole : length part ≡ c.requires.part.rows * slots = search rules in
-            let fits = row_fits (length part) c.requires.part.rows slots (line - first) whole (omega (arith, start, w.if-start-part.true)) in
-            subst (IsWrittenTo slots octet first (line + 1)) (sym w.part-is)
-            (written_row slots octet first line part from done a k w.gather_row.new.row start wide (omega (arith, fits, start, wide)) (search rules) (λ at near. w.gather_row.ensures.octets at (search rules)))
-        | else-start-part w ↦
-            subst (IsWrittenTo slots octet first (line + 1)) (sym w.part-is)
-            (written_past slots octet first line part from done (omega (arith, start, w.if-start-part.false)))
-      ];
-    }
-
-pub returns-clause-octets : goal.returns-clause-octets
-returns-clause-octets c =
-    let m = c.args.image.now in
-    let h = c.args.highway.now in
-    let reached : c.crossing_lines-line-end.result ≤ c.loop-line.line = search rules in
-    rest_is_idle m.slots (gets m h) c.args.first (lines_of m) c.loop-line.line c.loop-line.part
-    (subst (IsPart (lines_of m) m.slots c.args.first) (sym c.loop-line.invariant.size) (search rules)) c.loop-line.auto.line c.loop-line.invariant.done
-    (λ line at past inside near. ap (λ (o : Option ℕ). fetched o (λ l. octet_on h l at)) (c.crossing_lines-line-end.ensures.empty line at (omega (arith, reached, past)) inside near))
+    let part = c.fill_idle.new.row in
+    let none : c.crossing_lines.result ≤ c.args.first = search rules in
+    let from : c.args.first ≤ c.args.first = omega arith in
+    rest_is_idle m.slots (gets m h) c.args.first (lines_of m) c.args.first part
+    (subst (IsPart (lines_of m) m.slots c.args.first) (sym c.fill_idle.ensures.size) (search rules)) from
+    (none_written m.slots (gets m h) c.args.first part c.fill_idle.ensures.octets)
+    (λ line at past inside near. ap (λ (o : Option ℕ). fetched o (λ l. octet_on h l at)) (c.crossing_lines.ensures.empty line at (omega (arith, none, past)) inside near))

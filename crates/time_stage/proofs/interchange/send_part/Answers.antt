@@ -1,61 +1,21 @@
-use Rattle.std.proofs.Common.{◌≡◌, ℕ, ◌+◌, ◌-◌, ◌*◌, ◌≤◌, length, Option, ◌∙◌, ap, sym, subst, arith, rules}
-use Rattle.frame_buffer.specs.Speech.{octet_in_half}
-use Rattle.control_memory.specs.Carrying.{fetched}
-use Rattle.time_stage.specs.Interchange.{sends}
-use Rattle.frame_buffer.specs.Highways.{IsPart}
+use Rattle.std.proofs.Common.{ℕ, ◌≤◌, Option, ap, subst, sym, arith, rules}
 use Rattle.control_memory.specs.Image.{lines_of}
-use Rattle.frame_buffer.proofs.Parts.{IsWrittenTo, row_fits, written_past, written_idle, written_row}
+use Rattle.control_memory.specs.Carrying.{fetched}
+use Rattle.frame_buffer.specs.Speech.{octet_in_half}
+use Rattle.frame_buffer.specs.Highways.{IsPart}
+use Rattle.frame_buffer.proofs.Parts.{none_written}
 use Rattle.space_stage.proofs.RowsAfter.{rest_is_idle}
+use Rattle.time_stage.specs.Interchange.{sends}
 use Rattle.time_stage.proofs.interchange.send_part.Goals as goal
-use Rattle.time_stage.proofs.interchange.send_part.Goals.{then-start-part, else-start-part}
 
-pub slice_bounds-send_row-end : goal.slice_bounds-send_row-end
-slice_bounds-send_row-end c = let fits = row_fits (length c.loop-line.part) c.requires.part.rows c.args.slots (c.loop-line.line - c.args.first) (search rules) (search rules) in search (rules, fits)
-
-pub loop-line-preserved-then-is_incoming_known_empty : goal.loop-line-preserved-then-is_incoming_known_empty
-loop-line-preserved-then-is_incoming_known_empty c =
-    let slots = c.args.slots in
-    let octet = sends c.args.image.now c.args.buffer.now in
-    let line = c.loop-line.line in
-    let part = c.loop-line.part in
-    let whole : length part ≡ c.requires.part.rows * slots = search rules in
-    record {
-      size = c.loop-line.invariant.size;
-      done = written_idle slots octet c.args.first line part c.loop-line.auto.line c.loop-line.invariant.done c.requires.part.rows whole
-          (λ at near. ap (λ (o : Option ℕ). fetched o (λ place. octet_in_half c.args.buffer.now.readable (record { line = line; place = place }))) (c.is_incoming_known_empty.ensures c.if-is_incoming_known_empty.true at (search (rules, near))));
-    }
-
-pub loop-line-preserved : goal.loop-line-preserved
-loop-line-preserved c =
-    let slots = c.args.slots in
-    let octet = sends c.args.image.now c.args.buffer.now in
-    let first = c.args.first in
-    let line = c.loop-line.line in
-    let part = c.loop-line.part in
-    let from : first ≤ line = c.loop-line.auto.line in
-    let done : IsWrittenTo slots octet first line part = c.loop-line.invariant.done in
-    let start : c.from.result * c.from-slots.result ≡ (line - first) * slots = search rules in
-    record {
-      size = c.if-start-part.auto.part ∙ c.loop-line.invariant.size;
-      done = elim c.if-start-part.branch [
-        | then-start-part w ↦
-            let a = c.from.result * c.from-slots.result in
-            let k = a + c.from-slots.result - a in
-            let wide : k ≡ slots = omega (arith, c.from-slots.ensures) in
-            let whole : length part ≡ c.requires.part.rows * slots = search rules in
-            let fits = row_fits (length part) c.requires.part.rows slots (line - first) whole (omega (arith, start, w.if-start-part.true)) in
-            subst (IsWrittenTo slots octet first (line + 1)) (sym w.part-is)
-            (written_row slots octet first line part from done a k w.send_row.new.row start wide (omega (arith, fits, start, wide)) (search rules) (λ at near. w.send_row.ensures.octets at (search rules)))
-        | else-start-part w ↦
-            subst (IsWrittenTo slots octet first (line + 1)) (sym w.part-is)
-            (written_past slots octet first line part from done (omega (arith, start, w.if-start-part.false)))
-      ];
-    }
-
-pub returns-clause-octets : goal.returns-clause-octets
-returns-clause-octets c =
+pub returns-else-first-sending_lines-clause-octets : goal.returns-else-first-sending_lines-clause-octets
+returns-else-first-sending_lines-clause-octets c =
     let image = c.args.image.now in
-    let reached : c.sending_lines-line-end.result ≤ c.loop-line.line = search rules in
-    rest_is_idle c.args.slots (sends image c.args.buffer.now) c.args.first (lines_of image) c.loop-line.line c.loop-line.part
-    (subst (IsPart (lines_of image) c.args.slots c.args.first) (sym c.loop-line.invariant.size) c.requires.part) c.loop-line.auto.line c.loop-line.invariant.done
-    (λ line at past inside near. ap (λ (o : Option ℕ). fetched o (λ place. octet_in_half c.args.buffer.now.readable (record { line = line; place = place }))) (c.sending_lines-line-end.ensures.empty line at (omega (arith, reached, past)) inside (search (rules, near))))
+    let octet = sends image c.args.buffer.now in
+    let part = c.fill_idle.new.row in
+    let none : c.sending_lines.result ≤ c.args.first = search rules in
+    let from : c.args.first ≤ c.args.first = omega arith in
+    rest_is_idle c.args.slots octet c.args.first (lines_of image) c.args.first part
+    (subst (IsPart (lines_of image) c.args.slots c.args.first) (sym c.fill_idle.ensures.size) c.requires.part) from
+    (none_written c.args.slots octet c.args.first part c.fill_idle.ensures.octets)
+    (λ line at past inside near. ap (λ (o : Option ℕ). fetched o (λ place. octet_in_half c.args.buffer.now.readable (record { line = line; place = place }))) (c.sending_lines.ensures.empty line at (omega (arith, none, past)) inside (search (rules, near))))

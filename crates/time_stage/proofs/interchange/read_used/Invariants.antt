@@ -1,7 +1,7 @@
 use Rattle.std.proofs.Common.{◌≡◌, length}
 use Rattle.frame_buffer.proofs.Parts.{IsWrittenTo}
 use Rattle.time_stage.specs.Interchange.{reads}
-use Rattle.time_stage.proofs.interchange.read_part.Given as goal
+use Rattle.time_stage.proofs.interchange.read_used.Given as goal
 
 abbrev pub invariant-loop-line : goal.invariant-loop-line
 invariant-loop-line l = record {
