@@ -5,3 +5,4 @@ pub mod Orders
 pub mod Responses
 pub mod Kept
 pub mod OctetStorage
+pub mod InputStorage

@@ -10,6 +10,7 @@
 #![tactic(auto)]
 
 mod answer;
+mod input;
 mod laws;
 mod list;
 mod octets;
@@ -20,6 +21,7 @@ mod signal;
 mod trace;
 
 pub use answer::{Answer, Kept, RecordList, Rows, SignalList};
+pub use input::{Input, InputStorage};
 pub use laws::file_order_is_lawful;
 pub use list::ListOf;
 pub use octets::{INLINE_OCTETS, OctetStorage, Octets};
@@ -27,4 +29,4 @@ pub use outbox::{Outbox, Response};
 pub use record::{CallRecord, MAX_RECORDS, Party, Records};
 pub use reply::Reply;
 pub use signal::{Encoded, MAX_SENDS, Signal, Signals};
-pub use trace::{Changes, Event, Events, Input, Segments, Trace};
+pub use trace::{Changes, Event, Events, Segments, Trace};

@@ -2,16 +2,13 @@
 ghost use Rattle.std.specs.Prelude.{◌≡◌, Some};
 ghost use Rattle.exchange_events.specs.Orders.{IsEvent, event_at};
 
+use crate::input::Input;
 use crate::list::ListOf;
 use crate::octets::Octets;
 use call_timers::Timers;
 use circuit_model::Slot;
 use number_plan::Plan;
 use tone_rules::Tones;
-
-/// The input of one frame: for each external line its 30 octets in order of place, or nothing if the line is idle.
-/// Contracts see it as that list.
-pub type Input = ListOf<Option<[u8; 30]>>;
 
 /// One event of a trace.
 #[derive(Debug, Drop)]

@@ -75,7 +75,7 @@ fn plain_part<'a>(given: &mut [Option<[u8; 30]>], rest: &'a [u8]) -> Option<&'a 
     Some(others)
 }
 
-/// The frame that the words of a line give, where the line is written as most are.
+/// Returns the frame of a line in the common form. `None` for any other line. A frame without fields does not allocate.
 pub(crate) fn plain_frame(
     alloc: Global,
     external: u8,
@@ -83,6 +83,9 @@ pub(crate) fn plain_frame(
 ) -> Result<Option<Event>, AllocError>
     ensures { IfOk result (λ found. IfSome found (λ event. GivesPlainly (frame external (words line.now)) line.now event)) }
 {
+    if line.is_empty() {
+        return Ok(Some(Event::Frame(Input::idle(external))));
+    }
     let mut input = vec![in alloc; None; usize::from(external)]?;
     let mut rest = line;
     while !rest.is_empty() {
