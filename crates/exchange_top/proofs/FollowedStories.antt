@@ -27,7 +27,7 @@ use Rattle.tone_rules.specs.Tables.{table_of}
 use Rattle.exchange_top.specs.Following.{EachFollows, max_line, setting_said, steps_said, story_by, story_said}
 use Rattle.line_list.specs.declared.listing.Listing.TheVariants as listing
 use Rattle.exchange_top.specs.Story.{event_steps, story}
-use Rattle.exchange_top.proofs.FollowedLines.{each_followed, each_same}
+use Rattle.followed_events.proofs.FollowedLines.{each_followed, each_same}
 
 -- ---- the events of a file, in its order
 

@@ -17,13 +17,13 @@ use Rattle.linked_text.specs.declared.said.LinkSaid.{LinkSaid}
 use Rattle.linked_text.specs.LinkEffects.{in_turn, linked_in, plain_told}
 use Rattle.linked_text.specs.LinkLines.{Content, LinkSoFar, On_link, Plain, joins_link, link_said, plain_of, says_by, says_in_turn}
 use Rattle.linked_text.proofs.PlainLineLemmas.{read_plainly, same_plain, so_far_plain, unlinked_plain}
-use Rattle.exchange_top.specs.Told.{EachFollows, follows, max_line, story_said}
-use Rattle.exchange_top.specs.InTurn.{ArePlain, EachInTurn, IsPlain, follows_in_turn, story_by_links, story_in_turn}
+use Rattle.followed_events.specs.Told.{EachFollows, follows, max_line, story_said}
+use Rattle.followed_events.specs.InTurn.{ArePlain, EachInTurn, IsPlain, follows_in_turn, story_by_links, story_in_turn}
 use Rattle.exchange_top.specs.Story.{story}
-use Rattle.exchange_top.proofs.FollowedLines as plainly
+use Rattle.followed_events.proofs.FollowedLines as plainly
 use Rattle.exchange_top.proofs.FollowedStories.{followed_story, trace_followed}
-use Rattle.exchange_top.proofs.TurnLines.{follows_as, follows_turn}
-use Rattle.exchange_top.proofs.TurnSteps.{plain_more}
+use Rattle.followed_events.proofs.TurnLines.{follows_as, follows_turn}
+use Rattle.followed_events.proofs.TurnSteps.{plain_more}
 
 -- ---- lines of a trace without links follow one another in turn
 

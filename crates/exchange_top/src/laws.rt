@@ -14,7 +14,7 @@ ghost use Rattle.trace_text.specs.TraceGrammar.{IsTrace, IsWhatLinesSay};
 ghost use Rattle.trace_text.specs.TraceWords.{lines};
 ghost use Rattle.exchange_top.specs.Following.{EachFollows, HasValidStories, max_line, story_said};
 ghost use Rattle.exchange_top.specs.Commands.{fabric_of};
-ghost use Rattle.exchange_top.specs.InTurn.{ArePlain, EachInTurn, story_in_turn};
+ghost use Rattle.followed_events.specs.InTurn.{ArePlain, EachInTurn, story_in_turn};
 ghost use Rattle.linked_text.specs.LinkEffects.{plain_told};
 ghost use Rattle.linked_text.specs.LinkLines.{Content, Plain};
 ghost use Rattle.exchange_top.specs.Outcomes.{MovesFew, MovesNone, NotesAll};

@@ -36,7 +36,6 @@
 mod call;
 mod call_context;
 mod changing;
-mod fabrics;
 mod follow_loop;
 mod follower;
 mod following;

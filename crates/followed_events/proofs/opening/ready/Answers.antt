@@ -1,6 +1,6 @@
 use Rattle.std.proofs.Common.{ap, not, ◌∙◌}
-use Rattle.exchange_top.proofs.SteppingLemmas.{ready_old}
-use Rattle.exchange_top.proofs.stepping.ready.Goals as goal
+use Rattle.followed_events.proofs.SteppingLemmas.{ready_old}
+use Rattle.followed_events.proofs.opening.ready.Goals as goal
 
 pub returns : goal.returns
 returns g c = record {

@@ -1,22 +1,19 @@
 -- What is known of lines that follow one another, and of one more.
-use Rattle.std.proofs.Common.{◌≡◌, ℕ, ◌+◌, ◌<◌, ◌≤◌, List, [], ◌∷◌, ◌++◌, length, Option, Some, None, Ok, refl, sym, ap, ◌∙◌, subst, arith, true}
-use Rattle.circuit_model.proofs.Slots.{true_or_false}
-use Rattle.number_plan.specs.declared.plan.Number.{Number}
-use Rattle.number_plan.specs.Plan.{all_targets, with_number}
+use Rattle.std.proofs.Common.{◌≡◌, ℕ, ◌≤◌, List, [], ◌∷◌, length, Some, None, Ok, refl, sym, ap, ◌∙◌, subst, arith, true}
+use Rattle.number_plan.specs.Plan.{all_targets}
 use Rattle.number_plan.proofs.OrderFacts.{all_with}
-use Rattle.exchange_events.specs.declared.trace.Event.{Event}
-use Rattle.exchange_events.specs.Sound.{Fits, is_reached}
+use Rattle.exchange_events.specs.Sound.{is_reached}
 use Rattle.trace_text.specs.declared.said.Said.{Said}
 use Rattle.trace_text.specs.declared.said.Said.TheVariants.{Nothing, Header, Numbered, Toned, Timed, Happens, Sync, Change}
 use Rattle.trace_text.specs.declared.said.Sizes.{Sizes}
 use Rattle.trace_text.specs.TraceGrammar.{changes_in, events_in, sizes_in, so_far}
 use Rattle.trace_text.specs.TraceHeading.{with_event, with_said}
-use Rattle.trace_text.specs.TraceLines.{SoFar, line_limits, reads, says}
+use Rattle.trace_text.specs.TraceLines.{SoFar, line_limits, says}
 use Rattle.trace_text.proofs.SoundLemmas.{IsFine, reads_fine}
-use Rattle.exchange_top.specs.Handling.{IsSaid}
-use Rattle.exchange_top.proofs.FollowedLines.{says_reads}
-use Rattle.exchange_top.proofs.FollowedSteps.{AreQuiet}
-use Rattle.exchange_top.proofs.PlacedLines.{IsKnown, IsPlaced, reads_placed}
+use Rattle.followed_events.specs.States.{IsSaid}
+use Rattle.followed_events.proofs.FollowedLines.{says_reads}
+use Rattle.followed_events.proofs.FollowedSteps.{AreQuiet}
+use Rattle.followed_events.proofs.PlacedLines.{IsKnown, IsPlaced, reads_placed}
 
 pub said_none : IsSaid (so_far [])
 said_none = record {

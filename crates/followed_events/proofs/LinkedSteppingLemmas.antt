@@ -1,7 +1,7 @@
 -- An exchange with data links that is made, and an event on it.
-use Rattle.std.proofs.Common.{◌≡◌, ℕ, ◌+◌, ◌<◌, ◌≤◌, Bool, true, false, List, [], ◌∷◌, ◌++◌, length, Option, Some, None, Result, Ok, Err, OnOk, OnErr, refl, sym, ap, ◌∙◌, subst, arith, append-nil, append_assoc, codes}
+use Rattle.std.proofs.Common.{◌≡◌, ℕ, ◌+◌, ◌<◌, Bool, true, false, List, [], ◌∷◌, ◌++◌, length, Option, Some, None, refl, sym, ap, ◌∙◌, subst, arith, append-nil, append_assoc, codes}
 use Rattle.std.specs.Prelude.{All, is_some}
-use Rattle.std.proofs.lemmas.List.Elements.{All-nil, All-weaker}
+use Rattle.std.proofs.lemmas.List.Elements.{All-weaker}
 use Rattle.circuit_model.specs.Dimensions.{Dimensions}
 use Rattle.circuit_model.specs.FrameInput.{Input}
 use Rattle.circuit_model.specs.Hears.{Plays}
@@ -11,29 +11,26 @@ use Rattle.exchange_events.specs.declared.reply.Reply.{Reply}
 use Rattle.exchange_events.specs.declared.reply.Reply.TheVariants.{Sent}
 use Rattle.exchange_events.specs.declared.trace.Event.TheVariants.{Frame}
 use Rattle.exchange_events.specs.Sizes.{Setting}
-use Rattle.exchange_events.specs.Sound.{Fits, IsPlanned}
 use Rattle.call_profile.specs.Step.{MovesAtMost, run}
 use Rattle.call_profile.specs.World.{World, pass, start}
 use Rattle.call_profile.proofs.QuietEventLemmas.{passed_same}
 use Rattle.report_text.proofs.Rows.{sent_same}
 use Rattle.link_procedures.specs.declared.state.Timers.{Timers as Link_timers}
-use Rattle.link_table.specs.Steps.{changed_at, line_of_turn}
-use Rattle.link_table.specs.Tables.{Table}
 use Rattle.linked_text.specs.LinkReport.{frame_end}
-use Rattle.meters.specs.Changing.{Event_done, Step, records_of}
-use Rattle.meters.proofs.Told.{told_front-append, told_front-equal, told-then, told-equal}
+use Rattle.meters.specs.Changing.{Event_done, records_of}
+use Rattle.meters.proofs.Told.{told_front-append, told-then}
 use Rattle.meters.proofs.Zips.{zip-then, zip-weaker}
 use Rattle.report_text.specs.Report.{lines_sent, octet_of, parts}
 use Rattle.report_text.specs.RunReport.{sent_at}
-use Rattle.lone_exchange.specs.At.{ArePlayed, Carrying, HasPlayed, IsAt, IsGiven}
+use Rattle.lone_exchange.specs.At.{ArePlayed, Carrying}
 use Rattle.trace_text.specs.declared.said.Sizes.{Sizes}
-use Rattle.trace_text.specs.TraceGrammar.{events_in, sizes_in, so_far}
+use Rattle.trace_text.specs.TraceGrammar.{events_in}
 use Rattle.trace_text.specs.TraceTimers.{timers_by}
 use Rattle.linked_exchange.specs.declared.exchange.LinkedExchange.{LinkedExchange}
 use Rattle.linked_exchange.specs.declared.settings.Settings.{Settings}
-use Rattle.linked_exchange.specs.At.{HasSettings, IsLinkedAt, IsPlannedFor, StartsLinkedAt}
+use Rattle.linked_exchange.specs.At.{HasSettings, IsLinkedAt, StartsLinkedAt}
 use Rattle.linked_exchange.specs.Runs.{FitsLinked, derived_all, joint_after_all, links_down, start_joint}
-use Rattle.linked_exchange.specs.Steps.{Joint, LinkedInput, Happens, Receives, Turns, derived, frames_so_far, next_joint, reply_to}
+use Rattle.linked_exchange.specs.Steps.{Joint, Happens, Turns, derived, next_joint, reply_to}
 use Rattle.linked_exchange.proofs.AtLemmas.{time_at}
 use Rattle.linked_exchange.proofs.QuietLemmas.{start_quiet}
 use Rattle.linked_lines.specs.declared.steps.LinkedEvent.{LinkedEvent}
@@ -42,14 +39,13 @@ use Rattle.linked_lines.specs.LinkedStory.{inputs_in}
 use Rattle.linked_text.specs.LinkEffects.{in_turn, link_row, linked_in, plain_told}
 use Rattle.linked_text.specs.LinkLines.{Content, LinkSoFar}
 use Rattle.linked_text.specs.LinkTimers.{link_timers_by}
-use Rattle.exchange_top.specs.Told.{MovesFewIn}
-use Rattle.exchange_top.specs.InTurn.{MovesFewInTurn, events_in_turn, first_joint, joint_said, link_timers_said, setting_in_turn}
-use Rattle.exchange_top.specs.LinkedStepping.{HasLinkedHappened, IsLinkedDue, IsLinkedGiven, IsLinkedHeard, IsLinkedNext, IsLinkedReady, IsLinkedRunning, content_of, steps_at}
-use Rattle.exchange_top.specs.Telling.{AreTold, AreToldFront}
-use Rattle.exchange_top.proofs.Handled.{events_linked, trace_by}
-use Rattle.exchange_top.proofs.LinkedEvents.{IsNoFrame, frames_few, inputs_frame, inputs_other, running_after, step_few, step_frames, steps_few, steps_frame, steps_other}
-use Rattle.exchange_top.proofs.SteppingLemmas.{told_front}
-use Rattle.exchange_top.proofs.TurnSteps.{no_inputs}
+use Rattle.followed_events.specs.Told.{MovesFewIn}
+use Rattle.followed_events.specs.InTurn.{MovesFewInTurn, first_joint, joint_said, link_timers_said, setting_in_turn}
+use Rattle.followed_events.specs.LinkedStepping.{HasLinkedHappened, IsLinkedDue, IsLinkedGiven, IsLinkedHeard, IsLinkedReady, IsLinkedRunning, steps_at}
+use Rattle.followed_events.specs.Telling.{AreTold, AreToldFront}
+use Rattle.followed_events.proofs.LinkedRuns.{events_linked, trace_by}
+use Rattle.followed_events.proofs.LinkedEvents.{IsNoFrame, frames_few, inputs_frame, inputs_other, running_after, step_few, step_frames, steps_few, steps_frame, steps_other}
+use Rattle.followed_events.proofs.TurnSteps.{no_inputs}
 
 -- ---- the settings
 

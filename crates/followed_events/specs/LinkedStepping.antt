@@ -22,9 +22,9 @@ use Rattle.linked_text.specs.declared.said.LinkHappening.TheVariants as effect
 use Rattle.trace_text.specs.declared.heading.Happening.TheVariants as happening
 use Rattle.linked_text.specs.LinkEffects.{link_timers_in, link_timers_of, linked_in, plain_told}
 use Rattle.linked_text.specs.LinkLines.{Content, LinkSoFar, On_link, Plain}
-use Rattle.exchange_top.specs.InTurn.{MovesFewInTurn, joint_said, link_timers_said, setting_in_turn}
-use Rattle.exchange_top.specs.Handling.{IsLinkedDriven, IsSaid}
-use Rattle.exchange_top.specs.Telling.{AreTold}
+use Rattle.followed_events.specs.InTurn.{MovesFewInTurn, joint_said, link_timers_said, setting_in_turn}
+use Rattle.followed_events.specs.States.{IsLinkedDriven, IsSaid}
+use Rattle.followed_events.specs.Telling.{AreTold}
 
 -- the heading has the header, the numbers, the tones, the links and the timers of these lines, some of which are links
 pub record IsLinkedGiven (told : List Content) (z : Sizes) (heading : LinkSoFar) : Type 0 where

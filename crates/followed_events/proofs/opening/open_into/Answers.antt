@@ -1,5 +1,5 @@
-use Rattle.exchange_top.proofs.SteppingLemmas.{ready_new}
-use Rattle.exchange_top.proofs.stepping.open_into.Goals as goal
+use Rattle.followed_events.proofs.SteppingLemmas.{ready_new}
+use Rattle.followed_events.proofs.opening.open_into.Goals as goal
 
 pub returns : goal.returns
 returns g c = record {

@@ -1,6 +1,6 @@
 -- The story of lines in turn after one more line.
-use Rattle.std.proofs.Common.{◌≡◌, ℕ, ◌+◌, ◌<◌, ◌≤◌, List, [], ◌∷◌, ◌++◌, length, Option, Some, None, refl, sym, ap, ◌∙◌, subst, arith, append-nil, append_assoc, true}
-use Rattle.std.specs.Prelude.{All, fold}
+use Rattle.std.proofs.Common.{◌≡◌, ℕ, ◌+◌, ◌<◌, ◌≤◌, List, [], ◌∷◌, ◌++◌, length, Option, Some, None, refl, sym, ap, ◌∙◌, arith, append_assoc, true}
+use Rattle.std.specs.Prelude.{All}
 use Rattle.std.specs.List.{cons_option}
 use Rattle.std.proofs.lemmas.List.Elements.{filter_map-append}
 use Rattle.circuit_model.specs.Hears.{Plays}
@@ -18,20 +18,18 @@ use Rattle.trace_text.specs.declared.said.Said.TheVariants.{Nothing, Header, Num
 use Rattle.trace_text.specs.declared.said.Sizes.{Sizes}
 use Rattle.trace_text.specs.TraceGrammar.{events_in, sizes_in, so_far}
 use Rattle.trace_text.specs.TraceHeading.{with_said}
-use Rattle.trace_text.specs.TraceLines.{SoFar}
 use Rattle.linked_exchange.specs.Runs.{joint_after_all, start_joint}
 use Rattle.linked_exchange.specs.Steps.{Joint, LinkedInput, Receives, next_joint}
 use Rattle.linked_lines.specs.LinkedLines.{after_happened, calls_of, happened_calls, happened_line, text_of}
 use Rattle.linked_lines.specs.LinkedStory.{inputs_in, inputs_of, linked_steps}
-use Rattle.linked_text.specs.declared.said.LinkSaid.{LinkSaid}
 use Rattle.linked_text.specs.declared.said.LinkSaid.TheVariants.{Linked, Received, Timed as Link_timed}
-use Rattle.linked_text.specs.LinkEffects.{in_turn, link_row, link_timers_in, link_timers_of, linked_in, linked_said, plain_told}
+use Rattle.linked_text.specs.LinkEffects.{in_turn, link_row, linked_in, linked_said, plain_told}
 use Rattle.linked_text.specs.LinkLines.{Content, LinkSoFar, On_link, Plain, plain_of, with_content}
 use Rattle.linked_text.specs.LinkTimers.{link_timers_by}
-use Rattle.exchange_top.specs.Told.{setting_said, steps_said, story_by, story_said}
-use Rattle.exchange_top.specs.InTurn.{first_joint, joint_said, link_timers_said, linked_story, setting_in_turn, story_by_links, story_in_turn}
-use Rattle.exchange_top.proofs.FollowedSteps.{AreQuiet, due_steps, setting_by, story_more}
-use Rattle.exchange_top.proofs.PlacedLines.{IsKnown, IsPlaced}
+use Rattle.followed_events.specs.Told.{setting_said, steps_said, story_by, story_said}
+use Rattle.followed_events.specs.InTurn.{first_joint, joint_said, link_timers_said, linked_story, setting_in_turn, story_by_links, story_in_turn}
+use Rattle.followed_events.proofs.FollowedSteps.{AreQuiet, due_steps, setting_by, story_more}
+use Rattle.followed_events.proofs.PlacedLines.{IsKnown, IsPlaced}
 
 -- ---- one more line
 
@@ -278,8 +276,8 @@ module _ (plays : Plays) (slots : ℕ) (told : List Content) where
   unlisted line (x ∷ lines) none listed = absurd (grind (arith, none))
 
   silent_due : (o : Option Sizes) → sizes_in (plain_told told) ≡ o → due_steps plays slots (plain_told told) Nothing ≡ []
-  silent_due None is = ap (λ (v : Option Sizes). Rattle.exchange_top.proofs.FollowedSteps.due_by plays slots (plain_told told) v Nothing) is
-  silent_due (Some z) is = ap (λ (v : Option Sizes). Rattle.exchange_top.proofs.FollowedSteps.due_by plays slots (plain_told told) v Nothing) is
+  silent_due None is = ap (λ (v : Option Sizes). Rattle.followed_events.proofs.FollowedSteps.due_by plays slots (plain_told told) v Nothing) is
+  silent_due (Some z) is = ap (λ (v : Option Sizes). Rattle.followed_events.proofs.FollowedSteps.due_by plays slots (plain_told told) v Nothing) is
 
   -- by the links so far
   more_by : (lines : List ℕ) → linked_in told ≡ lines → (1 ≤ length lines → IsKnown (so_far (plain_told told)))

@@ -1,5 +1,5 @@
 -- Lines in turn: their contents, and what each can say.
-use Rattle.std.proofs.Common.{◌≡◌, ℕ, suc, ◌+◌, ◌<◌, ◌≤◌, true, false, nat_lt, nat_le, nat_eq, ◌==◌, List, [], ◌∷◌, ◌++◌, length, Option, Some, None, ok_or, Result, Ok, Err, refl, sym, ap, ◌∙◌, subst, arith, inl, inr, if◌then◌else◌, append_assoc, append-nil, length-append, All}
+use Rattle.std.proofs.Common.{◌≡◌, ℕ, suc, ◌+◌, ◌<◌, ◌≤◌, nat_lt, nat_le, nat_eq, List, [], ◌∷◌, ◌++◌, length, Option, Some, None, ok_or, Result, Ok, Err, refl, sym, ap, subst, arith, inl, inr, if◌then◌else◌, append_assoc, append-nil, length-append, All}
 use Rattle.std.specs.Prelude.{IfSome}
 use Rattle.std.specs.List.{list_all}
 use Rattle.std.proofs.lemmas.Bool.{ltb-true, ltb-false, lt-ltb, le-ltb, eqb-true}
@@ -7,27 +7,23 @@ use Rattle.circuit_model.proofs.Slots.{true_or_false}
 use Rattle.number_plan.specs.Plan.{is_listed}
 use Rattle.trace_text.specs.declared.fault.Reason.{Reason}
 use Rattle.trace_text.specs.declared.fault.Reason.TheVariants as reason
-use Rattle.trace_text.specs.declared.said.Said.{Said}
 use Rattle.trace_text.specs.declared.said.Sizes.{Sizes}
 use Rattle.trace_text.specs.TraceFields.{at_most, external_line, octets_written}
-use Rattle.trace_text.specs.TraceGrammar.{so_far}
-use Rattle.trace_text.specs.TraceLines.{SoFar, line_limits, only_line, says, ◌>>=◌}
+use Rattle.trace_text.specs.TraceLines.{line_limits, says, ◌>>=◌}
 use Rattle.trace_text.specs.TraceWords.{is_printable, one_or_two, words}
-use Rattle.trace_text.proofs.SoundLemmas.{IsFine, passed_first, was_found}
+use Rattle.trace_text.proofs.SoundLemmas.{IsFine, passed_first}
 use Rattle.trace_text.proofs.TraceOctets.{are_octets}
 use Rattle.linked_text.specs.declared.said.LinkKind.{LinkKind}
 use Rattle.linked_text.specs.declared.said.LinkKind.TheVariants as kind
 use Rattle.linked_text.specs.declared.said.LinkSaid.{LinkSaid}
 use Rattle.linked_text.specs.declared.said.LinkSaid.TheVariants.{Linked, Received, Timed as Link_timed}
 use Rattle.linked_text.specs.declared.timing.GivenLinkTimer.{GivenLinkTimer}
-use Rattle.linked_text.specs.LinkEffects.{in_turn, linked_in, plain_told}
+use Rattle.linked_text.specs.LinkEffects.{in_turn}
 use Rattle.linked_text.specs.LinkLines.{Content, LinkSoFar, On_link, Plain, before_first, by_header, by_link_kind, by_link_words, found, joins_link, link, link_kind_of, link_said, link_timer, linked_line, max_received_len, names_link_timer, names_linked, received, says_by, says_in_turn, timed_line}
-use Rattle.exchange_top.specs.Told.{EachFollows, follows}
-use Rattle.exchange_top.specs.InTurn.{ArePlain, EachInTurn, follows_in_turn}
-use Rattle.exchange_top.proofs.FollowedLines.{follows_says}
-use Rattle.exchange_top.proofs.PlacedLines.{IsKnown, IsPlaced}
-use Rattle.exchange_top.proofs.SaidLines.{IsLine, says_line}
-use Rattle.exchange_top.proofs.TurnSteps.{IsTurnPlaced}
+use Rattle.followed_events.specs.InTurn.{EachInTurn, follows_in_turn}
+use Rattle.followed_events.proofs.PlacedLines.{IsKnown}
+use Rattle.followed_events.proofs.SaidLines.{says_line}
+use Rattle.followed_events.proofs.TurnSteps.{IsTurnPlaced}
 
 -- ---- one line
 

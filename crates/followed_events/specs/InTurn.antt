@@ -19,7 +19,7 @@ use Rattle.linked_text.specs.LinkEffects.{in_turn, link_row, link_timers_in, lin
 use Rattle.linked_text.specs.LinkLines.{Content, Plain, says_in_turn}
 use Rattle.linked_text.specs.LinkTimers.{link_timers_by}
 use Rattle.linked_lines.specs.LinkedStory.{inputs_in, linked_steps}
-use Rattle.exchange_top.specs.Told.{MovesFewIn, max_line, max_lines, setting_said, story_said}
+use Rattle.followed_events.specs.Told.{MovesFewIn, max_line, max_lines, setting_said, story_said}
 
 -- ---- lines that follow one another
 

@@ -1,34 +1,23 @@
 -- A trace without data links whose lines are processed when they arrive, and its story. Source: this project.
 use Rattle.std.specs.Prelude.{◌≡◌, ℕ, ◌+◌, All, nat_lt, if◌then◌else◌, List, [], ◌∷◌, ◌++◌, length, Option, Some, None, Result, Ok, Err}
-use Rattle.circuit_model.specs.Hears.{Plays, hears}
+use Rattle.circuit_model.specs.Hears.{Plays}
 use Rattle.tone_rules.specs.Tables.{table_of}
-use Rattle.exchange_events.specs.declared.record.CallRecord.{CallRecord}
 use Rattle.exchange_events.specs.declared.trace.Event.{Event}
 use Rattle.exchange_events.specs.Kept.{kept_of}
-use Rattle.exchange_events.specs.declared.trace.Trace.{Trace}
-use Rattle.exchange_events.specs.Sizes.{Dimensions, Setting}
+use Rattle.exchange_events.specs.Sizes.{Setting}
 use Rattle.call_profile.specs.CallsTold.{calls_kept}
 use Rattle.call_profile.specs.Step.{MovesAtMost, next, reply, run, world_after_all}
 use Rattle.call_profile.specs.World.{World, start}
 use Rattle.report_text.specs.RunReport.{Played, event_line}
-use Rattle.meters.specs.Changing.{Step, Event_done, Meters_changed, handed_in, records_of, steps_text}
+use Rattle.meters.specs.Changing.{Step, Event_done, Meters_changed}
 use Rattle.trace_text.specs.declared.fault.Reason.{Reason}
 use Rattle.trace_text.specs.declared.fault.Reason.TheVariants as reason
 use Rattle.trace_text.specs.declared.said.Said.{Said}
 use Rattle.trace_text.specs.declared.said.Said.TheVariants.{Happens, Change}
 use Rattle.trace_text.specs.declared.said.Sizes.{Sizes}
-use Rattle.trace_text.specs.TraceGrammar.{IsTrace, events_in, numbers_in, plan_of, sizes_in, so_far, timers_in, timers_of, tones_in, tones_of}
+use Rattle.trace_text.specs.TraceGrammar.{events_in, numbers_in, plan_of, sizes_in, so_far, timers_in, timers_of, tones_in, tones_of}
 use Rattle.trace_text.specs.TraceLines.{line_limits, says}
 use Rattle.trace_text.specs.TraceTimers.{timers_by}
-use Rattle.trace_text.specs.TraceWords.{lines}
-use Rattle.run_verifier.specs.Verdicts.{IsValid}
-use Rattle.line_follower.specs.Following.{Dues, HasFollowed, IsSettled, with_end}
-use Rattle.line_follower.specs.declared.following.Following.{Following}
-use Rattle.line_follower.specs.declared.following.Following.TheVariants as followed
-use Rattle.call_processor.specs.Frames.{Carrying}
-use Rattle.exchange_top.specs.Outcomes.{HandsOut}
-use Rattle.report_check.specs.Refusals.{refusal}
-use Rattle.exchange_top.specs.Telling.{MeterStory, meter_story}
 
 -- ---- lines that follow one another
 
@@ -96,11 +85,3 @@ story_by plays slots (Some sizes) told =
 -- the story of these lines: their events and changes of meters, in the order of the lines
 abbrev pub story_said : Plays → ℕ → List Said → List Step
 story_said plays slots told = story_by plays slots (sizes_in told) told
-
--- If the bytes that are followed are a trace that changes no meters, the text of their story is a valid report of the
--- trace, on every fabric and for all meters of this type.
-abbrev pub HasValidStories : {M : Type 0} → (M → List CallRecord → List ℕ) → Type 0
-HasValidStories {M} text =
-    (slots : ℕ) (bytes : List ℕ) (t : Trace) (told : List Said) (old spare : List M) → IsTrace bytes t → EachFollows [] (lines bytes) told → t.changes ≡ []
-    → IsValid slots t (steps_text text (story_said hears slots told) (handed_in old spare))
-

@@ -1,5 +1,5 @@
 -- The place of a line: the header is first, numbers, tones and timers come before the first event, and what happens comes after the header.
-use Rattle.std.proofs.Common.{◌≡◌, ℕ, Bool, true, false, nat_eq, List, [], ◌∷◌, Option, Some, None, ok_or, Result, Ok, Err, refl, arith, inl, inr, subst, ◌==◌, ◌||◌}
+use Rattle.std.proofs.Common.{◌≡◌, ℕ, nat_eq, List, [], ◌∷◌, Option, Some, None, ok_or, Result, Ok, Err, refl, arith, inl, inr, subst, ◌||◌}
 use Rattle.std.specs.List.{list_all}
 use Rattle.std.proofs.lemmas.Bool.{eqb-true}
 use Rattle.circuit_model.proofs.Slots.{true_or_false}

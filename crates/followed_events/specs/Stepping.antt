@@ -16,9 +16,9 @@ use Rattle.trace_text.specs.declared.said.Said.{Said}
 use Rattle.trace_text.specs.declared.said.Sizes.{Sizes}
 use Rattle.trace_text.specs.TraceGrammar.{events_in, numbers_in, plan_of, sizes_in, so_far, timers_in, timers_of, tones_in, tones_of}
 use Rattle.trace_text.specs.TraceLines.{SoFar}
-use Rattle.exchange_top.specs.Told.{MovesFewIn, MovesFewSaid, setting_said, world_said}
-use Rattle.exchange_top.specs.Handling.{IsDriven, IsSaid}
-use Rattle.exchange_top.specs.Telling.{AreTold}
+use Rattle.followed_events.specs.Told.{MovesFewIn, MovesFewSaid, setting_said, world_said}
+use Rattle.followed_events.specs.States.{IsDriven, IsSaid}
+use Rattle.followed_events.specs.Telling.{AreTold}
 
 -- the heading has the header, the numbers, the tones and the timers of these lines, and the exchange is their result
 pub record IsHeard {P E : Type 0} (carries : Carrying E) (frames : E → ℕ) (sizes : E → Dimensions) (slots : ℕ) (moves : ℕ → ℕ) (told : List Said) (z : Sizes) (heading : SoFar)

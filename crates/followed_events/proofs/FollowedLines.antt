@@ -1,5 +1,5 @@
 -- Lines that follow one another: their contents, and what each can say.
-use Rattle.std.proofs.Common.{◌≡◌, ◌≢◌, ℕ, zero, suc, ◌+◌, ◌<◌, ◌≤◌, Bool, true, false, nat_lt, nat_eq, List, [], ◌∷◌, ◌++◌, length, Option, Some, None, Result, Ok, Err, refl, sym, ap, ◌∙◌, subst, arith, inl, inr, if◌then◌else◌, append_assoc, append-nil, length-append, All}
+use Rattle.std.proofs.Common.{◌≡◌, ℕ, suc, ◌+◌, ◌<◌, ◌≤◌, nat_lt, nat_eq, List, [], ◌∷◌, ◌++◌, length, Ok, Err, refl, sym, ap, ◌∙◌, subst, arith, inl, inr, append_assoc, append-nil, length-append, All}
 use Rattle.std.proofs.lemmas.Bool.{ltb-true, ltb-false, lt-ltb, le-ltb}
 use Rattle.std.proofs.lemmas.List.Elements.{All-head, All-tail}
 use Rattle.circuit_model.proofs.Slots.{true_or_false}
@@ -7,11 +7,11 @@ use Rattle.number_plan.specs.Plan.{is_number_taken}
 use Rattle.trace_text.specs.declared.fault.Reason.TheVariants.{Limit}
 use Rattle.trace_text.specs.declared.limits.Limits.{Limits}
 use Rattle.trace_text.specs.declared.said.Said.{Said}
-use Rattle.trace_text.specs.declared.said.Said.TheVariants.{Nothing, Header, Numbered, Toned, Timed, Happens, Sync, Change}
-use Rattle.trace_text.specs.TraceGrammar.{EachSays, so_far, events_in, changes_in}
+use Rattle.trace_text.specs.declared.said.Said.TheVariants.{Numbered, Happens, Change}
+use Rattle.trace_text.specs.TraceGrammar.{EachSays, so_far}
 use Rattle.trace_text.specs.TraceLines.{SoFar, joins, line_limits, reads, says, trace_limits}
 use Rattle.trace_text.proofs.SoundLemmas.{passed_first}
-use Rattle.exchange_top.specs.Following.{EachFollows, follows, max_line, max_lines}
+use Rattle.followed_events.specs.Told.{EachFollows, follows}
 
 -- ---- the last checks of a line
 

@@ -1,7 +1,7 @@
 -- An event of a trace that is followed: the exchange before it, and what it needs.
-use Rattle.exchange_top.proofs.Answered.{run-append}
+use Rattle.followed_events.proofs.Runs.{run-append}
 use Rattle.std.proofs.lemmas.List.Elements.{All-append, All-cons, All-nil}
-use Rattle.std.proofs.Common.{◌≡◌, ℕ, ◌+◌, ◌<◌, ◌≤◌, List, [], ◌∷◌, ◌++◌, length, Option, Some, None, Result, Ok, Err, OnOk, OnErr, true, false, refl, sym, ap, ◌∙◌, subst, arith}
+use Rattle.std.proofs.Common.{◌≡◌, ℕ, ◌+◌, ◌<◌, List, [], ◌∷◌, ◌++◌, Option, Some, None, Result, Ok, Err, OnOk, OnErr, true, false, refl, sym, ap, ◌∙◌, subst, arith}
 use Rattle.std.specs.Prelude.{All, IsErrOf, is_some}
 use Rattle.exchange_events.specs.declared.record.CallRecord.{CallRecord}
 use Rattle.meters.proofs.Told.{told_front-all}
@@ -9,7 +9,6 @@ use Rattle.meters.proofs.Zips.{zip-weaker}
 use Rattle.circuit_model.specs.Dimensions.{Dimensions}
 use Rattle.circuit_model.specs.Hears.{Plays}
 use Rattle.exchange_events.specs.declared.trace.Event.{Event}
-use Rattle.exchange_events.specs.Sizes.{Setting}
 use Rattle.exchange_events.specs.Sound.{Fits, IsPlanned}
 use Rattle.call_profile.specs.Step.{MovesAtMost, next, reply, run, world_after_all}
 use Rattle.call_profile.specs.World.{World, start}
@@ -18,12 +17,12 @@ use Rattle.lone_exchange.specs.declared.exchange.LoneExchange.{LoneExchange}
 use Rattle.lone_exchange.specs.At.{Appends, Carrying, IsAt, IsGiven, StartsAt}
 use Rattle.trace_text.specs.declared.said.Said.{Said}
 use Rattle.trace_text.specs.declared.said.Sizes.{Sizes}
-use Rattle.trace_text.specs.TraceGrammar.{events_in, sizes_in, so_far}
+use Rattle.trace_text.specs.TraceGrammar.{events_in}
 use Rattle.trace_text.specs.TraceLines.{SoFar}
 use Rattle.trace_text.specs.TraceTimers.{timers_by}
-use Rattle.exchange_top.specs.Following.{MovesFewIn, MovesFewSaid, setting_said, world_said}
-use Rattle.exchange_top.specs.Stepping.{HasHappened, IsEventDue, IsHeard, IsRunning, calls_at}
-use Rattle.exchange_top.specs.Telling.{AreTold, AreToldFront}
+use Rattle.followed_events.specs.Told.{MovesFewIn, MovesFewSaid, setting_said, world_said}
+use Rattle.followed_events.specs.Stepping.{HasHappened, IsEventDue, IsHeard, IsRunning, calls_at}
+use Rattle.followed_events.specs.Telling.{AreTold, AreToldFront}
 
 -- few live paths are moved with one event more
 pub few_more : (slots : ℕ) (moves : ℕ → ℕ) (told : List Said) (z : Sizes) (bound : ℕ) (e : Event) → MovesFewSaid slots moves z told → bound ≡ moves (z.external + z.bridges)

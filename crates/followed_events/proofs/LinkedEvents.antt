@@ -1,25 +1,21 @@
 -- An event of a trace with data links that is followed: the exchange before it, its line, and the exchange after it.
-use Rattle.std.proofs.Common.{◌≡◌, ℕ, ◌+◌, ◌<◌, ◌≤◌, Bool, true, false, List, [], ◌∷◌, ◌++◌, length, Option, Some, None, Result, Ok, Err, OnOk, OnErr, refl, sym, ap, ◌∙◌, subst, arith, append-nil, append_assoc, length-append, inl, inr, codes, if◌then◌else◌}
-use Rattle.std.specs.Prelude.{All, is_some}
+use Rattle.std.proofs.Common.{◌≡◌, ℕ, ◌+◌, ◌≤◌, Bool, true, false, List, [], ◌∷◌, ◌++◌, length, Option, Some, None, Result, Ok, Err, refl, sym, ap, ◌∙◌, subst, arith, append-nil, append_assoc, inl, inr, if◌then◌else◌}
+use Rattle.std.specs.Prelude.{All}
 use Rattle.std.specs.List.{cons_option}
-use Rattle.std.proofs.lemmas.List.Elements.{All-append, All-cons, All-nil, All-weaker, filter_map-append}
+use Rattle.std.proofs.lemmas.List.Elements.{All-append, All-cons, All-nil, filter_map-append}
 use Rattle.circuit_model.specs.Dimensions.{Dimensions}
 use Rattle.circuit_model.specs.FrameInput.{Input}
-use Rattle.circuit_model.specs.Hears.{Plays}
 use Rattle.circuit_model.proofs.Slots.{true_or_false}
-use Rattle.tone_rules.specs.Tables.{table_of}
 use Rattle.exchange_events.specs.declared.outbox.Outbox.{Outbox}
-use Rattle.exchange_events.specs.declared.outbox.Response.{Response}
 use Rattle.exchange_events.specs.declared.outbox.Response.TheVariants as response
 use Rattle.exchange_events.specs.declared.record.CallRecord.{CallRecord}
 use Rattle.exchange_events.specs.declared.reply.Reply.{Reply}
-use Rattle.exchange_events.specs.declared.reply.Reply.TheVariants.{Granted, Busy, Seated, NoPort, Freed, NotNailed, Sent, Frame as Framed}
+use Rattle.exchange_events.specs.declared.reply.Reply.TheVariants.{Busy, Freed, NotNailed, Frame as Framed}
 use Rattle.exchange_events.specs.declared.signal.Signal.{Signal}
 use Rattle.exchange_events.specs.declared.trace.Event.{Event}
 use Rattle.exchange_events.specs.declared.trace.Event.TheVariants.{Nail, Seat, Free, Message, LinkUp, LinkDown, Frame}
 use Rattle.exchange_events.specs.Responses.{reply_of}
 use Rattle.exchange_events.specs.Sizes.{Setting}
-use Rattle.exchange_events.specs.Sound.{Fits, IsPlanned}
 use Rattle.call_profile.specs.IdleSlots.{idle, is_nailed}
 use Rattle.call_profile.specs.Step.{MovesAtMost, may_nail, next, reply, run, world_after_all}
 use Rattle.call_profile.specs.World.{World, is_full, nail_reply, seat_reply, start}
@@ -34,42 +30,34 @@ use Rattle.link_table.specs.declared.notice.NoLinkError.{NoLinkError}
 use Rattle.link_table.specs.declared.notice.Notice.{Notice}
 use Rattle.link_table.specs.declared.notice.Notice.TheVariants as notice
 use Rattle.link_table.specs.Steps.{changed_at, line_of_turn, noticed_on}
-use Rattle.meters.specs.Changing.{Event_done, Step}
-use Rattle.report_text.specs.Report.{parts}
-use Rattle.report_text.specs.RunReport.{Played, sent_at}
-use Rattle.lone_exchange.specs.At.{Carrying, IsAt}
+use Rattle.meters.specs.Changing.{Event_done}
+use Rattle.report_text.specs.RunReport.{Played}
+use Rattle.lone_exchange.specs.At.{Carrying}
 use Rattle.trace_text.specs.declared.said.Said.{Said}
 use Rattle.trace_text.specs.declared.said.Said.TheVariants.{Nothing, Header, Numbered, Toned, Timed, Happens as Said_happens, Sync, Change as Said_change}
 use Rattle.trace_text.specs.declared.said.Sizes.{Sizes}
-use Rattle.trace_text.specs.TraceGrammar.{events_in, sizes_in, so_far}
-use Rattle.trace_text.specs.TraceHeading.{with_event, with_said}
-use Rattle.trace_text.specs.TraceLines.{SoFar}
-use Rattle.trace_text.specs.TraceTimers.{timers_by}
+use Rattle.trace_text.specs.TraceGrammar.{events_in, so_far}
+use Rattle.trace_text.specs.TraceHeading.{with_event}
 use Rattle.trace_text.proofs.TraceHolds.{known_behind}
 use Rattle.linked_exchange.specs.declared.exchange.LinkedExchange.{LinkedExchange}
-use Rattle.linked_exchange.specs.declared.settings.Settings.{Settings}
-use Rattle.linked_exchange.specs.At.{HasSettings, IsLinkedAt, StartsLinkedAt}
+use Rattle.linked_exchange.specs.At.{IsLinkedAt}
 use Rattle.linked_exchange.specs.Runs.{derived_all, derived_trace, joint_after_all, links_down, start_joint}
-use Rattle.linked_exchange.specs.Steps.{Joint, LinkedInput, Happens, Receives, Turns, changed_events, derived, event_of, frames_so_far, next_joint, noticed_events, reply_to}
+use Rattle.linked_exchange.specs.Steps.{Joint, LinkedInput, Happens, Receives, Turns, changed_events, derived, frames_so_far, next_joint, noticed_events, reply_to}
 use Rattle.linked_exchange.proofs.PlainLemmas.{next_world, trace_world}
-use Rattle.linked_exchange.proofs.QuietLemmas.{start_quiet}
 use Rattle.linked_lines.specs.declared.steps.LinkedEvent.{LinkedEvent}
 use Rattle.linked_lines.specs.declared.steps.LinkedEvent.TheVariants as event
 use Rattle.linked_lines.specs.LinkedLines.{calls_of, happened_calls, happened_line, input_of, text_of}
 use Rattle.linked_lines.specs.LinkedStory.{inputs_in, inputs_of, linked_steps}
 use Rattle.linked_text.specs.declared.said.LinkSaid.TheVariants.{Linked, Received, Timed as Link_timed}
 use Rattle.linked_text.specs.LinkEffects.{in_turn, link_row, link_timer_said, link_timers_in, link_timers_of, linked_in, linked_said, plain_told}
-use Rattle.linked_text.specs.LinkLines.{Content, LinkSoFar, On_link, Plain, plain_of, with_content}
-use Rattle.linked_text.specs.LinkTimers.{link_timers_by}
-use Rattle.exchange_top.specs.Told.{MovesFewIn}
-use Rattle.exchange_top.specs.InTurn.{MovesFewInTurn, first_joint, joint_said, link_timers_said, setting_in_turn}
-use Rattle.exchange_top.specs.Handling.{IsLinkedAfter, IsLinkedDriven}
-use Rattle.exchange_top.specs.LinkedStepping.{HasLinkedHappened, IsLinkedDue, IsLinkedGiven, IsLinkedHeard, IsLinkedNext, IsLinkedReady, IsLinkedRunning, content_of, steps_at}
-use Rattle.exchange_top.specs.Telling.{AreTold, AreToldFront}
-use Rattle.exchange_top.proofs.Answered.{run-append}
-use Rattle.exchange_top.proofs.FollowedSteps.{setting_by}
-use Rattle.exchange_top.proofs.Handled.{IsAtKnown, after_known, events_linked, known_after, trace_by}
-use Rattle.exchange_top.proofs.TurnSteps.{inputs_at, inputs_more, joint-append, joint_by, linked_more, no_inputs, plain_more}
+use Rattle.linked_text.specs.LinkLines.{Content, LinkSoFar, On_link, Plain, plain_of}
+use Rattle.followed_events.specs.Told.{MovesFewIn}
+use Rattle.followed_events.specs.InTurn.{MovesFewInTurn, first_joint, joint_said, link_timers_said, setting_in_turn}
+use Rattle.followed_events.specs.LinkedStepping.{IsLinkedRunning, content_of}
+use Rattle.followed_events.proofs.Runs.{run-append}
+use Rattle.followed_events.proofs.FollowedSteps.{setting_by}
+use Rattle.followed_events.proofs.LinkedRuns.{events_linked, trace_by}
+use Rattle.followed_events.proofs.TurnSteps.{inputs_at, inputs_more, joint-append, joint_by, linked_more, plain_more}
 
 -- ---- which events are frames
 

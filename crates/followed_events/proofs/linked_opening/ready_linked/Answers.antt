@@ -1,6 +1,6 @@
 use Rattle.std.proofs.Common.{ap, not, ◌∙◌}
-use Rattle.exchange_top.proofs.LinkedSteppingLemmas.{linked_old}
-use Rattle.exchange_top.proofs.linked_stepping.ready_linked.Goals as goal
+use Rattle.followed_events.proofs.LinkedSteppingLemmas.{linked_old}
+use Rattle.followed_events.proofs.linked_opening.ready_linked.Goals as goal
 
 pub returns : goal.returns
 returns g c = record {

@@ -1,10 +1,9 @@
-use Rattle.std.proofs.Common.{ap, arith, sym, ◌∙◌}
+use Rattle.std.proofs.Common.{ap, arith, ◌∙◌}
 use Rattle.std.proofs.lemmas.List.FromFn.{length-map-range_with_len}
 use Rattle.number_plan.specs.Plan.{is_listed}
 use Rattle.trace_text.specs.TraceTimers.{timers_by}
-use Rattle.linked_text.specs.LinkTimers.{link_timers_by}
-use Rattle.exchange_top.proofs.LinkedSteppingLemmas.{linked_new}
-use Rattle.exchange_top.proofs.linked_stepping.open_linked_into.Goals as goal
+use Rattle.followed_events.proofs.LinkedSteppingLemmas.{linked_new}
+use Rattle.followed_events.proofs.linked_opening.open_linked_into.Goals as goal
 
 pub new-requires-clause-linked : goal.new-requires-clause-linked
 new-requires-clause-linked g c κs within =

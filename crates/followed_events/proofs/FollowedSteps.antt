@@ -1,29 +1,24 @@
 -- The story of lines after one more line.
-use Rattle.std.proofs.Common.{◌≡◌, ℕ, ◌+◌, ◌<◌, ◌≤◌, List, [], ◌∷◌, ◌++◌, length, Option, Some, None, Ok, refl, sym, ap, ◌∙◌, subst, arith, append-nil, true}
-use Rattle.std.specs.Prelude.{All}
+use Rattle.std.proofs.Common.{◌≡◌, ℕ, ◌+◌, List, [], ◌∷◌, ◌++◌, length, Option, Some, None, refl, sym, ap, ◌∙◌, arith, append-nil}
 use Rattle.circuit_model.specs.Hears.{Plays}
 use Rattle.tone_rules.specs.Tables.{table_of}
-use Rattle.number_plan.specs.Plan.{all_targets}
 use Rattle.exchange_events.specs.declared.trace.Event.{Event}
 use Rattle.exchange_events.specs.Kept.{kept_of}
 use Rattle.exchange_events.specs.Sizes.{Setting}
-use Rattle.exchange_events.specs.Sound.{Fits, is_reached}
 use Rattle.call_profile.specs.CallsTold.{calls_kept}
 use Rattle.call_profile.specs.Step.{next, reply, world_after_all}
 use Rattle.call_profile.specs.World.{World, start}
-use Rattle.call_profile.proofs.RunLemmas.{world-snoc}
 use Rattle.report_text.specs.RunReport.{Played, event_line}
 use Rattle.meters.specs.Changing.{Step, Event_done, Meters_changed}
 use Rattle.trace_text.specs.declared.said.Said.{Said}
 use Rattle.trace_text.specs.declared.said.Said.TheVariants.{Nothing, Header, Numbered, Toned, Timed, Happens, Sync, Change}
 use Rattle.trace_text.specs.declared.said.Sizes.{Sizes}
-use Rattle.trace_text.specs.TraceGrammar.{changes_after, changes_in, events_in, event_said, sizes_in, so_far}
+use Rattle.trace_text.specs.TraceGrammar.{changes_after, changes_in, events_in, sizes_in, so_far}
 use Rattle.trace_text.specs.TraceHeading.{with_said}
-use Rattle.trace_text.specs.TraceLines.{SoFar, line_limits, says}
+use Rattle.trace_text.specs.TraceLines.{SoFar}
 use Rattle.trace_text.specs.TraceTimers.{timers_by}
-use Rattle.trace_text.proofs.TraceHolds.{events_more, push, step}
-use Rattle.exchange_top.specs.Following.{setting_said, steps_said, story_by, story_said, world_said}
-use Rattle.exchange_top.proofs.PlacedLines.{IsKnown, IsPlaced}
+use Rattle.followed_events.specs.Told.{setting_said, steps_said, story_by, story_said, world_said}
+use Rattle.followed_events.proofs.PlacedLines.{IsPlaced}
 
 -- ---- steps and one more line
 

@@ -1,0 +1,11 @@
+pub mod Runs
+pub mod LinkedRuns
+pub mod FollowedLines
+pub mod PlacedLines
+pub mod FollowedSteps
+pub mod SaidLines
+pub mod TurnSteps
+pub mod TurnLines
+pub mod SteppingLemmas
+pub mod LinkedEvents
+pub mod LinkedSteppingLemmas
