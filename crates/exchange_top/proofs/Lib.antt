@@ -10,8 +10,6 @@ pub mod Kept
 pub mod Tellings
 pub mod Endings
 pub mod Sums
-pub mod FollowedStories
-pub mod PlainInTurn
 pub mod Handled
 pub mod HandledSteps
 pub mod FollowedEndings

@@ -9,3 +9,5 @@ pub mod TurnLines
 pub mod SteppingLemmas
 pub mod LinkedEvents
 pub mod LinkedSteppingLemmas
+pub mod FollowedStories
+pub mod PlainInTurn

@@ -7,6 +7,7 @@ use Rattle.circuit_model.specs.Dimensions.{Dimensions}
 use Rattle.circuit_model.specs.FrameInput.{Input}
 use Rattle.circuit_model.proofs.Slots.{true_or_false}
 use Rattle.exchange_events.specs.declared.outbox.Outbox.{Outbox}
+use Rattle.exchange_events.specs.declared.outbox.Response.{Response}
 use Rattle.exchange_events.specs.declared.outbox.Response.TheVariants as response
 use Rattle.exchange_events.specs.declared.record.CallRecord.{CallRecord}
 use Rattle.exchange_events.specs.declared.reply.Reply.{Reply}
@@ -16,6 +17,7 @@ use Rattle.exchange_events.specs.declared.trace.Event.{Event}
 use Rattle.exchange_events.specs.declared.trace.Event.TheVariants.{Nail, Seat, Free, Message, LinkUp, LinkDown, Frame}
 use Rattle.exchange_events.specs.Responses.{reply_of}
 use Rattle.exchange_events.specs.Sizes.{Setting}
+use Rattle.call_profile.specs.Expiring.{outcome_of_frame}
 use Rattle.call_profile.specs.IdleSlots.{idle, is_nailed}
 use Rattle.call_profile.specs.Step.{MovesAtMost, may_nail, next, reply, run, world_after_all}
 use Rattle.call_profile.specs.World.{World, is_full, nail_reply, seat_reply, start}
@@ -105,6 +107,26 @@ frame_input s timers j (event.Received line octets) n out is = absurd (noticed_f
 
 abbrev pub IsNoFrame : LinkedInput → Type 0
 IsNoFrame i = (input : Input) → i ≡ Happens (Frame input) → ⊥
+
+-- no other response has the reply to a frame
+no_frame_reply : (r : Response) (out : Outbox) (n : ℕ) (sends : List Signal) (records : List CallRecord) → ((m : ℕ) → r ≡ response.Frame m → ⊥) → reply_of r out ≡ Framed n sends records → ⊥
+no_frame_reply (response.Granted a b) out n sends records other is = absurd (cc)
+no_frame_reply response.Busy out n sends records other is = absurd (cc)
+no_frame_reply (response.Seated a b) out n sends records other is = absurd (cc)
+no_frame_reply response.NoPort out n sends records other is = absurd (cc)
+no_frame_reply response.Freed out n sends records other is = absurd (cc)
+no_frame_reply response.NotNailed out n sends records other is = absurd (cc)
+no_frame_reply response.Sent out n sends records other is = absurd (cc)
+no_frame_reply (response.Frame m) out n sends records other is = other m refl
+
+-- the response to an input is another one only if it is no frame
+pub other_input : (s : Setting) (timers : Link_timers) (j : Joint) (e : LinkedEvent) (r : Response) (out : Outbox) → ((m : ℕ) → r ≡ response.Frame m → ⊥)
+    → reply_of r out ≡ reply_to s j.world (derived timers j (input_of e)) → IsNoFrame (input_of e)
+other_input s timers j (event.Event e) r out other is input frame =
+    let same : e.now ≡ Frame input = grind (arith, frame) in
+    let a = outcome_of_frame s j.world input in
+    no_frame_reply r out j.world.holding.next a.making.sends a.recorded other (is ∙ ap (λ (f : Event). reply s j.world f) same)
+other_input s timers j (event.Received line octets) r out other is input frame = absurd (grind (arith, frame))
 
 module _ (p : Played) (s : Setting) (timers : Link_timers) (j : Joint) (n : ℕ) where
   plain_steps : (e : Event) → IsNoFrame (Happens e)

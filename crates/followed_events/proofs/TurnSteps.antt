@@ -262,7 +262,7 @@ module _ (plays : Plays) (slots : ℕ) (told : List Content) where
         let steps : linked_steps p s timers j 0 told ≡ linked_steps q t us i0 0 told =
         linked_early p s timers q t j w 0 0 told early ∙ sym (linked_early q t us q t i0 w 0 0 told early) in
         let none : linked_steps p s timers (joint_after_all s timers j (inputs_in told)) (0 + length (events_in (plain_told told))) (c ∷ [])
-            ≡ linked_steps q t us (joint_said slots z told) (length (events_in (plain_told told))) (c ∷ []) =
+        ≡ linked_steps q t us (joint_said slots z told) (length (events_in (plain_told told))) (c ∷ []) =
         silent p s timers (joint_after_all s timers j (inputs_in told)) (0 + length (events_in (plain_told told))) ∙ sym (silent q t us (joint_said slots z told) (length (events_in (plain_told told)))) in
         ap (λ (ls : List ℕ). story_by_links plays slots ls all) (linked_all ∙ later)
         ∙ (ap (λ (o : Option Sizes). linked_story plays slots o all) header

@@ -1,4 +1,5 @@
 pub mod Telling
+pub mod Story
 pub mod Told
 pub mod InTurn
 pub mod States

@@ -1,5 +1,5 @@
 -- Lines without data links.
-use Rattle.std.proofs.Common.{◌≡◌, ℕ, ◌<◌, ◌≤◌, List, [], ◌∷◌, ◌++◌, length, Option, Some, None, Result, Ok, Err, refl, sym, ap, ◌∙◌, subst, arith, All}
+use Rattle.std.proofs.Common.{◌≡◌, ℕ, ◌≤◌, List, [], ◌∷◌, ◌++◌, length, Option, Some, None, Ok, refl, sym, ap, ◌∙◌, subst, arith, All}
 use Rattle.std.specs.Prelude.{map}
 use Rattle.std.proofs.lemmas.List.{length-map}
 use Rattle.std.proofs.lemmas.List.Elements.{All-cons, All-head, All-nil, All-tail}
@@ -7,21 +7,20 @@ use Rattle.circuit_model.specs.Hears.{Plays}
 use Rattle.exchange_events.specs.declared.trace.Trace.{Trace}
 use Rattle.exchange_events.specs.Orders.{file_order}
 use Rattle.line_list.specs.declared.listing.Listing.TheVariants.{Report}
-use Rattle.trace_text.specs.declared.fault.Reason.{Reason}
 use Rattle.trace_text.specs.declared.said.Said.{Said}
-use Rattle.trace_text.specs.TraceGrammar.{IsTrace, so_far}
+use Rattle.trace_text.specs.TraceGrammar.{IsTrace}
 use Rattle.trace_text.specs.TraceLines.{SoFar, line_limits, says}
 use Rattle.trace_text.specs.TraceWords.{lines}
 use Rattle.trace_text.proofs.SoundLemmas.{passed_first}
 use Rattle.linked_text.specs.declared.said.LinkSaid.{LinkSaid}
 use Rattle.linked_text.specs.LinkEffects.{in_turn, linked_in, plain_told}
-use Rattle.linked_text.specs.LinkLines.{Content, LinkSoFar, On_link, Plain, joins_link, link_said, plain_of, says_by, says_in_turn}
+use Rattle.linked_text.specs.LinkLines.{Content, LinkSoFar, On_link, Plain, joins_link, link_said, plain_of, says_by}
 use Rattle.linked_text.proofs.PlainLineLemmas.{read_plainly, same_plain, so_far_plain, unlinked_plain}
 use Rattle.followed_events.specs.Told.{EachFollows, follows, max_line, story_said}
 use Rattle.followed_events.specs.InTurn.{ArePlain, EachInTurn, IsPlain, follows_in_turn, story_by_links, story_in_turn}
-use Rattle.exchange_top.specs.Story.{story}
+use Rattle.followed_events.specs.Story.{story}
 use Rattle.followed_events.proofs.FollowedLines as plainly
-use Rattle.exchange_top.proofs.FollowedStories.{followed_story, trace_followed}
+use Rattle.followed_events.proofs.FollowedStories.{followed_story, trace_followed}
 use Rattle.followed_events.proofs.TurnLines.{follows_as, follows_turn}
 use Rattle.followed_events.proofs.TurnSteps.{plain_more}
 
@@ -118,6 +117,9 @@ pub trace_in_turn : (plays : Plays) (slots : ℕ) (bytes : List ℕ) (t : Trace)
     → (told : List Content) × ArePlain told × EachInTurn [] (lines bytes) told × (story_in_turn plays slots told ≡ story plays Report slots t (file_order (length t.events)))
 trace_in_turn plays slots bytes t is short =
     let (told, meets, what) = trace_followed bytes t is short in
-    let all = map Plain told in
-    (all, are_plain told, plain_in_turn told (lines bytes) meets,
-    plain_story plays slots all (are_plain told) ∙ (ap (story_said plays slots) (same_plain told) ∙ followed_story plays slots bytes t told is meets))
+    let all = map Plain told in (
+      all,
+      are_plain told,
+      plain_in_turn told (lines bytes) meets,
+      plain_story plays slots all (are_plain told) ∙ (ap (story_said plays slots) (same_plain told) ∙ followed_story plays slots bytes t told is meets),
+    )

@@ -1,7 +1,7 @@
 //! The output of the command `gen`.
 ghost use Rattle.std.specs.Prelude.{◌≡◌, [], ◌++◌, count_by, map, IfOk};
 ghost use Rattle.std.specs.List.{concat};
-ghost use Rattle.exchange_top.specs.Summary.{is_frame, summary_text};
+ghost use Rattle.report_check.specs.Summary.{is_frame, summary_text};
 
 use exchange_events::{Event, Trace};
 use itoa::Buffer;

@@ -1,9 +1,9 @@
 -- The story of lines, and the story of their trace.
-use Rattle.std.proofs.Common.{◌≡◌, ◌≢◌, ℕ, zero, suc, ◌+◌, ◌<◌, ◌≤◌, List, [], ◌∷◌, ◌++◌, length, Option, Some, slice_get, ◌==◌, inl, inr, refl, sym, ap, ◌∙◌, subst, arith, append-nil, append_assoc, length-append, add-one}
+use Rattle.std.proofs.Common.{◌≡◌, ◌≢◌, ℕ, ◌+◌, ◌≤◌, List, [], ◌∷◌, ◌++◌, length, Option, Some, slice_get, ◌==◌, inl, inr, refl, sym, ap, ◌∙◌, subst, arith, append_assoc, length-append, add-one}
 use Rattle.std.specs.Prelude.{All}
 use Rattle.std.specs.List.{range_with_len, cons_option, onto_first}
 use Rattle.std.proofs.lemmas.Bool.{ne_eqb, eq-eqb}
-use Rattle.std.proofs.lemmas.List.Elements.{All-nil, All-cons, All-head, All-tail, All-weaker}
+use Rattle.std.proofs.lemmas.List.Elements.{All-nil, All-cons, All-weaker}
 use Rattle.exchange_events.specs.declared.trace.Event.{Event}
 use Rattle.exchange_events.specs.declared.trace.Trace.{Trace}
 use Rattle.exchange_events.specs.Orders.{event_at, file_order}
@@ -20,13 +20,13 @@ use Rattle.trace_text.specs.declared.said.Said.{Said}
 use Rattle.trace_text.specs.declared.said.Said.TheVariants.{Nothing, Header, Numbered, Toned, Timed, Happens, Sync, Change}
 use Rattle.trace_text.specs.declared.said.Sizes.{Sizes}
 use Rattle.trace_text.specs.TraceWords.{lines}
-use Rattle.trace_text.specs.TraceGrammar.{IsTrace, IsWhatLinesSay, changes_after, changes_in, events_in}
+use Rattle.trace_text.specs.TraceGrammar.{IsTrace, IsWhatLinesSay, changes_after, events_in}
 use Rattle.circuit_model.specs.Hears.{Plays}
 use Rattle.circuit_model.proofs.Slots.{true_or_false}
 use Rattle.tone_rules.specs.Tables.{table_of}
-use Rattle.exchange_top.specs.Following.{EachFollows, max_line, setting_said, steps_said, story_by, story_said}
+use Rattle.followed_events.specs.Told.{EachFollows, max_line, setting_said, steps_said, story_by, story_said}
 use Rattle.line_list.specs.declared.listing.Listing.TheVariants as listing
-use Rattle.exchange_top.specs.Story.{event_steps, story}
+use Rattle.followed_events.specs.Story.{event_steps, story}
 use Rattle.followed_events.proofs.FollowedLines.{each_followed, each_same}
 
 -- ---- the events of a file, in its order
