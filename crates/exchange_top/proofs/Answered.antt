@@ -34,6 +34,7 @@ use Rattle.exchange_top.specs.Running.{GrewFew, fabric_at, grown_calls}
 use Rattle.exchange_top.specs.Telling.{calls_answered}
 use Rattle.call_profile.specs.CallsTold.{calls_ended, calls_kept}
 use Rattle.report_text.proofs.KeptLines.{same_line}
+use Rattle.followed_events.proofs.Runs.{run-append}
 use Rattle.exchange_top.proofs.Reports.{sent_played}
 
 -- ---- an order that goes on
@@ -43,10 +44,6 @@ events_long trace [] known = refl
 events_long trace (n ∷ order) known =
     let e = event_there trace n (All-head (IsEvent trace) n order known) in
     ap suc (events_long trace order (All-tail (IsEvent trace) n order known)) ∙ sym (ap (λ (o : Option Event). length (cons_option o (events_of trace.events order))) e.1)
-
-pub run-append : (s : Setting) (w : World) (es fs : List Event) → run s w (es ++ fs) ≡ run s w es ++ run s (world_after_all s w es) fs
-run-append s w [] fs = refl
-run-append s w (e ∷ es) fs = ap (λ (l : List Reply). reply s w e ∷ l) (run-append s (next s w e) es fs)
 
 pub events_append : (trace : Trace) (order more : List ℕ) → events_of trace.events (order ++ more) ≡ events_of trace.events order ++ events_of trace.events more
 events_append trace order more = filter_map-append (event_at trace.events) order more

@@ -23,8 +23,8 @@ use Rattle.report_check.specs.Checking.{Checks, Said, Not_read, No_memory, Finds
 use Rattle.report_check.specs.Inputs.{IsInputWithin}
 use Rattle.report_check.specs.Statuses.{status_of}
 use Rattle.report_check.specs.Streams.{AppendsFront, ConsumesAtMost, IsUntouched, IsWritten, Stream}
-use Rattle.exchange_top.specs.Story.{story}
-use Rattle.exchange_top.specs.Summary.{summary_text}
+use Rattle.followed_events.specs.Story.{story}
+use Rattle.report_check.specs.Summary.{summary_text}
 use Rattle.exchange_top.specs.Telling.{MeterStory, meter_story}
 use Rattle.report_check.specs.Refusals.{Says, Told_so, Untold, line_of}
 use Rattle.exchange_top.specs.Commands.{max_read, max_read_by, IsCheck, IsCheckOn, IsReading, IsRun, IsGeneration, IsNoCommand, fabric_of}

@@ -7,7 +7,7 @@ use Rattle.std.specs.Option.{option_map}
 use Rattle.meters.specs.Changing.{handed_in, steps_text}
 use Rattle.linked_exchange.specs.declared.exchange.LinkedExchange.{LinkedExchange}
 use Rattle.linked_text.specs.LinkLines.{LinkSoFar}
-use Rattle.exchange_top.specs.InTurn.{setting_in_turn, world_in_turn}
+use Rattle.followed_events.specs.InTurn.{setting_in_turn, world_in_turn}
 use Rattle.lone_exchange.specs.declared.exchange.LoneExchange.{LoneExchange}
 use Rattle.lone_exchange.specs.At.{Carrying}
 use Rattle.exchange_top.specs.Following.{AreAnswered, FollowsTo, HasReturned, IsAnswered, IsEngineOf, course, dues_of, follow_parties}

@@ -27,17 +27,18 @@ use Rattle.trace_text.specs.TraceLines.{SoFar, line_limits, says}
 use Rattle.trace_text.proofs.TraceHolds.{events_more, push, step}
 use Rattle.lone_exchange.specs.declared.exchange.LoneExchange.{LoneExchange}
 use Rattle.lone_exchange.specs.At.{Carrying, IsAt}
-use Rattle.exchange_top.specs.Told.{MovesFewIn, setting_said, world_said}
-use Rattle.exchange_top.specs.InTurn.{events_by, events_in_turn, follows_in_turn, joint_said, link_timers_said, setting_in_turn, story_in_turn}
+use Rattle.followed_events.specs.Told.{MovesFewIn, setting_said, world_said}
+use Rattle.followed_events.specs.InTurn.{events_by, events_in_turn, follows_in_turn, joint_said, link_timers_said, setting_in_turn, story_in_turn}
 use Rattle.exchange_top.specs.Following.{IsInterrupted, IsLineRefused, No_line, Read, Unread, course}
 use Rattle.exchange_top.specs.Handling.{AreDriven, HasHandled, IsAfter, IsDriven, IsDrivenBy, IsLinkedAfter, IsLinkedDriven, IsSaid}
 use Rattle.report_check.specs.Refusals.{refusal}
 use Rattle.exchange_top.specs.Telling.{AreTold, AreToldFront}
-use Rattle.exchange_top.proofs.FollowedSteps.{setting_by}
-use Rattle.exchange_top.proofs.PlacedLines.{IsKnown, IsPlaced}
-use Rattle.exchange_top.proofs.SaidLines.{quiet_before, said_event, said_more, said_none}
-use Rattle.exchange_top.proofs.TurnLines.{IsTurnFine, IsTurnLine, each_length, each_push, follows_as, follows_long, follows_many, turn_line}
-use Rattle.exchange_top.proofs.TurnSteps.{IsTurnPlaced, due_in_turn, inputs_at, inputs_more, joint_by, linked_more, no_events, plain_known, plain_more, plain_placed, turn_more, with_plain}
+use Rattle.followed_events.proofs.FollowedSteps.{setting_by}
+use Rattle.followed_events.proofs.LinkedRuns.{IsAtKnown, after_known, known_after}
+use Rattle.followed_events.proofs.PlacedLines.{IsKnown, IsPlaced}
+use Rattle.followed_events.proofs.SaidLines.{quiet_before, said_event, said_more, said_none}
+use Rattle.followed_events.proofs.TurnLines.{IsTurnFine, IsTurnLine, each_length, each_push, follows_as, follows_long, follows_many, turn_line}
+use Rattle.followed_events.proofs.TurnSteps.{IsTurnPlaced, due_in_turn, inputs_at, inputs_more, joint_by, linked_more, no_events, plain_known, plain_more, plain_placed, turn_more, with_plain}
 use Rattle.linked_exchange.specs.declared.exchange.LinkedExchange.{LinkedExchange}
 use Rattle.linked_exchange.specs.At.{IsLinkedAt}
 use Rattle.linked_exchange.specs.Runs.{derived_trace, start_joint}
@@ -103,31 +104,6 @@ module _ {P E : Type 0} (carries : Carrying E) (frames : E → ℕ) (sizes : E �
   driven_more (Timed given) more placed none = comes_at carries frames sizes slots moves told (Timed given) more (λ z known. placed) none
 
 -- ---- one more line at an exchange with links
-
--- the events of what is known
-abbrev pub trace_by : ℕ → Sizes → LinkSoFar → List LinkedInput → List Event
-trace_by slots z k is = derived_trace (setting_by slots z k.plain) (link_timers_by k.timers) (link_row z.external k.linked) is
-
-pub events_linked : (linked : List ℕ) (slots : ℕ) (z : Sizes) (told : List Content) → 1 ≤ length linked → linked_in told ≡ linked → events_in_turn slots z told ≡ trace_by slots z (in_turn told) (inputs_in told)
-events_linked [] slots z told some is = absurd (omega (arith, some))
-events_linked (line ∷ linked) slots z told some is =
-    ap (λ (ls : List ℕ). events_by ls slots z told) is
-    ∙ ap (λ (ls : List ℕ). derived_trace (setting_in_turn slots z told) (link_timers_said told) (link_row z.external ls) (inputs_in told)) (sym is)
-
--- it is at the joint of what is known
-pub record IsAtKnown {P E : Type 0} (carries : Carrying E) (frames : E → ℕ) (sizes : E → Dimensions) (slots : ℕ) (moves : ℕ → ℕ) (k : LinkSoFar) (is : List LinkedInput) (x : LinkedExchange P E) : Type 0 where
-  pub header : Sizes
-  pub given : k.plain.sizes ≡ Some header
-  pub at : IsLinkedAt carries frames sizes x (setting_by slots header k.plain) (joint_by slots header k is)
-  pub bound : x.exchange.control.map.bound ≡ moves (header.external + header.bridges)
-  pub few : MovesFewIn moves (setting_by slots header k.plain) (trace_by slots header k is)
-
-module _ {P E : Type 0} (carries : Carrying E) (frames : E → ℕ) (sizes : E → Dimensions) (slots : ℕ) (moves : ℕ → ℕ) (told : List Content) (some : 1 ≤ length (linked_in told)) (x : LinkedExchange P E) where
-  pub known_after : IsLinkedAfter carries frames sizes slots moves told x → IsAtKnown carries frames sizes slots moves (in_turn told) (inputs_in told) x
-  known_after a = record { header = a.header; given = a.given; at = a.at; bound = a.bound; few = subst (MovesFewIn moves (setting_in_turn slots a.header told)) (events_linked (linked_in told) slots a.header told some refl) a.few }
-
-  pub after_known : IsAtKnown carries frames sizes slots moves (in_turn told) (inputs_in told) x → IsLinkedAfter carries frames sizes slots moves told x
-  after_known a = record { header = a.header; given = a.given; at = a.at; bound = a.bound; few = subst (MovesFewIn moves (setting_in_turn slots a.header told)) (sym (events_linked (linked_in told) slots a.header told some refl)) a.few }
 
 longer : (xs ys : List ℕ) → 1 ≤ length xs → 1 ≤ length (xs ++ ys)
 longer xs ys some = let long = length-append xs ys in omega (arith, some, long)

@@ -10,17 +10,6 @@ pub mod Kept
 pub mod Tellings
 pub mod Endings
 pub mod Sums
-pub mod FollowedLines
-pub mod FollowedStories
-pub mod PlacedLines
-pub mod FollowedSteps
-pub mod SaidLines
-pub mod TurnSteps
-pub mod TurnLines
-pub mod PlainInTurn
 pub mod Handled
 pub mod HandledSteps
-pub mod LinkedEvents
-pub mod SteppingLemmas
-pub mod LinkedSteppingLemmas
 pub mod FollowedEndings

@@ -27,7 +27,7 @@ use Rattle.meters.specs.Changing.{Step, Event_done, Meters_changed, Metering, Ar
 use Rattle.meters.proofs.Changes.{law_of_lines, law_of_times, records-append}
 use Rattle.meters.proofs.Placed.{records-at, records-with, with-append, with-none}
 use Rattle.exchange_top.specs.Running.{grown_calls, grown_lines}
-use Rattle.exchange_top.specs.Story.{event_steps, story}
+use Rattle.followed_events.specs.Story.{event_steps, story}
 use Rattle.exchange_top.specs.Telling.{AreLeft, AreTold}
 use Rattle.exchange_top.proofs.Answered.{events_append, events_long}
 

@@ -21,7 +21,7 @@ use Rattle.line_list.specs.declared.listing.Listing.{Listing}
 use Rattle.report_check.specs.declared.ending.Ending.TheVariants as ended
 use Rattle.exchange_top.specs.Outcomes.{AreOfSegments, No_segments, Some_segments, IsFlushed, IsRunInterrupted, IsRunUnwritten, IsRunWritten, MovesFew, Parties}
 use Rattle.meters.specs.Changing.{Step, changes_at, lines_of, records_of}
-use Rattle.exchange_top.specs.Story.{story}
+use Rattle.followed_events.specs.Story.{story}
 use Rattle.exchange_top.specs.Telling.{MeterStory}
 use Rattle.call_profile.specs.CallsTold.{calls_told}
 use Rattle.exchange_top.specs.declared.run.RunError.{RunError}

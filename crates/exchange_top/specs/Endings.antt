@@ -16,7 +16,7 @@ use Rattle.exchange_top.specs.Outcomes.{IsIdle, IsHandedOut, IsRunInterrupted, I
 use Rattle.report_check.specs.Refusals.{invalid_line, line_of, refusal, valid_line, words_refusal}
 use Rattle.report_check.specs.Statuses.{status_of}
 use Rattle.report_check.specs.Streams.{HasFailed, IsUntouched, IsWritten, IsWrittenInPart, Stream}
-use Rattle.exchange_top.specs.Summary.{summary_text}
+use Rattle.report_check.specs.Summary.{summary_text}
 
 -- ---- the command of a call
 

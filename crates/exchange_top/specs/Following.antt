@@ -1,25 +1,17 @@
 -- A trace whose lines are processed when they arrive: its story, and the ending of its call. Source: this project.
-use Rattle.std.specs.Prelude.{◌≡◌, ℕ, ◌+◌, All, nat_lt, if◌then◌else◌, List, [], ◌∷◌, ◌++◌, length, Option, Some, None, Result, Ok, Err}
+use Rattle.std.specs.Prelude.{◌≡◌, ℕ, ◌+◌, List, [], ◌∷◌, ◌++◌, length, Option, Some, None, Ok, Err}
 use Rattle.circuit_model.specs.Hears.{Plays, hears}
-use Rattle.tone_rules.specs.Tables.{table_of}
 use Rattle.exchange_events.specs.declared.record.CallRecord.{CallRecord}
-use Rattle.exchange_events.specs.declared.trace.Event.{Event}
-use Rattle.exchange_events.specs.Kept.{kept_of}
 use Rattle.exchange_events.specs.declared.trace.Trace.{Trace}
-use Rattle.exchange_events.specs.Sizes.{Dimensions, Setting}
-use Rattle.call_profile.specs.CallsTold.{calls_kept}
-use Rattle.call_profile.specs.Step.{MovesAtMost, next, reply, run, world_after_all}
-use Rattle.call_profile.specs.World.{World, start}
-use Rattle.report_text.specs.RunReport.{Played, event_line}
-use Rattle.meters.specs.Changing.{Step, Event_done, Meters_changed, handed_in, records_of, steps_text}
+use Rattle.exchange_events.specs.Sizes.{Dimensions}
+use Rattle.call_profile.specs.Step.{next}
+use Rattle.call_profile.specs.World.{World}
+use Rattle.meters.specs.Changing.{Step, handed_in, records_of, steps_text}
 use Rattle.trace_text.specs.declared.fault.Reason.{Reason}
 use Rattle.trace_text.specs.declared.fault.Reason.TheVariants as reason
 use Rattle.trace_text.specs.declared.said.Said.{Said}
-use Rattle.trace_text.specs.declared.said.Said.TheVariants.{Happens, Change}
 use Rattle.trace_text.specs.declared.said.Sizes.{Sizes}
-use Rattle.trace_text.specs.TraceGrammar.{IsTrace, events_in, numbers_in, plan_of, sizes_in, so_far, timers_in, timers_of, tones_in, tones_of}
-use Rattle.trace_text.specs.TraceLines.{line_limits, says}
-use Rattle.trace_text.specs.TraceTimers.{timers_by}
+use Rattle.trace_text.specs.TraceGrammar.{IsTrace, sizes_in}
 use Rattle.trace_text.specs.TraceWords.{lines}
 use Rattle.run_verifier.specs.Verdicts.{IsValid}
 use Rattle.line_follower.specs.Following.{Dues, HasFollowed, IsSettled, with_end}
@@ -31,8 +23,17 @@ use Rattle.report_check.specs.Refusals.{refusal}
 use Rattle.exchange_top.specs.Telling.{MeterStory, meter_story}
 use Rattle.linked_text.specs.LinkEffects.{plain_told}
 use Rattle.linked_text.specs.LinkLines.{Content}
-use Rattle.exchange_top.specs.InTurn.{EachInTurn, MovesFewInTurn, follows_in_turn, setting_in_turn, story_in_turn, world_in_turn}
-pub use Rattle.exchange_top.specs.Told.{max_line, max_lines, follows, EachFollows, setting_said, world_said, MovesFewIn, MovesFewSaid, steps_said, story_by, story_said, HasValidStories}
+use Rattle.followed_events.specs.InTurn.{EachInTurn, MovesFewInTurn, follows_in_turn, setting_in_turn, story_in_turn, world_in_turn}
+pub use Rattle.followed_events.specs.Told.{max_line, max_lines, follows, EachFollows, setting_said, world_said, MovesFewIn, MovesFewSaid, steps_said, story_by, story_said}
+
+-- ---- the story of a trace
+
+-- If the bytes that are followed are a trace that changes no meters, the text of their story is a valid report of the
+-- trace, on every fabric and for all meters of this type.
+abbrev pub HasValidStories : {M : Type 0} → (M → List CallRecord → List ℕ) → Type 0
+HasValidStories {M} text =
+    (slots : ℕ) (bytes : List ℕ) (t : Trace) (told : List Said) (old spare : List M) → IsTrace bytes t → EachFollows [] (lines bytes) told → t.changes ≡ []
+    → IsValid slots t (steps_text text (story_said hears slots told) (handed_in old spare))
 
 -- ---- the facts about lines that were followed
 

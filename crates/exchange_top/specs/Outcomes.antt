@@ -29,7 +29,7 @@ use Rattle.exchange_top.specs.declared.call.Outcome.{Outcome}
 use Rattle.report_check.specs.declared.ending.Ending.{Ending}
 use Rattle.report_check.specs.declared.ending.Ending.TheVariants as ended
 use Rattle.exchange_top.specs.declared.call_context.Metering.{Metering}
-use Rattle.exchange_top.specs.Story.{story}
+use Rattle.followed_events.specs.Story.{story}
 use Rattle.report_check.specs.Streams.{HasFailed, IsWritten, IsWrittenInPart, Stream, output}
 use Rattle.exchange_top.specs.Telling.{AreLeft, AreTold, MeterStory, metered, metered_together}
 use Rattle.call_profile.specs.CallsTold.{calls_told}

@@ -10,25 +10,14 @@ use Rattle.exchange_events.specs.declared.answer.Answer.{Answer}
 use Rattle.exchange_events.specs.declared.record.CallRecord.{CallRecord}
 use Rattle.call_profile.specs.CallsTold.{calls_kept}
 use Rattle.meters.specs.Changing.{Metering, Step, after_steps, handed_in, steps_text, AreMetered}
-use Rattle.meters.specs.Telling.{IsTold, IsToldFront}
+use Rattle.meters.specs.Telling.{IsTold}
 use Rattle.exchange_top.specs.declared.call_context.Metering.{Metering as Meters}
+pub use Rattle.followed_events.specs.Telling.{Telling, AreTold, AreToldFront}
 
 -- the calls of these answers, in order
 abbrev pub calls_answered : List Answer → List CallRecord
 calls_answered [] = []
 calls_answered (a ∷ answers) = calls_kept a.reply ++ calls_answered answers
-
--- a statement on the calls that meters recorded
-abbrev pub Telling : Type 1
-Telling = List CallRecord → Type 0
-
--- each meter recorded these calls, by the definitions of its type
-abbrev pub AreTold : {M : Type 0} → (M → List CallRecord → Type 0) → (M → List CallRecord → List ℕ) → List M → List M → Telling
-AreTold stands text old new calls = AllZip (λ m n. IsTold calls (stands m) (stands n) (text m) (text n)) old new
-
--- each meter recorded a prefix of these calls
-abbrev pub AreToldFront : {M : Type 0} → (M → List CallRecord → Type 0) → (M → List CallRecord → List ℕ) → List M → List M → Telling
-AreToldFront stands text old new calls = AllZip (λ m n. IsToldFront calls (stands m) (stands n) (text m) (text n)) old new
 
 -- a meter recorded all of some calls, and then a prefix of further ones
 abbrev pub IsToldBeyond : List CallRecord → List CallRecord → (stood stands : List CallRecord → Type 0) → (said says : List CallRecord → List ℕ) → Type 0

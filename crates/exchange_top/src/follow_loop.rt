@@ -4,8 +4,8 @@ ghost use Rattle.line_follower.specs.Following.{CountsReads, CountsWrites, HasNo
 ghost use Rattle.line_follower.specs.declared.following.Following.TheVariants as ended;
 ghost use Rattle.exchange_top.specs.Followers.{Ends, EndsIn, EndsWith, GoesOn, GoesToEnd, HandlesLine, IsOwing, IsPending, IsUnder, IsUnread, OwesLine, ReliesBy, StopsLine, StopsOwing};
 
-use crate::fabrics::Fabric;
 use crate::follower::TraceFollower;
+use followed_events::Fabric;
 use frame_engine::Carrier;
 use line_follower::{Following, Stop, first_fed, flush, move_to_front, read_after, write_all};
 use line_wire::Wire;

@@ -5,10 +5,10 @@ ghost use Rattle.report_check.specs.Refusals.{refusal};
 
 use crate::call_context::Metering;
 use crate::changing::change_once;
-use crate::fabrics::Fabric;
-use crate::linked_stepping::{advance_linked, ready_linked};
-use crate::stepping::{advance, ready};
+use crate::linked_stepping::advance_linked;
+use crate::stepping::advance;
 use control_memory::PathMap;
+use followed_events::{Fabric, ready, ready_linked};
 use frame_engine::Carrier;
 use line_follower::Stop;
 use linked_exchange::LinkedExchange;
@@ -50,7 +50,7 @@ pub struct TraceFollower<'a, P: PathMap + Drop, C: Carrier, R> {
 
 impl<'a, P: Fabric, C: Carrier, R: Threads + Sync> TraceFollower<'a, P, C, R> {
     ghost use Rattle.exchange_top.specs.Followers.{FinishesLines, HandlesLine, IsAtLine, IsFollowing, RefusesEnd, RefusesLine, StrandsAt, StrandsEnd, StrandsIn, TakesLine};
-    ghost use Rattle.exchange_top.specs.LinkedStepping.{effect_in};
+    ghost use Rattle.followed_events.specs.LinkedStepping.{effect_in};
 
     // Processes the effect of a line.
     fn take(&mut self, happening: LinkHappening, out: &mut Vec<u8>) -> Result<(), AllocError>

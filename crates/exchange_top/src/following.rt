@@ -9,11 +9,11 @@ ghost use Rattle.exchange_top.specs.Handling.{engine_returned, exchange_of};
 ghost use Rattle.exchange_top.specs.Following.{FollowsTo};
 
 use crate::call_context::Metering;
-use crate::fabrics::Fabric;
 use crate::follow_loop::follow_lines;
 use crate::follower::TraceFollower;
 use control_memory::PathMap;
 use fabric_map::FabricMap;
+use followed_events::Fabric;
 use frame_engine::Carrier;
 use line_follower::Following;
 use line_wire::Wire;

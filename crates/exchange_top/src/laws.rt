@@ -1,6 +1,6 @@
 //! Theorems: a strict fabric moves no path, a run without changes has one report, and a trace that is followed has the
 //! report of a run in file order.
-ghost use Rattle.std.specs.Prelude.{◌≡◌, ◌≤◌, ℕ, List, [], All, length, map, true};
+ghost use Rattle.std.specs.Prelude.{◌≡◌, ℕ, List, [], All, length, true};
 ghost use Rattle.exchange_events.specs.declared.trace.Trace.{Trace};
 ghost use Rattle.exchange_events.specs.Orders.{IsEvent, IsLawful, file_order};
 ghost use Rattle.circuit_model.specs.Hears.{Plays};
@@ -10,15 +10,12 @@ ghost use Rattle.line_list.specs.declared.listing.Listing.TheVariants.{Report};
 ghost use Rattle.line_list.specs.Lines.{listed};
 ghost use Rattle.meters.specs.Changing.{handed_in, steps_text};
 ghost use Rattle.trace_text.specs.declared.said.Said.{Said};
-ghost use Rattle.trace_text.specs.TraceGrammar.{IsTrace, IsWhatLinesSay};
+ghost use Rattle.trace_text.specs.TraceGrammar.{IsTrace};
 ghost use Rattle.trace_text.specs.TraceWords.{lines};
-ghost use Rattle.exchange_top.specs.Following.{EachFollows, HasValidStories, max_line, story_said};
+ghost use Rattle.exchange_top.specs.Following.{EachFollows, HasValidStories, story_said};
 ghost use Rattle.exchange_top.specs.Commands.{fabric_of};
-ghost use Rattle.exchange_top.specs.InTurn.{ArePlain, EachInTurn, story_in_turn};
-ghost use Rattle.linked_text.specs.LinkEffects.{plain_told};
-ghost use Rattle.linked_text.specs.LinkLines.{Content, Plain};
 ghost use Rattle.exchange_top.specs.Outcomes.{MovesFew, MovesNone, NotesAll};
-ghost use Rattle.exchange_top.specs.Story.{story};
+ghost use Rattle.followed_events.specs.Story.{story};
 
 use meters::Meter;
 
@@ -43,23 +40,4 @@ pub fn followed_traces_are_runs<M: Meter>()
         → story_said plays slots told ≡ story plays Report slots t (file_order (length t.events)) }
     ensures lawful { (t : Trace) → IsLawful t (file_order (length t.events)) }
     ensures valid { HasValidStories M.text }
-{}
-
-/// Lines without data links have the contents and the story of a trace without them. Lines have one list of contents.
-/// Each trace with short lines is followed in turn, with the story of a run in file order.
-pub fn plain_lines_are_followed()
-    ensures lines { (told : List Said) (rows : List (List ℕ)) → EachFollows [] rows told → EachInTurn [] rows (map Plain told) }
-    ensures same { (told : List Content) (rows : List (List ℕ)) → ArePlain told → EachInTurn [] rows told → EachFollows [] rows (plain_told told) }
-    ensures story { (plays : Plays) (slots : ℕ) (told : List Content) → ArePlain told
-        → story_in_turn plays slots told ≡ story_said plays slots (plain_told told) }
-    ensures one { (told other : List Content) (rows : List (List ℕ)) → EachInTurn [] rows told → EachInTurn [] rows other → told ≡ other }
-    ensures traces { (plays : Plays) (slots : ℕ) (bytes : List ℕ) (t : Trace) → IsTrace bytes t → All (λ line. length line ≤ max_line) (lines bytes)
-        → (told : List Content) × ArePlain told × EachInTurn [] (lines bytes) told
-        × (story_in_turn plays slots told ≡ story plays Report slots t (file_order (length t.events))) }
-{}
-
-/// Each trace whose lines have at most 65,535 octets is followed.
-pub fn traces_are_followed()
-    ensures { (bytes : List ℕ) (t : Trace) → IsTrace bytes t → All (λ line. length line ≤ max_line) (lines bytes)
-        → (told : List Said) × EachFollows [] (lines bytes) told × IsWhatLinesSay t told }
 {}

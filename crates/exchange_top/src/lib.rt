@@ -36,7 +36,6 @@
 mod call;
 mod call_context;
 mod changing;
-mod fabrics;
 mod follow_loop;
 mod follower;
 mod following;
@@ -45,13 +44,10 @@ mod linked_stepping;
 mod run;
 mod segments;
 mod stepping;
-mod summary;
 mod telling;
 
 pub use call::{Outcome, exchange};
+pub use followed_events::{plain_lines_are_followed, traces_are_followed};
 pub use following::{FollowOutcome, follow};
-pub use laws::{
-    followed_traces_are_runs, law_of_unchanged_meters, plain_lines_are_followed,
-    strict_runs_move_nothing, traces_are_followed,
-};
+pub use laws::{followed_traces_are_runs, law_of_unchanged_meters, strict_runs_move_nothing};
 pub use report_check::{Ending, law_of_divisions};

@@ -1,12 +1,12 @@
 //! One event of a trace with data links that is followed.
-ghost use Rattle.std.specs.Prelude.{◌≡◌, OnOk, OnErr, Some, false, is_some, length, take};
-ghost use Rattle.exchange_top.specs.Followers.{EachLinkedDue, EachLinkedHeard, EachLinkedReady, IsLinkedDueSome, IsLinkedHeardSome, IsLinkedReadySome, LinkedHappensBy, LinkedRunsAfter};
-ghost use Rattle.exchange_top.specs.LinkedStepping.{calls_in, steps_at};
-ghost use Rattle.exchange_top.specs.Telling.{AreToldFront};
+ghost use Rattle.std.specs.Prelude.{◌≡◌, OnOk, OnErr, Some, length, take};
+ghost use Rattle.followed_events.specs.Statements.{EachLinkedDue, EachLinkedReady, IsLinkedDueSome, IsLinkedReadySome, LinkedHappensBy};
+ghost use Rattle.followed_events.specs.LinkedStepping.{calls_in, steps_at};
+ghost use Rattle.followed_events.specs.Telling.{AreToldFront};
 
-use crate::fabrics::Fabric;
 use crate::telling::tell;
 use exchange_events::Response;
+use followed_events::{Fabric, ready_linked};
 use frame_engine::Carrier;
 use linked_exchange::{LinkedExchange, Settings};
 use linked_lines::{LinkedEvent, put_step, put_turn_step};
@@ -14,65 +14,6 @@ use linked_text::LinkHeading;
 use meters::Meter;
 use std::alloc::{AllocError, Global};
 use std::thread::Threads;
-
-/// Makes the exchange of a heading with data links before its first event. It does nothing if there is one.
-///
-/// # Errors
-///
-/// [`AllocError`] if an allocation fails.
-pub fn ready_linked<P: Fabric, C: Carrier, R: Threads + Sync>(
-    rt: &R,
-    alloc: Global,
-    heading: &LinkHeading,
-    exchange: &mut Option<LinkedExchange<P, C>>,
-) -> Result<(), AllocError>
-    requires heard { IsLinkedHeardSome C.Carrier P.Fabric.own heading.now exchange.old }
-    ensures running { EachLinkedHeard C.Carrier P.Fabric.own heading.now exchange.old
-        (λ told z. OnOk result (LinkedRunsAfter C.Carrier P.Fabric.own told z exchange.new)) }
-{
-    if exchange.is_none() {
-        return open_linked_into(rt, alloc, heading, exchange);
-    }
-    Ok(())
-}
-
-// Makes the exchange of a heading with data links.
-fn open_linked_into<P: Fabric, C: Carrier, R: Threads + Sync>(
-    rt: &R,
-    alloc: Global,
-    heading: &LinkHeading,
-    exchange: &mut Option<LinkedExchange<P, C>>,
-) -> Result<(), AllocError>
-    requires none { is_some exchange.old ≡ false }
-    requires heard { IsLinkedHeardSome C.Carrier P.Fabric.own heading.now exchange.old }
-    ensures running { EachLinkedHeard C.Carrier P.Fabric.own heading.now exchange.old
-        (λ told z. OnOk result (LinkedRunsAfter C.Carrier P.Fabric.own told z exchange.new)) }
-{
-    let plain = heading.plain();
-    let Some(sizes) = plain.sizes() else {
-        unreachable!()
-    };
-    let timers = plain.timers();
-    let link_timers = heading.link_timers();
-    let settings = Settings {
-        plan: plain.plan(),
-        tones: plain.tones(),
-        timers: &timers,
-        link_timers: &link_timers,
-    };
-    let row = heading.link_row(alloc, sizes.external)?;
-    let paths = P::unused(alloc, sizes.external + sizes.bridges)?;
-    *exchange = Some(LinkedExchange::new(
-        rt,
-        alloc,
-        sizes.external,
-        sizes.bridges,
-        &settings,
-        row.as_slice(),
-        paths,
-    )?);
-    Ok(())
-}
 
 /// Makes the exchange before its first event, processes an event on it, records the calls that ended with it on the
 /// meters, and appends its line to a text. A frame of the exchange is followed by the turn of a link.

@@ -13,7 +13,7 @@ ghost use Rattle.report_check.specs.declared.ending.Ending.TheVariants.{WriteFai
 ghost use Rattle.exchange_top.specs.Outcomes.{IsFlushed};
 ghost use Rattle.exchange_top.specs.Running.{AreOfAnswers, GrowthIsTold, HasMachine, IsAdded, RunsOn, ending_of, run_part};
 ghost use Rattle.report_check.specs.Streams.{AppendsFront};
-ghost use Rattle.exchange_top.specs.Telling.{AreTold, AreToldFront};
+ghost use Rattle.followed_events.specs.Telling.{AreTold, AreToldFront};
 
 use crate::call_context::{Metering, PendingText};
 use crate::changing::change_at;

@@ -1,84 +1,24 @@
 //! One event of a trace that is followed.
-ghost use Rattle.std.specs.Prelude.{◌≡◌, ◌+◌, ◌<◌, ◌≤◌, IfOk, OnOk, OnErr, is_some, false};
+ghost use Rattle.std.specs.Prelude.{◌≡◌, ◌<◌, OnOk, OnErr};
 ghost use Rattle.exchange_events.specs.Kept.{kept_of};
 ghost use Rattle.exchange_events.specs.Sound.{Fits};
 ghost use Rattle.call_profile.specs.CallsTold.{calls_kept};
 ghost use Rattle.call_profile.specs.Step.{MovesAtMost, reply};
-ghost use Rattle.lone_exchange.specs.At.{Appends, StartsAt};
-ghost use Rattle.exchange_top.specs.Followers.{EachDue, EachHeard, HappensBy, InWorlds, IsDueSome, IsHeardSome, IsInWorld, PassesBy, RunsAfter};
-ghost use Rattle.exchange_top.specs.Stepping.{calls_at};
-ghost use Rattle.exchange_top.specs.Telling.{AreTold, AreToldFront};
+ghost use Rattle.lone_exchange.specs.At.{Appends};
+ghost use Rattle.followed_events.specs.Statements.{EachDue, HappensBy, InWorlds, IsDueSome, IsInWorld, PassesBy};
+ghost use Rattle.followed_events.specs.Stepping.{calls_at};
+ghost use Rattle.followed_events.specs.Telling.{AreTold, AreToldFront};
 
-use crate::fabrics::Fabric;
 use crate::telling::tell;
 use control_memory::PathMap;
 use exchange_events::Event;
+use followed_events::{Fabric, ready};
 use frame_engine::Carrier;
 use lone_exchange::LoneExchange;
 use meters::Meter;
 use std::alloc::{AllocError, Global};
 use std::thread::Threads;
-use trace_text::{Heading, Sizes};
-
-// Makes the exchange with the sizes and the timers of a heading, before its first event.
-fn opened<P: Fabric, C: Carrier>(
-    alloc: Global,
-    heading: &Heading,
-    sizes: Sizes,
-) -> Result<LoneExchange<P, C>, AllocError>
-    requires external { 1 ≤ sizes.external × (sizes.external ≤ 32) }
-    requires bridges { sizes.bridges ≤ 2 }
-    ensures start { IfOk result (StartsAt C.carries C.next C.sizes sizes.external sizes.bridges P.slots) }
-    ensures bound { IfOk result (λ x. x.control.map.bound ≡ P.moves (sizes.external + sizes.bridges)) }
-{
-    let paths = P::unused(alloc, sizes.external + sizes.bridges)?;
-    LoneExchange::new(
-        alloc,
-        sizes.external,
-        sizes.bridges,
-        heading.timers(),
-        paths,
-    )
-}
-
-/// Makes the exchange of a heading before its first event. It does nothing if there is one.
-///
-/// # Errors
-///
-/// [`AllocError`] if an allocation fails.
-pub fn ready<P: Fabric, C: Carrier>(
-    alloc: Global,
-    heading: &Heading,
-    exchange: &mut Option<LoneExchange<P, C>>,
-) -> Result<(), AllocError>
-    requires heard { IsHeardSome C.Carrier P.Fabric.own heading.now exchange.old }
-    ensures running { EachHeard C.Carrier P.Fabric.own heading.now exchange.old
-        (λ told z. OnOk result (RunsAfter C.Carrier P.Fabric.own told z exchange.new)) }
-{
-    if exchange.is_none() {
-        return open_into(alloc, heading, exchange);
-    }
-    Ok(())
-}
-
-// Makes the exchange of a heading. A separate function holds it, because a function clears its locals whenever it is
-// entered, and `ready` is entered at each event.
-fn open_into<P: Fabric, C: Carrier>(
-    alloc: Global,
-    heading: &Heading,
-    exchange: &mut Option<LoneExchange<P, C>>,
-) -> Result<(), AllocError>
-    requires none { is_some exchange.old ≡ false }
-    requires heard { IsHeardSome C.Carrier P.Fabric.own heading.now exchange.old }
-    ensures running { EachHeard C.Carrier P.Fabric.own heading.now exchange.old
-        (λ told z. OnOk result (RunsAfter C.Carrier P.Fabric.own told z exchange.new)) }
-{
-    let Some(sizes) = heading.sizes() else {
-        unreachable!()
-    };
-    *exchange = Some(opened(alloc, heading, sizes)?);
-    Ok(())
-}
+use trace_text::Heading;
 
 /// Makes the exchange before its first event, processes an event on it, records the calls that ended with it on the
 /// meters, and appends its line to a text.

@@ -3,3 +3,4 @@ pub mod Streams
 pub mod Inputs
 pub mod Refusals
 pub mod Checking
+pub mod Summary

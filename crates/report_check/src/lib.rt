@@ -6,7 +6,8 @@
 //!   limit and one piece (`stops`), and no ending hides an error of the source or of the sink (`reads`, `writes`).
 //! - An [`Ending`] is the cause for which a call ended, and has an exit status.
 //! - [`read_all`] reads an input to its end or to a limit, and [`write_all`] writes all bytes of an output.
-//! - [`refusal`] returns the line that refuses an input, and [`say`] writes the line that ends a call.
+//! - [`refusal`] returns the line that refuses an input, and [`say`] writes the line that ends a call. [`summary`] returns
+//!   the text that sums up a generated trace and its meters.
 //! - An input is divided into a trace and a report in only one way ([`law_of_divisions`]).
 #![tactic(auto)]
 
@@ -15,9 +16,11 @@ mod ending;
 mod laws;
 mod refusals;
 mod streams;
+mod summaries;
 
 pub use checking::check;
 pub use ending::Ending;
 pub use laws::law_of_divisions;
 pub use refusals::{refusal, say};
 pub use streams::{ReadError, read_all, write_all};
+pub use summaries::summary;

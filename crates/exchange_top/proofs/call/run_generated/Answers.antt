@@ -1,6 +1,6 @@
 use Rattle.std.proofs.Common.{◌≡◌, ap, inl, inr, map, [], subst}
 use Rattle.std.specs.List.{concat}
-use Rattle.exchange_top.specs.Summary.{summary_text}
+use Rattle.report_check.specs.Summary.{summary_text}
 use Rattle.report_check.specs.declared.ending.Ending.TheVariants as ended
 use Rattle.generated_trace.specs.Generated.{IsTrafficOf}
 use Rattle.generated_trace.proofs.Told.{changes_none}

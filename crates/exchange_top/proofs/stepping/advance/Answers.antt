@@ -1,6 +1,6 @@
 use Rattle.std.proofs.Common.{◌∙◌}
 use Rattle.exchange_top.specs.Following.{setting_said, world_said}
-use Rattle.exchange_top.proofs.SteppingLemmas.{at_driver, driver_bound, event_fits, few_more, frames_few, given_here, happened_ok, no_driver, on_err}
+use Rattle.followed_events.proofs.SteppingLemmas.{at_driver, driver_bound, event_fits, few_more, frames_few, given_here, happened_ok, no_driver, on_err}
 use Rattle.exchange_top.proofs.Tellings.{none_front}
 use Rattle.exchange_top.proofs.stepping.advance.Goals as goal
 

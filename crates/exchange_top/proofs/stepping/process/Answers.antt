@@ -5,7 +5,7 @@ use Rattle.call_profile.specs.CallsTold.{calls_kept}
 use Rattle.call_profile.specs.Step.{MovesAtMost}
 use Rattle.lone_exchange.specs.At.{IsGiven}
 use Rattle.exchange_top.specs.Telling.{AreTold, AreToldFront}
-use Rattle.exchange_top.proofs.SteppingLemmas.{on_err, on_ok, told_front}
+use Rattle.followed_events.proofs.SteppingLemmas.{on_err, on_ok, told_front}
 use Rattle.exchange_top.proofs.stepping.process.Goals as goal
 
 pub returns-in_err-tell-clause-told_front : goal.returns-in_err-tell-clause-told_front

@@ -1,7 +1,7 @@
 use Rattle.std.proofs.Common.{◌++◌, ◌∙◌, [], ap, arith, not, sym}
 use Rattle.exchange_top.proofs.Handled.{interrupted_last}
 use Rattle.exchange_top.proofs.HandledSteps.{count_few, end_refused, finish_heard, finished, known_there}
-use Rattle.exchange_top.proofs.SteppingLemmas.{err_is}
+use Rattle.followed_events.proofs.SteppingLemmas.{err_is}
 use Rattle.exchange_top.proofs.follower.TraceFollower.finish.Goals as goal
 
 pub overflow_add-self : goal.overflow_add-self

@@ -2,7 +2,7 @@ use Rattle.std.proofs.Common.{◌++◌, List, ℕ, [], ◌∷◌, sym, subst}
 use Rattle.exchange_top.specs.Following.{IsInterrupted, course}
 use Rattle.exchange_top.proofs.Handled.{interrupted_here}
 use Rattle.exchange_top.proofs.HandledSteps.{IsQuiet, event_due, handled_change, handled_event, handled_quiet, interrupted_event}
-use Rattle.exchange_top.proofs.SteppingLemmas.{on_err}
+use Rattle.followed_events.proofs.SteppingLemmas.{on_err}
 use Rattle.exchange_top.proofs.follower.TraceFollower.take.Goals as goal
 use Rattle.exchange_top.proofs.follower.TraceFollower.take.Goals.{in-Nothing, in-SegmentEnd, in-Event+in_ok-advance-in-Event+in-Message+in-Heap-1, in-Event+in_ok-advance-in-Event+in-Message+in-Inline-1, in-Event+in_ok-advance-in-Event+in-Frame-1, in-Event+in_ok-advance-in-Event+in-Nail-1, in-Change+in_ok-change_once-in-Change}
 

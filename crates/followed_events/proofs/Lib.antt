@@ -1,0 +1,13 @@
+pub mod Runs
+pub mod LinkedRuns
+pub mod FollowedLines
+pub mod PlacedLines
+pub mod FollowedSteps
+pub mod SaidLines
+pub mod TurnSteps
+pub mod TurnLines
+pub mod SteppingLemmas
+pub mod LinkedEvents
+pub mod LinkedSteppingLemmas
+pub mod FollowedStories
+pub mod PlainInTurn

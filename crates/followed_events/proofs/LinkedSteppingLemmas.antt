@@ -1,0 +1,287 @@
+-- An exchange with data links that is made, and an event on it.
+use Rattle.std.proofs.Common.{◌≡◌, ℕ, ◌+◌, ◌<◌, Bool, true, false, List, [], ◌∷◌, ◌++◌, length, Option, Some, None, refl, sym, ap, ◌∙◌, subst, arith, append-nil, append_assoc, codes}
+use Rattle.std.specs.Prelude.{All, is_some}
+use Rattle.std.proofs.lemmas.List.Elements.{All-weaker}
+use Rattle.circuit_model.specs.Dimensions.{Dimensions}
+use Rattle.circuit_model.specs.FrameInput.{Input}
+use Rattle.circuit_model.specs.Hears.{Plays}
+use Rattle.tone_rules.specs.Tables.{table_of}
+use Rattle.exchange_events.specs.declared.record.CallRecord.{CallRecord}
+use Rattle.exchange_events.specs.declared.reply.Reply.{Reply}
+use Rattle.exchange_events.specs.declared.reply.Reply.TheVariants.{Sent}
+use Rattle.exchange_events.specs.declared.trace.Event.TheVariants.{Frame}
+use Rattle.exchange_events.specs.Sizes.{Setting}
+use Rattle.call_profile.specs.Step.{MovesAtMost, run}
+use Rattle.call_profile.specs.World.{World, pass, start}
+use Rattle.call_profile.proofs.QuietEventLemmas.{passed_same}
+use Rattle.report_text.proofs.Rows.{sent_same}
+use Rattle.link_procedures.specs.declared.state.Timers.{Timers as Link_timers}
+use Rattle.linked_text.specs.LinkReport.{frame_end}
+use Rattle.meters.specs.Changing.{Event_done, records_of}
+use Rattle.meters.proofs.Told.{told_front-append, told-then}
+use Rattle.meters.proofs.Zips.{zip-then, zip-weaker}
+use Rattle.report_text.specs.Report.{lines_sent, octet_of, parts}
+use Rattle.report_text.specs.RunReport.{sent_at}
+use Rattle.lone_exchange.specs.At.{ArePlayed, Carrying}
+use Rattle.trace_text.specs.declared.said.Sizes.{Sizes}
+use Rattle.trace_text.specs.TraceGrammar.{events_in}
+use Rattle.trace_text.specs.TraceTimers.{timers_by}
+use Rattle.linked_exchange.specs.declared.exchange.LinkedExchange.{LinkedExchange}
+use Rattle.linked_exchange.specs.declared.settings.Settings.{Settings}
+use Rattle.linked_exchange.specs.At.{HasSettings, IsLinkedAt, StartsLinkedAt}
+use Rattle.linked_exchange.specs.Runs.{FitsLinked, derived_all, joint_after_all, links_down, start_joint}
+use Rattle.linked_exchange.specs.Steps.{Joint, Happens, Turns, derived, next_joint, reply_to}
+use Rattle.linked_exchange.proofs.AtLemmas.{time_at}
+use Rattle.linked_exchange.proofs.QuietLemmas.{start_quiet}
+use Rattle.linked_lines.specs.declared.steps.LinkedEvent.{LinkedEvent}
+use Rattle.linked_lines.specs.LinkedLines.{calls_of, happened_calls, happened_line, input_of, text_of, turn_of}
+use Rattle.linked_lines.specs.LinkedStory.{inputs_in}
+use Rattle.linked_text.specs.LinkEffects.{in_turn, link_row, linked_in, plain_told}
+use Rattle.linked_text.specs.LinkLines.{Content, LinkSoFar}
+use Rattle.linked_text.specs.LinkTimers.{link_timers_by}
+use Rattle.followed_events.specs.Told.{MovesFewIn}
+use Rattle.followed_events.specs.InTurn.{MovesFewInTurn, first_joint, joint_said, link_timers_said, setting_in_turn}
+use Rattle.followed_events.specs.LinkedStepping.{HasLinkedHappened, IsLinkedDue, IsLinkedGiven, IsLinkedHeard, IsLinkedReady, IsLinkedRunning, steps_at}
+use Rattle.followed_events.specs.Telling.{AreTold, AreToldFront}
+use Rattle.followed_events.proofs.LinkedRuns.{events_linked, trace_by}
+use Rattle.followed_events.proofs.LinkedEvents.{IsNoFrame, frames_few, inputs_frame, inputs_other, running_after, step_few, step_frames, steps_few, steps_frame, steps_other}
+use Rattle.followed_events.proofs.TurnSteps.{no_inputs}
+
+-- ---- the settings
+
+-- these settings are those of a heading
+pub record IsSettingOf (heading : LinkSoFar) (settings : Settings) : Type 0 where
+  pub plan : settings.plan.now ≡ heading.plain.plan
+  pub tones : settings.tones.now ≡ heading.plain.tones
+  pub timers : settings.timers.now ≡ timers_by heading.plain.timers
+  pub link_timers : settings.link_timers.now ≡ link_timers_by heading.timers
+
+module _ (slots : ℕ) (told : List Content) (z : Sizes) (heading : LinkSoFar) (settings : Settings) (given : IsLinkedGiven told z heading) (is : IsSettingOf heading settings) where
+  pub has_settings : HasSettings settings (setting_in_turn slots z told)
+  has_settings = record { plan_is = given.plan ∙ sym is.plan; tones_are = given.tones ∙ sym is.tones; timers_are = ap timers_by given.timers ∙ sym is.timers }
+
+  pub same_timers : settings.link_timers.now ≡ link_timers_said told
+  same_timers = is.link_timers ∙ ap link_timers_by (sym given.link_timers)
+
+-- ---- the exchange before the first event
+
+quiet_few : (n : ℕ) (r : Reply) → r ≡ Sent [] None [] → MovesAtMost n r
+quiet_few n r is = subst (MovesAtMost n) (sym is) tt
+
+module _ {P E : Type 0} (carries : Carrying E) (frames : E → ℕ) (sizes : E → Dimensions) (slots : ℕ) (moves : ℕ → ℕ) (told : List Content) (z : Sizes) (heading : LinkSoFar) where
+  pub linked_old : (exchange : Option (LinkedExchange P E)) → is_some exchange ≡ true → IsLinkedHeard carries frames sizes slots moves told z heading exchange → IsLinkedRunning carries frames sizes slots moves told z exchange
+  linked_old None some heard = absurd (grind (arith, some))
+  linked_old (Some x) some heard =
+      let at = heard.driven.1 in
+      let both : Some at.header ≡ Some z = sym at.given ∙ heard.given.header in
+      let same : at.header ≡ z = grind (arith, both) in
+      record {
+        driver = x;
+        is = refl;
+        at = subst (λ (v : Sizes). IsLinkedAt carries frames sizes x (setting_in_turn slots v told) (joint_said slots v told)) same at.at;
+        bound = subst (λ (v : Sizes). x.exchange.control.map.bound ≡ moves (v.external + v.bridges)) same at.bound;
+        few = subst (λ (v : Sizes). MovesFewInTurn slots moves v told) same at.few;
+      }
+
+  pub linked_new : (exchange : Option (LinkedExchange P E)) (x : LinkedExchange P E) (sized : Sizes) (settings : Settings) (row : List Bool) → is_some exchange ≡ false → Some sized ≡ heading.plain.sizes
+      → IsSettingOf heading settings → row ≡ link_row sized.external heading.linked → StartsLinkedAt carries frames sizes settings sized.external sized.bridges slots row x
+      → x.exchange.control.map.bound ≡ moves (sized.external + sized.bridges) → IsLinkedHeard carries frames sizes slots moves told z heading exchange → IsLinkedRunning carries frames sizes slots moves told z (Some x)
+  linked_new (Some y) x sized settings row none known is rows starts bound heard = absurd (grind (arith, none))
+  linked_new None x sized settings row none known is rows starts bound heard =
+      let given = heard.given in
+      let both : Some sized ≡ Some z = known ∙ given.sized in
+      let same : sized ≡ z = grind (arith, both) in
+      let s = setting_in_turn slots z told in
+      let timers = link_timers_said told in
+      let inputs : inputs_in told ≡ [] = no_inputs told heard.driven in
+      let lines : row ≡ link_row z.external (linked_in told) = rows ∙ (λ i. link_row (same i).external (sym given.linked i)) in
+      let begins : StartsLinkedAt carries frames sizes settings z.external z.bridges slots row x = subst (λ (v : Sizes). StartsLinkedAt carries frames sizes settings v.external v.bridges slots row x) same starts in
+      let first : IsLinkedAt carries frames sizes x s (start_joint s row) = begins s refl (has_settings slots told z heading settings given is) in
+      let joint : start_joint s row ≡ joint_said slots z told = ap (start_joint s) lines ∙ ap (joint_after_all s timers (first_joint slots z told)) (sym inputs) in
+      let n = moves (z.external + z.bridges) in
+      let events : trace_by slots z (in_turn told) (inputs_in told) ≡ links_down 0 (link_row z.external (linked_in told)) =
+      ap (trace_by slots z (in_turn told)) inputs ∙ append-nil (links_down 0 (link_row z.external (linked_in told))) in
+      let few : MovesFewIn moves s (links_down 0 (link_row z.external (linked_in told))) =
+      All-weaker (λ (r : Reply). r ≡ Sent [] None []) (MovesAtMost n) (quiet_few n) (run s (start s.dimensions) (links_down 0 (link_row z.external (linked_in told)))) (start_quiet s (link_row z.external (linked_in told))) in
+      record {
+        driver = x;
+        is = refl;
+        at = subst (λ (v : Joint). IsLinkedAt carries frames sizes x s v) joint first;
+        bound = subst (λ (v : Sizes). x.exchange.control.map.bound ≡ moves (v.external + v.bridges)) same bound;
+        few = subst (MovesFewIn moves s) (sym (events_linked (linked_in told) slots z told given.some refl ∙ events)) few;
+      }
+
+  pub no_linked : (exchange : Option (LinkedExchange P E)) → IsLinkedRunning carries frames sizes slots moves told z exchange → exchange ≡ None → ⊥
+  no_linked exchange running none = let both : Some running.driver ≡ None = sym running.is ∙ none in absurd (grind (arith, both))
+
+  pub linked_ready : (exchange : Option (LinkedExchange P E)) (x : LinkedExchange P E) (e : LinkedEvent) (before : Option (LinkedExchange P E)) → IsLinkedRunning carries frames sizes slots moves told z exchange → exchange ≡ Some x
+      → IsLinkedDue carries frames sizes slots moves told z heading before e → IsLinkedReady carries frames sizes slots moves told z heading x e
+  linked_ready exchange x e before running is due = record {
+    given = due.heard.given;
+    running = subst (IsLinkedRunning carries frames sizes slots moves told z) is running;
+    next = due.next;
+  }
+
+  -- what an event needs
+  module _ (x : LinkedExchange P E) (e : LinkedEvent) (ready : IsLinkedReady carries frames sizes slots moves told z heading x e) where
+    pub at_ready : IsLinkedAt carries frames sizes x (setting_in_turn slots z told) (joint_said slots z told)
+    at_ready =
+        let both : Some ready.running.driver ≡ Some x = sym ready.running.is in
+        let same : ready.running.driver ≡ x = grind (arith, both) in
+        subst (λ (y : LinkedExchange P E). IsLinkedAt carries frames sizes y (setting_in_turn slots z told) (joint_said slots z told)) same ready.running.at
+
+    pub bound_ready : x.exchange.control.map.bound ≡ moves (z.external + z.bridges)
+    bound_ready =
+        let both : Some ready.running.driver ≡ Some x = sym ready.running.is in
+        let same : ready.running.driver ≡ x = grind (arith, both) in
+        subst (λ (y : LinkedExchange P E). y.exchange.control.map.bound ≡ moves (z.external + z.bridges)) same ready.running.bound
+
+    pub linked_fits : FitsLinked x.exchange.control.map.external (input_of e)
+    linked_fits = subst (λ (d : Dimensions). FitsLinked d.external (input_of e)) (sym at_ready.exchange.work.holds.sizes) ready.next.fits
+
+    pub linked_room : x.exchange.control.map.next < 4294967295
+    linked_room =
+        let same = time_at carries frames sizes x (setting_in_turn slots z told) (joint_said slots z told) at_ready in
+        let most = frames_few slots z told in
+        let few = ready.next.few in
+        omega (arith, same, most, few)
+
+    -- and the turn after it
+    pub turn_room : (timers : Link_timers) (y : LinkedExchange P E) → IsLinkedAt carries frames sizes y (setting_in_turn slots z told) (next_joint (setting_in_turn slots z told) timers (joint_said slots z told) (input_of e))
+        → y.exchange.control.map.next < 4294967295
+    turn_room timers y at =
+        let s = setting_in_turn slots z told in
+        let same = time_at carries frames sizes y s (next_joint s timers (joint_said slots z told) (input_of e)) at in
+        let grows = step_frames s timers (joint_said slots z told) (input_of e) in
+        let most = frames_few slots z told in
+        let few = ready.next.few in
+        omega (arith, same, grows, most, few)
+
+-- ---- an event that happened
+
+-- the octets of a frame
+frame_rows : (plays : Plays) (s : Setting) (w : World) (input : Input) (octets : List (List ℕ)) → ArePlayed plays s w input octets
+    → lines_sent (octet_of octets) (length octets) ≡ sent_at (plays (table_of s.tones)) s w (Frame input)
+frame_rows plays s w input octets p =
+    let same = passed_same s w input in
+    let tones = table_of s.tones in
+    let octet = plays tones (pass w input).inputs (pass w input).held w.holding.next in
+    let external = s.dimensions.external in
+    ap (lines_sent (octet_of octets)) p.lines
+    ∙ sent_same (octet_of octets) octet external (λ line place below inside. p.played (record { line = line; place = place }) below inside)
+    ∙ (λ i. lines_sent (λ y. plays tones (sym same.inputs i) (sym same.held i) w.holding.next y) external)
+
+module _ {M : Type 0} (stands : M → List CallRecord → Type 0) (text : M → List CallRecord → List ℕ) where
+  pub told_both : (old mid new : List M) (calls more : List CallRecord) → AreTold stands text old mid calls → AreTold stands text mid new more → AreTold stands text old new (calls ++ more)
+  told_both old mid new calls more first second = zip-then _ _ _ (λ a b c one other. told-then one other) old mid new first second
+
+  pub front_more : (old new : List M) (calls more : List CallRecord) → AreToldFront stands text old new calls → AreToldFront stands text old new (calls ++ more)
+  front_more old new calls more front = zip-weaker _ _ (λ a b one. told_front-append more one) old new front
+
+  -- all of the first calls, and then a prefix of the others
+  pub front_then : (old mid new : List M) (calls more : List CallRecord) → AreTold stands text old mid calls → AreToldFront stands text mid new more → AreToldFront stands text old new (calls ++ more)
+  front_then old mid new calls more first second =
+      zip-then _ _ _ (λ a b c one other. (calls ++ other.0, other.1, ap (λ (l : List CallRecord). calls ++ l) other.2 ∙ sym (append_assoc calls other.0 other.1), told-then one other.3)) old mid new first second
+
+module _ {M P E : Type 0} (plays : Plays) (carries : Carrying E) (frames : E → ℕ) (sizes : E → Dimensions) (slots : ℕ) (moves : ℕ → ℕ) (stands : M → List CallRecord → Type 0) (text : M → List CallRecord → List ℕ)
+    (told : List Content) (z : Sizes) (heading : LinkSoFar) (x : LinkedExchange P E) (e : LinkedEvent) (ready : IsLinkedReady carries frames sizes slots moves told z heading x e)
+    (settings : Settings) (is : IsSettingOf heading settings) where
+  abbrev s : Setting
+  s = setting_in_turn slots z told
+
+  abbrev j : Joint
+  j = joint_said slots z told
+
+  abbrev given_timers : Link_timers
+  given_timers = settings.link_timers.now
+
+  abbrev step_line : List ℕ
+  step_line = text_of s given_timers j heading.plain.events (input_of e)
+
+  abbrev step_calls : List CallRecord
+  step_calls = calls_of s given_timers j (input_of e)
+
+  same : given_timers ≡ link_timers_said told
+  same = same_timers slots told z heading settings ready.given is
+
+  -- the step of an event that is no frame
+  steps_plain : IsNoFrame (input_of e) → steps_at plays slots told z e ≡ Event_done step_line step_calls ∷ []
+  steps_plain other =
+      let number : heading.plain.events ≡ length (events_in (plain_told told)) + 1 = ready.next.number in
+      steps_other (plays (table_of s.tones)) s (link_timers_said told) j (length (events_in (plain_told told))) e other
+      ∙ (λ i. Event_done (text_of s (sym same i) j (sym number i) (input_of e)) (calls_of s (sym same i) j (input_of e)) ∷ [])
+
+  pub calls_plain : IsNoFrame (input_of e) → records_of (steps_at plays slots told z e) ≡ step_calls
+  calls_plain other = ap records_of (steps_plain other) ∙ append-nil step_calls
+
+  pub happened_other : IsNoFrame (input_of e) → (y : LinkedExchange P E) (old new : List M) (before after : List ℕ) → IsLinkedAt carries frames sizes y s (next_joint s given_timers j (input_of e))
+      → y.exchange.control.map.bound ≡ x.exchange.control.map.bound → MovesAtMost x.exchange.control.map.bound (reply_to s j.world (derived given_timers j (input_of e)))
+      → after ≡ before ++ step_line → AreTold stands text old new step_calls → HasLinkedHappened plays carries frames sizes slots moves stands text told z e old new before after (Some y)
+  happened_other other y old new before after at bound few row noted =
+      let limit : x.exchange.control.map.bound ≡ moves (z.external + z.bridges) = bound_ready carries frames sizes slots moves told z heading x e ready in
+      record {
+        line = step_line;
+        calls = step_calls;
+        steps = steps_plain other;
+        appended = row;
+        noted = noted;
+        running = running_after carries frames sizes slots moves told z e (input_of e ∷ []) (inputs_other e other) ready.given.some y
+            (subst (λ (v : Link_timers). IsLinkedAt carries frames sizes y s (next_joint s v j (input_of e))) same at) (bound ∙ limit) ready.running.few
+            (step_few (moves (z.external + z.bridges)) s (link_timers_said told) j (input_of e)
+            (subst (λ (v : Link_timers). MovesAtMost (moves (z.external + z.bridges)) (reply_to s j.world (derived v j (input_of e)))) same
+            (subst (λ (n : ℕ). MovesAtMost n (reply_to s j.world (derived given_timers j (input_of e)))) limit few)));
+      }
+
+  -- the steps of a frame
+  module _ (input : Input) (frame : input_of e ≡ Happens (Frame input)) where
+    abbrev later : Joint
+    later = next_joint s given_timers j (input_of e)
+
+    abbrev frame_line : List ℕ
+    frame_line = step_line ++ turn_of s given_timers later ++ parts 0 (sent_at (plays (table_of s.tones)) s j.world (Frame input)) ++ codes "\n"
+
+    abbrev frame_calls : List CallRecord
+    frame_calls = step_calls ++ calls_of s given_timers later Turns
+
+    steps_both : steps_at plays slots told z e ≡ Event_done frame_line frame_calls ∷ []
+    steps_both =
+        let number : heading.plain.events ≡ length (events_in (plain_told told)) + 1 = ready.next.number in
+        steps_frame (plays (table_of s.tones)) s (link_timers_said told) j (length (events_in (plain_told told))) e input frame
+        ∙ ((λ i. Event_done (happened_line (plays (table_of s.tones)) s (sym same i) j (sym number i) (Frame input)) (happened_calls (plays (table_of s.tones)) s (sym same i) j (Frame input)) ∷ [])
+        ∙ (λ i. Event_done
+        (text_of s given_timers j heading.plain.events (sym frame i) ++ turn_of s given_timers (next_joint s given_timers j (sym frame i))
+        ++ parts 0 (sent_at (plays (table_of s.tones)) s j.world (Frame input)) ++ codes "\n")
+        (calls_of s given_timers j (sym frame i) ++ calls_of s given_timers (next_joint s given_timers j (sym frame i)) Turns) ∷ []))
+
+    pub calls_frame : records_of (steps_at plays slots told z e) ≡ frame_calls
+    calls_frame = ap records_of steps_both ∙ append-nil frame_calls
+
+    pub happened_frame : (mid y : LinkedExchange P E) (old new : List M) (before middle after : List ℕ) → IsLinkedAt carries frames sizes mid s later → IsLinkedAt carries frames sizes y s (next_joint s given_timers later Turns)
+        → mid.exchange.control.map.bound ≡ x.exchange.control.map.bound → y.exchange.control.map.bound ≡ mid.exchange.control.map.bound
+        → MovesAtMost x.exchange.control.map.bound (reply_to s j.world (derived given_timers j (input_of e))) → MovesAtMost mid.exchange.control.map.bound (reply_to s later.world (derived given_timers later Turns))
+        → middle ≡ before ++ step_line → ArePlayed plays s j.world input mid.exchange.octets.items → y.exchange.octets ≡ mid.exchange.octets
+        → after ≡ middle ++ turn_of s given_timers later ++ frame_end y.exchange.octets.items
+        → AreTold stands text old new frame_calls → HasLinkedHappened plays carries frames sizes slots moves stands text told z e old new before after (Some y)
+    happened_frame mid y old new before middle after at last bound bound_last few few_last row played octets rest noted =
+        let limit : x.exchange.control.map.bound ≡ moves (z.external + z.bridges) = bound_ready carries frames sizes slots moves told z heading x e ready in
+        let n = moves (z.external + z.bridges) in
+        let turn : List ℕ = turn_of s given_timers later in
+        let rows : List ℕ = parts 0 (sent_at (plays (table_of s.tones)) s j.world (Frame input)) in
+        let end : frame_end y.exchange.octets.items ≡ parts 0 (sent_at (plays (table_of s.tones)) s j.world (Frame input)) ++ codes "\n" =
+        (λ i. frame_end (octets i).items) ∙ ap (λ (rows : List (List ℕ)). parts 0 rows ++ codes "\n") (frame_rows plays s j.world input mid.exchange.octets.items played) in
+        record {
+          line = frame_line;
+          calls = frame_calls;
+          steps = steps_both;
+          appended =
+              rest
+              ∙ ((λ i. row i ++ turn ++ end i)
+              ∙ (ap (λ (l : List ℕ). l ++ (rows ++ codes "\n")) (append_assoc before step_line turn)
+              ∙ (append_assoc before (step_line ++ turn) (rows ++ codes "\n") ∙ ap (λ (l : List ℕ). before ++ l) (sym (append_assoc (step_line ++ turn) rows (codes "\n"))))));
+          noted = noted;
+          running = running_after carries frames sizes slots moves told z e (input_of e ∷ Turns ∷ []) (inputs_frame e input frame ∙ (λ i. sym frame i ∷ Turns ∷ [])) ready.given.some y
+              (subst (λ (v : Link_timers). IsLinkedAt carries frames sizes y s (next_joint s v (next_joint s v j (input_of e)) Turns)) same last) (bound_last ∙ (bound ∙ limit)) ready.running.few
+              (subst (λ (v : Link_timers). All (MovesAtMost n) (run s j.world (derived_all s v j (input_of e ∷ Turns ∷ [])))) same
+              (steps_few n s given_timers j (input_of e) Turns (subst (λ (m : ℕ). MovesAtMost m (reply_to s j.world (derived given_timers j (input_of e)))) limit few)
+              (subst (λ (m : ℕ). MovesAtMost m (reply_to s later.world (derived given_timers later Turns))) (bound ∙ limit) few_last)));
+        }
