@@ -205,6 +205,8 @@ class TraceReader:
             raise Fault("word", f'no line begins with "{first}"')
         if first in ("number", "tone", "timer", "link") and self.events:
             raise Fault("word", f"a line `{first}` comes before the first event")
+        if first in ("M", "up", "down") and words and numeral(words[0]) in self.linked:
+            raise Fault("slot", f"line {words[0]} has a data link: its messages come in frames, lines `L`", 1)
         act, counts = self.kinds[first]
         if len(words) not in counts:
             few = len(words) < counts.start
@@ -296,20 +298,14 @@ class TraceReader:
             raise Fault("slot", f"line {line} has no data link: its messages are lines `M`", 1)
         return LinkArrival(int(line), hexadecimal(octets, 0, MOST_LINK_DIGITS, 2))
 
-    def direct(self, word):
-        """A line that gets messages without a data link of this exchange."""
-        if self.line(word, 1) in self.linked:
-            raise Fault("slot", f"line {word} has a data link: its messages come in frames, lines `L`", 1)
-        return int(word)
-
     def message(self, line, octets=""):
-        return Arrival(self.direct(line), hexadecimal(octets, 0, MOST_MESSAGE_DIGITS, 2))
+        return Arrival(self.line(line, 1), hexadecimal(octets, 0, MOST_MESSAGE_DIGITS, 2))
 
     def up(self, line):
-        return Link(self.direct(line), is_up=True)
+        return Link(self.line(line, 1), is_up=True)
 
     def down(self, line):
-        return Link(self.direct(line), is_up=False)
+        return Link(self.line(line, 1), is_up=False)
 
     def frame(self, *parts):
         octets = {}
