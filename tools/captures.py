@@ -200,18 +200,22 @@ def read_signal(path, number, packet):
 
 
 class CaptureWriter:
-    """Writes a capture of LINUX_LAPD: each message is an I frame of SAPI 0, whose numbers count it on its line."""
+    """Writes a capture of LINUX_LAPD. The frames of a line with a data link are in it as they are. On another line each
+    message is an I frame of SAPI 0, whose numbers count it on its line."""
 
     HEADER = struct.pack(">IHHiIII", MAGIC, *VERSION, 0, 0, LONGEST_PACKET, LINUX_LAPD)
 
-    def __init__(self):
+    def __init__(self, linked=()):
+        self.linked = linked  # the lines with a data link
         self.count = Counter()  # of the messages by line and direction
 
     def packet(self, frames, line, is_sent, octets):
-        """A message with the frames before it, its line, and whether the exchange sent it."""
-        own, other = self.count[line, is_sent], self.count[line, not is_sent]
-        self.count[line, is_sent] += 1
-        packet = pseudo_header(is_sent) + lapd_header(line, is_sent, own, other) + octets
+        """A message or a frame with the frames of the exchange before it, its line, and whether the exchange sent it."""
+        if line not in self.linked:
+            own, other = self.count[line, is_sent], self.count[line, not is_sent]
+            self.count[line, is_sent] += 1
+            octets = lapd_header(line, is_sent, own, other) + octets
+        packet = pseudo_header(line, is_sent) + octets
         return record_header(frames, len(packet)) + packet
 
 
@@ -220,10 +224,11 @@ def record_header(frames, length):
     return struct.pack(">IIII", seconds, rest * MICROSECONDS_PER_FRAME, length, length)
 
 
-def pseudo_header(is_sent):
-    """The header of a Linux capture: type of packet, hardware, an address of 8 octets, protocol."""
+def pseudo_header(line, is_sent):
+    """The header of a Linux capture: type of packet, hardware, an address of 8 octets, protocol. The number of the line
+    in the address is an addition, because each line with a data link has TEI 0."""
     kind = FROM_US if is_sent else TO_US
-    return struct.pack(">HHHB7xH", kind, LAPD_HARDWARE, 1, NETWORK_SIDE, LAPD_PROTOCOL)
+    return struct.pack(">HHHBB6xH", kind, LAPD_HARDWARE, 2, NETWORK_SIDE, line, LAPD_PROTOCOL)
 
 
 def lapd_header(line, is_sent, own, other):

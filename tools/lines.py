@@ -1,45 +1,40 @@
-"""A line of a running exchange: the queue of what its endpoint sent, and the socket of its endpoint."""
+"""A line of a running exchange: the queue of what its endpoint sent, and the socket of its endpoint.
+
+A line with a data link has a D channel, which is another socket. Each datagram there is a frame with two octets of check
+sequence at its end, in both directions, as a driver of a D channel has it.
+"""
 
 from __future__ import annotations
 
+import select
 import socket
 from collections import deque
 
 from commands import NAME, Refused, say
+from lapd import FCS, MOST_FRAME, check_sequence
 from live import FRAMES, IDLE_ROW, LONGEST_LINE, MESSAGE, NO_FRAMES, PIECE, without_delay
 from q931 import RESTART, restart_indicator, written
 
 AHEAD = 8_000  # frames and messages in a queue from which on its endpoint is not read
 MOST_UNREAD = 1 << 23  # octets that an endpoint may leave unread: 16 seconds of frames
+MOST_LINK_FRAMES = 256  # in the queue of a D channel, from which on its endpoint is not read
+DATAGRAM = 4096  # octets that are read of a datagram, of which fewer are used
 
 SILENCE, GONE = "silence", "gone"  # marks in a queue: no octets from there on; no endpoint from there on
 SHUT_DOWN = written(0, 0, RESTART, restart_indicator(whole_line=True)).hex().upper().encode()
 
 
-class Line:
-    """A line with a socket on which it listens for its endpoint.
+class Port:
+    """A socket on which a line listens for one endpoint at a time. `loop.watch` waits until a socket can be read or written."""
 
-    Its queue has lists of frames, messages and marks, in the order in which the endpoint sent them. A frame there is
-    the part of a trace line, ` L:HEX`. `loop.watch` waits until a socket can be read or written.
-    """
-
-    def __init__(self, number, address, loop):
+    def __init__(self, number, address, loop, kind=socket.SOCK_STREAM):
         self.number = number
-        self.key = b"%d" % number
         self.loop = loop
         self.address = address
-        self.listener, place = address.listening()
+        self.listener, self.place = address.listening(kind)
         self.listener.setblocking(False)
         self.endpoint = None
-        self.queue = deque()
-        self.queued = 0  # frames and messages
-        self.begun = b""  # the line that the endpoint has sent a part of
-        self.unsent = bytearray()  # what the endpoint's socket did not take yet
-        self.due = []  # lines for the endpoint, without their ends
-        self.is_speaking = False  # it sends octets
-        self.is_listening = False  # it gets octets
-        self.messages = self.frames = self.late = 0  # how many were taken, and how many frames were not there in time
-        self.say(f"listens on {place}")
+        self.queue = deque()  # what the endpoint sent
 
     def open(self):
         """Accepts an endpoint."""
@@ -51,14 +46,45 @@ class Line:
         self.listener.close()
         self.address.remove()
 
+    def accepted(self):
+        """The socket of an endpoint that has come; None if it has gone again."""
+        try:
+            connection, _ = self.listener.accept()
+        except OSError:
+            return None
+        connection.setblocking(False)
+        return connection
+
+    def say(self, text):
+        say(f"{NAME}: line {self.number}: {text}")
+
+
+class Line(Port):
+    """A line with a socket on which it listens for its endpoint.
+
+    Its queue has lists of frames, messages and marks, in the order in which the endpoint sent them. A frame there is
+    the part of a trace line, ` L:HEX`. If the line has a data link, its messages come over that.
+    """
+
+    def __init__(self, number, address, loop, has_link=False):
+        super().__init__(number, address, loop)
+        self.key = b"%d" % number
+        self.has_link = has_link
+        self.queued = 0  # frames and messages
+        self.begun = b""  # the line that the endpoint has sent a part of
+        self.unsent = bytearray()  # what the endpoint's socket did not take yet
+        self.due = []  # lines for the endpoint, without their ends
+        self.is_speaking = False  # it sends octets
+        self.is_listening = False  # it gets octets
+        self.messages = self.frames = self.late = 0  # how many were taken, and how many frames were not there in time
+        self.say(f"listens on {self.place}")
+
     # ---- its endpoint
 
     def accept(self):
-        try:
-            connection, _ = self.listener.accept()
-        except OSError:  # it has gone again
+        connection = self.accepted()
+        if connection is None:
             return
-        connection.setblocking(False)
         if self.endpoint is not None:
             self.refuse(connection, f"line {self.number} has an endpoint already")
             return
@@ -66,9 +92,6 @@ class Line:
         self.say("an endpoint is attached")
         self.due.append(b"line %d" % self.number)
         self.send()
-
-    def say(self, text):
-        say(f"{NAME}: line {self.number}: {text}")
 
     def watch(self):
         """Waits for the endpoint; if its queue is long, it is not read."""
@@ -114,7 +137,7 @@ class Line:
         self.watch()
 
     def leave(self, why, refusal=None):
-        """The endpoint goes. The next one is accepted when the exchange has answered the restart of the line."""
+        """The endpoint goes. The next one is accepted when what it sent has taken effect, and the restart of the line."""
         self.say(f"its endpoint {why}")
         gone, self.endpoint = self.endpoint, None
         self.loop.watch(gone)
@@ -173,6 +196,8 @@ class Line:
 
     def take_line(self, text):
         message = MESSAGE.fullmatch(text)
+        if message and self.has_link:
+            raise Refused(f"line {self.number} has a data link, over which its messages come")
         if message:
             self.queue.append(message.group(1))
             self.queued += 1
@@ -188,7 +213,7 @@ class Line:
     # ---- what the exchange gets
 
     def messages_due(self):
-        """Takes what comes before the next frame. A shutdown of the line is a message too."""
+        """Takes what comes before the next frame. A shutdown of the line is a message too, if it has no data link."""
         while self.queue and not isinstance(self.queue[0], list):
             item = self.queue.popleft()
             if isinstance(item, bytes):
@@ -197,7 +222,9 @@ class Line:
                 yield item
             else:
                 self.is_speaking = False
-                if item is GONE:
+                if item is GONE and self.has_link:
+                    self.open()
+                elif item is GONE:
                     yield SHUT_DOWN
 
     def column(self, count):
@@ -222,3 +249,77 @@ class Line:
     def hear(self, octets):
         """Its octets of the next frame, None if they are idle."""
         self.due.append(b"F " + (octets or IDLE_ROW))
+
+
+class DChannel(Port):
+    """The D channel of a line with a data link. Its queue has the digits of the frames that the endpoint sent.
+
+    While no endpoint is there, or none that reads, the frames of the exchange are lost. The data link finds that out.
+    """
+
+    def __init__(self, number, address, loop):
+        super().__init__(number, address, loop, socket.SOCK_SEQPACKET)
+        self.frames = self.cut = self.lost = 0  # how many were taken, and cut, and how many of the exchange were lost
+        self.say(f"its data link listens on {self.place}")
+
+    def accept(self):
+        connection = self.accepted()
+        if connection is None:
+            return
+        if self.endpoint is not None:
+            self.say("its data link has an endpoint already, and another one is not accepted")
+            connection.close()
+            return
+        self.endpoint = connection
+        self.say("an endpoint is attached to its data link")
+        self.watch()
+
+    def watch(self):
+        """Waits for the endpoint; if its queue is long, it is not read."""
+        if self.endpoint is not None:
+            self.loop.watch(self.endpoint, self.receive if len(self.queue) < MOST_LINK_FRAMES else None)
+
+    def receive(self):
+        try:
+            datagram = self.endpoint.recv(DATAGRAM)
+        except BlockingIOError:
+            return
+        except OSError:
+            datagram = b""
+        if not datagram and is_closed(self.endpoint):
+            self.leave()
+            return
+        octets = datagram[:-FCS]
+        self.frames += 1
+        self.cut += len(octets) > MOST_FRAME
+        self.queue.append(octets[:MOST_FRAME])
+        self.watch()
+
+    def leave(self):
+        self.say("the endpoint of its data link has gone")
+        self.loop.watch(self.endpoint)
+        self.endpoint.close()
+        self.endpoint = None
+
+    def frames_due(self):
+        """Takes the frames that have come."""
+        while self.queue:
+            yield self.queue.popleft()
+
+    def send(self, octets):
+        """Sends a frame with its check sequence, if the endpoint's socket takes it."""
+        is_sent = False
+        try:
+            is_sent = self.endpoint is not None and self.endpoint.send(octets + check_sequence(octets)) > 0
+        except BlockingIOError:
+            pass
+        except OSError:
+            self.leave()
+        self.lost += not is_sent
+
+
+def is_closed(connection):
+    """Whether the other side has closed its socket, and has not just sent an empty datagram."""
+    poll = select.poll()
+    poll.register(connection, select.POLLRDHUP)
+    return bool(poll.poll(0))

@@ -68,25 +68,25 @@ class Address:
             raise
         return connection
 
-    def listening(self):
-        """A socket that listens at this address, and the address in words."""
+    def listening(self, kind=socket.SOCK_STREAM):
+        """A socket that listens at this address, and the address in words. Only a Unix socket can be of another kind."""
         try:
             if self.path is None:
                 listener = socket.create_server((self.host, self.port))
                 return listener, f"tcp:{self.host}:{listener.getsockname()[1]}"
-            self._remove_unused()
-            listener = socket.socket(socket.AF_UNIX)
+            self._remove_unused(kind)
+            listener = socket.socket(socket.AF_UNIX, kind)
             listener.bind(self.path)
             listener.listen()
             return listener, self.word
         except OSError as error:
             raise Refused(f"{self.word} cannot be listened on: {error.strerror or error}") from None
 
-    def _remove_unused(self):
+    def _remove_unused(self, kind):
         """Removes a socket that another process has left."""
         if not os.path.exists(self.path):
             return
-        with socket.socket(socket.AF_UNIX) as connection:
+        with socket.socket(socket.AF_UNIX, kind) as connection:
             try:
                 connection.connect(self.path)
             except ConnectionRefusedError:

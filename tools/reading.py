@@ -22,10 +22,12 @@ MOST_EVENTS = 65_535
 MOST_CHANGES = 65_535
 MOST_NUMBERS = 256
 MOST_MESSAGE_DIGITS = 520
+MOST_LINK_DIGITS = 530  # of a frame of a data link
 FRAME_DIGITS = 2 * PLACES
 MOST_TONE_DIGITS = 16_000
 
-# The timers of calls, and how many frames each runs where a trace does not say.
+# The timers of calls and of data links, and how many frames each runs where a trace does not say.
+USUAL_LINK_TIMERS = {"T200": 8_000, "T203": 80_000}
 USUAL_TIMERS = {"T301": 1_440_000, "T302": 120_000, "T303": 32_000, "T305": 240_000, "T308": 32_000, "T309": 48_000, "T310": 80_000}
 
 
@@ -90,6 +92,14 @@ class Link:
 
 
 @dataclass(frozen=True)
+class LinkArrival:
+    """A frame arrives on the data link of a line."""
+
+    line: int
+    octets: bytes
+
+
+@dataclass(frozen=True)
 class Frame:
     """The octets that arrive in a frame, by line."""
 
@@ -105,6 +115,7 @@ class Trace:
     timers: dict  # names to frames; a timer that isn't given has its usual value
     events: tuple
     changes: tuple  # for each change of meters, how many events are before it
+    linked: tuple = ()  # the lines with a data link
 
 
 @dataclass(frozen=True)
@@ -114,9 +125,11 @@ class Reply:
     event: int
     word: str
     moved: tuple | None = None
-    sent: tuple = ()  # pairs of a line and the octets of a message
+    sent: tuple = ()  # pairs of a line and the octets of a message, or of a frame on a line with a data link
     frame: int | None = None
     octets: dict | None = None  # the octets sent in a frame, by line
+    told: str | None = None  # what a data link indicates: `took`, `up` or `down`
+    turned: int | None = None  # the line of a data link that is up or down after its turn in a frame
 
 
 # ---- traces
@@ -150,13 +163,16 @@ def hexadecimal(word, least, most, at):
 
 
 class TraceReader:
-    """Takes the lines of a trace one by one, and gathers what they say."""
+    """Takes the lines of a trace one by one, and gathers what they say. Only a trace that is followed has data links."""
 
-    def __init__(self):
+    def __init__(self, is_followed=False):
         self.sizes = None
         self.numbers = {}
         self.tones = {}
         self.timers = {}
+        self.linked = []
+        self.known_timers = {**USUAL_TIMERS, **(USUAL_LINK_TIMERS if is_followed else {})}
+        self.most_events, self.most_changes = (float("inf"),) * 2 if is_followed else (MOST_EVENTS, MOST_CHANGES)
         self.events = []
         self.changes = []
         self.segments = 0
@@ -174,6 +190,8 @@ class TraceReader:
             "sync": (self.sync, range(0, 1)),
             "change": (self.change, range(0, 1)),
         }
+        if is_followed:
+            self.kinds |= {"link": (self.link, range(1, 2)), "L": (self.link_frame, range(1, 3))}
 
     def take(self, line):
         """Takes one line that is neither a comment nor blank."""
@@ -185,8 +203,10 @@ class TraceReader:
         first, *words = line.split()
         if first not in self.kinds:
             raise Fault("word", f'no line begins with "{first}"')
-        if first in ("number", "tone", "timer") and self.events:
+        if first in ("number", "tone", "timer", "link") and self.events:
             raise Fault("word", f"a line `{first}` comes before the first event")
+        if first in ("M", "up", "down") and words and numeral(words[0]) in self.linked:
+            raise Fault("slot", f"line {words[0]} has a data link: its messages come in frames, lines `L`", 1)
         act, counts = self.kinds[first]
         if len(words) not in counts:
             few = len(words) < counts.start
@@ -195,7 +215,7 @@ class TraceReader:
             raise Fault("word", f"too {'few' if few else 'many'} words: {said}", len(words) if few else counts.stop)
         event = act(*words)
         if event is not None:
-            if len(self.events) == MOST_EVENTS:
+            if len(self.events) == self.most_events:
                 raise Fault("limit", f"a trace has at most {MOST_EVENTS} events")
             self.events.append(event)
 
@@ -248,8 +268,8 @@ class TraceReader:
         self.tones[kind] = hexadecimal(octets, 2, MOST_TONE_DIGITS, 2)
 
     def timer(self, name, frames):
-        if name not in USUAL_TIMERS:
-            raise Fault("word", f"a timer is {', '.join(USUAL_TIMERS)}", 1)
+        if name not in self.known_timers:
+            raise Fault("word", f"a timer is {', '.join(self.known_timers)}", 1)
         if name in self.timers:
             raise Fault("word", f"the timer {name} is given already", 1)
         self.timers[name] = numeral(frames)
@@ -267,6 +287,16 @@ class TraceReader:
 
     def free(self, slot):
         return Free(self.slot(slot, 1))
+
+    def link(self, line):
+        if self.line(line, 1) in self.linked:
+            raise Fault("slot", f"line {line} has a data link already", 1)
+        self.linked.append(int(line))
+
+    def link_frame(self, line, octets=""):
+        if self.line(line, 1) not in self.linked:
+            raise Fault("slot", f"line {line} has no data link: its messages are lines `M`", 1)
+        return LinkArrival(int(line), hexadecimal(octets, 0, MOST_LINK_DIGITS, 2))
 
     def message(self, line, octets=""):
         return Arrival(self.line(line, 1), hexadecimal(octets, 0, MOST_MESSAGE_DIGITS, 2))
@@ -293,7 +323,7 @@ class TraceReader:
         self.segments += 1
 
     def change(self):
-        if len(self.changes) == MOST_CHANGES:
+        if len(self.changes) == self.most_changes:
             raise Fault("limit", f"a trace has at most {MOST_CHANGES} changes")
         self.changes.append(len(self.events))
 
@@ -325,11 +355,16 @@ def lines_of(path):
     return lines
 
 
+def is_said(line):
+    """Whether a line of a trace is neither a comment nor blank."""
+    return not line.startswith("#") and bool(line.strip(" "))
+
+
 def take_lines(reader, lines):
     """Has a reader take the lines of a trace. Where one fails, its number from 1, and the fault."""
     number = 0
     for number, line in enumerate(lines, start=1):
-        if line.startswith("#") or not line.strip(" "):
+        if not is_said(line):
             continue
         try:
             reader.take(line)
@@ -340,14 +375,23 @@ def take_lines(reader, lines):
     return None
 
 
-def read_trace(path):
+def read_trace(path, is_followed=False):
     """The trace in a file."""
-    reader = TraceReader()
-    refusal = take_lines(reader, watched(lines_of(path), path))
+    reader = TraceReader(is_followed)
+    lines = lines_of(path)
+    refusal = take_lines(reader, watched(lines, path))
+    if refusal and not is_followed and has_links(lines):
+        raise Refused(f"{path} has data links: tools/plain writes a trace without them")
     if refusal:
         raise Refused("{} is no trace: line {}, {}".format(path, *refusal))
-    timers = USUAL_TIMERS | reader.timers
-    return Trace(*reader.sizes, reader.numbers, timers, tuple(reader.events), tuple(reader.changes))
+    timers = reader.known_timers | reader.timers
+    return Trace(*reader.sizes, reader.numbers, timers, tuple(reader.events), tuple(reader.changes), tuple(reader.linked))
+
+
+def has_links(lines):
+    """Whether these are the lines of a trace with data links."""
+    reader = TraceReader(is_followed=True)
+    return take_lines(reader, lines) is None and bool(reader.linked)
 
 
 # ---- reports
@@ -357,8 +401,11 @@ PLAIN = re.compile(f"{COUNT} (busy|noport|freed|notnailed)")
 JOINED = re.compile(f"{COUNT} (granted|seated) {COUNT} {COUNT}")
 SIGNAL = "[0-9]{1,2}:(?:[0-9A-F]{2})+"
 MESSAGE = re.compile(f"{COUNT} message(?: moved {COUNT} {COUNT})?((?: {SIGNAL})*)")
+LINK = re.compile(f"{COUNT} link(?: (took|up|down))?(?: moved {COUNT} {COUNT})?((?: {SIGNAL})*)")
 METER = re.compile(f"call [0-9/]+ (?:[0-9/]+|room [0-9]+)(?: {COUNT}){{3}}|(?:peg|holding) [0-9]+ [0-9]+")
-FRAME = re.compile(f"{COUNT} frame {COUNT}((?: send {SIGNAL})*)((?: [0-9]{{1,2}}:[0-9A-F]{{{FRAME_DIGITS}}})*)")
+SENDS = f"((?: send {SIGNAL})*)"
+TURN = f"(?: (up|down) ([0-9]{{1,2}}){SENDS})?"  # of a data link
+FRAME = re.compile(f"{COUNT} frame {COUNT}{SENDS}{TURN}((?: [0-9]{{1,2}}:[0-9A-F]{{{FRAME_DIGITS}}})*)")
 
 
 def parts(text):
@@ -379,10 +426,15 @@ def reply(line):
         event, there, back, sent = match.groups()
         moved = None if there is None else (int(there), int(back))
         return Reply(int(event), "message", moved=moved, sent=parts(sent))
+    if match := LINK.fullmatch(line):
+        event, told, there, back, sent = match.groups()
+        moved = None if there is None else (int(there), int(back))
+        return Reply(int(event), "link", moved=moved, sent=parts(sent), told=told)
     if match := FRAME.fullmatch(line):
-        event, frame, sent, octets = match.groups()
-        sent = parts(sent.replace(" send ", " "))
-        return Reply(int(event), "frame", sent=sent, frame=int(frame), octets=dict(parts(octets)))
+        event, frame, sent, told, turned, more, octets = match.groups(default="")
+        sent = parts((sent + more).replace(" send ", " "))
+        turn = {"told": told, "turned": int(turned)} if told else {}
+        return Reply(int(event), "frame", sent=sent, frame=int(frame), octets=dict(parts(octets)), **turn)
     return None
 
 
@@ -419,13 +471,14 @@ WORDS_OF = {
     Free: ("freed", "notnailed"),
     Arrival: ("message",),
     Link: ("message",),
+    LinkArrival: ("link",),
     Frame: ("frame",),
 }
 
 
-def read_run(trace_path, report_path):
+def read_run(trace_path, report_path, is_followed=False):
     """A trace, and each of its events with its reply, in the order of the report."""
-    trace = read_trace(trace_path)
+    trace = read_trace(trace_path, is_followed)
     replies = read_report(report_path, changed=bool(trace.changes))
     steps = []
     seen = set()
@@ -436,6 +489,7 @@ def read_run(trace_path, report_path):
             and answer.event not in seen
             and answer.word in WORDS_OF[type(trace.events[answer.event - 1])]
             and all(line < trace.external for line in lines)
+            and answer.turned in (None, *trace.linked)
         )
         if not fits:
             raise Refused(f"{report_path} is not the report of {trace_path}: line {number}")
