@@ -19,7 +19,7 @@ pub enum InputStorage {
     Rows(Vec<Option<[u8; 30]>>),
 }
 
-// The rows of as many idle lines as a frame without an allocation can have.
+// The rows of the largest number of idle lines that a frame without an allocation has.
 static IDLE_ROWS: [Option<[u8; 30]>; 255] = [None; 255];
 
 impl Model for Input {

@@ -101,7 +101,7 @@ abbrev pub RepliesIfOk : {P E F : Type 0} → Carrying E → (E → ℕ) → (E 
     → (y : LinkedExchange P E) → Type 0
 RepliesIfOk carries frames sizes settings input x result y = IfOk result (λ response. RepliesTo carries frames sizes settings input x response y)
 
--- by the response and the outbox, the step moved at most as many live paths as the path map may move in one step
+-- by the response and the outbox, the step moved at most the number of live paths that the path map can move in one step
 abbrev pub MovesFew : {P E : Type 0} → Response → (x y : LinkedExchange P E) → Type 0
 MovesFew response x y = MovesAtMost x.exchange.control.map.bound (reply_of response y.exchange.context.out)
 
