@@ -97,7 +97,7 @@ noticed_framed s w line (Ok (Some (notice.Link Down))) n sends records is = absu
 noticed_framed s w line (Ok None) n sends records is = absurd (cc)
 noticed_framed s w line (Err e) n sends records is = absurd (cc)
 
--- the response to an input is that of a frame only if it is one
+-- an input has the response to a frame only if it is a frame
 pub frame_input : (s : Setting) (timers : Link_timers) (j : Joint) (e : LinkedEvent) (n : ℕ) (out : Outbox) → reply_of (response.Frame n) out ≡ reply_to s j.world (derived timers j (input_of e))
     → (input : Input) × (input_of e ≡ Happens (Frame input))
 frame_input s timers j (event.Event e) n out is = let found = framed_is s j.world e.now n out.sends out.records is in (found.0, ap Happens found.1)
@@ -119,7 +119,7 @@ no_frame_reply response.NotNailed out n sends records other is = absurd (cc)
 no_frame_reply response.Sent out n sends records other is = absurd (cc)
 no_frame_reply (response.Frame m) out n sends records other is = other m refl
 
--- the response to an input is another one only if it is no frame
+-- an input has another response only if it is not a frame
 pub other_input : (s : Setting) (timers : Link_timers) (j : Joint) (e : LinkedEvent) (r : Response) (out : Outbox) → ((m : ℕ) → r ≡ response.Frame m → ⊥)
     → reply_of r out ≡ reply_to s j.world (derived timers j (input_of e)) → IsNoFrame (input_of e)
 other_input s timers j (event.Event e) r out other is input frame =

@@ -49,7 +49,7 @@ use Rattle.followed_events.proofs.TurnSteps.{no_inputs}
 
 -- ---- the settings
 
--- these settings are those of a heading
+-- the settings of a heading
 pub record IsSettingOf (heading : LinkSoFar) (settings : Settings) : Type 0 where
   pub plan : settings.plan.now ≡ heading.plain.plan
   pub tones : settings.tones.now ≡ heading.plain.tones
