@@ -1,5 +1,5 @@
 -- An event of a trace with data links that is followed: the exchange before it, its line, and the exchange after it.
-use Rattle.std.proofs.Common.{◌≡◌, ℕ, ◌+◌, ◌≤◌, Bool, true, false, List, [], ◌∷◌, ◌++◌, length, Option, Some, None, Result, Ok, Err, refl, sym, ap, ◌∙◌, subst, arith, append-nil, append_assoc, inl, inr, if◌then◌else◌}
+use Rattle.std.proofs.Common.{◌≡◌, ℕ, ◌+◌, ◌≤◌, Bool, true, false, List, [], ◌∷◌, ◌++◌, length, Option, Some, None, Result, Ok, Err, refl, sym, ap, ◌∙◌, subst, arith, append-nil, append_assoc, ◌⊎◌, inl, inr, if◌then◌else◌}
 use Rattle.std.specs.Prelude.{All}
 use Rattle.std.specs.List.{cons_option}
 use Rattle.std.proofs.lemmas.List.Elements.{All-append, All-cons, All-nil, filter_map-append}
@@ -107,6 +107,20 @@ frame_input s timers j (event.Received line octets) n out is = absurd (noticed_f
 
 abbrev pub IsNoFrame : LinkedInput → Type 0
 IsNoFrame i = (input : Input) → i ≡ Happens (Frame input) → ⊥
+
+event_frame : (e : Event) → ((input : Input) × (Happens e ≡ Happens (Frame input))) ⊎ IsNoFrame (Happens e)
+event_frame (Frame input) = inl (input, refl)
+event_frame (Nail x y) = inr (λ input is. absurd (cc))
+event_frame (Seat x room) = inr (λ input is. absurd (cc))
+event_frame (Free x) = inr (λ input is. absurd (cc))
+event_frame (Message line octets) = inr (λ input is. absurd (cc))
+event_frame (LinkUp line) = inr (λ input is. absurd (cc))
+event_frame (LinkDown line) = inr (λ input is. absurd (cc))
+
+pub frame_or_not : (i : LinkedInput) → ((input : Input) × (i ≡ Happens (Frame input))) ⊎ IsNoFrame i
+frame_or_not (Happens e) = event_frame e
+frame_or_not (Receives line octets) = inr (λ input is. absurd (cc))
+frame_or_not Turns = inr (λ input is. absurd (cc))
 
 -- no other response has the reply to a frame
 no_frame_reply : (r : Response) (out : Outbox) (n : ℕ) (sends : List Signal) (records : List CallRecord) → ((m : ℕ) → r ≡ response.Frame m → ⊥) → reply_of r out ≡ Framed n sends records → ⊥

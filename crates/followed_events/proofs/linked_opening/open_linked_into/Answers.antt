@@ -8,7 +8,7 @@ use Rattle.followed_events.proofs.linked_opening.open_linked_into.Goals as goal
 pub new-requires-clause-linked : goal.new-requires-clause-linked
 new-requires-clause-linked g c κs within =
     let long = length-map-range_with_len (λ line. is_listed line c.args.heading.now.linked) 0 c.in-Some.sizes.external in
-    let same = c.in_ok-link_row.ensures in
+    let same = c.in_ok-row.ensures in
     rw same (omega (arith, long))
 
 pub returns : goal.returns
@@ -16,5 +16,5 @@ returns g c = record {
   running = λ told z heard. linked_new g.C.Carrier.carries g.C.Carrier.next g.C.Carrier.sizes g.P.Fabric.slots g.P.Fabric.moves told z c.args.heading.now c.args.exchange.now c.in_ok-new.field-0 c.in-Some.sizes _ _
       c.requires.none (c.in-Some.ensures ∙ ap (λ k. k.sizes) c.plain-plain.ensures)
       (record { plan = c.plan.ensures ∙ ap (λ k. k.plan) c.plain-plain.ensures; tones = c.tones.ensures ∙ ap (λ k. k.tones) c.plain-plain.ensures; timers = c.timers-timers.ensures ∙ ap (λ k. timers_by k.timers) c.plain-plain.ensures; link_timers = c.link_timers-link_timers.ensures })
-      c.in_ok-link_row.ensures c.in_ok-new.ensures.start c.in_ok-new.ensures.bound heard;
+      c.in_ok-row.ensures c.in_ok-new.ensures.start c.in_ok-new.ensures.bound heard;
 }
