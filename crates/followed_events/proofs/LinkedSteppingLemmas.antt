@@ -93,11 +93,11 @@ module _ {P E : Type 0} (carries : Carrying E) (frames : E → ℕ) (sizes : E �
         few = subst (λ (v : Sizes). MovesFewInTurn slots moves v told) same at.few;
       }
 
-  pub linked_new : (exchange : Option (LinkedExchange P E)) (x : LinkedExchange P E) (sized : Sizes) (settings : Settings) (row : List Bool) → is_some exchange ≡ false → Some sized ≡ heading.plain.sizes
-      → IsSettingOf heading settings → row ≡ link_row sized.external heading.linked → StartsLinkedAt carries frames sizes settings sized.external sized.bridges slots row x
+  pub linked_new : (exchange : Option (LinkedExchange P E)) (x : LinkedExchange P E) (sized : Sizes) (settings : Settings) (row : List Bool) (depth : ℕ) → is_some exchange ≡ false → Some sized ≡ heading.plain.sizes
+      → IsSettingOf heading settings → row ≡ link_row sized.external heading.linked → depth ≡ slots → StartsLinkedAt carries frames sizes settings sized.external sized.bridges depth row x
       → x.exchange.control.map.bound ≡ moves (sized.external + sized.bridges) → IsLinkedHeard carries frames sizes slots moves told z heading exchange → IsLinkedRunning carries frames sizes slots moves told z (Some x)
-  linked_new (Some y) x sized settings row none known is rows starts bound heard = absurd (grind (arith, none))
-  linked_new None x sized settings row none known is rows starts bound heard =
+  linked_new (Some y) x sized settings row depth none known is rows deep starts bound heard = absurd (grind (arith, none))
+  linked_new None x sized settings row depth none known is rows deep starts bound heard =
       let given = heard.given in
       let both : Some sized ≡ Some z = known ∙ given.sized in
       let same : sized ≡ z = grind (arith, both) in
@@ -105,8 +105,8 @@ module _ {P E : Type 0} (carries : Carrying E) (frames : E → ℕ) (sizes : E �
       let timers = link_timers_said told in
       let inputs : inputs_in told ≡ [] = no_inputs told heard.driven in
       let lines : row ≡ link_row z.external (linked_in told) = rows ∙ (λ i. link_row (same i).external (sym given.linked i)) in
-      let begins : StartsLinkedAt carries frames sizes settings z.external z.bridges slots row x = subst (λ (v : Sizes). StartsLinkedAt carries frames sizes settings v.external v.bridges slots row x) same starts in
-      let first : IsLinkedAt carries frames sizes x s (start_joint s row) = begins s refl (has_settings slots told z heading settings given is) in
+      let begins : StartsLinkedAt carries frames sizes settings z.external z.bridges depth row x = subst (λ (v : Sizes). StartsLinkedAt carries frames sizes settings v.external v.bridges depth row x) same starts in
+      let first : IsLinkedAt carries frames sizes x s (start_joint s row) = begins s (ap (size z.external z.bridges) (sym deep)) (has_settings slots told z heading settings given is) in
       let joint : start_joint s row ≡ joint_said slots z told = ap (start_joint s) lines ∙ ap (joint_after_all s timers (first_joint slots z told)) (sym inputs) in
       let n = moves (z.external + z.bridges) in
       let events : trace_by slots z (in_turn told) (inputs_in told) ≡ links_down 0 (link_row z.external (linked_in told)) =
