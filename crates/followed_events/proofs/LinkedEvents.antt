@@ -1,5 +1,5 @@
 -- An event of a trace with data links that is followed: the exchange before it, its line, and the exchange after it.
-use Rattle.std.proofs.Common.{◌≡◌, ℕ, ◌+◌, ◌≤◌, Bool, true, false, List, [], ◌∷◌, ◌++◌, length, Option, Some, None, Result, Ok, Err, refl, sym, ap, ◌∙◌, subst, arith, append-nil, append_assoc, inl, inr, if◌then◌else◌}
+use Rattle.std.proofs.Common.{◌≡◌, ℕ, ◌+◌, ◌≤◌, Bool, true, false, List, [], ◌∷◌, ◌++◌, length, Option, Some, None, Result, Ok, Err, refl, sym, ap, ◌∙◌, subst, arith, append-nil, append_assoc, ◌⊎◌, inl, inr, if◌then◌else◌}
 use Rattle.std.specs.Prelude.{All}
 use Rattle.std.specs.List.{cons_option}
 use Rattle.std.proofs.lemmas.List.Elements.{All-append, All-cons, All-nil, filter_map-append}
@@ -97,7 +97,7 @@ noticed_framed s w line (Ok (Some (notice.Link Down))) n sends records is = absu
 noticed_framed s w line (Ok None) n sends records is = absurd (cc)
 noticed_framed s w line (Err e) n sends records is = absurd (cc)
 
--- the response to an input is that of a frame only if it is one
+-- an input has the response to a frame only if it is a frame
 pub frame_input : (s : Setting) (timers : Link_timers) (j : Joint) (e : LinkedEvent) (n : ℕ) (out : Outbox) → reply_of (response.Frame n) out ≡ reply_to s j.world (derived timers j (input_of e))
     → (input : Input) × (input_of e ≡ Happens (Frame input))
 frame_input s timers j (event.Event e) n out is = let found = framed_is s j.world e.now n out.sends out.records is in (found.0, ap Happens found.1)
@@ -107,6 +107,20 @@ frame_input s timers j (event.Received line octets) n out is = absurd (noticed_f
 
 abbrev pub IsNoFrame : LinkedInput → Type 0
 IsNoFrame i = (input : Input) → i ≡ Happens (Frame input) → ⊥
+
+event_frame : (e : Event) → ((input : Input) × (Happens e ≡ Happens (Frame input))) ⊎ IsNoFrame (Happens e)
+event_frame (Frame input) = inl (input, refl)
+event_frame (Nail x y) = inr (λ input is. absurd (cc))
+event_frame (Seat x room) = inr (λ input is. absurd (cc))
+event_frame (Free x) = inr (λ input is. absurd (cc))
+event_frame (Message line octets) = inr (λ input is. absurd (cc))
+event_frame (LinkUp line) = inr (λ input is. absurd (cc))
+event_frame (LinkDown line) = inr (λ input is. absurd (cc))
+
+pub frame_or_not : (i : LinkedInput) → ((input : Input) × (i ≡ Happens (Frame input))) ⊎ IsNoFrame i
+frame_or_not (Happens e) = event_frame e
+frame_or_not (Receives line octets) = inr (λ input is. absurd (cc))
+frame_or_not Turns = inr (λ input is. absurd (cc))
 
 -- no other response has the reply to a frame
 no_frame_reply : (r : Response) (out : Outbox) (n : ℕ) (sends : List Signal) (records : List CallRecord) → ((m : ℕ) → r ≡ response.Frame m → ⊥) → reply_of r out ≡ Framed n sends records → ⊥
@@ -119,7 +133,7 @@ no_frame_reply response.NotNailed out n sends records other is = absurd (cc)
 no_frame_reply response.Sent out n sends records other is = absurd (cc)
 no_frame_reply (response.Frame m) out n sends records other is = other m refl
 
--- the response to an input is another one only if it is no frame
+-- an input has another response only if it is not a frame
 pub other_input : (s : Setting) (timers : Link_timers) (j : Joint) (e : LinkedEvent) (r : Response) (out : Outbox) → ((m : ℕ) → r ≡ response.Frame m → ⊥)
     → reply_of r out ≡ reply_to s j.world (derived timers j (input_of e)) → IsNoFrame (input_of e)
 other_input s timers j (event.Event e) r out other is input frame =

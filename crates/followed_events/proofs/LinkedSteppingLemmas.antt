@@ -1,16 +1,25 @@
 -- An exchange with data links that is made, and an event on it.
-use Rattle.std.proofs.Common.{◌≡◌, ℕ, ◌+◌, ◌<◌, Bool, true, false, List, [], ◌∷◌, ◌++◌, length, Option, Some, None, refl, sym, ap, ◌∙◌, subst, arith, append-nil, append_assoc, codes}
-use Rattle.std.specs.Prelude.{All, is_some}
+use Rattle.std.proofs.Common.{◌≡◌, ℕ, ◌+◌, ◌<◌, Bool, true, false, List, [], ◌∷◌, ◌++◌, length, take, drop, Option, Some, None, ◌⊎◌, inl, inr, refl, sym, ap, ◌∙◌, subst, arith, append-nil, append_assoc, take-append-drop, codes}
+use Rattle.std.specs.Prelude.{All, IsTrue, is_some}
 use Rattle.std.proofs.lemmas.List.Elements.{All-weaker}
 use Rattle.circuit_model.specs.Dimensions.{Dimensions}
 use Rattle.circuit_model.specs.FrameInput.{Input}
 use Rattle.circuit_model.specs.Hears.{Plays}
 use Rattle.tone_rules.specs.Tables.{table_of}
+use Rattle.exchange_events.specs.declared.outbox.Outbox.{Outbox}
+use Rattle.exchange_events.specs.declared.outbox.Response.{Response}
+use Rattle.exchange_events.specs.declared.outbox.Response.TheVariants as response
 use Rattle.exchange_events.specs.declared.record.CallRecord.{CallRecord}
 use Rattle.exchange_events.specs.declared.reply.Reply.{Reply}
 use Rattle.exchange_events.specs.declared.reply.Reply.TheVariants.{Sent}
 use Rattle.exchange_events.specs.declared.trace.Event.TheVariants.{Frame}
+use Rattle.exchange_events.specs.Kept.{kept_of}
+use Rattle.exchange_events.specs.Responses.{reply_of}
 use Rattle.exchange_events.specs.Sizes.{Setting}
+use Rattle.exchange_events.specs.Sound.{IsPlanned, is_reached}
+use Rattle.number_plan.specs.declared.plan.Number.{Number}
+use Rattle.number_plan.specs.Plan.{all_targets}
+use Rattle.call_profile.specs.CallsTold.{calls_kept}
 use Rattle.call_profile.specs.Step.{MovesAtMost, run}
 use Rattle.call_profile.specs.World.{World, pass, start}
 use Rattle.call_profile.proofs.QuietEventLemmas.{passed_same}
@@ -22,13 +31,13 @@ use Rattle.meters.proofs.Told.{told_front-append, told-then}
 use Rattle.meters.proofs.Zips.{zip-then, zip-weaker}
 use Rattle.report_text.specs.Report.{lines_sent, octet_of, parts}
 use Rattle.report_text.specs.RunReport.{sent_at}
-use Rattle.lone_exchange.specs.At.{ArePlayed, Carrying}
+use Rattle.lone_exchange.specs.At.{ArePlayed, Carrying, size}
 use Rattle.trace_text.specs.declared.said.Sizes.{Sizes}
 use Rattle.trace_text.specs.TraceGrammar.{events_in}
 use Rattle.trace_text.specs.TraceTimers.{timers_by}
 use Rattle.linked_exchange.specs.declared.exchange.LinkedExchange.{LinkedExchange}
 use Rattle.linked_exchange.specs.declared.settings.Settings.{Settings}
-use Rattle.linked_exchange.specs.At.{HasSettings, IsLinkedAt, StartsLinkedAt}
+use Rattle.linked_exchange.specs.At.{HasSettings, IsLinkedAt, IsPlannedFor, IsSomewhere, StartsLinkedAt}
 use Rattle.linked_exchange.specs.Runs.{FitsLinked, derived_all, joint_after_all, links_down, start_joint}
 use Rattle.linked_exchange.specs.Steps.{Joint, Happens, Turns, derived, next_joint, reply_to}
 use Rattle.linked_exchange.proofs.AtLemmas.{time_at}
@@ -44,12 +53,13 @@ use Rattle.followed_events.specs.InTurn.{MovesFewInTurn, first_joint, joint_said
 use Rattle.followed_events.specs.LinkedStepping.{HasLinkedHappened, IsLinkedDue, IsLinkedGiven, IsLinkedHeard, IsLinkedReady, IsLinkedRunning, steps_at}
 use Rattle.followed_events.specs.Telling.{AreTold, AreToldFront}
 use Rattle.followed_events.proofs.LinkedRuns.{events_linked, trace_by}
-use Rattle.followed_events.proofs.LinkedEvents.{IsNoFrame, frames_few, inputs_frame, inputs_other, running_after, step_few, step_frames, steps_few, steps_frame, steps_other}
+use Rattle.followed_events.proofs.LinkedEvents.{IsNoFrame, frame_or_not, frames_few, inputs_frame, inputs_other, running_after, step_few, step_frames, steps_few, steps_frame, steps_other}
+use Rattle.followed_events.proofs.SteppingLemmas.{told_front}
 use Rattle.followed_events.proofs.TurnSteps.{no_inputs}
 
 -- ---- the settings
 
--- these settings are those of a heading
+-- the settings of a heading
 pub record IsSettingOf (heading : LinkSoFar) (settings : Settings) : Type 0 where
   pub plan : settings.plan.now ≡ heading.plain.plan
   pub tones : settings.tones.now ≡ heading.plain.tones
@@ -83,11 +93,11 @@ module _ {P E : Type 0} (carries : Carrying E) (frames : E → ℕ) (sizes : E �
         few = subst (λ (v : Sizes). MovesFewInTurn slots moves v told) same at.few;
       }
 
-  pub linked_new : (exchange : Option (LinkedExchange P E)) (x : LinkedExchange P E) (sized : Sizes) (settings : Settings) (row : List Bool) → is_some exchange ≡ false → Some sized ≡ heading.plain.sizes
-      → IsSettingOf heading settings → row ≡ link_row sized.external heading.linked → StartsLinkedAt carries frames sizes settings sized.external sized.bridges slots row x
+  pub linked_new : (exchange : Option (LinkedExchange P E)) (x : LinkedExchange P E) (sized : Sizes) (settings : Settings) (row : List Bool) (depth : ℕ) → is_some exchange ≡ false → Some sized ≡ heading.plain.sizes
+      → IsSettingOf heading settings → row ≡ link_row sized.external heading.linked → depth ≡ slots → StartsLinkedAt carries frames sizes settings sized.external sized.bridges depth row x
       → x.exchange.control.map.bound ≡ moves (sized.external + sized.bridges) → IsLinkedHeard carries frames sizes slots moves told z heading exchange → IsLinkedRunning carries frames sizes slots moves told z (Some x)
-  linked_new (Some y) x sized settings row none known is rows starts bound heard = absurd (grind (arith, none))
-  linked_new None x sized settings row none known is rows starts bound heard =
+  linked_new (Some y) x sized settings row depth none known is rows deep starts bound heard = absurd (grind (arith, none))
+  linked_new None x sized settings row depth none known is rows deep starts bound heard =
       let given = heard.given in
       let both : Some sized ≡ Some z = known ∙ given.sized in
       let same : sized ≡ z = grind (arith, both) in
@@ -95,8 +105,8 @@ module _ {P E : Type 0} (carries : Carrying E) (frames : E → ℕ) (sizes : E �
       let timers = link_timers_said told in
       let inputs : inputs_in told ≡ [] = no_inputs told heard.driven in
       let lines : row ≡ link_row z.external (linked_in told) = rows ∙ (λ i. link_row (same i).external (sym given.linked i)) in
-      let begins : StartsLinkedAt carries frames sizes settings z.external z.bridges slots row x = subst (λ (v : Sizes). StartsLinkedAt carries frames sizes settings v.external v.bridges slots row x) same starts in
-      let first : IsLinkedAt carries frames sizes x s (start_joint s row) = begins s refl (has_settings slots told z heading settings given is) in
+      let begins : StartsLinkedAt carries frames sizes settings z.external z.bridges depth row x = subst (λ (v : Sizes). StartsLinkedAt carries frames sizes settings v.external v.bridges depth row x) same starts in
+      let first : IsLinkedAt carries frames sizes x s (start_joint s row) = begins s (ap (size z.external z.bridges) (sym deep)) (has_settings slots told z heading settings given is) in
       let joint : start_joint s row ≡ joint_said slots z told = ap (start_joint s) lines ∙ ap (joint_after_all s timers (first_joint slots z told)) (sym inputs) in
       let n = moves (z.external + z.bridges) in
       let events : trace_by slots z (in_turn told) (inputs_in told) ≡ links_down 0 (link_row z.external (linked_in told)) =
@@ -110,6 +120,18 @@ module _ {P E : Type 0} (carries : Carrying E) (frames : E → ℕ) (sizes : E �
         bound = subst (λ (v : Sizes). x.exchange.control.map.bound ≡ moves (v.external + v.bridges)) same bound;
         few = subst (MovesFewIn moves s) (sym (events_linked (linked_in told) slots z told given.some refl ∙ events)) few;
       }
+
+  -- the plan has only lines of the exchange that is made
+  pub planned_heard : (exchange : Option (LinkedExchange P E)) (sized : Sizes) (settings : Settings) (depth : ℕ) → Some sized ≡ heading.plain.sizes → IsSettingOf heading settings
+      → IsLinkedHeard carries frames sizes slots moves told z heading exchange → IsPlannedFor (size sized.external sized.bridges depth) settings
+  planned_heard exchange sized settings depth known is heard =
+      let given = heard.given in
+      let both : Some z ≡ Some sized = sym given.sized ∙ sym known in
+      let same : z ≡ sized = grind (arith, both) in
+      let planned : IsPlanned (setting_in_turn slots z told) = given.sound.planned z given.header in
+      let there : IsTrue (all_targets (is_reached z.external) settings.plan.now) =
+      subst (λ (plan : List Number). IsTrue (all_targets (is_reached z.external) plan)) (given.plan ∙ sym is.plan) planned in
+      subst (λ (v : Sizes). IsTrue (all_targets (is_reached v.external) settings.plan.now)) same there
 
   pub no_linked : (exchange : Option (LinkedExchange P E)) → IsLinkedRunning carries frames sizes slots moves told z exchange → exchange ≡ None → ⊥
   no_linked exchange running none = let both : Some running.driver ≡ None = sym running.is ∙ none in absurd (grind (arith, both))
@@ -145,6 +167,10 @@ module _ {P E : Type 0} (carries : Carrying E) (frames : E → ℕ) (sizes : E �
         let most = frames_few slots z told in
         let few = ready.next.few in
         omega (arith, same, most, few)
+
+    -- the exchange is in a state of a setting of the heading
+    pub ready_somewhere : (settings : Settings) → IsSettingOf heading settings → IsSomewhere carries frames sizes settings x
+    ready_somewhere settings is = (setting_in_turn slots z told, joint_said slots z told, has_settings slots told z heading settings ready.given is, at_ready)
 
     -- and the turn after it
     pub turn_room : (timers : Link_timers) (y : LinkedExchange P E) → IsLinkedAt carries frames sizes y (setting_in_turn slots z told) (next_joint (setting_in_turn slots z told) timers (joint_said slots z told) (input_of e))
@@ -213,6 +239,11 @@ module _ {M P E : Type 0} (plays : Plays) (carries : Carrying E) (frames : E →
 
   pub calls_plain : IsNoFrame (input_of e) → records_of (steps_at plays slots told z e) ≡ step_calls
   calls_plain other = ap records_of (steps_plain other) ∙ append-nil step_calls
+
+  -- the records that the exchange returns after the step
+  pub step_records : (r : Response) (out : Outbox) (calls : List CallRecord) → calls ≡ calls_kept (kept_of (reply_of r out)) → reply_of r out ≡ reply_to s j.world (derived given_timers j (input_of e))
+      → calls ≡ step_calls
+  step_records r out calls are is = are ∙ ap (λ (o : Reply). calls_kept (kept_of o)) is
 
   pub happened_other : IsNoFrame (input_of e) → (y : LinkedExchange P E) (old new : List M) (before after : List ℕ) → IsLinkedAt carries frames sizes y s (next_joint s given_timers j (input_of e))
       → y.exchange.control.map.bound ≡ x.exchange.control.map.bound → MovesAtMost x.exchange.control.map.bound (reply_to s j.world (derived given_timers j (input_of e)))
@@ -285,3 +316,52 @@ module _ {M P E : Type 0} (plays : Plays) (carries : Carrying E) (frames : E →
               (steps_few n s given_timers j (input_of e) Turns (subst (λ (m : ℕ). MovesAtMost m (reply_to s j.world (derived given_timers j (input_of e)))) limit few)
               (subst (λ (m : ℕ). MovesAtMost m (reply_to s later.world (derived given_timers later Turns))) (bound ∙ limit) few_last)));
         }
+
+  -- the records of the event begin with the records of its first step
+  begin_by : ((input : Input) × (input_of e ≡ Happens (Frame input))) ⊎ IsNoFrame (input_of e) → (more : List CallRecord) × (records_of (steps_at plays slots told z e) ≡ step_calls ++ more)
+  begin_by (inl frame) = (calls_of s given_timers (next_joint s given_timers j (input_of e)) Turns, calls_frame frame.0 frame.1)
+  begin_by (inr other) = ([], calls_plain other ∙ sym (append-nil step_calls))
+
+  -- an allocation failed, when a prefix of the records of the first step was recorded, or all of them
+  pub front_first : (old new : List M) (calls : List CallRecord) → calls ≡ step_calls → AreToldFront stands text old new calls → AreToldFront stands text old new (records_of (steps_at plays slots told z e))
+  front_first old new calls are front =
+      let begins = begin_by (frame_or_not (input_of e)) in
+      subst (AreToldFront stands text old new) (ap (λ (l : List CallRecord). l ++ begins.0) are ∙ sym begins.1) (front_more stands text old new calls begins.0 front)
+
+  pub front_whole : (old new : List M) (calls : List CallRecord) → calls ≡ step_calls → AreTold stands text old new calls → AreToldFront stands text old new (records_of (steps_at plays slots told z e))
+  front_whole old new calls are noted = front_first old new calls are (told_front stands text old new calls noted)
+
+  -- a frame: the exchange before the turn, and the records of both steps
+  module _ (input : Input) (frame : input_of e ≡ Happens (Frame input)) (mid : LinkedExchange P E) (at : IsLinkedAt carries frames sizes mid s (next_joint s given_timers j (input_of e))) where
+    pub turn_somewhere : IsSomewhere carries frames sizes settings mid
+    turn_somewhere = (s, next_joint s given_timers j (input_of e), has_settings slots told z heading settings ready.given is, at)
+
+    pub turn_records : (out : Outbox) (calls : List CallRecord) → calls ≡ calls_kept (kept_of (reply_of response.Sent out))
+        → reply_of response.Sent out ≡ reply_to s (next_joint s given_timers j (input_of e)).world (derived given_timers (next_joint s given_timers j (input_of e)) Turns)
+        → calls ≡ calls_of s given_timers (next_joint s given_timers j (input_of e)) Turns
+    turn_records out calls are same = are ∙ ap (λ (o : Reply). calls_kept (kept_of o)) same
+
+    pub front_both : (old middle new : List M) (calls more : List CallRecord) → calls ≡ step_calls → more ≡ calls_of s given_timers (next_joint s given_timers j (input_of e)) Turns
+        → AreTold stands text old middle calls → AreToldFront stands text middle new more → AreToldFront stands text old new (records_of (steps_at plays slots told z e))
+    front_both old middle new calls more first second noted front =
+        subst (AreToldFront stands text old new) ((λ i. first i ++ second i) ∙ sym (calls_frame input frame)) (front_then stands text old middle new calls more noted front)
+
+    pub told_all : (old middle new : List M) (calls more : List CallRecord) → calls ≡ step_calls → more ≡ calls_of s given_timers (next_joint s given_timers j (input_of e)) Turns
+        → AreTold stands text old middle calls → AreTold stands text middle new more
+        → AreTold stands text old new (step_calls ++ calls_of s given_timers (next_joint s given_timers j (input_of e)) Turns)
+    told_all old middle new calls more first second noted rest = subst (AreTold stands text old new) (λ i. first i ++ second i) (told_both stands text old middle new calls more noted rest)
+
+-- ---- a text that is extended twice
+
+take_front : (front rest : List ℕ) → take (length front) (front ++ rest) ≡ front
+take_front [] rest = refl
+take_front (x ∷ front) rest = ap (λ (l : List ℕ). x ∷ l) (take_front front rest)
+
+begins_with : (a b : List ℕ) → take (length a) b ≡ a → b ≡ a ++ drop (length a) b
+begins_with a b first = sym (take-append-drop (length a) b) ∙ ap (λ (l : List ℕ). l ++ drop (length a) b) first
+
+pub prefix_then : (a b c : List ℕ) → take (length a) b ≡ a → take (length b) c ≡ b → take (length a) c ≡ a
+prefix_then a b c first second =
+    let whole : c ≡ a ++ (drop (length a) b ++ drop (length b) c) =
+    begins_with b c second ∙ (ap (λ (l : List ℕ). l ++ drop (length b) c) (begins_with a b first) ∙ append_assoc a (drop (length a) b) (drop (length b) c)) in
+    ap (take (length a)) whole ∙ take_front a (drop (length a) b ++ drop (length b) c)

@@ -1,4 +1,4 @@
-use Rattle.std.proofs.Common.{ap, arith, ◌∙◌}
+use Rattle.std.proofs.Common.{ap, arith, length, ◌∙◌}
 use Rattle.std.proofs.lemmas.List.FromFn.{length-map-range_with_len}
 use Rattle.number_plan.specs.Plan.{is_listed}
 use Rattle.trace_text.specs.TraceTimers.{timers_by}
@@ -8,13 +8,15 @@ use Rattle.followed_events.proofs.linked_opening.open_linked_into.Goals as goal
 pub new-requires-clause-linked : goal.new-requires-clause-linked
 new-requires-clause-linked g c κs within =
     let long = length-map-range_with_len (λ line. is_listed line c.args.heading.now.linked) 0 c.in-Some.sizes.external in
-    let same = c.in_ok-link_row.ensures in
-    rw same (omega (arith, long))
+    let same = ap length (c.as_slice.ensures.value ∙ c.in_ok-row.ensures) in
+    omega (arith, same, long)
 
 pub returns : goal.returns
 returns g c = record {
-  running = λ told z heard. linked_new g.C.Carrier.carries g.C.Carrier.next g.C.Carrier.sizes g.P.Fabric.slots g.P.Fabric.moves told z c.args.heading.now c.args.exchange.now c.in_ok-new.field-0 c.in-Some.sizes _ _
+  running = λ told z heard. linked_new g.C.Carrier.carries g.C.Carrier.next g.C.Carrier.sizes g.P.Fabric.slots g.P.Fabric.moves told z c.args.heading.now c.args.exchange.now c.in_ok-new.field-0 c.in-Some.sizes
+      (record { plan = c.plan.result; tones = c.tones.result; timers = record { ref_ptr = (0, 0); now = c.timers-timers.result }; link_timers = record { ref_ptr = (0, 0); now = c.link_timers-link_timers.result } })
+      c.as_slice.result.now _
       c.requires.none (c.in-Some.ensures ∙ ap (λ k. k.sizes) c.plain-plain.ensures)
       (record { plan = c.plan.ensures ∙ ap (λ k. k.plan) c.plain-plain.ensures; tones = c.tones.ensures ∙ ap (λ k. k.tones) c.plain-plain.ensures; timers = c.timers-timers.ensures ∙ ap (λ k. timers_by k.timers) c.plain-plain.ensures; link_timers = c.link_timers-link_timers.ensures })
-      c.in_ok-link_row.ensures c.in_ok-new.ensures.start c.in_ok-new.ensures.bound heard;
+      (c.as_slice.ensures.value ∙ c.in_ok-row.ensures) c.in_ok-paths.ensures.depth c.in_ok-new.ensures.start (c.in_ok-new.ensures.bound ∙ c.in_ok-paths.ensures.bound) heard;
 }
