@@ -204,6 +204,19 @@ module _ {P E : Type 0} (carries : Carrying E) (frames : E → ℕ) (sizes : E �
         let few = ready.next.few in
         omega (arith, same, grows, most, few)
 
+-- ---- a step
+
+-- the records that the exchange returns after it
+pub step_records : (s : Setting) (timers : Link_timers) (j : Joint) (i : LinkedInput) (r : Response) (out : Outbox) (calls : List CallRecord) → calls ≡ calls_kept (kept_of (reply_of r out))
+    → reply_of r out ≡ reply_to s j.world (derived timers j i) → calls ≡ calls_of s timers j i
+step_records s timers j i r out calls are is = are ∙ ap (λ (o : Reply). calls_kept (kept_of o)) is
+
+-- the octets of the exchange after a frame
+pub played_frame : {P E : Type 0} (plays : Plays) (carries : Carrying E) (frames : E → ℕ) (sizes : E → Dimensions) (settings : Settings) (i : LinkedInput) (input : Input) (x y : LinkedExchange P E) (s : Setting) (j : Joint)
+    → i ≡ Happens (Frame input) → HasSettings settings s → IsLinkedAt carries frames sizes x s j → PlaysOn carries frames sizes plays settings i x y → ArePlayed plays s j.world input y.exchange.octets.items
+played_frame plays carries frames sizes settings i input x y s j frame has at played =
+    subst (λ (k : LinkedInput). PlaysOn carries frames sizes plays settings k x y) frame played s j has at input refl
+
 -- ---- an event that happened
 
 -- the octets of a frame
@@ -260,11 +273,6 @@ module _ {M P E : Type 0} (plays : Plays) (carries : Carrying E) (frames : E →
 
   pub calls_plain : IsNoFrame (input_of e) → records_of (steps_at plays slots told z e) ≡ step_calls
   calls_plain other = ap records_of (steps_plain other) ∙ append-nil step_calls
-
-  -- the records that the exchange returns after the step
-  pub step_records : (r : Response) (out : Outbox) (calls : List CallRecord) → calls ≡ calls_kept (kept_of (reply_of r out)) → reply_of r out ≡ reply_to s j.world (derived given_timers j (input_of e))
-      → calls ≡ step_calls
-  step_records r out calls are is = are ∙ ap (λ (o : Reply). calls_kept (kept_of o)) is
 
   pub told_first : (old new : List M) (calls : List CallRecord) → calls ≡ step_calls → AreTold stands text old new calls → AreTold stands text old new step_calls
   told_first old new calls are noted = subst (AreTold stands text old new) are noted
@@ -359,16 +367,6 @@ module _ {M P E : Type 0} (plays : Plays) (carries : Carrying E) (frames : E →
   module _ (input : Input) (frame : input_of e ≡ Happens (Frame input)) (mid : LinkedExchange P E) (at : IsLinkedAt carries frames sizes mid s (next_joint s given_timers j (input_of e))) where
     pub turn_somewhere : IsSomewhere carries frames sizes settings mid
     turn_somewhere = (s, next_joint s given_timers j (input_of e), has_settings slots told z heading settings ready.given is, at)
-
-    pub played_frame : PlaysOn carries frames sizes plays settings (input_of e) x mid → ArePlayed plays s j.world input mid.exchange.octets.items
-    played_frame played =
-        subst (λ (i : LinkedInput). PlaysOn carries frames sizes plays settings i x mid) frame played s j (has_settings slots told z heading settings ready.given is)
-        (at_ready carries frames sizes slots moves told z heading x e ready) input refl
-
-    pub turn_records : (out : Outbox) (calls : List CallRecord) → calls ≡ calls_kept (kept_of (reply_of response.Sent out))
-        → reply_of response.Sent out ≡ reply_to s (next_joint s given_timers j (input_of e)).world (derived given_timers (next_joint s given_timers j (input_of e)) Turns)
-        → calls ≡ calls_of s given_timers (next_joint s given_timers j (input_of e)) Turns
-    turn_records out calls are same = are ∙ ap (λ (o : Reply). calls_kept (kept_of o)) same
 
     pub front_both : (old middle new : List M) (calls more : List CallRecord) → calls ≡ step_calls → more ≡ calls_of s given_timers (next_joint s given_timers j (input_of e)) Turns
         → AreTold stands text old middle calls → AreToldFront stands text middle new more → AreToldFront stands text old new (records_of (steps_at plays slots told z e))
