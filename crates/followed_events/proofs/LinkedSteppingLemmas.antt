@@ -1,5 +1,5 @@
 -- An exchange with data links that is made, and an event on it.
-use Rattle.std.proofs.Common.{◌≡◌, ℕ, ◌+◌, ◌<◌, Bool, true, false, List, [], ◌∷◌, ◌++◌, length, take, drop, Option, Some, None, ◌⊎◌, inl, inr, refl, sym, ap, ◌∙◌, subst, arith, append-nil, append_assoc, take-append-drop, codes}
+use Rattle.std.proofs.Common.{◌≡◌, ℕ, ◌+◌, ◌<◌, Bool, true, false, List, [], ◌∷◌, ◌++◌, length, Option, Some, None, ◌⊎◌, inl, inr, refl, sym, ap, ◌∙◌, subst, arith, append-nil, append_assoc, codes}
 use Rattle.std.specs.Prelude.{All, IsTrue, is_some}
 use Rattle.std.proofs.lemmas.List.Elements.{All-weaker}
 use Rattle.circuit_model.specs.Dimensions.{Dimensions}
@@ -10,7 +10,6 @@ use Rattle.tone_rules.specs.declared.tones.Tones.{Tones}
 use Rattle.call_timers.specs.declared.timers.Timers.{Timers}
 use Rattle.exchange_events.specs.declared.outbox.Outbox.{Outbox}
 use Rattle.exchange_events.specs.declared.outbox.Response.{Response}
-use Rattle.exchange_events.specs.declared.outbox.Response.TheVariants as response
 use Rattle.exchange_events.specs.declared.record.CallRecord.{CallRecord}
 use Rattle.exchange_events.specs.declared.reply.Reply.{Reply}
 use Rattle.exchange_events.specs.declared.reply.Reply.TheVariants.{Sent}
@@ -40,7 +39,7 @@ use Rattle.trace_text.specs.TraceLines.{SoFar}
 use Rattle.trace_text.specs.TraceTimers.{timers_by}
 use Rattle.linked_exchange.specs.declared.exchange.LinkedExchange.{LinkedExchange}
 use Rattle.linked_exchange.specs.declared.settings.Settings.{Settings}
-use Rattle.linked_exchange.specs.At.{HasSettings, IsLinkedAt, IsPlannedFor, IsSomewhere, StartsLinkedAt}
+use Rattle.linked_exchange.specs.At.{HasSettings, IsLinkedAt, IsPlannedFor, StartsLinkedAt}
 use Rattle.linked_exchange.specs.Runs.{FitsLinked, derived_all, joint_after_all, links_down, start_joint}
 use Rattle.linked_exchange.specs.Steps.{Joint, LinkedInput, Happens, Turns, derived, next_joint, reply_to}
 use Rattle.linked_exchange.proofs.AtLemmas.{time_at}
@@ -188,10 +187,6 @@ module _ {P E : Type 0} (carries : Carrying E) (frames : E → ℕ) (sizes : E �
         let most = frames_few slots z told in
         let few = ready.next.few in
         omega (arith, same, most, few)
-
-    -- the exchange is in a state of a setting of the heading
-    pub ready_somewhere : (settings : Settings) → IsSettingOf heading settings → IsSomewhere carries frames sizes settings x
-    ready_somewhere settings is = (setting_in_turn slots z told, joint_said slots z told, has_settings slots told z heading settings ready.given is, at_ready)
 
     -- and the turn after it
     pub turn_room : (timers : Link_timers) (y : LinkedExchange P E) → IsLinkedAt carries frames sizes y (setting_in_turn slots z told) (next_joint (setting_in_turn slots z told) timers (joint_said slots z told) (input_of e))
@@ -363,11 +358,8 @@ module _ {M P E : Type 0} (plays : Plays) (carries : Carrying E) (frames : E →
   pub front_whole : (old new : List M) (calls : List CallRecord) → calls ≡ step_calls → AreTold stands text old new calls → AreToldFront stands text old new (records_of (steps_at plays slots told z e))
   front_whole old new calls are noted = front_first old new calls are (told_front stands text old new calls noted)
 
-  -- a frame: the exchange before the turn, and the records of both steps
-  module _ (input : Input) (frame : input_of e ≡ Happens (Frame input)) (mid : LinkedExchange P E) (at : IsLinkedAt carries frames sizes mid s (next_joint s given_timers j (input_of e))) where
-    pub turn_somewhere : IsSomewhere carries frames sizes settings mid
-    turn_somewhere = (s, next_joint s given_timers j (input_of e), has_settings slots told z heading settings ready.given is, at)
-
+  -- the records of both steps of a frame
+  module _ (input : Input) (frame : input_of e ≡ Happens (Frame input)) where
     pub front_both : (old middle new : List M) (calls more : List CallRecord) → calls ≡ step_calls → more ≡ calls_of s given_timers (next_joint s given_timers j (input_of e)) Turns
         → AreTold stands text old middle calls → AreToldFront stands text middle new more → AreToldFront stands text old new (records_of (steps_at plays slots told z e))
     front_both old middle new calls more first second noted front =
@@ -377,18 +369,3 @@ module _ {M P E : Type 0} (plays : Plays) (carries : Carrying E) (frames : E →
         → AreTold stands text old middle calls → AreTold stands text middle new more
         → AreTold stands text old new (step_calls ++ calls_of s given_timers (next_joint s given_timers j (input_of e)) Turns)
     told_all old middle new calls more first second noted rest = subst (AreTold stands text old new) (λ i. first i ++ second i) (told_both stands text old middle new calls more noted rest)
-
--- ---- a text that is extended twice
-
-take_front : (front rest : List ℕ) → take (length front) (front ++ rest) ≡ front
-take_front [] rest = refl
-take_front (x ∷ front) rest = ap (λ (l : List ℕ). x ∷ l) (take_front front rest)
-
-begins_with : (a b : List ℕ) → take (length a) b ≡ a → b ≡ a ++ drop (length a) b
-begins_with a b first = sym (take-append-drop (length a) b) ∙ ap (λ (l : List ℕ). l ++ drop (length a) b) first
-
-pub prefix_then : (a b c : List ℕ) → take (length a) b ≡ a → take (length b) c ≡ b → take (length a) c ≡ a
-prefix_then a b c first second =
-    let whole : c ≡ a ++ (drop (length a) b ++ drop (length b) c) =
-    begins_with b c second ∙ (ap (λ (l : List ℕ). l ++ drop (length b) c) (begins_with a b first) ∙ append_assoc a (drop (length a) b) (drop (length b) c)) in
-    ap (take (length a)) whole ∙ take_front a (drop (length a) b ++ drop (length b) c)

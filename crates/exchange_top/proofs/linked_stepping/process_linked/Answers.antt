@@ -100,7 +100,7 @@ returns-clause-happened g c told z due =
     (subst (MovesAtMost c.args.exchange.now.exchange.control.map.bound) reply c.in_ok-response.ensures.few) (subst (MovesAtMost c.put_step.new.exchange.exchange.control.map.bound) turned c.put_turn_step.ensures.few)
     (subst (λ n. c.put_step.new.out.items ≡ c.args.out.now.items ++ text_of s c.link_timers-link_timers.result j n (input_of c.args.event.now)) (c.event_count.ensures ∙ ap (λ k. k.events) c.plain-plain.ensures) (c.in_ok-response.ensures.line s j has at))
     (played_frame g.C.Carrier.plays g.C.Carrier.carries g.C.Carrier.next g.C.Carrier.sizes (settings_of c.plan.result.now c.tones.result.now c.timers-timers.result c.link_timers-link_timers.result) (input_of c.args.event.now) found.0 c.args.exchange.now c.put_step.new.exchange s j found.1 has at c.put_step.ensures.played) c.put_turn_step.ensures.octets (c.in_ok-put_turn_step.ensures.rest s later has mid)
-    (told_all g.C.Carrier.plays g.C.Carrier.carries g.C.Carrier.next g.C.Carrier.sizes g.P.Fabric.slots g.P.Fabric.moves (λ m. (goal.Meter-dyn g (m.vtable, m.value)).stands m.value) (λ m. (goal.Meter-dyn g (m.vtable, m.value)).text m.value) told z c.args.heading.now c.args.exchange.now c.args.event.now due (settings_of c.plan.result.now c.tones.result.now c.timers-timers.result c.link_timers-link_timers.result) is found.0 found.1 c.put_step.new.exchange mid c.args.meters.now.items c.tell.new.meters.items c.tell-2.new.meters.items c.records.result.now c.records-2.result.now records more c.in_ok-tell.ensures.told noted))
+    (told_all g.C.Carrier.plays g.C.Carrier.carries g.C.Carrier.next g.C.Carrier.sizes g.P.Fabric.slots g.P.Fabric.moves (λ m. (goal.Meter-dyn g (m.vtable, m.value)).stands m.value) (λ m. (goal.Meter-dyn g (m.vtable, m.value)).text m.value) told z c.args.heading.now c.args.exchange.now c.args.event.now due (settings_of c.plan.result.now c.tones.result.now c.timers-timers.result c.link_timers-link_timers.result) is found.0 found.1 c.args.meters.now.items c.tell.new.meters.items c.tell-2.new.meters.items c.records.result.now c.records-2.result.now records more c.in_ok-tell.ensures.told noted))
 
 pub returns-clause-front : goal.returns-clause-front
 returns-clause-front g c told z due =
@@ -117,4 +117,4 @@ returns-clause-front g c told z due =
     let turned = c.put_turn_step.ensures.reply s later has mid in
     let more = step_records s c.link_timers-link_timers.result later Turns response.Sent c.put_turn_step.new.exchange.exchange.context.out c.records-2.result.now c.records-2.ensures turned in
     on_err_then c.tell-2.result c.tell-2.ensures.front (λ front.
-    front_both g.C.Carrier.plays g.C.Carrier.carries g.C.Carrier.next g.C.Carrier.sizes g.P.Fabric.slots g.P.Fabric.moves (λ m. (goal.Meter-dyn g (m.vtable, m.value)).stands m.value) (λ m. (goal.Meter-dyn g (m.vtable, m.value)).text m.value) told z c.args.heading.now c.args.exchange.now c.args.event.now due (settings_of c.plan.result.now c.tones.result.now c.timers-timers.result c.link_timers-link_timers.result) is found.0 found.1 c.put_step.new.exchange mid c.args.meters.now.items c.tell.new.meters.items c.tell-2.new.meters.items c.records.result.now c.records-2.result.now records more c.in_ok-tell.ensures.told front)
+    front_both g.C.Carrier.plays g.C.Carrier.carries g.C.Carrier.next g.C.Carrier.sizes g.P.Fabric.slots g.P.Fabric.moves (λ m. (goal.Meter-dyn g (m.vtable, m.value)).stands m.value) (λ m. (goal.Meter-dyn g (m.vtable, m.value)).text m.value) told z c.args.heading.now c.args.exchange.now c.args.event.now due (settings_of c.plan.result.now c.tones.result.now c.timers-timers.result c.link_timers-link_timers.result) is found.0 found.1 c.args.meters.now.items c.tell.new.meters.items c.tell-2.new.meters.items c.records.result.now c.records-2.result.now records more c.in_ok-tell.ensures.told front)
