@@ -1,9 +1,10 @@
 -- A handler after a line of each kind.
-use Rattle.std.proofs.Common.{◌≡◌, ℕ, ◌+◌, ◌<◌, ◌≤◌, List, [], ◌∷◌, ◌++◌, length, true, is_some, Option, Some, None, Ok, Err, ◌⊎◌, inl, inr, refl, sym, ap, ◌∙◌, subst, arith, append-nil, append_assoc, length-append}
+use Rattle.std.proofs.Common.{◌≡◌, ℕ, ◌+◌, ◌<◌, ◌≤◌, List, [], ◌∷◌, ◌++◌, length, true, false, ◌==◌, is_some, Option, Some, None, Result, Ok, Err, OnOk, OnErr, ◌⊎◌, inl, inr, refl, sym, ap, ◌∙◌, subst, arith, append-nil, append_assoc, length-append}
 use Rattle.std.proofs.lemmas.List.{length-map}
 use Rattle.circuit_model.specs.Dimensions.{Dimensions}
 use Rattle.circuit_model.specs.Hears.{Plays}
 use Rattle.tone_rules.specs.Tables.{table_of}
+use Rattle.number_plan.specs.Plan.{is_listed}
 use Rattle.exchange_events.specs.declared.record.CallRecord.{CallRecord}
 use Rattle.exchange_events.specs.declared.trace.Event.{Event}
 use Rattle.exchange_events.specs.declared.trace.Event.TheVariants.{Message}
@@ -179,6 +180,19 @@ is_turn_event (On_link (Received l os)) (event.Received line octets) same =
     (λ i. On_link (Received (sym first i) (sym second i)))
 is_turn_event (On_link (Link_timed given)) (event.Received line octets) same = absurd (grind (arith, same))
 
+-- a frame is received on a line with a link
+abbrev pub IsReceived : LinkedEvent → Type 0
+IsReceived (event.Event e) = ⊥
+IsReceived (event.Received line octets) = Unit {0}
+
+listed_some : (line : ℕ) (lines : List ℕ) → is_listed line lines ≡ true → 1 ≤ length lines
+listed_some line [] listed = absurd (grind (arith, listed))
+listed_some line (x ∷ lines) listed = omega arith
+
+received_some : (k : LinkSoFar) (e : LinkedEvent) → IsReceived e → IsTurnPlaced k (content_of e) → 1 ≤ length k.linked
+received_some k (event.Event e) received placed = absurd received
+received_some k (event.Received line octets) received placed = listed_some line k.linked placed.1
+
 -- an event has its header before it
 pub event_known : (k : LinkSoFar) (e : LinkedEvent) → IsTurnPlaced k (content_of e) → IsKnown k.plain
 event_known k (event.Event e) placed = placed
@@ -347,6 +361,10 @@ module _ {M P E : Type 0} (stands : M → List CallRecord → Type 0) (text : M 
 
       pub linked_after : after.linked ≡ linked_in h.told
       linked_after = ap (λ (k : LinkSoFar). k.linked) known_after
+
+      -- a frame is received only if a line has a link
+      pub received_linked : IsReceived e → 1 ≤ length after.linked
+      received_linked received = subst (λ (l : List ℕ). 1 ≤ length l) (sym linked_after) (received_some (in_turn h.told) e received placed_here)
 
       -- with links
       pub given_after : 1 ≤ length after.linked → IsLinkedGiven h.told header after
@@ -591,6 +609,32 @@ module _ {M P E : Type 0} (stands : M → List CallRecord → Type 0) (text : M 
       pub is_read : (hap : LinkHappening) (after : LinkSoFar) → IsInTurnRead limits before line hap after
           → HasRead carries frames sizes (course plays slots moves stands text old old_spare on spare) after count exchange linked ls line (front ++ t) hap
       is_read hap after read = record { before = before; handled = h; short = short; few = few; read = subst (λ (l : Limits). IsInTurnRead l before line hap after) are read }
+
+-- ---- whether a line has a link, and whether a call succeeded
+
+pub none_listed : (lines : List ℕ) → (length lines == 0) ≡ true → lines ≡ []
+none_listed [] none = refl
+none_listed (x ∷ lines) none = absurd (grind (arith, none))
+
+pub some_listed : (lines : List ℕ) → (length lines == 0) ≡ false → 1 ≤ length lines
+some_listed [] some = absurd (grind (arith, some))
+some_listed (x ∷ lines) some = omega arith
+
+pub ok_each : {T E P : Type 0} (r : Result T E) → ((t : T) → r ≡ Ok t → P) → OnOk r P
+ok_each (Ok t) make = make t refl
+ok_each (Err e) make = tt
+
+pub err_each : {T E P : Type 0} (r : Result T E) → ((e : E) → r ≡ Err e → P) → OnErr r P
+err_each (Ok t) make = tt
+err_each (Err e) make = make e refl
+
+pub of_ok : {T E P : Type 0} (r : Result T E) (t : T) → r ≡ Ok t → OnOk r P → P
+of_ok (Ok v) t is p = p
+of_ok (Err e) t is p = absurd (grind (arith, is))
+
+pub of_err : {T E P : Type 0} (r : Result T E) (e : E) → r ≡ Err e → OnErr r P → P
+of_err (Ok v) e is p = absurd (grind (arith, is))
+of_err (Err d) e is p = p
 
 pub known_there : (o : Option Sizes) → is_some o ≡ true → (z : Sizes) × (o ≡ Some z)
 known_there None some = absurd (grind (arith, some))
