@@ -1,14 +1,15 @@
 -- An exchange with data links that is made, and an event on it.
-use Rattle.std.proofs.Common.{◌≡◌, ℕ, ◌+◌, ◌<◌, Bool, true, false, List, [], ◌∷◌, ◌++◌, length, take, drop, Option, Some, None, ◌⊎◌, inl, inr, refl, sym, ap, ◌∙◌, subst, arith, append-nil, append_assoc, take-append-drop, codes}
+use Rattle.std.proofs.Common.{◌≡◌, ℕ, ◌+◌, ◌<◌, Bool, true, false, List, [], ◌∷◌, ◌++◌, length, Option, Some, None, ◌⊎◌, inl, inr, refl, sym, ap, ◌∙◌, subst, arith, append-nil, append_assoc, codes}
 use Rattle.std.specs.Prelude.{All, IsTrue, is_some}
 use Rattle.std.proofs.lemmas.List.Elements.{All-weaker}
 use Rattle.circuit_model.specs.Dimensions.{Dimensions}
 use Rattle.circuit_model.specs.FrameInput.{Input}
 use Rattle.circuit_model.specs.Hears.{Plays}
 use Rattle.tone_rules.specs.Tables.{table_of}
+use Rattle.tone_rules.specs.declared.tones.Tones.{Tones}
+use Rattle.call_timers.specs.declared.timers.Timers.{Timers}
 use Rattle.exchange_events.specs.declared.outbox.Outbox.{Outbox}
 use Rattle.exchange_events.specs.declared.outbox.Response.{Response}
-use Rattle.exchange_events.specs.declared.outbox.Response.TheVariants as response
 use Rattle.exchange_events.specs.declared.record.CallRecord.{CallRecord}
 use Rattle.exchange_events.specs.declared.reply.Reply.{Reply}
 use Rattle.exchange_events.specs.declared.reply.Reply.TheVariants.{Sent}
@@ -34,16 +35,17 @@ use Rattle.report_text.specs.RunReport.{sent_at}
 use Rattle.lone_exchange.specs.At.{ArePlayed, Carrying, size}
 use Rattle.trace_text.specs.declared.said.Sizes.{Sizes}
 use Rattle.trace_text.specs.TraceGrammar.{events_in}
+use Rattle.trace_text.specs.TraceLines.{SoFar}
 use Rattle.trace_text.specs.TraceTimers.{timers_by}
 use Rattle.linked_exchange.specs.declared.exchange.LinkedExchange.{LinkedExchange}
 use Rattle.linked_exchange.specs.declared.settings.Settings.{Settings}
-use Rattle.linked_exchange.specs.At.{HasSettings, IsLinkedAt, IsPlannedFor, IsSomewhere, StartsLinkedAt}
+use Rattle.linked_exchange.specs.At.{HasSettings, IsLinkedAt, IsPlannedFor, StartsLinkedAt}
 use Rattle.linked_exchange.specs.Runs.{FitsLinked, derived_all, joint_after_all, links_down, start_joint}
-use Rattle.linked_exchange.specs.Steps.{Joint, Happens, Turns, derived, next_joint, reply_to}
+use Rattle.linked_exchange.specs.Steps.{Joint, LinkedInput, Happens, Turns, derived, next_joint, reply_to}
 use Rattle.linked_exchange.proofs.AtLemmas.{time_at}
 use Rattle.linked_exchange.proofs.QuietLemmas.{start_quiet}
 use Rattle.linked_lines.specs.declared.steps.LinkedEvent.{LinkedEvent}
-use Rattle.linked_lines.specs.LinkedLines.{calls_of, happened_calls, happened_line, input_of, text_of, turn_of}
+use Rattle.linked_lines.specs.LinkedLines.{PlaysOn, calls_of, happened_calls, happened_line, input_of, text_of, turn_of}
 use Rattle.linked_lines.specs.LinkedStory.{inputs_in}
 use Rattle.linked_text.specs.LinkEffects.{in_turn, link_row, linked_in, plain_told}
 use Rattle.linked_text.specs.LinkLines.{Content, LinkSoFar}
@@ -65,6 +67,24 @@ pub record IsSettingOf (heading : LinkSoFar) (settings : Settings) : Type 0 wher
   pub tones : settings.tones.now ≡ heading.plain.tones
   pub timers : settings.timers.now ≡ timers_by heading.plain.timers
   pub link_timers : settings.link_timers.now ≡ link_timers_by heading.timers
+
+-- settings that lend these values, at any place
+abbrev pub settings_of : List Number → Tones → Timers → Link_timers → Settings
+settings_of plan tones timers link_timers = record {
+  plan = record { ref_ptr = (0, 0); now = plan };
+  tones = record { ref_ptr = (0, 0); now = tones };
+  timers = record { ref_ptr = (0, 0); now = timers };
+  link_timers = record { ref_ptr = (0, 0); now = link_timers };
+}
+
+pub settings_are : (heading : LinkSoFar) (plain : SoFar) (plan : List Number) (tones : Tones) (timers : Timers) (link_timers : Link_timers) → plain ≡ heading.plain → plan ≡ plain.plan → tones ≡ plain.tones
+    → timers ≡ timers_by plain.timers → link_timers ≡ link_timers_by heading.timers → IsSettingOf heading (settings_of plan tones timers link_timers)
+settings_are heading plain plan tones timers link_timers same plans toned timed links = record {
+  plan = plans ∙ ap (λ (k : SoFar). k.plan) same;
+  tones = toned ∙ ap (λ (k : SoFar). k.tones) same;
+  timers = timed ∙ ap (λ (k : SoFar). timers_by k.timers) same;
+  link_timers = links;
+}
 
 module _ (slots : ℕ) (told : List Content) (z : Sizes) (heading : LinkSoFar) (settings : Settings) (given : IsLinkedGiven told z heading) (is : IsSettingOf heading settings) where
   pub has_settings : HasSettings settings (setting_in_turn slots z told)
@@ -168,10 +188,6 @@ module _ {P E : Type 0} (carries : Carrying E) (frames : E → ℕ) (sizes : E �
         let few = ready.next.few in
         omega (arith, same, most, few)
 
-    -- the exchange is in a state of a setting of the heading
-    pub ready_somewhere : (settings : Settings) → IsSettingOf heading settings → IsSomewhere carries frames sizes settings x
-    ready_somewhere settings is = (setting_in_turn slots z told, joint_said slots z told, has_settings slots told z heading settings ready.given is, at_ready)
-
     -- and the turn after it
     pub turn_room : (timers : Link_timers) (y : LinkedExchange P E) → IsLinkedAt carries frames sizes y (setting_in_turn slots z told) (next_joint (setting_in_turn slots z told) timers (joint_said slots z told) (input_of e))
         → y.exchange.control.map.next < 4294967295
@@ -182,6 +198,19 @@ module _ {P E : Type 0} (carries : Carrying E) (frames : E → ℕ) (sizes : E �
         let most = frames_few slots z told in
         let few = ready.next.few in
         omega (arith, same, grows, most, few)
+
+-- ---- a step
+
+-- the records that the exchange returns after it
+pub step_records : (s : Setting) (timers : Link_timers) (j : Joint) (i : LinkedInput) (r : Response) (out : Outbox) (calls : List CallRecord) → calls ≡ calls_kept (kept_of (reply_of r out))
+    → reply_of r out ≡ reply_to s j.world (derived timers j i) → calls ≡ calls_of s timers j i
+step_records s timers j i r out calls are is = are ∙ ap (λ (o : Reply). calls_kept (kept_of o)) is
+
+-- the octets of the exchange after a frame
+pub played_frame : {P E : Type 0} (plays : Plays) (carries : Carrying E) (frames : E → ℕ) (sizes : E → Dimensions) (settings : Settings) (i : LinkedInput) (input : Input) (x y : LinkedExchange P E) (s : Setting) (j : Joint)
+    → i ≡ Happens (Frame input) → HasSettings settings s → IsLinkedAt carries frames sizes x s j → PlaysOn carries frames sizes plays settings i x y → ArePlayed plays s j.world input y.exchange.octets.items
+played_frame plays carries frames sizes settings i input x y s j frame has at played =
+    subst (λ (k : LinkedInput). PlaysOn carries frames sizes plays settings k x y) frame played s j has at input refl
 
 -- ---- an event that happened
 
@@ -240,10 +269,8 @@ module _ {M P E : Type 0} (plays : Plays) (carries : Carrying E) (frames : E →
   pub calls_plain : IsNoFrame (input_of e) → records_of (steps_at plays slots told z e) ≡ step_calls
   calls_plain other = ap records_of (steps_plain other) ∙ append-nil step_calls
 
-  -- the records that the exchange returns after the step
-  pub step_records : (r : Response) (out : Outbox) (calls : List CallRecord) → calls ≡ calls_kept (kept_of (reply_of r out)) → reply_of r out ≡ reply_to s j.world (derived given_timers j (input_of e))
-      → calls ≡ step_calls
-  step_records r out calls are is = are ∙ ap (λ (o : Reply). calls_kept (kept_of o)) is
+  pub told_first : (old new : List M) (calls : List CallRecord) → calls ≡ step_calls → AreTold stands text old new calls → AreTold stands text old new step_calls
+  told_first old new calls are noted = subst (AreTold stands text old new) are noted
 
   pub happened_other : IsNoFrame (input_of e) → (y : LinkedExchange P E) (old new : List M) (before after : List ℕ) → IsLinkedAt carries frames sizes y s (next_joint s given_timers j (input_of e))
       → y.exchange.control.map.bound ≡ x.exchange.control.map.bound → MovesAtMost x.exchange.control.map.bound (reply_to s j.world (derived given_timers j (input_of e)))
@@ -331,16 +358,8 @@ module _ {M P E : Type 0} (plays : Plays) (carries : Carrying E) (frames : E →
   pub front_whole : (old new : List M) (calls : List CallRecord) → calls ≡ step_calls → AreTold stands text old new calls → AreToldFront stands text old new (records_of (steps_at plays slots told z e))
   front_whole old new calls are noted = front_first old new calls are (told_front stands text old new calls noted)
 
-  -- a frame: the exchange before the turn, and the records of both steps
-  module _ (input : Input) (frame : input_of e ≡ Happens (Frame input)) (mid : LinkedExchange P E) (at : IsLinkedAt carries frames sizes mid s (next_joint s given_timers j (input_of e))) where
-    pub turn_somewhere : IsSomewhere carries frames sizes settings mid
-    turn_somewhere = (s, next_joint s given_timers j (input_of e), has_settings slots told z heading settings ready.given is, at)
-
-    pub turn_records : (out : Outbox) (calls : List CallRecord) → calls ≡ calls_kept (kept_of (reply_of response.Sent out))
-        → reply_of response.Sent out ≡ reply_to s (next_joint s given_timers j (input_of e)).world (derived given_timers (next_joint s given_timers j (input_of e)) Turns)
-        → calls ≡ calls_of s given_timers (next_joint s given_timers j (input_of e)) Turns
-    turn_records out calls are same = are ∙ ap (λ (o : Reply). calls_kept (kept_of o)) same
-
+  -- the records of both steps of a frame
+  module _ (input : Input) (frame : input_of e ≡ Happens (Frame input)) where
     pub front_both : (old middle new : List M) (calls more : List CallRecord) → calls ≡ step_calls → more ≡ calls_of s given_timers (next_joint s given_timers j (input_of e)) Turns
         → AreTold stands text old middle calls → AreToldFront stands text middle new more → AreToldFront stands text old new (records_of (steps_at plays slots told z e))
     front_both old middle new calls more first second noted front =
@@ -350,18 +369,3 @@ module _ {M P E : Type 0} (plays : Plays) (carries : Carrying E) (frames : E →
         → AreTold stands text old middle calls → AreTold stands text middle new more
         → AreTold stands text old new (step_calls ++ calls_of s given_timers (next_joint s given_timers j (input_of e)) Turns)
     told_all old middle new calls more first second noted rest = subst (AreTold stands text old new) (λ i. first i ++ second i) (told_both stands text old middle new calls more noted rest)
-
--- ---- a text that is extended twice
-
-take_front : (front rest : List ℕ) → take (length front) (front ++ rest) ≡ front
-take_front [] rest = refl
-take_front (x ∷ front) rest = ap (λ (l : List ℕ). x ∷ l) (take_front front rest)
-
-begins_with : (a b : List ℕ) → take (length a) b ≡ a → b ≡ a ++ drop (length a) b
-begins_with a b first = sym (take-append-drop (length a) b) ∙ ap (λ (l : List ℕ). l ++ drop (length a) b) first
-
-pub prefix_then : (a b c : List ℕ) → take (length a) b ≡ a → take (length b) c ≡ b → take (length a) c ≡ a
-prefix_then a b c first second =
-    let whole : c ≡ a ++ (drop (length a) b ++ drop (length b) c) =
-    begins_with b c second ∙ (ap (λ (l : List ℕ). l ++ drop (length b) c) (begins_with a b first) ∙ append_assoc a (drop (length a) b) (drop (length b) c)) in
-    ap (take (length a)) whole ∙ take_front a (drop (length a) b ++ drop (length b) c)
