@@ -130,8 +130,8 @@ module _ {P E : Type 0} (carries : Carrying E) (frames : E → ℕ) (sizes : E �
       let inputs : inputs_in told ≡ inputs_in (told ++ c ∷ []) = sym (inputs_more told c ∙ (ap (λ (is : List LinkedInput). inputs_in told ++ is) silent ∙ append-nil (inputs_in told))) in (
         subst (λ (es : List Event). 1 ≤ length es) (sym (same_plain_events told c none)) driven.0,
         after_known carries frames sizes slots moves (told ++ c ∷ []) (some_more told c some) x
-        (subst (λ (is : List LinkedInput). IsAtKnown carries frames sizes slots moves (in_turn (told ++ c ∷ [])) is x) inputs
-        (subst (λ (k : LinkSoFar). IsAtKnown carries frames sizes slots moves k (inputs_in told) x) more (still x (known_after carries frames sizes slots moves told some x driven.1)))),
+            (subst (λ (is : List LinkedInput). IsAtKnown carries frames sizes slots moves (in_turn (told ++ c ∷ [])) is x) inputs
+            (subst (λ (k : LinkSoFar). IsAtKnown carries frames sizes slots moves k (inputs_in told) x) more (still x (known_after carries frames sizes slots moves told some x driven.1)))),
       )
 
   -- the setting changes before the first event
@@ -145,9 +145,11 @@ module _ {P E : Type 0} (carries : Carrying E) (frames : E → ℕ) (sizes : E �
       → (x : Option (LoneExchange P E)) (y : Option (LinkedExchange P E)) → IsDrivenBy carries frames sizes slots moves [] told x y → AreDriven carries frames sizes slots moves (told ++ c ∷ []) x y
   plain_driven_more placed none still x y driven =
       let unlinked : linked_in (told ++ c ∷ []) ≡ [] = ap (λ (k : LinkSoFar). k.linked) (sym more) ∙ still in
-      subst (λ (ls : List ℕ). IsDrivenBy carries frames sizes slots moves ls (told ++ c ∷ []) x y) (sym unlinked)
-      (subst (λ (ps : List Said). IsDriven carries frames sizes slots moves ps x) (sym (plain_more told c))
-      (driven_more carries frames sizes slots moves (plain_told told) (plain_of c) (plain_known told c more) placed none x driven.0), driven.1)
+      subst (λ (ls : List ℕ). IsDrivenBy carries frames sizes slots moves ls (told ++ c ∷ []) x y) (sym unlinked) (
+        subst (λ (ps : List Said). IsDriven carries frames sizes slots moves ps x) (sym (plain_more told c))
+            (driven_more carries frames sizes slots moves (plain_told told) (plain_of c) (plain_known told c more) placed none x driven.0),
+        driven.1,
+      )
 
   pub linked_driven : 1 ≤ length (linked_in told) → (x : Option (LoneExchange P E)) (y : Option (LinkedExchange P E))
       → x ≡ None → IsLinkedDriven carries frames sizes slots moves (told ++ c ∷ []) y → AreDriven carries frames sizes slots moves (told ++ c ∷ []) x y
@@ -211,7 +213,7 @@ known_with k (On_link (Link_timed given)) first placed some = first some
 -- the header comes before the links
 pub known_first : (told : List Content) (c : Content) → (1 ≤ length (linked_in told) → IsKnown (so_far (plain_told told))) → with_content (in_turn told) c ≡ in_turn (told ++ c ∷ []) → IsTurnPlaced (in_turn told) c
     → 1 ≤ length (linked_in (told ++ c ∷ [])) → IsKnown (so_far (plain_told (told ++ c ∷ [])))
-known_first told c first more placed some = subst (λ (k : LinkSoFar). IsKnown k.plain) more (known_with (in_turn told) c first placed (subst (λ (k : LinkSoFar). 1 ≤ length k.linked) (sym more) some)) 
+known_first told c first more placed some = subst (λ (k : LinkSoFar). IsKnown k.plain) more (known_with (in_turn told) c first placed (subst (λ (k : LinkSoFar). 1 ≤ length k.linked) (sym more) some))
 
 -- what is known of the lines stays true
 sound_with : (k : LinkSoFar) (c : Content) → IsSaid k.plain → IsTurnFine k c → IsTurnPlaced k c → IsSaid (with_content k c).plain

@@ -466,10 +466,12 @@ module _ {M P E : Type 0} (stands : M → List CallRecord → Type 0) (text : M 
           let known : with_said (so_far (plain_told h.told)) (Happens e) ≡ so_far (plain_told h.told ++ Happens e ∷ []) =
           plain_known h.told (Plain (Happens e)) (subst (λ (c : Content). with_content (in_turn h.told) c ≡ in_turn (h.told ++ c ∷ [])) plain_event_is more_known) in
           handled_one row_here (calls_at slots (plain_told h.told) plain_header e) one on' t' exchange' linked done.noted done.line
-          (subst (λ (l : List ℕ). IsDrivenBy carries frames sizes slots moves l all exchange' linked) (sym still)
-          (subst (λ (ps : List Said). IsDriven carries frames sizes slots moves ps exchange') (sym rows)
-          (subst (λ (x : Option (LoneExchange P E)). IsDriven carries frames sizes slots moves (plain_told h.told ++ Happens e ∷ []) x) (sym done.is)
-          (after_plain carries frames sizes slots moves (plain_told h.told) plain_header e plain_placed_here.1 known done.driver done.at done.bound done.few)), plain_driven.1))
+          (subst (λ (l : List ℕ). IsDrivenBy carries frames sizes slots moves l all exchange' linked) (sym still) (
+            subst (λ (ps : List Said). IsDriven carries frames sizes slots moves ps exchange') (sym rows)
+                (subst (λ (x : Option (LoneExchange P E)). IsDriven carries frames sizes slots moves (plain_told h.told ++ Happens e ∷ []) x) (sym done.is)
+                (after_plain carries frames sizes slots moves (plain_told h.told) plain_header e plain_placed_here.1 known done.driver done.at done.bound done.few)),
+            plain_driven.1,
+          ))
 
       -- an allocation failed in it
       pub interrupted_event : (on' : List M) → AreToldFront stands text on on' (calls_at slots (plain_told h.told) plain_header e)
