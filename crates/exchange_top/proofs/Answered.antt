@@ -17,8 +17,7 @@ use Rattle.exchange_events.proofs.EventNumbers.{event_there}
 use Rattle.seat_history.specs.declared.seat_knowledge.SeatKnowledge.{SeatKnowledge}
 use Rattle.seat_history.specs.Histories.{StartsWith, before, unseen}
 use Rattle.exchange_core.specs.Boards.{Board, AnswersAt, setting_at, world_at}
-use Rattle.exchange_events.specs.Sizes.{Setting}
-use Rattle.call_profile.specs.Step.{MovesAtMost, events_of, next, reply, run, world_after_all}
+use Rattle.call_profile.specs.Step.{MovesAtMost, events_of, next, reply, run}
 use Rattle.exchange_core.specs.Working.{Entry, IsNumbered, order_of}
 use Rattle.call_profile.proofs.QuietEventLemmas.{passed_same}
 use Rattle.call_profile.specs.Expiring.{outcome_of_frame}

@@ -1,5 +1,5 @@
 -- The endings of lines that are followed, by other words for what is due.
-use Rattle.std.proofs.Common.{◌≡◌, ℕ, List, [], ◌∷◌, ◌++◌, Option, Some, None, refl, sym, ap, ◌∙◌, subst}
+use Rattle.std.proofs.Common.{ℕ, List, Option, refl, sym, subst}
 use Rattle.circuit_model.specs.Dimensions.{Dimensions}
 use Rattle.circuit_model.specs.Hears.{Plays}
 use Rattle.exchange_events.specs.declared.record.CallRecord.{CallRecord}

@@ -1,54 +1,44 @@
 -- A handler after one more line.
-use Rattle.std.proofs.Common.{◌≡◌, ℕ, ◌+◌, ◌<◌, ◌≤◌, List, [], ◌∷◌, ◌++◌, length, Option, Some, None, Ok, Err, ◌⊎◌, inl, inr, refl, sym, ap, ◌∙◌, subst, arith, append-nil, append_assoc, length-append}
+use Rattle.std.proofs.Common.{◌≡◌, ℕ, ◌+◌, ◌<◌, ◌≤◌, List, [], ◌∷◌, ◌++◌, length, Option, Some, None, Ok, Err, ◌⊎◌, inl, inr, refl, sym, ap, ◌∙◌, subst, arith, append-nil, length-append}
 use Rattle.circuit_model.specs.Dimensions.{Dimensions}
 use Rattle.circuit_model.specs.Hears.{Plays}
-use Rattle.tone_rules.specs.Tables.{table_of}
 use Rattle.exchange_events.specs.declared.record.CallRecord.{CallRecord}
 use Rattle.exchange_events.specs.declared.trace.Event.{Event}
-use Rattle.exchange_events.specs.Kept.{kept_of}
 use Rattle.exchange_events.specs.Sizes.{Setting}
-use Rattle.call_profile.specs.CallsTold.{calls_kept}
-use Rattle.call_profile.specs.Step.{next, reply, world_after_all}
+use Rattle.call_profile.specs.Step.{next, world_after_all}
 use Rattle.call_profile.specs.World.{World, start}
-use Rattle.call_profile.proofs.RunLemmas.{world-snoc}
-use Rattle.report_text.specs.RunReport.{event_line}
-use Rattle.meters.specs.Changing.{AreChangedBy, AreMetered, Event_done, Metering, Meters_changed, Step, after_steps, handed_in, records_of, steps_text}
-use Rattle.meters.proofs.Changes.{after-append, metered-events, metered-first, text-append}
+use Rattle.meters.specs.Changing.{AreMetered, Metering, Step, after_steps, handed_in, records_of, steps_text}
+use Rattle.meters.proofs.Changes.{after-append, metered-first, text-append}
 use Rattle.trace_text.specs.declared.fault.Reason.{Reason}
 use Rattle.trace_text.specs.declared.fault.Reason.TheVariants as reason
-use Rattle.trace_text.specs.declared.heading.Happening.{Happening}
-use Rattle.trace_text.specs.declared.heading.Happening.TheVariants as happening
 use Rattle.trace_text.specs.declared.said.Said.{Said}
 use Rattle.trace_text.specs.declared.said.Said.TheVariants.{Nothing, Header, Numbered, Toned, Timed, Happens, Sync, Change}
 use Rattle.trace_text.specs.declared.said.Sizes.{Sizes}
 use Rattle.trace_text.specs.TraceGrammar.{event_said, events_in, sizes_in, so_far}
-use Rattle.trace_text.specs.TraceHeading.{IsLineRead, happening_of, with_said}
-use Rattle.trace_text.specs.TraceLines.{SoFar, line_limits, says}
+use Rattle.trace_text.specs.TraceHeading.{with_said}
+use Rattle.trace_text.specs.TraceLines.{SoFar, line_limits}
 use Rattle.trace_text.proofs.TraceHolds.{events_more, push, step}
 use Rattle.lone_exchange.specs.declared.exchange.LoneExchange.{LoneExchange}
 use Rattle.lone_exchange.specs.At.{Carrying, IsAt}
 use Rattle.followed_events.specs.Told.{MovesFewIn, setting_said, world_said}
-use Rattle.followed_events.specs.InTurn.{events_by, events_in_turn, follows_in_turn, joint_said, link_timers_said, setting_in_turn, story_in_turn}
+use Rattle.followed_events.specs.InTurn.{follows_in_turn, story_in_turn}
 use Rattle.exchange_top.specs.Following.{IsInterrupted, IsLineRefused, No_line, Read, Unread, course}
-use Rattle.exchange_top.specs.Handling.{AreDriven, HasHandled, IsAfter, IsDriven, IsDrivenBy, IsLinkedAfter, IsLinkedDriven, IsSaid}
+use Rattle.exchange_top.specs.Handling.{AreDriven, HasHandled, IsDriven, IsDrivenBy, IsLinkedDriven, IsSaid}
 use Rattle.report_check.specs.Refusals.{refusal}
-use Rattle.exchange_top.specs.Telling.{AreTold, AreToldFront}
+use Rattle.exchange_top.specs.Telling.{AreToldFront}
 use Rattle.followed_events.proofs.FollowedSteps.{setting_by}
 use Rattle.followed_events.proofs.LinkedRuns.{IsAtKnown, after_known, known_after}
 use Rattle.followed_events.proofs.PlacedLines.{IsKnown, IsPlaced}
 use Rattle.followed_events.proofs.SaidLines.{quiet_before, said_event, said_more, said_none}
 use Rattle.followed_events.proofs.TurnLines.{IsTurnFine, IsTurnLine, each_length, each_push, follows_as, follows_long, follows_many, turn_line}
-use Rattle.followed_events.proofs.TurnSteps.{IsTurnPlaced, due_in_turn, inputs_at, inputs_more, joint_by, linked_more, no_events, plain_known, plain_more, plain_placed, turn_more, with_plain}
+use Rattle.followed_events.proofs.TurnSteps.{IsTurnPlaced, due_in_turn, inputs_at, inputs_more, linked_more, no_events, plain_known, plain_more, turn_more}
 use Rattle.linked_exchange.specs.declared.exchange.LinkedExchange.{LinkedExchange}
-use Rattle.linked_exchange.specs.At.{IsLinkedAt}
-use Rattle.linked_exchange.specs.Runs.{derived_trace, start_joint}
-use Rattle.linked_exchange.specs.Steps.{Joint, LinkedInput}
+use Rattle.linked_exchange.specs.Steps.{LinkedInput}
 use Rattle.linked_lines.specs.LinkedStory.{inputs_in}
 use Rattle.linked_text.specs.declared.said.LinkHappening.{LinkHappening}
 use Rattle.linked_text.specs.declared.said.LinkSaid.TheVariants.{Linked, Received, Timed as Link_timed}
-use Rattle.linked_text.specs.LinkEffects.{IsInTurnRead, in_turn, link_row, linked_in, plain_told}
+use Rattle.linked_text.specs.LinkEffects.{IsInTurnRead, in_turn, linked_in, plain_told}
 use Rattle.linked_text.specs.LinkLines.{Content, LinkSoFar, On_link, Plain, plain_of, says_in_turn, with_content}
-use Rattle.linked_text.specs.LinkTimers.{link_timers_by}
 use Rattle.exchange_top.proofs.Tellings.{beyond_none, both_beyond}
 
 -- ---- one more line at an exchange

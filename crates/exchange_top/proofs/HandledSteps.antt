@@ -1,5 +1,5 @@
 -- A handler after a line of each kind.
-use Rattle.std.proofs.Common.{◌≡◌, ℕ, ◌+◌, ◌<◌, ◌≤◌, List, [], ◌∷◌, ◌++◌, length, true, false, ◌==◌, is_some, Option, Some, None, Result, Ok, Err, OnOk, OnErr, ◌⊎◌, inl, inr, refl, sym, ap, ◌∙◌, subst, arith, append-nil, append_assoc, length-append}
+use Rattle.std.proofs.Common.{◌≡◌, ℕ, ◌+◌, ◌<◌, ◌≤◌, List, [], ◌∷◌, ◌++◌, length, true, false, ◌==◌, is_some, Option, Some, None, Result, Ok, Err, OnOk, OnErr, ◌⊎◌, refl, sym, ap, ◌∙◌, subst, arith, append-nil, append_assoc, length-append}
 use Rattle.std.proofs.lemmas.List.{length-map}
 use Rattle.circuit_model.specs.Dimensions.{Dimensions}
 use Rattle.circuit_model.specs.Hears.{Plays}
@@ -8,11 +8,9 @@ use Rattle.number_plan.specs.Plan.{is_listed}
 use Rattle.exchange_events.specs.declared.record.CallRecord.{CallRecord}
 use Rattle.exchange_events.specs.declared.trace.Event.{Event}
 use Rattle.exchange_events.specs.declared.trace.Event.TheVariants.{Message}
-use Rattle.exchange_events.specs.Kept.{kept_of}
 use Rattle.exchange_events.specs.Sizes.{Setting}
 use Rattle.exchange_events.specs.Sound.{Fits}
-use Rattle.call_profile.specs.CallsTold.{calls_kept}
-use Rattle.call_profile.specs.Step.{next, reply, world_after_all}
+use Rattle.call_profile.specs.Step.{next, world_after_all}
 use Rattle.call_profile.specs.World.{World, start}
 use Rattle.call_profile.proofs.RunLemmas.{world-snoc}
 use Rattle.report_text.specs.RunReport.{event_line}
@@ -28,13 +26,13 @@ use Rattle.trace_text.specs.declared.said.Said.TheVariants.{Nothing, Header, Num
 use Rattle.trace_text.specs.declared.said.Sizes.{Sizes}
 use Rattle.trace_text.specs.TraceGrammar.{event_said, events_in, sizes_in, so_far}
 use Rattle.trace_text.specs.TraceHeading.{happening_of, with_event, with_said}
-use Rattle.trace_text.specs.TraceLines.{SoFar, line_limits, says}
+use Rattle.trace_text.specs.TraceLines.{SoFar, line_limits}
 use Rattle.trace_text.proofs.SoundLemmas.{IsFine}
 use Rattle.trace_text.proofs.TraceHolds.{events_more}
 use Rattle.lone_exchange.specs.declared.exchange.LoneExchange.{LoneExchange}
 use Rattle.lone_exchange.specs.At.{Carrying, IsAt}
-use Rattle.followed_events.specs.Told.{MovesFewIn, setting_said, story_by, story_said, world_said}
-use Rattle.followed_events.specs.InTurn.{MovesFewInTurn, events_by, events_in_turn, joint_said, link_timers_said, linked_story, setting_in_turn, story_by_links, story_in_turn, world_in_turn}
+use Rattle.followed_events.specs.Told.{MovesFewIn, setting_said, story_by, world_said}
+use Rattle.followed_events.specs.InTurn.{events_by, events_in_turn, joint_said, link_timers_said, linked_story, setting_in_turn, story_by_links, story_in_turn, world_in_turn}
 use Rattle.exchange_top.specs.Following.{IsEndRefused, IsInterrupted, IsLineRefused, course}
 use Rattle.exchange_top.specs.Handling.{AreDriven, HasFinished, HasRead, IsDriven, IsDrivenBy, IsLinkedDriven, exchange_of}
 use Rattle.followed_events.specs.LinkedStepping.{HasLinkedHappened, IsLinkedDue, IsLinkedGiven, IsLinkedHeard, IsLinkedRunning, content_of, effect_in, steps_at}
@@ -47,19 +45,18 @@ use Rattle.followed_events.proofs.LinkedRuns.{events_linked}
 use Rattle.followed_events.proofs.TurnLines.{IsTurnFine, IsTurnLine, each_few, each_length}
 use Rattle.followed_events.proofs.TurnSteps.{IsTurnPlaced, due_by_links, due_in_turn, linked_due, plain_known, plain_more, with_plain}
 use Rattle.linked_exchange.specs.declared.exchange.LinkedExchange.{LinkedExchange}
-use Rattle.linked_exchange.specs.At.{IsLinkedAt}
 use Rattle.linked_exchange.specs.Runs.{FitsLinked}
 use Rattle.linked_exchange.proofs.PlainLemmas.{trace_world}
 use Rattle.linked_lines.specs.declared.steps.LinkedEvent.{LinkedEvent}
 use Rattle.linked_lines.specs.declared.steps.LinkedEvent.TheVariants as event
 use Rattle.linked_lines.specs.LinkedLines.{input_of}
-use Rattle.linked_lines.specs.LinkedStory.{inputs_in, linked_steps}
+use Rattle.linked_lines.specs.LinkedStory.{inputs_in}
 use Rattle.linked_text.specs.declared.said.LinkHappening.{LinkHappening}
 use Rattle.linked_text.specs.declared.said.LinkHappening.TheVariants as effect
 use Rattle.linked_text.specs.declared.said.LinkSaid.TheVariants.{Linked, Received, Timed as Link_timed}
-use Rattle.linked_text.specs.LinkEffects.{IsInTurnRead, in_turn, link_row, link_timers_in, link_timers_of, linked_in, plain_told}
+use Rattle.linked_text.specs.LinkEffects.{IsInTurnRead, in_turn, link_row, linked_in, plain_told}
 use Rattle.linked_text.specs.LinkLines.{Content, LinkSoFar, On_link, Plain, effect_of, plain_of, says_in_turn, with_content}
-use Rattle.followed_events.proofs.PlacedLines.{IsKnown, IsPlaced}
+use Rattle.followed_events.proofs.PlacedLines.{IsKnown}
 
 pub length-events_in-le : (told : List Said) → length (events_in told) ≤ length told
 length-events_in-le [] = omega arith

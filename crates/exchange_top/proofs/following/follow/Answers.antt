@@ -1,4 +1,3 @@
-use Rattle.std.proofs.Common.{◌∙◌}
 use Rattle.exchange_top.proofs.following.follow.Goals as goal
 use Rattle.exchange_top.proofs.following.follow.Goals.{then-strict, else-strict}
 

@@ -1,7 +1,7 @@
 use Rattle.std.proofs.Common.{◌++◌, ◌≤◌, ◌∙◌, [], List, ℕ, ap, arith, length, not, subst, sym}
 use Rattle.linked_text.specs.LinkEffects.{plain_told}
 use Rattle.exchange_top.proofs.Handled.{interrupted_last}
-use Rattle.exchange_top.proofs.HandledSteps.{count_few, end_refused, finish_heard, finish_linked, finished, finished_linked, known_there, none_listed, of_ok, some_listed}
+use Rattle.exchange_top.proofs.HandledSteps.{count_few, finish_heard, finish_linked, finished, finished_linked, known_there, none_listed, of_ok, some_listed}
 use Rattle.followed_events.proofs.SteppingLemmas.{err_is}
 use Rattle.exchange_top.proofs.follower.TraceFollower.finish.Goals as goal
 use Rattle.exchange_top.proofs.follower.TraceFollower.finish.Goals.{then-is_empty, else-is_empty}

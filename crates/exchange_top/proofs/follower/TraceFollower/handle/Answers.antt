@@ -1,4 +1,4 @@
-use Rattle.std.proofs.Common.{◌++◌, ◌∷◌, ◌<◌, ◌≤◌, ◌⊎◌, ◌∙◌, List, ℕ, [], length, ap, arith, inl, inr, subst, sym}
+use Rattle.std.proofs.Common.{◌++◌, ◌<◌, ◌≤◌, ◌⊎◌, [], length, arith, inl, inr}
 use Rattle.exchange_top.proofs.Handled.{interrupted_here}
 use Rattle.exchange_top.proofs.HandledSteps.{count_few, is_read, refused_at, refused_by}
 use Rattle.followed_events.proofs.SteppingLemmas.{err_is}

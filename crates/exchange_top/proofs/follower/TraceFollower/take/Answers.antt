@@ -1,4 +1,4 @@
-use Rattle.std.proofs.Common.{◌≡◌, ◌∙◌, ◌++◌, ap}
+use Rattle.std.proofs.Common.{◌∙◌, ◌++◌, ap}
 use Rattle.linked_text.specs.declared.said.LinkHappening.TheVariants as effect
 use Rattle.exchange_top.proofs.Handled.{interrupted_here}
 use Rattle.exchange_top.proofs.HandledSteps.{err_each, handled_change, handled_quiet, of_err, of_ok, ok_each}
