@@ -1,5 +1,6 @@
 //! The control memory of one frame.
 ghost use Rattle.std.specs.Prelude.{◌≡◌, ℕ, true, ◌+◌, ◌<◌, ◌≤◌, ◌*◌, All, Some, None, IfOk, IfSome, length, slice_index_or, if◌then◌else◌};
+ghost use Rattle.circuit_model.specs.declared.channel.Slot.{Slot};
 ghost use Rattle.circuit_model.specs.Circuits.{same_slot};
 ghost use Rattle.control_memory.specs.Tables.{HasSize, entry, Agree, IsRow, written};
 ghost use Rattle.control_memory.specs.Image.{lines_of, port_number, sent, received, read, heard_at, room_at, IsCleared, IsQuiet, SameSizes, SameTables, EachSlot};
@@ -223,7 +224,7 @@ impl Image {
     /// Returns how many lines, from line 0 on, may receive something. Every place of a line after them is silent.
     pub fn receiving_lines(&self) -> u8
         ensures within { result ≤ lines_of self.now }
-        ensures empty { (line place : ℕ) → result ≤ line → line < lines_of self.now → place < 30 → heard_at self.now (record { line = line; place = place }) ≡ Heard.Silent }
+        ensures empty { (at : Slot) → result ≤ at.line → at.line < lines_of self.now → at.place < 30 → heard_at self.now at ≡ Heard.Silent }
     {
         self.heard.receiving_lines()
     }

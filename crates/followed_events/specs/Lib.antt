@@ -1,3 +1,4 @@
+pub mod FollowedTraces
 pub mod Telling
 pub mod Story
 pub mod Told

@@ -1,18 +1,16 @@
 //! Theorems: lines without data links have the contents and the story of a trace without them, and each trace with short
 //! lines is followed.
-ghost use Rattle.std.specs.Prelude.{◌≡◌, ◌≤◌, ℕ, List, [], All, length, map};
+ghost use Rattle.std.specs.Prelude.{◌≡◌, ℕ, List, [], map};
 ghost use Rattle.exchange_events.specs.declared.trace.Trace.{Trace};
-ghost use Rattle.exchange_events.specs.Orders.{file_order};
 ghost use Rattle.circuit_model.specs.Hears.{Plays};
-ghost use Rattle.line_list.specs.declared.listing.Listing.TheVariants.{Report};
 ghost use Rattle.trace_text.specs.declared.said.Said.{Said};
 ghost use Rattle.trace_text.specs.TraceGrammar.{IsTrace, IsWhatLinesSay};
 ghost use Rattle.trace_text.specs.TraceWords.{lines};
 ghost use Rattle.linked_text.specs.LinkEffects.{plain_told};
 ghost use Rattle.linked_text.specs.LinkLines.{Content, Plain};
-ghost use Rattle.followed_events.specs.Told.{EachFollows, max_line, story_said};
+ghost use Rattle.followed_events.specs.Told.{EachFollows, story_said};
 ghost use Rattle.followed_events.specs.InTurn.{ArePlain, EachInTurn, story_in_turn};
-ghost use Rattle.followed_events.specs.Story.{story};
+ghost use Rattle.followed_events.specs.FollowedTraces.{AreShort, IsFollowedInTurn};
 
 /// Lines without data links have the contents and the story of a trace without them. Lines have one list of contents.
 /// Each trace with short lines is followed in turn, with the story of a run in file order.
@@ -22,13 +20,11 @@ pub fn plain_lines_are_followed()
     ensures story { (plays : Plays) (slots : ℕ) (told : List Content) → ArePlain told
         → story_in_turn plays slots told ≡ story_said plays slots (plain_told told) }
     ensures one { (told other : List Content) (rows : List (List ℕ)) → EachInTurn [] rows told → EachInTurn [] rows other → told ≡ other }
-    ensures traces { (plays : Plays) (slots : ℕ) (bytes : List ℕ) (t : Trace) → IsTrace bytes t → All (λ line. length line ≤ max_line) (lines bytes)
-        → (told : List Content) × ArePlain told × EachInTurn [] (lines bytes) told
-        × (story_in_turn plays slots told ≡ story plays Report slots t (file_order (length t.events))) }
+    ensures traces { (plays : Plays) (slots : ℕ) (bytes : List ℕ) (t : Trace) → IsTrace bytes t → AreShort bytes → IsFollowedInTurn plays slots bytes t }
 {}
 
 /// Each trace whose lines have at most 65,535 octets is followed.
 pub fn traces_are_followed()
-    ensures { (bytes : List ℕ) (t : Trace) → IsTrace bytes t → All (λ line. length line ≤ max_line) (lines bytes)
+    ensures { (bytes : List ℕ) (t : Trace) → IsTrace bytes t → AreShort bytes
         → (told : List Said) × EachFollows [] (lines bytes) told × IsWhatLinesSay t told }
 {}

@@ -4,7 +4,7 @@ ghost use Rattle.hex.specs.Hex.{encode_upper};
 ghost use Rattle.exchange_events.specs.declared.answer.Kept.TheVariants.{Granted, Busy, Seated, NoPort, Freed, NotNailed};
 ghost use Rattle.report_text.specs.Report.{answer_line, frame_line, line_octets, lines_sent, moved_kept, octet_of, part, parts, parts_line, report_line, response_kept, response_line, sends_kept};
 
-use crate::digits::{are_idle, is_idle, put_row_digits, wide_row};
+use crate::digits::{are_known_idle, is_idle, put_row_digits, wide_row};
 use crate::message::{put_frame_signals, put_message};
 use crate::text::{put_before, put_line_before, put_number_before};
 use exchange_events::{Answer, Kept, Outbox, Response, Signal};
@@ -208,6 +208,8 @@ pub fn put_word(out: &mut Vec<u8>, number: u32, word: &[u8]) -> Result<(), Alloc
 /// # Errors
 ///
 /// [`AllocError`] if an allocation fails. Then `out` may have a prefix of the text.
+// Two crates call it, and LLVM would leave it a call.
+#[inline(always)]
 pub fn put_pair(out: &mut Vec<u8>, number: u32, word: &[u8], other: u32) -> Result<(), AllocError>
     requires { length word.now ≤ 16 }
     ensures pair { OnOk result (out.new.items ≡ out.old.items ++ decimal number ++ word.now ++ decimal other) }
@@ -252,7 +254,8 @@ fn put_frame(
     out.extend_from_slice(b"\n")
 }
 
-/// Appends the octets of each line that is not idle. In most frames without calls all are idle, so that is tested first.
+/// Appends the octets of each line that is not idle. In most frames without calls all lines are idle. So for many lines
+/// that is tested first.
 ///
 /// # Errors
 ///
@@ -261,7 +264,7 @@ pub fn put_parts(out: &mut Vec<u8>, octets: &[[u8; 30]]) -> Result<(), AllocErro
     ensures parts { OnOk result (out.new.items ≡ out.old.items ++ parts 0 (lines_sent (octet_of octets.now) (length octets.now))) }
     ensures front { take (length out.old.items) out.new.items ≡ out.old.items }
 {
-    if are_idle(octets) {
+    if are_known_idle(octets) {
         return Ok(());
     }
     for (line, row) in octets.iter().enumerate() {

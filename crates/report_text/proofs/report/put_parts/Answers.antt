@@ -31,8 +31,8 @@ returns-clause-parts c =
     ∙ sym (ap (λ lines. c.loop-line.out.items ++ parts c.loop-line.line lines) (drop_all c.loop-line.line all over))
     ∙ c.loop-line.invariant.done
 
-pub returns-then-are_idle-clause-parts : goal.returns-then-are_idle-clause-parts
-returns-then-are_idle-clause-parts c =
+pub returns-then-are_known_idle-clause-parts : goal.returns-then-are_known_idle-clause-parts
+returns-then-are_known_idle-clause-parts c =
     let rows : List (List ℕ) = c.args.octets.now in
     let out : List ℕ = c.args.out.now.items in
     let none : parts 0 (lines_sent (octet_of rows) (length rows)) ≡ [] = ap (parts 0) (lines_sent_rows rows (λ line inside. search rules)) ∙ parts_idle 0 rows (search rules) in
