@@ -1,5 +1,6 @@
 """A trace that is being written, and the program, proved or not, that runs it."""
 
+import contextlib
 import os
 import shutil
 import subprocess
@@ -55,13 +56,19 @@ def build_unproved():
             if time.monotonic() - said >= BUILD_SECONDS:
                 said = time.monotonic()
                 say(f"{NAME}: `rt try` has been building for {said - begun:.0f} s")
-            for found in Path(folder).glob("**/program"):
-                if not UNPROVED.exists():
-                    os.link(found, UNPROVED)
+            keep_program(folder)
             time.sleep(0.05)
     if build.returncode or not is_program(UNPROVED):
         UNPROVED.unlink(missing_ok=True)
         raise Refused(f"`rt try` built no program: `(cd {PROGRAM.parent.parent.relative_to(TOP)} && rt run -- run <stdin)` proves and builds one")
+
+
+def keep_program(folder):
+    """Links the program that a build left in a folder. Meanwhile `rt` may remove any file or folder in it."""
+    for place, _, files in os.walk(folder):  # a folder that is gone has no files
+        if "program" in files:
+            with contextlib.suppress(FileExistsError, FileNotFoundError):
+                os.link(Path(place) / "program", UNPROVED)
 
 
 def replies_of(program, trace, first):
