@@ -8,6 +8,7 @@ use Rattle.circuit_model.specs.Ports.{port_of, port_numbered, ports_with}
 use Rattle.conference_ports.specs.declared.occupant.Occupant.{Occupant}
 use Rattle.conference_ports.specs.Owners.{members}
 use Rattle.control_memory.specs.declared.heard.Heard.{Heard}
+use Rattle.control_memory.specs.FrameTables.{Recent}
 use Rattle.control_memory.specs.Layout.{IsSlot}
 use Rattle.circuit_map.specs.Connections.{Connections, IsExternal, IsSound, AreJoined, CanBeJoined, map_lines, hears_at, parted}
 use Rattle.control_memory.specs.Connecting.{without_path}
@@ -43,7 +44,7 @@ pub record GetsPort (m : Connections) (lines : ℕ) (x p : Slot) : Type 0 where
   pub port : port_of m.external (ports_with x m.ports) x ≡ Some p
 
 -- k is made of a map's parts, and m is what the map shows
-module _ (k m : Connections) (lines first rows : ℕ) (owners : List (Option Occupant)) (hearing : List Heard) (sitting : List (Option (ℕ × ℕ))) (is : k ≡ m) (sound : IsSound k lines first rows owners hearing sitting) where
+module _ (k m : Connections) (lines first rows : ℕ) (owners : List (Option Occupant)) (hearing : List Heard) (sitting : List (Option (ℕ × ℕ))) (recent : Recent) (is : k ≡ m) (sound : IsSound k lines first rows owners hearing sitting recent) where
   seen : (x : Slot) → IsExternal m x → IsExternal k x
   seen x at = subst (λ (m : Connections). IsExternal m x) (sym is) at
 

@@ -11,3 +11,4 @@ pub mod Seating
 pub mod OwnersRooms
 pub mod Views
 pub mod Ends
+pub mod Recent

@@ -1,5 +1,5 @@
 -- The contents of a map of circuits, and the holding that it represents. Source: this project.
-use Rattle.std.specs.Prelude.{◌≡◌, ◌≢◌, ℕ, ◌+◌, ◌*◌, ◌<◌, ◌≤◌, ◌&&◌, nat_lt, Bool, true, false, List, length, count_by, Option, Some, None, is_some, slice_index_or, option_and_then, if◌then◌else◌}
+use Rattle.std.specs.Prelude.{◌≡◌, ◌≢◌, ℕ, ◌+◌, ◌*◌, ◌<◌, ◌≤◌, ◌&&◌, nat_lt, Bool, true, false, List, length, count_by, Option, Some, None, IfSome, is_some, slice_index_or, option_and_then, if◌then◌else◌}
 use Rattle.circuit_model.specs.declared.channel.Slot.{Slot}
 use Rattle.circuit_model.specs.declared.circuit.Circuit.{Circuit}
 use Rattle.circuit_model.specs.declared.circuit.Circuit.TheVariants.{Pair, Member, Tone}
@@ -12,7 +12,8 @@ use Rattle.control_memory.specs.declared.heard.Heard.{Heard}
 use Rattle.control_memory.specs.declared.heard.Heard.TheVariants.{Silent}
 use Rattle.control_memory.specs.Layout.{Layout, Legal, IsSlot, Joins, hop_of, path_to, number_of}
 use Rattle.control_memory.specs.Connecting.{connect, moved}
-use Rattle.control_memory.specs.Image.{EachSlot, port_entry}
+use Rattle.control_memory.specs.Image.{EachSlot, HasLayout, port_entry}
+use Rattle.control_memory.specs.FrameTables.{Recent}
 use Rattle.control_memory.specs.Shown.{JoinsCircuits, served_by, heard_as, partner, seated_as, without_both}
 
 -- for each external slot, line by line, the circuit by which it receives; the member of each conference port; and the
@@ -113,9 +114,20 @@ pub record IsShown (external bridges : ℕ) (heard : List (Option Circuit)) (por
 abbrev pub AreRoomed : (Slot → Option Circuit) → List (Option Occupant) → Type 0
 AreRoomed hears owners = (k : ℕ) (owner : Occupant) → slice_index_or owners k None ≡ Some owner → (since : ℕ) × (hears owner.member ≡ Some (Member owner.room owner.member since))
 
+-- the latest control memory, if its tables still apply, has the layout, and the tables for the next control memory
+abbrev pub AreLatest : Layout → List Heard → List (Option (ℕ × ℕ)) → Recent → Type 0
+AreLatest layout hearing sitting r = IfSome r.latest (λ image. HasLayout image layout × (image.heard ≡ hearing) × (image.rooms ≡ sitting))
+
+-- the same, and its sizes
+pub record IsRecent (first_line bridge_lines depth : ℕ) (layout : Layout) (hearing : List Heard) (sitting : List (Option (ℕ × ℕ))) (r : Recent) : Type 0 where
+  pub external : r.external ≡ first_line
+  pub bridges : r.bridges ≡ bridge_lines
+  pub slots : r.slots ≡ depth
+  pub latest : AreLatest layout hearing sitting r
+
 -- the sizes of the parts; the parts belong to some holding; each port's owner has its room; and the tables for the next
--- control memory show these
-pub record IsSound (m : Connections) (lines first_line bridge_lines : ℕ) (owners : List (Option Occupant)) (hearing : List Heard) (sitting : List (Option (ℕ × ℕ))) : Type 0 where
+-- control memory show these, as does the latest control memory
+pub record IsSound (m : Connections) (lines first_line bridge_lines : ℕ) (owners : List (Option Occupant)) (hearing : List Heard) (sitting : List (Option (ℕ × ℕ))) (r : Recent) : Type 0 where
   pub few : map_lines m ≤ 34
   pub width : lines ≡ map_lines m
   pub first : first_line ≡ m.external
@@ -126,6 +138,7 @@ pub record IsSound (m : Connections) (lines first_line bridge_lines : ℕ) (owne
   pub held : (h : Holding) × Represents m h m.ports
   pub roomed : AreRoomed (hears_at m) owners
   pub shown : IsShown m.external m.bridges m.heard m.ports hearing sitting
+  pub recent : IsRecent m.external m.bridges m.slots m.layout hearing sitting r
 
 -- the sizes are the same
 pub record SameSizes (a b : Connections) : Type 0 where

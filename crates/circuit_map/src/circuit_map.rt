@@ -11,9 +11,10 @@ ghost use Rattle.control_memory.specs.Image.{SameSizes as SameImageSizes};
 ghost use Rattle.circuit_map.specs.Connections.{IsExternal, hears_at, hears_after, Represents, Obeys, IsLaid, SameSizes, AreMoves, joined_both, parted, is_pathless};
 
 use crate::both_ways::{connect_both, disconnect_both};
+use crate::next_memory::write_memory;
 use circuit_model::{CHANNELS_PER_LINE, Circuit, Kind, Slot};
 use conference_ports::Ports;
-use control_memory::{Heard, HeardTable, Image, PathMap, port_index};
+use control_memory::{Heard, HeardTable, Image, PathMap, RecentTables, port_index};
 use std::alloc::{AllocError, Global};
 use std::marker::Model;
 use thiserror::Error;
@@ -39,9 +40,11 @@ pub struct CircuitMap<P: PathMap> {
     ports: Ports,
     paths: P,
     // The source of each slot's octets and the member of each port, in the form of a control memory. A command writes
-    // few entries, and a boundary copies the tables whole.
+    // few entries, and a boundary after a change copies the tables whole.
     hearing: HeardTable,
     sitting: Vec<Option<(u8, u32)>>,
+    // The tables of the last control memory, if no circuit has changed since.
+    recent: RecentTables,
 }
 
 impl<P: PathMap> Model for CircuitMap<P> {
@@ -53,7 +56,7 @@ impl<P: PathMap> Model for CircuitMap<P> {
     ghost view = { λ m. kept_connections m.external m.bridges (P.depth m.paths) (P.bound m.paths) m.next m.heard.items m.ports.owners (P.layout m.paths) };
 
     ghost invariant = { λ m. IsSound (kept_connections m.external m.bridges (P.depth m.paths) (P.bound m.paths) m.next m.heard.items m.ports.owners (P.layout m.paths))
-        (P.width m.paths) m.ports.external m.ports.lines m.ports.owners m.hearing m.sitting.items };
+        (P.width m.paths) m.ports.external m.ports.lines m.ports.owners m.hearing m.sitting.items m.recent };
 }
 
 impl<P: PathMap + Drop> CircuitMap<P> {
@@ -74,7 +77,7 @@ impl<P: PathMap + Drop> CircuitMap<P> {
         ensures paths { IfOk result (λ m. (m.layout ≡ P.layout paths) × (m.slots ≡ P.depth paths) × (m.bound ≡ P.bound paths)) }
     {
         // Each call of a path map guarantees that its layout is legal.
-        let _slots = paths.slots();
+        let slots = paths.slots();
         let places = usize::from(CHANNELS_PER_LINE);
         Ok(CircuitMap {
             external,
@@ -85,6 +88,7 @@ impl<P: PathMap + Drop> CircuitMap<P> {
             paths,
             hearing: HeardTable::new(alloc, external + bridges)?,
             sitting: vec![in alloc; None; places * usize::from(bridges)]?,
+            recent: RecentTables::new(alloc, external, bridges, slots)?,
         })
     }
 }
@@ -137,6 +141,7 @@ impl<P: PathMap> CircuitMap<P> {
         ensures laid { IsLaid self.new }
         ensures sizes { SameSizes self.old self.new }
     {
+        self.recent.forget();
         let at = x.to_index();
         let since = self.next;
         self.heard[at] = Some(Circuit::Tone { kind, to: x, since });
@@ -162,6 +167,7 @@ impl<P: PathMap> CircuitMap<P> {
         ensures laid { IsLaid self.new }
         ensures sizes { SameSizes self.old self.new }
     {
+        self.recent.forget();
         let moves = connect_both(&mut self.paths, x, y);
         let (at_x, at_y) = (x.to_index(), y.to_index());
         let since = self.next;
@@ -203,6 +209,7 @@ impl<P: PathMap> CircuitMap<P> {
         let Some(port) = self.ports.take(room, x) else {
             return Err(NoPort);
         };
+        self.recent.forget();
         let moves = connect_both(&mut self.paths, x, port);
         let (at_x, at_port) = (x.to_index(), port.to_index());
         let sits_at = port_index(self.external, port);
@@ -255,8 +262,15 @@ impl<P: PathMap> CircuitMap<P> {
         ensures sizes { SameSizes self.old self.new }
     {
         let frame = self.next;
-        image.reset_with(frame, &self.hearing, &self.sitting);
-        self.paths.write_tables(image);
+        let recent = &mut self.recent;
+        write_memory(
+            recent,
+            frame,
+            image,
+            &self.hearing,
+            &self.sitting,
+            &self.paths,
+        );
         self.next = frame + 1;
         frame
     }
@@ -274,6 +288,7 @@ impl<P: PathMap> CircuitMap<P> {
         ensures laid { IsLaid self.new }
         ensures sizes { SameSizes self.old self.new }
     {
+        self.recent.forget();
         let at = x.to_index();
         self.heard[at] = None;
         self.hearing.set(at, Heard::Silent);
@@ -292,6 +307,7 @@ impl<P: PathMap> CircuitMap<P> {
         ensures laid { IsLaid self.new }
         ensures sizes { SameSizes self.old self.new }
     {
+        self.recent.forget();
         disconnect_both(&mut self.paths, x, y);
         let (at_x, at_y) = (x.to_index(), y.to_index());
         self.heard[at_x] = None;
@@ -316,6 +332,7 @@ impl<P: PathMap> CircuitMap<P> {
         let Some(port) = self.ports.port_of(x) else {
             unreachable!();
         };
+        self.recent.forget();
         disconnect_both(&mut self.paths, x, port);
         self.ports.give(x);
         let (at_x, at_port) = (x.to_index(), port.to_index());

@@ -10,5 +10,6 @@
 
 mod both_ways;
 mod circuit_map;
+mod next_memory;
 
 pub use circuit_map::{CircuitMap, NoPort};

@@ -36,6 +36,17 @@ received m line slot = entry_in m.slots m.space line slot
 abbrev pub read : Control → ℕ → ℕ → Option ℕ
 read m line place = entry_in 30 m.outgoing line place
 
+-- the tables of the three stages: by the incoming line and the internal slot the place, by the outgoing line and the
+-- internal slot the incoming line, and by the outgoing line and the place the internal slot
+abbrev pub incoming_of : Control → Table
+incoming_of m = record { rows = lines_of m; columns = m.slots; limit = 30; entries = m.incoming }
+
+abbrev pub space_of : Control → Table
+space_of m = record { rows = lines_of m; columns = m.slots; limit = lines_of m; entries = m.space }
+
+abbrev pub outgoing_of : Control → Table
+outgoing_of m = record { rows = lines_of m; columns = 30; limit = m.slots; entries = m.outgoing }
+
 -- the three tables encode the layout, and hold nothing else
 abbrev pub HasLayout : Control → Layout → Type 0
 HasLayout m layout = HasTables (lines_of m) m.slots layout (sent m) (received m) (read m)

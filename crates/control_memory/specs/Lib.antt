@@ -5,6 +5,7 @@ pub mod Tables
 pub mod HeardWords
 pub mod HeardRows
 pub mod Image
+pub mod FrameTables
 pub mod Carrying
 pub mod Shown
 pub mod Paths

@@ -69,7 +69,7 @@ impl HeardTable {
     }
 
     /// Returns true only if a line is silent. The result can be false for a line that was silenced place by place.
-    pub(crate) fn is_silent(&self, line: u8) -> bool
+    pub fn is_silent(&self, line: u8) -> bool
         requires { 30 * line + 30 ≤ length self.now }
         ensures { result ≡ true → IsSilent self.now line }
     {
@@ -77,7 +77,7 @@ impl HeardTable {
     }
 
     /// Returns how many lines, from line 0 on, may receive something. Every line after them is silent.
-    pub(crate) fn receiving_lines(&self) -> u8
+    pub fn receiving_lines(&self) -> u8
         ensures within { 30 * result ≤ length self.now }
         ensures silent { (line : ℕ) → result ≤ line → 30 * line + 30 ≤ length self.now → IsSilent self.now line }
     {

@@ -1,17 +1,21 @@
 //! The control memory of one frame.
-ghost use Rattle.std.specs.Prelude.{◌≡◌, ℕ, true, ◌+◌, ◌<◌, ◌≤◌, ◌*◌, All, Some, None, IfOk, IfSome, length, slice_index_or, if◌then◌else◌};
-ghost use Rattle.circuit_model.specs.declared.channel.Slot.{Slot};
+ghost use Rattle.std.specs.Prelude.{◌≡◌, true, ◌+◌, ◌<◌, ◌≤◌, ◌*◌, All, Some, None, IfOk, IfSome, length, slice_index_or, if◌then◌else◌};
 ghost use Rattle.circuit_model.specs.Circuits.{same_slot};
-ghost use Rattle.control_memory.specs.Tables.{HasSize, entry, Agree, IsRow, written};
-ghost use Rattle.control_memory.specs.Image.{lines_of, port_number, sent, received, read, heard_at, room_at, IsCleared, IsQuiet, SameSizes, SameTables, EachSlot};
+ghost use Rattle.control_memory.specs.Tables.{HasSize, entry, Agree, written};
+ghost use Rattle.std.specs.Option.{option_map_or};
+ghost use Rattle.std.specs.Arc.{arc_value};
+ghost use Rattle.control_memory.specs.FrameTables.{AreSizedFor, HaveSameEntries, HaveSameSizes, at_frame, with_tables};
+ghost use Rattle.control_memory.specs.Image.{incoming_of, lines_of, outgoing_of, port_number, space_of, sent, received, read, heard_at, room_at, IsCleared, IsQuiet, SameSizes, SameTables, EachSlot};
 
-use crate::control_table::{ControlTable, bare_tables};
+use crate::control_table::ControlTable;
+use crate::frame_tables::FrameTables;
 use crate::heard::Heard;
 use crate::heard_table::HeardTable;
-use crate::heard_word::HeardWord;
 use circuit_model::{CHANNELS_PER_LINE, Slot};
 use std::alloc::{AllocError, Global};
 use std::marker::Model;
+use std::mem;
+use std::sync::Arc;
 
 /// The control memory of one frame: its number, the tables of its three stages, the source of each slot's octets, and
 /// the member of each conference port.
@@ -24,35 +28,22 @@ pub struct Image {
     external: u8,
     bridges: u8,
     slots: u8,
-    incoming: ControlTable,
-    space: ControlTable,
-    outgoing: ControlTable,
-    // The source of each slot's octets, by its number.
-    heard: HeardTable,
-    // The member of each port: the places of the bridge lines, line after line. External slots have no entry, because
-    // only ports are mixed for.
-    rooms: Vec<Option<(u8, u32)>>,
+    own: FrameTables,
+    // Tables that it shares with other control memories, if any. Its own are then unused.
+    shared: Option<Arc<FrameTables>>,
 }
 
 impl Model for Image {
-    ghost use Rattle.std.specs.Prelude.{◌+◌, length};
-    ghost use Rattle.control_memory.specs.Image.{Control, IsSized};
+    ghost use Rattle.std.specs.Option.{option_map_or};
+    ghost use Rattle.std.specs.Arc.{arc_value};
+    ghost use Rattle.control_memory.specs.Image.{Control};
+    ghost use Rattle.control_memory.specs.FrameTables.{AreShown, control_of};
 
     ghost Value = { Control };
 
-    ghost view = { λ m. record {
-      frame = m.frame;
-      external = m.external;
-      bridges = m.bridges;
-      slots = m.slots;
-      incoming = m.incoming.entries;
-      space = m.space.entries;
-      outgoing = m.outgoing.entries;
-      heard = m.heard;
-      rooms = m.rooms.items;
-    } };
+    ghost view = { λ m. control_of m.frame m.external m.bridges m.slots (option_map_or arc_value m.shared m.own) };
 
-    ghost invariant = { λ m. IsSized m.external m.bridges m.slots m.incoming m.space m.outgoing (length m.heard) (length m.rooms.items) };
+    ghost invariant = { λ m. AreShown m.external m.bridges m.slots m.own (option_map_or arc_value m.shared m.own) };
 }
 
 impl Image {
@@ -68,21 +59,13 @@ impl Image {
         ensures paths { IfOk result IsCleared }
         ensures quiet { IfOk result IsQuiet }
     {
-        let lines = external + bridges;
-        let places = usize::from(CHANNELS_PER_LINE);
-        let rooms = vec![in alloc; None; places * usize::from(bridges)]?;
-        let heard = HeardTable::new(alloc, lines)?;
-        let (incoming, space, outgoing) = bare_tables(alloc, lines, slots)?;
         Ok(Image {
             frame: 0,
             external,
             bridges,
             slots,
-            incoming,
-            space,
-            outgoing,
-            heard,
-            rooms,
+            own: FrameTables::new(alloc, external, bridges, slots)?,
+            shared: None,
         })
     }
 
@@ -121,7 +104,7 @@ impl Image {
         ensures place { result ≡ sent self.now line slot }
         ensures within { IfSome result (λ place. place < 30) }
     {
-        self.incoming.get(line, slot)
+        self.tables().incoming.get(line, slot)
     }
 
     /// Returns the incoming line whose octet an outgoing line gets in an internal slot, if any.
@@ -131,7 +114,7 @@ impl Image {
         ensures line { result ≡ received self.now line slot }
         ensures within { IfSome result (λ from. from < lines_of self.now) }
     {
-        self.space.get(line, slot)
+        self.tables().space.get(line, slot)
     }
 
     /// Returns the internal slot that a place of an outgoing line reads, if any.
@@ -141,92 +124,36 @@ impl Image {
         ensures slot { result ≡ read self.now line place }
         ensures within { IfSome result (λ slot. slot < self.now.slots) }
     {
-        self.outgoing.get(line, place)
+        self.tables().outgoing.get(line, place)
     }
 
-    /// Returns the row of the incoming table of a line, by internal slot: the place that the line sends, or 255 if it
-    /// sends none.
-    pub fn incoming_row(&self, line: u8) -> &[u8]
-        requires { line < lines_of self.now }
-        ensures { IsRow self.now.slots 30 (sent self.now line) result.now }
+    /// Returns the table of the incoming time switch: the place that each line sends in each internal slot.
+    pub fn incoming_table(&self) -> &ControlTable
+        ensures { result.now ≡ incoming_of self.now }
     {
-        self.incoming.row(line)
+        &self.tables().incoming
     }
 
-    /// Returns the row of the space table of an outgoing line, by internal slot: the incoming line whose octet it gets,
-    /// or 255 if it gets none.
-    pub fn space_row(&self, line: u8) -> &[u8]
-        requires { line < lines_of self.now }
-        ensures { IsRow self.now.slots (lines_of self.now) (received self.now line) result.now }
+    /// Returns the table of the space switch: the incoming line whose octet each line gets in each internal slot.
+    pub fn space_table(&self) -> &ControlTable
+        ensures { result.now ≡ space_of self.now }
     {
-        self.space.row(line)
+        &self.tables().space
     }
 
-    /// Returns the row of the outgoing table of a line, by place: the internal slot that the place reads, or 255 if it
-    /// reads none.
-    pub fn outgoing_row(&self, line: u8) -> &[u8]
-        requires { line < lines_of self.now }
-        ensures { IsRow 30 self.now.slots (read self.now line) result.now }
+    /// Returns the table of the outgoing time switch: the internal slot that each place of each line reads.
+    pub fn outgoing_table(&self) -> &ControlTable
+        ensures { result.now ≡ outgoing_of self.now }
     {
-        self.outgoing.row(line)
+        &self.tables().outgoing
     }
 
-    /// Returns true only if an incoming line sends no place. The result can be false for a line whose entries were
-    /// removed one by one.
-    pub fn is_incoming_known_empty(&self, line: u8) -> bool
-        requires { line < lines_of self.now }
-        ensures { result ≡ true → (slot : ℕ) → slot < self.now.slots → sent self.now line slot ≡ None }
+    /// Returns the source of the octets of every slot. A loop over the lines borrows it once.
+    pub fn heard_table(&self) -> &HeardTable
+        ensures size { length result.now ≡ 30 * lines_of self.now }
+        ensures heard { result.now ≡ self.now.heard }
     {
-        self.incoming.is_known_empty(line)
-    }
-
-    /// Returns true only if an outgoing line gets no octet. The result can be false, as for `is_incoming_known_empty`.
-    pub fn is_space_known_empty(&self, line: u8) -> bool
-        requires { line < lines_of self.now }
-        ensures { result ≡ true → (slot : ℕ) → slot < self.now.slots → received self.now line slot ≡ None }
-    {
-        self.space.is_known_empty(line)
-    }
-
-    /// Returns true only if an outgoing line has no place that reads a slot. The result can be false, as for
-    /// `is_incoming_known_empty`.
-    pub fn is_outgoing_known_empty(&self, line: u8) -> bool
-        requires { line < lines_of self.now }
-        ensures { result ≡ true → (place : ℕ) → place < 30 → read self.now line place ≡ None }
-    {
-        self.outgoing.is_known_empty(line)
-    }
-
-    /// Returns how many lines, from line 0 on, may send a place. No line after them sends one.
-    pub fn sending_lines(&self) -> u8
-        ensures within { result ≤ lines_of self.now }
-        ensures empty { (line slot : ℕ) → result ≤ line → line < lines_of self.now → slot < self.now.slots → sent self.now line slot ≡ None }
-    {
-        self.incoming.used_rows()
-    }
-
-    /// Returns how many lines, from line 0 on, may get an octet. No line after them gets one.
-    pub fn crossing_lines(&self) -> u8
-        ensures within { result ≤ lines_of self.now }
-        ensures empty { (line slot : ℕ) → result ≤ line → line < lines_of self.now → slot < self.now.slots → received self.now line slot ≡ None }
-    {
-        self.space.used_rows()
-    }
-
-    /// Returns how many lines, from line 0 on, may have a place that reads a slot. No line after them has one.
-    pub fn reading_lines(&self) -> u8
-        ensures within { result ≤ lines_of self.now }
-        ensures empty { (line place : ℕ) → result ≤ line → line < lines_of self.now → place < 30 → read self.now line place ≡ None }
-    {
-        self.outgoing.used_rows()
-    }
-
-    /// Returns how many lines, from line 0 on, may receive something. Every place of a line after them is silent.
-    pub fn receiving_lines(&self) -> u8
-        ensures within { result ≤ lines_of self.now }
-        ensures empty { (at : Slot) → result ≤ at.line → at.line < lines_of self.now → at.place < 30 → heard_at self.now at ≡ Heard.Silent }
-    {
-        self.heard.receiving_lines()
+        &self.tables().heard
     }
 
     /// Returns the source of a slot's octets.
@@ -235,25 +162,7 @@ impl Image {
         requires place { at.place < 30 }
         ensures { result ≡ heard_at self.now at }
     {
-        self.heard.get(at)
-    }
-
-    /// Returns the sources of a line, place by place. A loop over a line borrows the row once, and not an entry for
-    /// each octet.
-    pub fn heard_row(&self, line: u8) -> &[HeardWord]
-        requires { line < lines_of self.now }
-        ensures size { length result.now ≡ 30 }
-        ensures heard { (place : ℕ) → place < 30 → slice_index_or result.now place Heard.Silent ≡ heard_at self.now (record { line = line; place = place }) }
-    {
-        self.heard.row(line)
-    }
-
-    /// Returns true only if a line is silent. The result can be false for a line that was silenced slot by slot.
-    pub fn is_known_silent(&self, line: u8) -> bool
-        requires { line < lines_of self.now }
-        ensures { result ≡ true → (place : ℕ) → place < 30 → heard_at self.now (record { line = line; place = place }) ≡ Heard.Silent }
-    {
-        self.heard.is_silent(line)
+        self.tables().heard.get(at)
     }
 
     /// Returns the room of the member at a conference port, and its first frame there. `None` if the port is free, and
@@ -266,7 +175,7 @@ impl Image {
         if port.line < self.external {
             return None;
         }
-        self.rooms[port_index(self.external, port)]
+        self.tables().rooms[port_index(self.external, port)]
     }
 
     /// Returns the room of the member at each conference port, and its first frame there. A free port has `None`. It
@@ -275,7 +184,7 @@ impl Image {
         ensures size { length result.now ≡ 30 * self.now.bridges }
         ensures seats { result.now ≡ self.now.rooms }
     {
-        &self.rooms
+        &self.tables().rooms
     }
 
     /// Begins the control memory of another frame: no path, every slot silent, every port free.
@@ -285,9 +194,11 @@ impl Image {
         ensures paths { IsCleared self.new }
         ensures quiet { IsQuiet self.new }
     {
-        self.take_out_paths(frame);
-        self.heard.clear();
-        vacate(&mut self.rooms);
+        self.frame = frame;
+        self.shared = None;
+        self.own.clear_paths();
+        self.own.heard.clear();
+        vacate(&mut self.own.rooms);
     }
 
     /// Begins the control memory of another frame with the sources of all slots and the members of all ports, and
@@ -304,23 +215,58 @@ impl Image {
         ensures heard { self.new.heard ≡ hearing.now }
         ensures rooms { self.new.rooms ≡ sitting.now }
     {
-        self.take_out_paths(frame);
-        self.heard.copy_from(hearing);
-        self.rooms.copy_from_slice(sitting);
+        self.frame = frame;
+        self.shared = None;
+        self.own.clear_paths();
+        self.own.heard.copy_from(hearing);
+        self.own.rooms.copy_from_slice(sitting);
     }
 
-    // Sets the number of the frame, and removes every path.
-    fn take_out_paths(&mut self, frame: u32)
-        ensures frame { self.new.frame ≡ frame }
-        ensures sizes { SameSizes self.old self.new }
-        ensures paths { IsCleared self.new }
-        ensures heard { self.new.heard ≡ self.old.heard }
-        ensures rooms { self.new.rooms ≡ self.old.rooms }
+    // Returns the tables that it shows.
+    fn tables(&self) -> &FrameTables
+        ensures shown { with_tables self.now result.now ≡ self.now }
+        ensures sized { AreSizedFor self.now result.now }
+    {
+        match &self.shared {
+            Some(shared) => shared,
+            None => &self.own,
+        }
+    }
+
+    // Begins the control memory of another frame with tables that it shares.
+    pub(crate) fn share(&mut self, frame: u32, tables: Arc<FrameTables>)
+        requires { AreSizedFor self.old (arc_value tables) }
+        ensures { self.new ≡ at_frame frame (with_tables self.old (arc_value tables)) }
     {
         self.frame = frame;
-        self.incoming.clear();
-        self.space.clear();
-        self.outgoing.clear();
+        self.shared = Some(tables);
+    }
+
+    // Moves its own tables into `spare`, takes the spare ones for its own, and shares what it moved. Returns `false` and
+    // changes no entry if it shares tables already, if `spare` has another owner, or if its owners cannot be counted.
+    pub(crate) fn lend_tables(&mut self, spare: &mut Arc<FrameTables>) -> bool
+        requires { AreSizedFor self.old (arc_value spare.old) }
+        ensures same { self.new ≡ self.old }
+        ensures sized { AreSizedFor self.old (arc_value spare.new) }
+        ensures lent { result ≡ true → with_tables self.old (arc_value spare.new) ≡ self.old }
+    {
+        if self.shared.is_some() {
+            return false;
+        }
+        let Some(tables) = Arc::get_mut(spare) else {
+            return false;
+        };
+        mem::swap(&mut self.own, tables);
+        match spare.clone() {
+            Ok(shared) => {
+                self.shared = Some(shared);
+                true
+            }
+            Err(_) => {
+                self.own.copy_from(spare);
+                false
+            }
+        }
     }
 
     /// Writes the path from an inlet to an outlet in an internal slot into the three tables.
@@ -338,9 +284,10 @@ impl Image {
         ensures heard { self.new.heard ≡ self.old.heard }
         ensures rooms { self.new.rooms ≡ self.old.rooms }
     {
-        self.incoming.set(from.line, slot, from.place);
-        self.space.set(to.line, slot, from.line);
-        self.outgoing.set(to.line, to.place, slot);
+        take_back(&mut self.own, &mut self.shared);
+        self.own.incoming.set(from.line, slot, from.place);
+        self.own.space.set(to.line, slot, from.line);
+        self.own.outgoing.set(to.line, to.place, slot);
     }
 
     /// Copies the three tables of a layout, one copy for each.
@@ -361,9 +308,10 @@ impl Image {
         ensures heard { self.new.heard ≡ self.old.heard }
         ensures rooms { self.new.rooms ≡ self.old.rooms }
     {
-        self.incoming.copy_from(incoming);
-        self.space.copy_from(space);
-        self.outgoing.copy_from(outgoing);
+        take_back(&mut self.own, &mut self.shared);
+        self.own.incoming.copy_from(incoming);
+        self.own.space.copy_from(space);
+        self.own.outgoing.copy_from(outgoing);
     }
 
     /// Writes the source of a slot's octets.
@@ -376,7 +324,8 @@ impl Image {
         ensures tables { SameTables self.old self.new }
         ensures rooms { self.new.rooms ≡ self.old.rooms }
     {
-        self.heard.set(at.to_index(), heard);
+        take_back(&mut self.own, &mut self.shared);
+        self.own.heard.set(at.to_index(), heard);
     }
 
     /// Writes the room and the first frame of the member at a conference port.
@@ -391,7 +340,19 @@ impl Image {
         ensures heard { self.new.heard ≡ self.old.heard }
     {
         let at = port_index(self.external, port);
-        self.rooms[at] = Some((room, since));
+        take_back(&mut self.own, &mut self.shared);
+        self.own.rooms[at] = Some((room, since));
+    }
+}
+
+// Copies shared tables into its own, and shares them no longer.
+fn take_back(own: &mut FrameTables, shared: &mut Option<Arc<FrameTables>>)
+    requires { HaveSameSizes own.old (option_map_or arc_value shared.old own.old) }
+    ensures own { HaveSameEntries (option_map_or arc_value shared.old own.old) own.new }
+    ensures shared { shared.new ≡ None }
+{
+    if let Some(tables) = shared.take() {
+        own.copy_from(&tables);
     }
 }
 

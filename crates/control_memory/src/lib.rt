@@ -2,6 +2,8 @@
 //!
 //! - [`Image`] is the control memory: three control tables, the source of each slot's octets, and the member of each
 //!   port. Each read returns the value that was written, and each write states its change and preserves the rest.
+//! - [`RecentTables`] lends the tables of the latest control memory to the control memories of the next frames, for as
+//!   long as they apply (`shown`).
 //! - [`PathMap`] is the contract of any live map of paths. A new path joins the layout by its rule (`layout`), and its
 //!   pairs are the earlier ones and the new one (`pairs`). The result is the number of moved paths (`moves`). The
 //!   layout stays legal (`legal`), and the tables at a boundary encode it (`tables`).
@@ -10,6 +12,7 @@
 #![tactic(auto)]
 
 mod control_table;
+mod frame_tables;
 mod heard;
 mod heard_table;
 mod heard_word;
@@ -18,6 +21,7 @@ mod laws;
 mod path_ends;
 mod path_map;
 mod path_table;
+mod recent_tables;
 mod route;
 
 pub use control_table::ControlTable;
@@ -29,4 +33,5 @@ pub use laws::{tables_carry_their_layout, worked_chains, worked_layouts};
 pub use path_ends::PathEnds;
 pub use path_map::PathMap;
 pub use path_table::PathTable;
+pub use recent_tables::RecentTables;
 pub use route::Route;

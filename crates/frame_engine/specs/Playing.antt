@@ -6,7 +6,9 @@ use Rattle.circuit_model.specs.FrameInput.{idle_octet}
 use Rattle.circuit_model.specs.Hears.{is_through, tone_octet}
 use Rattle.control_memory.specs.declared.heard.Heard.{Heard}
 use Rattle.control_memory.specs.declared.heard.Heard.TheVariants.{Silent, Path, Tone}
-use Rattle.control_memory.specs.Image.{Control, heard_at}
+use Rattle.control_memory.specs.HeardRows.{heard_on}
+use Rattle.control_memory.specs.Layout.{number_of}
+use Rattle.control_memory.specs.Image.{Control}
 use Rattle.tone_rules.specs.declared.tones.Tones.{Tones}
 use Rattle.tone_rules.specs.Tables.{IsGiven}
 
@@ -33,9 +35,13 @@ with_tone tones f octet Silent = octet
 with_tone tones f octet (Path since) = octet
 with_tone tones f octet (Tone kind since) = tone_octet (tones kind) (f - since)
 
--- the output on each slot, given the tones, the control memory of the frame and the octets that were read out
+-- the output on each slot in frame f, given the tones, the source of each slot and the octets that were read out
+abbrev pub played_on : (Kind → List ℕ) → ℕ → List Heard → (Slot → ℕ) → Slot → ℕ
+played_on tones f heard octet at = played_as tones f (octet at) (slice_index_or heard (number_of at) Silent)
+
+-- the same by the control memory of the frame
 abbrev pub played_at : (Kind → List ℕ) → Control → (Slot → ℕ) → Slot → ℕ
-played_at tones m octet at = played_as tones m.frame (octet at) (heard_at m at)
+played_at tones m = played_on tones m.frame m.heard
 
 -- a line has these 30 octets, by place
 abbrev pub HasLine : ℕ → (Slot → ℕ) → List ℕ → Type 0
@@ -48,3 +54,7 @@ EachPlace octet heard octets = (place : ℕ) → place < 30 → slice_index octe
 -- each tone that a place of a line receives is given
 abbrev pub AreGiven : Tones → List Heard → Type 0
 AreGiven tones heard = (place : ℕ) (kind : Kind) (since : ℕ) → place < 30 → slice_index_or heard place Silent ≡ Tone kind since → IsGiven tones kind
+
+-- each tone that a place of a line receives is given, where a list has the source of each slot
+abbrev pub AreGivenOn : Tones → List Heard → ℕ → Type 0
+AreGivenOn tones heard line = (place : ℕ) (kind : Kind) (since : ℕ) → place < 30 → heard_on heard line place ≡ Tone kind since → IsGiven tones kind

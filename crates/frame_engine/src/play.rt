@@ -1,6 +1,6 @@
 //! The octet that each external slot sends in a frame: of its path, of its tone, or idle.
 
-ghost use Rattle.std.specs.Prelude.{◌≡◌, ◌↔◌, ℕ, IsTrue, ◌<◌, ◌≤◌, [], length, replicate, slice_index, slice_index_or};
+ghost use Rattle.std.specs.Prelude.{if◌then◌else◌, ◌≡◌, ◌↔◌, ℕ, IsTrue, ◌+◌, ◌*◌, ◌<◌, ◌≤◌, [], length, replicate, slice_index, slice_index_or};
 ghost use Rattle.circuit_model.specs.declared.channel.Slot.{Slot};
 ghost use Rattle.circuit_model.specs.declared.circuit.Kind.{Kind};
 ghost use Rattle.circuit_model.specs.FrameInput.{idle_octet};
@@ -8,10 +8,10 @@ ghost use Rattle.frame_buffer.specs.Speech.{octet_in_half};
 ghost use Rattle.control_memory.specs.Image.{lines_of, heard_at};
 ghost use Rattle.tone_rules.specs.Tables.{table_of, IsGiven};
 ghost use Rattle.frame_engine.specs.Frames.{PlaysOut, TonesGiven};
-ghost use Rattle.frame_engine.specs.Playing.{AreGiven, EachPlace, HasLine, by_path, played_as, played_at, with_tone};
+ghost use Rattle.frame_engine.specs.Playing.{AreGiven, AreGivenOn, EachPlace, HasLine, by_path, played_as, played_at, played_on, with_tone};
 
 use circuit_model::{IDLE, Kind};
-use control_memory::{Heard, HeardWord, Image};
+use control_memory::{Heard, HeardTable, HeardWord, Image};
 use frame_buffer::FrameBuffer;
 use tone_rules::{Tones, tone_octet};
 
@@ -27,9 +27,10 @@ pub(crate) fn play(read: &FrameBuffer, image: &Image, tones: &Tones, out: &mut [
     ensures { PlaysOut image.now.external (played_at (table_of tones.now) image.now (octet_in_half read.now.readable)) out.new }
 {
     let lines = playing_lines(image);
+    let table = image.heard_table();
     for line in 0..lines {
         let octets = &mut out[usize::from(line)];
-        play_line(read.row(line), image, line, tones, octets);
+        play_line(read.row(line), table, line, tones, image.frame(), octets);
     }
     fill_idle_from(out, usize::from(lines));
 }
@@ -39,7 +40,7 @@ fn playing_lines(image: &Image) -> u8
     ensures within { result ≤ image.now.external }
     ensures silent { (at : Slot) → result ≤ at.line → at.line < image.now.external → at.place < 30 → heard_at image.now at ≡ Heard.Silent }
 {
-    image.receiving_lines().min(image.external())
+    image.heard_table().receiving_lines().min(image.external())
 }
 
 // Writes the idle octet over the rows from one on. The loop compiles to one fill of memory.
@@ -55,16 +56,23 @@ fn fill_idle_from(out: &mut [[u8; 30]], first: usize)
 }
 
 // Writes the octets that one line sends, given the octets that were read out for its places. A silent line is idle.
-fn play_line(read: &[u8], image: &Image, line: u8, tones: &Tones, octets: &mut [u8; 30])
+fn play_line(
+    read: &[u8],
+    table: &HeardTable,
+    line: u8,
+    tones: &Tones,
+    frame: u32,
+    octets: &mut [u8; 30],
+)
     requires read { length read.now ≡ 30 }
-    requires line { line < lines_of image.now }
-    requires tones { TonesGiven tones.now image.now }
-    ensures { HasLine line (played_at (table_of tones.now) image.now (λ at. slice_index read.now at.place)) octets.new }
+    requires line { 30 * line + 30 ≤ length table.now }
+    requires tones { AreGivenOn tones.now table.now line }
+    ensures { HasLine line (played_on (table_of tones.now) frame table.now (λ at. slice_index read.now at.place)) octets.new }
 {
-    if image.is_known_silent(line) {
+    if table.is_silent(line) {
         *octets = IDLE_LINE;
     } else {
-        play_heard(read, image.heard_row(line), tones, image.frame(), octets);
+        play_heard(read, table.row(line), tones, frame, octets);
     }
 }
 
@@ -88,22 +96,29 @@ fn gives_none(tones: &Tones) -> bool
     !tones.is_given(Kind::Ringback) && !tones.is_given(Kind::Busy)
 }
 
-// Writes the octets that a line sends by its paths. Each octet is read before its age is known, so that the age selects
-// it without a branch.
+// Writes the octets that a line sends by its paths. The row is made apart from `octets`, so that the loop compiles to
+// vector code.
 fn play_paths(read: &[u8], heard: &[HeardWord], frame: u32, octets: &mut [u8; 30])
     requires read { length read.now ≡ 30 }
     requires heard { length heard.now ≡ 30 }
     ensures { EachPlace (λ place heard. by_path frame (slice_index read.now place) heard) heard.now octets.new }
 {
     let through = frame.saturating_sub(1);
-    for (place, octet) in octets.iter_mut().enumerate() {
-        let sent = read[place];
-        *octet = if heard[place].is_path_before(through) {
-            sent
-        } else {
-            IDLE
-        };
+    let mut row = IDLE_LINE;
+    for (place, octet) in row.iter_mut().enumerate() {
+        *octet = if_received(read[place], heard[place].is_path_before(through));
     }
+    *octets = row;
+}
+
+// Returns an octet that is received, and the idle octet in place of another one. It selects by a mask, because LLVM makes
+// no vector code of a loop that selects by a condition.
+#[inline(always)]
+fn if_received(octet: u8, is_received: bool) -> u8
+    ensures { result ≡ (if is_received then octet else idle_octet) }
+{
+    let mask = if is_received { 0xFF } else { 0 };
+    (octet & mask) | (IDLE & !mask)
 }
 
 // Writes the octets of tones over the octets of the paths.

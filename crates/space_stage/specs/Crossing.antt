@@ -2,13 +2,18 @@
 -- whose crosspoints the control memory sets.
 use Rattle.std.specs.Prelude.{◌≡◌, ℕ, ◌+◌, ◌*◌, ◌<◌, List, slice_index}
 use Rattle.frame_buffer.specs.Highways.{Highways, octet_on, RowsHold, AreFilled}
-use Rattle.control_memory.specs.Image.{Control, received}
+use Rattle.control_memory.specs.Tables.{Table, entry}
+use Rattle.control_memory.specs.Image.{Control, space_of}
 use Rattle.control_memory.specs.Carrying.{fetched}
 
--- the octet that an outgoing line gets in an internal slot: the octet of the incoming line in its table's entry, or the
--- idle octet if there is no entry
+-- the octet that a line gets in an internal slot by a table: the octet of the incoming line in its entry, or the idle
+-- octet if there is no entry
+abbrev pub gets_by : Table → Highways → ℕ → ℕ → ℕ
+gets_by table from line slot = fetched (entry table line slot) (λ l. octet_on from l slot)
+
+-- the octet that an outgoing line gets in an internal slot
 abbrev pub gets : Control → Highways → ℕ → ℕ → ℕ
-gets control from line slot = fetched (received control line slot) (λ l. octet_on from l slot)
+gets control from = gets_by (space_of control) from
 
 -- each outgoing line of a part that begins with line `first` has in its row the octets that it gets
 abbrev pub IsCrossedPart : Control → Highways → ℕ → List ℕ → Type 0

@@ -2,11 +2,12 @@
 
 ghost use Rattle.std.specs.Prelude.{◌≡◌, ℕ, ◌<◌, length, slice_index};
 ghost use Rattle.circuit_model.specs.FrameInput.{idle_octet};
-ghost use Rattle.frame_buffer.specs.Highways.{SameHighwaySize, IsPart};
+ghost use Rattle.frame_buffer.specs.Highways.{SameHighwaySize, IsPart, RowsHold};
+ghost use Rattle.control_memory.specs.Tables.{HasSize};
 ghost use Rattle.control_memory.specs.Image.{lines_of};
-ghost use Rattle.space_stage.specs.Crossing.{gets, IsCrossedPart, IsCrossed, AreStarts};
+ghost use Rattle.space_stage.specs.Crossing.{gets_by, IsCrossedPart, IsCrossed, AreStarts};
 
-use control_memory::Image;
+use control_memory::{ControlTable, Image};
 use frame_buffer::{Crossed, Highway, fill_idle};
 
 /// Crosses one frame: in each internal slot each outgoing line gets the octet of the incoming line in its control
@@ -34,38 +35,33 @@ pub fn cross_part(highway: &Highway, image: &Image, slots: u8, first: u8, part: 
     ensures octets { IsCrossedPart image.now highway.now first part.new }
 {
     fill_idle(part);
-    if first < image.crossing_lines() {
-        cross_used(highway, image, slots, first, part);
+    let table = image.space_table();
+    if first < table.used_rows() {
+        cross_used(highway, table, slots, first, part);
     }
 }
 
 // Crosses one frame to some outgoing lines whose rows are idle. It is called only if one of them may get an octet, so
 // that a frame without octets makes no list of starts.
-fn cross_used(highway: &Highway, image: &Image, slots: u8, first: u8, part: &mut [u8])
-    requires lines { highway.now.lines ≡ lines_of image.now }
+fn cross_used(highway: &Highway, table: &ControlTable, slots: u8, first: u8, part: &mut [u8])
     requires highway { highway.now.slots ≡ slots }
-    requires image { image.now.slots ≡ slots }
-    requires part { IsPart (lines_of image.now) slots first (length part.old) }
+    requires table { HasSize table.now highway.now.lines slots highway.now.lines }
+    requires part { IsPart highway.now.lines slots first (length part.old) }
     requires idle { (at : ℕ) → at < length part.old → slice_index part.old at ≡ idle_octet }
     ensures size { length part.new ≡ length part.old }
-    ensures octets { IsCrossedPart image.now highway.now first part.new }
+    ensures octets { RowsHold slots (gets_by table.now highway.now) first part.new }
 {
     let mut starts = [0; 256];
     find_starts(highway, &mut starts);
     let slots = usize::from(slots);
-    for line in first..image.crossing_lines() {
-        if image.is_space_known_empty(line) {
+    for line in first..table.used_rows() {
+        if table.is_known_empty(line) {
             continue;
         }
         let start = usize::from(line - first) * slots;
         if start < part.len() {
-            gather_row(
-                highway,
-                &starts,
-                image,
-                line,
-                &mut part[start..start + slots],
-            );
+            let row = &mut part[start..start + slots];
+            gather_row(highway, &starts, table, line, row);
         }
     }
 }
@@ -86,19 +82,25 @@ fn find_starts(highway: &Highway, starts: &mut [u16; 256])
 
 // Gathers the octets of one outgoing line from the incoming ones, entry by entry. Runs of a fixed length take fewer
 // instructions, but a sixth more time.
-fn gather_row(highway: &Highway, starts: &[u16; 256], image: &Image, line: u8, row: &mut [u8])
-    requires lines { highway.now.lines ≡ lines_of image.now }
+fn gather_row(
+    highway: &Highway,
+    starts: &[u16; 256],
+    table: &ControlTable,
+    line: u8,
+    row: &mut [u8],
+)
     requires starts { AreStarts highway.now.lines highway.now.slots starts.now }
-    requires slots { highway.now.slots ≡ image.now.slots }
-    requires line { line < lines_of image.now }
-    requires row { length row.old ≡ image.now.slots }
+    requires slots { highway.now.slots ≡ table.now.columns }
+    requires limit { table.now.limit ≡ highway.now.lines }
+    requires line { line < table.now.rows }
+    requires row { length row.old ≡ table.now.columns }
     ensures size { length row.new ≡ length row.old }
-    ensures octets { (slot : ℕ) → slot < length row.new → slice_index row.new slot ≡ gets image.now highway.now line slot }
+    ensures octets { (slot : ℕ) → slot < length row.new → slice_index row.new slot ≡ gets_by table.now highway.now line slot }
 {
     let rows = highway.rows_with_idle_first();
-    let table = image.space_row(line);
+    let lines = table.row(line);
     for (slot, octet) in row.iter_mut().enumerate() {
-        let start = usize::from(starts[usize::from(table[slot])]);
+        let start = usize::from(starts[usize::from(lines[slot])]);
         *octet = rows[start + slot];
     }
 }

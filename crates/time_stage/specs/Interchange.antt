@@ -5,18 +5,27 @@ use Rattle.circuit_model.specs.declared.channel.Slot.{Slot}
 use Rattle.frame_buffer.specs.Speech.{Speech, octet_in_half}
 use Rattle.frame_buffer.specs.Highways.{Highways, octet_on, AreFilled}
 use Rattle.control_memory.specs.Layout.{Layout, Legal}
-use Rattle.control_memory.specs.Image.{Control, lines_of, sent, read, EachSlot, HasLayout}
+use Rattle.control_memory.specs.Tables.{Table, entry}
+use Rattle.control_memory.specs.Image.{Control, lines_of, incoming_of, outgoing_of, EachSlot, HasLayout}
 use Rattle.control_memory.specs.Carrying.{carried, fetched}
 
--- the octet that an incoming line sends in an internal slot: the octet of the place in its table's entry, or the idle
--- octet if there is no entry
-abbrev pub sends : Control → Speech → ℕ → ℕ → ℕ
-sends control speech line slot = fetched (sent control line slot) (λ place. octet_in_half speech.readable (record { line = line; place = place }))
+-- the octet that a line sends in an internal slot by a table: the octet of the place in its entry, or the idle octet if
+-- there is no entry
+abbrev pub sends_by : Table → Speech → ℕ → ℕ → ℕ
+sends_by table speech line slot = fetched (entry table line slot) (λ place. octet_in_half speech.readable (record { line = line; place = place }))
 
--- the octet that a place of an outgoing line reads: the octet of the internal slot in its table's entry, or the idle
--- octet if there is no entry
+-- the octet that a place of a line reads by a table: the octet of the internal slot in its entry, or the idle octet if
+-- there is no entry
+abbrev pub reads_by : Table → Highways → ℕ → ℕ → ℕ
+reads_by table crossed line place = fetched (entry table line place) (octet_on crossed line)
+
+-- the octet that an incoming line sends in an internal slot
+abbrev pub sends : Control → Speech → ℕ → ℕ → ℕ
+sends control = sends_by (incoming_of control)
+
+-- the octet that a place of an outgoing line reads
 abbrev pub reads : Control → Highways → ℕ → ℕ → ℕ
-reads control crossed line place = fetched (read control line place) (octet_on crossed line)
+reads control = reads_by (outgoing_of control)
 
 -- these octets have in their rows, of m each, the octets that the lines from `first` on send
 abbrev pub AreSent : ℕ → Control → Speech → ℕ → ℕ → List ℕ → Type 0

@@ -3,12 +3,13 @@
 ghost use Rattle.std.specs.Prelude.{◌≡◌, ℕ, ◌<◌, length, slice_index};
 ghost use Rattle.circuit_model.specs.FrameInput.{idle_octet};
 ghost use Rattle.frame_buffer.specs.Highways.{SameHighwaySize, IsPart, RowsHold};
+ghost use Rattle.control_memory.specs.Tables.{HasSize};
 ghost use Rattle.control_memory.specs.Image.{lines_of};
-ghost use Rattle.time_stage.specs.Interchange.{sends, reads, IsSent, IsRead};
+ghost use Rattle.time_stage.specs.Interchange.{reads_by, sends_by, sends, reads, IsSent, IsRead};
 
 use crate::store::Store;
 use circuit_model::CHANNELS_PER_LINE;
-use control_memory::Image;
+use control_memory::{ControlTable, Image};
 use frame_buffer::{Crossed, FrameBuffer, Highway, fill_idle};
 
 /// Performs the incoming time stage of one frame: each line sends in each internal slot the octet of the place in its
@@ -35,50 +36,46 @@ pub(crate) fn send_part(buffer: &FrameBuffer, image: &Image, slots: u8, first: u
     ensures octets { RowsHold slots (sends image.now buffer.now) first part.new }
 {
     fill_idle(part);
-    if first < image.sending_lines() {
-        send_used(buffer, image, slots, first, part);
+    let table = image.incoming_table();
+    if first < table.used_rows() {
+        send_used(buffer, table, slots, first, part);
     }
 }
 
 // Writes the octets that some lines send into idle rows. It is called only if one of them may send, so that a frame
 // without octets makes no store.
-fn send_used(buffer: &FrameBuffer, image: &Image, slots: u8, first: u8, part: &mut [u8])
-    requires buffer { buffer.now.lines ≡ lines_of image.now }
-    requires slots { image.now.slots ≡ slots }
-    requires part { IsPart (lines_of image.now) slots first (length part.old) }
+fn send_used(buffer: &FrameBuffer, table: &ControlTable, slots: u8, first: u8, part: &mut [u8])
+    requires table { HasSize table.now buffer.now.lines slots 30 }
+    requires part { IsPart buffer.now.lines slots first (length part.old) }
     requires idle { (at : ℕ) → at < length part.old → slice_index part.old at ≡ idle_octet }
     ensures size { length part.new ≡ length part.old }
-    ensures octets { RowsHold slots (sends image.now buffer.now) first part.new }
+    ensures octets { RowsHold slots (sends_by table.now buffer.now) first part.new }
 {
     let mut store = Store::new();
     let slots = usize::from(slots);
-    for line in first..image.sending_lines() {
-        if image.is_incoming_known_empty(line) {
+    for line in first..table.used_rows() {
+        if table.is_known_empty(line) {
             continue;
         }
         let start = usize::from(line - first) * slots;
         if start < part.len() {
-            send_row(
-                buffer,
-                image,
-                line,
-                &mut store,
-                &mut part[start..start + slots],
-            );
+            let row = &mut part[start..start + slots];
+            send_row(buffer, table, line, &mut store, row);
         }
     }
 }
 
 // Writes the octets that one line sends.
-fn send_row(buffer: &FrameBuffer, image: &Image, line: u8, store: &mut Store, row: &mut [u8])
-    requires buffer { buffer.now.lines ≡ lines_of image.now }
-    requires line { line < lines_of image.now }
-    requires row { length row.old ≡ image.now.slots }
+fn send_row(buffer: &FrameBuffer, table: &ControlTable, line: u8, store: &mut Store, row: &mut [u8])
+    requires lines { buffer.now.lines ≡ table.now.rows }
+    requires limit { table.now.limit ≡ 30 }
+    requires line { line < table.now.rows }
+    requires row { length row.old ≡ table.now.columns }
     ensures size { length row.new ≡ length row.old }
-    ensures octets { (slot : ℕ) → slot < length row.new → slice_index row.new slot ≡ sends image.now buffer.now line slot }
+    ensures octets { (slot : ℕ) → slot < length row.new → slice_index row.new slot ≡ sends_by table.now buffer.now line slot }
 {
     store.load(buffer.row(line));
-    store.fetch(image.incoming_row(line), row);
+    store.fetch(table.row(line), row);
 }
 
 /// Performs the outgoing time stage of one frame: each place of a line reads the octet of the internal slot in its
@@ -98,56 +95,50 @@ pub fn outgoing(crossed: &Crossed, table: &Image, out: &mut FrameBuffer)
 }
 
 // Writes the octets that some lines read, from line `first` on: `part` holds their rows, of 30 octets each.
-pub(crate) fn read_part(crossed: &Crossed, table: &Image, first: u8, part: &mut [u8])
-    requires crossed { crossed.now.lines ≡ lines_of table.now }
-    requires slots { crossed.now.slots ≡ table.now.slots }
-    requires part { IsPart (lines_of table.now) 30 first (length part.old) }
+pub(crate) fn read_part(crossed: &Crossed, image: &Image, first: u8, part: &mut [u8])
+    requires crossed { crossed.now.lines ≡ lines_of image.now }
+    requires slots { crossed.now.slots ≡ image.now.slots }
+    requires part { IsPart (lines_of image.now) 30 first (length part.old) }
     ensures size { length part.new ≡ length part.old }
-    ensures octets { RowsHold 30 (reads table.now crossed.now) first part.new }
+    ensures octets { RowsHold 30 (reads image.now crossed.now) first part.new }
 {
     fill_idle(part);
-    if first < table.reading_lines() {
+    let table = image.outgoing_table();
+    if first < table.used_rows() {
         read_used(crossed, table, first, part);
     }
 }
 
 // Writes the octets that some lines read into idle rows. It is called only if one of them may read.
-fn read_used(crossed: &Crossed, table: &Image, first: u8, part: &mut [u8])
-    requires crossed { crossed.now.lines ≡ lines_of table.now }
-    requires slots { crossed.now.slots ≡ table.now.slots }
-    requires part { IsPart (lines_of table.now) 30 first (length part.old) }
+fn read_used(crossed: &Crossed, table: &ControlTable, first: u8, part: &mut [u8])
+    requires table { HasSize table.now crossed.now.lines 30 crossed.now.slots }
+    requires part { IsPart crossed.now.lines 30 first (length part.old) }
     requires idle { (at : ℕ) → at < length part.old → slice_index part.old at ≡ idle_octet }
     ensures size { length part.new ≡ length part.old }
-    ensures octets { RowsHold 30 (reads table.now crossed.now) first part.new }
+    ensures octets { RowsHold 30 (reads_by table.now crossed.now) first part.new }
 {
     let mut store = Store::new();
     let places = usize::from(CHANNELS_PER_LINE);
-    for line in first..table.reading_lines() {
-        if table.is_outgoing_known_empty(line) {
+    for line in first..table.used_rows() {
+        if table.is_known_empty(line) {
             continue;
         }
         let start = usize::from(line - first) * places;
         if start < part.len() {
-            read_row(
-                crossed,
-                table,
-                line,
-                &mut store,
-                &mut part[start..start + places],
-            );
+            let row = &mut part[start..start + places];
+            read_row(crossed, table, line, &mut store, row);
         }
     }
 }
 
 // Writes the octets that one line reads.
-fn read_row(crossed: &Crossed, table: &Image, line: u8, store: &mut Store, row: &mut [u8])
-    requires crossed { crossed.now.lines ≡ lines_of table.now }
-    requires slots { crossed.now.slots ≡ table.now.slots }
-    requires line { line < lines_of table.now }
+fn read_row(crossed: &Crossed, table: &ControlTable, line: u8, store: &mut Store, row: &mut [u8])
+    requires table { HasSize table.now crossed.now.lines 30 crossed.now.slots }
+    requires line { line < table.now.rows }
     requires row { length row.old ≡ 30 }
     ensures size { length row.new ≡ length row.old }
-    ensures octets { (place : ℕ) → place < length row.new → slice_index row.new place ≡ reads table.now crossed.now line place }
+    ensures octets { (place : ℕ) → place < length row.new → slice_index row.new place ≡ reads_by table.now crossed.now line place }
 {
     store.load(crossed.row(line));
-    store.fetch(table.outgoing_row(line), row);
+    store.fetch(table.row(line), row);
 }

@@ -2,6 +2,8 @@ use Rattle.std.proofs.Common.{◌≡◌, ℕ, ◌<◌, ◌≤◌, List, length, 
 use Rattle.std.proofs.lemmas.Bool.{cases_lt}
 use Rattle.std.proofs.lemmas.List.{get_or-replicate}
 use Rattle.circuit_model.specs.FrameInput.{idle_octet}
+use Rattle.control_memory.specs.declared.heard.Heard.{Heard}
+use Rattle.control_memory.specs.HeardRows.{heard_on}
 use Rattle.tone_rules.specs.Tables.{table_of}
 use Rattle.frame_engine.specs.Playing.{played_as}
 use Rattle.frame_engine.proofs.play.play.Goals as goal
@@ -23,3 +25,8 @@ returns c at inside near =
           ∙ get_or-replicate 30 at.place idle_octet 0 near
           ∙ sym (ap (played_as (table_of c.args.tones.now) _ _) (c.playing_lines-lines.ensures.silent at late inside near))
     ]
+
+pub play_line-requires-clause-tones : goal.play_line-requires-clause-tones
+play_line-requires-clause-tones c place kind since near is =
+    let line = c.loop-line.line in
+    c.requires.tones (record { line = line; place = place }) (search rules) near kind since (sym (ap (λ (heard : List Heard). heard_on heard line place) c.heard_table-table.ensures.heard) ∙ is)

@@ -1,20 +1,27 @@
-use Rattle.std.proofs.Common.{ℕ, ◌≤◌, Option, ap, subst, sym, arith, rules}
+use Rattle.std.proofs.Common.{◌≡◌, ◌<◌, ℕ, ◌≤◌, None, Option, ap, subst, sym, arith, rules}
+use Rattle.control_memory.specs.Tables.{Table, entry}
 use Rattle.control_memory.specs.Image.{lines_of}
 use Rattle.control_memory.specs.Carrying.{fetched}
-use Rattle.frame_buffer.specs.Highways.{octet_on, IsPart}
+use Rattle.frame_buffer.specs.Highways.{octet_on, IsPart, RowsHold}
 use Rattle.frame_buffer.proofs.Parts.{none_written}
 use Rattle.space_stage.proofs.RowsAfter.{rest_is_idle}
-use Rattle.time_stage.specs.Interchange.{reads}
+use Rattle.time_stage.specs.Interchange.{reads_by, reads}
 use Rattle.time_stage.proofs.interchange.read_part.Goals as goal
 
-pub returns-else-first-reading_lines-clause-octets : goal.returns-else-first-reading_lines-clause-octets
-returns-else-first-reading_lines-clause-octets c =
-    let table = c.args.table.now in
-    let octet = reads table c.args.crossed.now in
+pub returns-then-first-used_rows-clause-octets : goal.returns-then-first-used_rows-clause-octets
+returns-then-first-used_rows-clause-octets c =
+    subst (λ (t : Table). RowsHold 30 (reads_by t c.args.crossed.now) c.args.first c.read_used.new.part) c.outgoing_table-table.ensures c.read_used.ensures.octets
+
+pub returns-else-first-used_rows-clause-octets : goal.returns-else-first-used_rows-clause-octets
+returns-else-first-used_rows-clause-octets c =
+    let image = c.args.image.now in
+    let octet = reads image c.args.crossed.now in
     let part = c.fill_idle.new.row in
-    let none : c.reading_lines.result ≤ c.args.first = search rules in
+    let used = c.used_rows.result in
+    let none : used ≤ c.args.first = search rules in
     let from : c.args.first ≤ c.args.first = omega arith in
-    rest_is_idle 30 octet c.args.first (lines_of table) c.args.first part
-    (subst (IsPart (lines_of table) 30 c.args.first) (sym c.fill_idle.ensures.size) c.requires.part) from
+    let empty = subst (λ (t : Table). (row column : ℕ) → used ≤ row → row < t.rows → column < t.columns → entry t row column ≡ None) c.outgoing_table-table.ensures c.used_rows.ensures.empty in
+    rest_is_idle 30 octet c.args.first (lines_of image) c.args.first part
+    (subst (IsPart (lines_of image) 30 c.args.first) (sym c.fill_idle.ensures.size) c.requires.part) from
     (none_written 30 octet c.args.first part c.fill_idle.ensures.octets)
-    (λ line at past inside near. ap (λ (o : Option ℕ). fetched o (octet_on c.args.crossed.now line)) (c.reading_lines.ensures.empty line at (omega (arith, none, past)) inside near))
+    (λ line at past inside near. ap (λ (o : Option ℕ). fetched o (octet_on c.args.crossed.now line)) (empty line at (omega (arith, none, past)) inside near))

@@ -1,25 +1,24 @@
 use Rattle.std.proofs.Common.{◌≡◌, ℕ, ◌+◌, ◌-◌, ◌*◌, ◌≤◌, length, Option, ◌∙◌, ap, sym, subst, arith, rules}
 use Rattle.control_memory.specs.Carrying.{fetched}
-use Rattle.control_memory.specs.Image.{lines_of}
 use Rattle.frame_buffer.specs.Highways.{octet_on, IsPart}
-use Rattle.time_stage.specs.Interchange.{reads}
+use Rattle.time_stage.specs.Interchange.{reads_by}
 use Rattle.frame_buffer.proofs.Parts.{IsWrittenTo, row_fits, written_past, written_idle, written_row}
 use Rattle.space_stage.proofs.RowsAfter.{rest_is_idle}
 use Rattle.time_stage.proofs.interchange.read_used.Goals as goal
 use Rattle.time_stage.proofs.interchange.read_used.Goals.{then-start-part, else-start-part}
 
-pub loop-line-preserved-then-is_outgoing_known_empty : goal.loop-line-preserved-then-is_outgoing_known_empty
-loop-line-preserved-then-is_outgoing_known_empty c =
+pub loop-line-preserved-then-is_known_empty : goal.loop-line-preserved-then-is_known_empty
+loop-line-preserved-then-is_known_empty c =
     let whole : length c.loop-line.part ≡ c.requires.part.rows * 30 = search rules in
     record {
       size = c.loop-line.invariant.size;
-      done = written_idle 30 (reads c.args.table.now c.args.crossed.now) c.args.first c.loop-line.line c.loop-line.part c.loop-line.auto.line c.loop-line.invariant.done c.requires.part.rows whole
-          (λ at near. ap (λ (o : Option ℕ). fetched o (octet_on c.args.crossed.now c.loop-line.line)) (c.is_outgoing_known_empty.ensures c.if-is_outgoing_known_empty.true at near));
+      done = written_idle 30 (reads_by c.args.table.now c.args.crossed.now) c.args.first c.loop-line.line c.loop-line.part c.loop-line.auto.line c.loop-line.invariant.done c.requires.part.rows whole
+          (λ at near. ap (λ (o : Option ℕ). fetched o (octet_on c.args.crossed.now c.loop-line.line)) (c.is_known_empty.ensures c.if-is_known_empty.true at (search (rules, near))));
     }
 
 pub loop-line-preserved : goal.loop-line-preserved
 loop-line-preserved c =
-    let octet = reads c.args.table.now c.args.crossed.now in
+    let octet = reads_by c.args.table.now c.args.crossed.now in
     let first = c.args.first in
     let line = c.loop-line.line in
     let part = c.loop-line.part in
@@ -45,8 +44,8 @@ loop-line-preserved c =
 
 pub returns-clause-octets : goal.returns-clause-octets
 returns-clause-octets c =
-    let table = c.args.table.now in
-    let reached : c.reading_lines-line-end.result ≤ c.loop-line.line = search rules in
-    rest_is_idle 30 (reads table c.args.crossed.now) c.args.first (lines_of table) c.loop-line.line c.loop-line.part
-    (subst (IsPart (lines_of table) 30 c.args.first) (sym c.loop-line.invariant.size) c.requires.part) c.loop-line.auto.line c.loop-line.invariant.done
-    (λ line at past inside near. ap (λ (o : Option ℕ). fetched o (octet_on c.args.crossed.now line)) (c.reading_lines-line-end.ensures.empty line at (omega (arith, reached, past)) inside near))
+    let crossed = c.args.crossed.now in
+    let reached : c.used_rows-line-end.result ≤ c.loop-line.line = search rules in
+    rest_is_idle 30 (reads_by c.args.table.now crossed) c.args.first crossed.lines c.loop-line.line c.loop-line.part
+    (subst (IsPart crossed.lines 30 c.args.first) (sym c.loop-line.invariant.size) c.requires.part) c.loop-line.auto.line c.loop-line.invariant.done
+    (λ line at past inside near. ap (λ (o : Option ℕ). fetched o (octet_on crossed line)) (c.used_rows-line-end.ensures.empty line at (omega (arith, reached, past)) (search (rules, inside)) (search (rules, near))))

@@ -1,34 +1,33 @@
 use Rattle.std.proofs.Common.{◌≡◌, ℕ, ◌+◌, ◌-◌, ◌*◌, ◌≤◌, length, Option, ◌∙◌, ap, sym, subst, arith, rules}
 use Rattle.frame_buffer.specs.Speech.{octet_in_half}
 use Rattle.control_memory.specs.Carrying.{fetched}
-use Rattle.time_stage.specs.Interchange.{sends}
+use Rattle.time_stage.specs.Interchange.{sends_by}
 use Rattle.frame_buffer.specs.Highways.{IsPart}
-use Rattle.control_memory.specs.Image.{lines_of}
 use Rattle.frame_buffer.proofs.Parts.{IsWrittenTo, row_fits, written_past, written_idle, written_row}
 use Rattle.space_stage.proofs.RowsAfter.{rest_is_idle}
 use Rattle.time_stage.proofs.interchange.send_used.Goals as goal
 use Rattle.time_stage.proofs.interchange.send_used.Goals.{then-start-part, else-start-part}
 
-pub slice_bounds-send_row-end : goal.slice_bounds-send_row-end
-slice_bounds-send_row-end c = let fits = row_fits (length c.loop-line.part) c.requires.part.rows c.args.slots (c.loop-line.line - c.args.first) (search rules) (search rules) in search (rules, fits)
+pub slice_bounds-row-end : goal.slice_bounds-row-end
+slice_bounds-row-end c = let fits = row_fits (length c.loop-line.part) c.requires.part.rows c.args.slots (c.loop-line.line - c.args.first) (search rules) (search rules) in search (rules, fits)
 
-pub loop-line-preserved-then-is_incoming_known_empty : goal.loop-line-preserved-then-is_incoming_known_empty
-loop-line-preserved-then-is_incoming_known_empty c =
+pub loop-line-preserved-then-is_known_empty : goal.loop-line-preserved-then-is_known_empty
+loop-line-preserved-then-is_known_empty c =
     let slots = c.args.slots in
-    let octet = sends c.args.image.now c.args.buffer.now in
+    let octet = sends_by c.args.table.now c.args.buffer.now in
     let line = c.loop-line.line in
     let part = c.loop-line.part in
     let whole : length part ≡ c.requires.part.rows * slots = search rules in
     record {
       size = c.loop-line.invariant.size;
       done = written_idle slots octet c.args.first line part c.loop-line.auto.line c.loop-line.invariant.done c.requires.part.rows whole
-          (λ at near. ap (λ (o : Option ℕ). fetched o (λ place. octet_in_half c.args.buffer.now.readable (record { line = line; place = place }))) (c.is_incoming_known_empty.ensures c.if-is_incoming_known_empty.true at (search (rules, near))));
+          (λ at near. ap (λ (o : Option ℕ). fetched o (λ place. octet_in_half c.args.buffer.now.readable (record { line = line; place = place }))) (c.is_known_empty.ensures c.if-is_known_empty.true at (search (rules, near))));
     }
 
 pub loop-line-preserved : goal.loop-line-preserved
 loop-line-preserved c =
     let slots = c.args.slots in
-    let octet = sends c.args.image.now c.args.buffer.now in
+    let octet = sends_by c.args.table.now c.args.buffer.now in
     let first = c.args.first in
     let line = c.loop-line.line in
     let part = c.loop-line.part in
@@ -54,8 +53,8 @@ loop-line-preserved c =
 
 pub returns-clause-octets : goal.returns-clause-octets
 returns-clause-octets c =
-    let image = c.args.image.now in
-    let reached : c.sending_lines-line-end.result ≤ c.loop-line.line = search rules in
-    rest_is_idle c.args.slots (sends image c.args.buffer.now) c.args.first (lines_of image) c.loop-line.line c.loop-line.part
-    (subst (IsPart (lines_of image) c.args.slots c.args.first) (sym c.loop-line.invariant.size) c.requires.part) c.loop-line.auto.line c.loop-line.invariant.done
-    (λ line at past inside near. ap (λ (o : Option ℕ). fetched o (λ place. octet_in_half c.args.buffer.now.readable (record { line = line; place = place }))) (c.sending_lines-line-end.ensures.empty line at (omega (arith, reached, past)) inside (search (rules, near))))
+    let buffer = c.args.buffer.now in
+    let reached : c.used_rows-line-end.result ≤ c.loop-line.line = search rules in
+    rest_is_idle c.args.slots (sends_by c.args.table.now buffer) c.args.first buffer.lines c.loop-line.line c.loop-line.part
+    (subst (IsPart buffer.lines c.args.slots c.args.first) (sym c.loop-line.invariant.size) c.requires.part) c.loop-line.auto.line c.loop-line.invariant.done
+    (λ line at past inside near. ap (λ (o : Option ℕ). fetched o (λ place. octet_in_half buffer.readable (record { line = line; place = place }))) (c.used_rows-line-end.ensures.empty line at (omega (arith, reached, past)) (search (rules, inside)) (search (rules, near))))

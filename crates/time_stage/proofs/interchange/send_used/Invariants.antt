@@ -1,10 +1,10 @@
 use Rattle.std.proofs.Common.{◌≡◌, length}
 use Rattle.frame_buffer.proofs.Parts.{IsWrittenTo}
-use Rattle.time_stage.specs.Interchange.{sends}
+use Rattle.time_stage.specs.Interchange.{sends_by}
 use Rattle.time_stage.proofs.interchange.send_used.Given as goal
 
 abbrev pub invariant-loop-line : goal.invariant-loop-line
 invariant-loop-line l = record {
   size : length l.part ≡ length l.fn.part;
-  done : IsWrittenTo l.fn.slots (sends l.image l.buffer) l.first l.line l.part;
+  done : IsWrittenTo l.fn.slots (sends_by l.table l.buffer) l.first l.line l.part;
 }

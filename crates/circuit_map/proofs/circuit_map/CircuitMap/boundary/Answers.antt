@@ -1,10 +1,10 @@
-use Rattle.std.proofs.Common.{◌+◌, ◌<◌, sym, ◌∙◌, ap, subst}
+use Rattle.std.proofs.Common.{ℕ, ◌+◌, ◌<◌, List, Option, sym, ◌∙◌, ap, subst}
 use Rattle.circuit_model.specs.Holding.{Frame}
 use Rattle.control_memory.specs.Layout.{Legal}
 use Rattle.control_memory.specs.Image.{HasLayout, port_entry}
 use Rattle.control_memory.specs.Shown.{heard_as}
 use Rattle.control_memory.specs.declared.heard.Heard.TheVariants.{Silent}
-use Rattle.circuit_map.specs.Connections.{Connections, map_lines, served_in, room_in, entry_at}
+use Rattle.circuit_map.specs.Connections.{AreLatest, Connections, map_lines, served_in, room_in, entry_at}
 use Rattle.circuit_map.proofs.Holdings.{holds_frame}
 use Rattle.circuit_map.proofs.Showing.{shows}
 use Rattle.circuit_map.proofs.Views.{held_after}
@@ -35,25 +35,33 @@ invariant_of-self g c = record {
   held = held_after _ _ _ Frame c.self.view_is (returns-clause-holds g c) c.self.invariant.held;
   roomed = c.self.invariant.roomed;
   shown = c.self.invariant.shown;
+  recent =
+      let a = c.write_memory.ensures in
+      let recent = c.self.invariant.recent in
+      record {
+        external = a.external ∙ recent.external;
+        bridges = a.bridges ∙ recent.bridges;
+        slots = a.depth ∙ recent.slots;
+        latest = subst (λ (s : List (Option (ℕ × ℕ))). AreLatest (g.P.PathMap.layout c.self.inside.paths) c.self.inside.hearing s c.write_memory.new.recent) c.deref.ensures.value a.latest;
+      };
 }
 
 pub returns-clause-shows : goal.returns-clause-shows
 returns-clause-shows g c = λ h ports holds.
     let is = c.self.view_is in
-    let a = c.reset_with.ensures in
-    let b = c.write_tables.ensures in
+    let a = c.write_memory.ensures in
     let width = c.self.invariant.width ∙ ap map_lines is in
     let lines = ap map_lines is in
     let shown = c.self.invariant.shown in
-    let external = b.sizes.external ∙ a.sizes.external ∙ c.requires.external ∙ sym (ap (λ (m : Connections). m.external) is) in
-    shows c.args.self.now c.write_tables.new.image h ports
+    let external = a.sizes.external ∙ c.requires.external ∙ sym (ap (λ (m : Connections). m.external) is) in
+    shows c.args.self.now c.write_memory.new.image h ports
     (record {
-      frame = b.frame ∙ a.frame ∙ ap (λ (m : Connections). m.next) is;
-      external = b.sizes.external ∙ a.sizes.external ∙ c.requires.external;
-      bridges = b.sizes.bridges ∙ a.sizes.bridges ∙ c.requires.bridges;
-      slots = b.sizes.slots ∙ a.sizes.slots ∙ c.requires.slots;
+      frame = a.frame ∙ ap (λ (m : Connections). m.next) is;
+      external = a.sizes.external ∙ c.requires.external;
+      bridges = a.sizes.bridges ∙ c.requires.bridges;
+      slots = a.sizes.slots ∙ c.requires.slots;
       legal = subst (λ w. Legal w c.args.self.now.slots c.args.self.now.layout) width (subst (λ (m : Connections). Legal (g.P.PathMap.width c.self.inside.paths) m.slots m.layout) is c.self.invariant.legal);
-      tables = subst (λ l. HasLayout c.write_tables.new.image l) (ap (λ (m : Connections). m.layout) is) b.tables;
-      heard = λ at line place. ap (λ l. entry_at Silent l at) (b.heard ∙ a.heard) ∙ shown.hears at (subst (λ w. at.line < w) (sym lines) line) place ∙ ap (λ (m : Connections). heard_as (served_in m.external m.heard m.ports at)) is;
-      rooms = λ at line place. (λ i. port_entry (external i) ((b.rooms ∙ a.rooms ∙ c.deref.ensures.value) i) at) ∙ shown.sits at (subst (λ w. at.line < w) (sym lines) line) place ∙ ap (λ (m : Connections). room_in m.external m.heard m.ports at) is;
+      tables = subst (λ l. HasLayout c.write_memory.new.image l) (ap (λ (m : Connections). m.layout) is) a.tables;
+      heard = λ at line place. ap (λ l. entry_at Silent l at) a.heard ∙ shown.hears at (subst (λ w. at.line < w) (sym lines) line) place ∙ ap (λ (m : Connections). heard_as (served_in m.external m.heard m.ports at)) is;
+      rooms = λ at line place. (λ i. port_entry (external i) ((a.rooms ∙ c.deref.ensures.value) i) at) ∙ shown.sits at (subst (λ w. at.line < w) (sym lines) line) place ∙ ap (λ (m : Connections). room_in m.external m.heard m.ports at) is;
     }) holds

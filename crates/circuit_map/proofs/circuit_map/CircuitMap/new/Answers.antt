@@ -6,6 +6,7 @@ use Rattle.circuit_map.specs.Connections.{hears_in}
 use Rattle.circuit_map.proofs.OwnersRooms.{roomed_free}
 use Rattle.circuit_map.proofs.Paths.{own_ports}
 use Rattle.circuit_map.proofs.Starting.{holds_empty, hears_in_silent_rows, free_members}
+use Rattle.circuit_map.proofs.Recent.{nothing_latest}
 use Rattle.circuit_map.proofs.NextMemory.{shown_start}
 use Rattle.circuit_map.proofs.circuit_map.CircuitMap.new.Goals as goal
 
@@ -29,4 +30,10 @@ invariant_of-result g c =
       held = (empty, own_ports _ _ _ (returns-clause-holds g c));
       roomed = roomed_free _ _ (30 * c.args.bridges) c.in_ok-new.ensures.free;
       shown = shown_start c.args.external c.args.bridges (30 * c.args.external) (30 * c.args.bridges) _ _ _ _ rows (ap members c.in_ok-new.ensures.free ∙ free_members (30 * c.args.bridges)) c.in_ok-new-2.ensures sitting;
+      recent = record {
+        external = c.in_ok-new-3.ensures.external;
+        bridges = c.in_ok-new-3.ensures.bridges;
+        slots = c.in_ok-new-3.ensures.slots ∙ c.slots-slots.ensures.slots;
+        latest = nothing_latest _ _ _ c.in_ok-new-3.field-0 c.in_ok-new-3.ensures.latest;
+      };
     }

@@ -8,13 +8,14 @@ use Rattle.circuit_map.proofs.OwnersRooms.{roomed_on}
 use Rattle.circuit_map.proofs.Holdings.{holds_pair, swapped}
 use Rattle.circuit_map.proofs.Seating.{port_of_idle_portless}
 use Rattle.circuit_map.proofs.NextMemory.{shown_as, shown_row}
+use Rattle.circuit_map.proofs.Recent.{forgotten}
 use Rattle.circuit_map.proofs.Views.{idle_seen, heeded, obeyed, held_after, roomed_seen, joined_seen, moves_seen}
 use Rattle.circuit_map.proofs.Ends.{idle_both}
 use Rattle.circuit_map.proofs.circuit_map.CircuitMap.pair.Goals as goal
 
 pub connect_both-moves-requires : goal.connect_both-moves-requires
 connect_both-moves-requires g c =
-    idle_both _ _ _ _ _ _ _ _ c.self.view_is c.self.invariant c.args.x c.args.y c.requires.distinct c.requires.external_x c.requires.external_y c.requires.idle_x c.requires.idle_y
+    idle_both _ _ _ _ _ _ _ _ _ c.self.view_is c.self.invariant c.args.x c.args.y c.requires.distinct c.requires.external_x c.requires.external_y c.requires.idle_x c.requires.idle_y
 
 pub returns-clause-layout : goal.returns-clause-layout
 returns-clause-layout g c = joined_seen _ _ _ c.args.x c.args.y _ c.self.invariant.width c.self.view_is c.connect_both-moves.ensures.layout
@@ -71,4 +72,5 @@ invariant_of-self g c =
       roomed = roomed_on (hears_at c.args.self.now) _ _ (roomed_seen _ _ _ is c.self.invariant.roomed)
           (λ z room since e. two_keep (hears_at c.args.self.now) _ x y _ _ (returns-clause-hears g c) c.requires.idle_x c.requires.idle_y z _ e);
       shown = shown_as _ _ _ _ _ _ _ c.set-2.ensures (shown_row _ _ _ _ _ _ y (Some (Pair x y c.self.inside.next)) _ one (length-set c.self.inside.heard.items _ _ ∙ long) in_y.0.0 in_y.0.1 none_y c.to_index-at_y.ensures);
+      recent = forgotten _ _ _ _ _ _ _ _ _ _ _ _ c.self.invariant.recent c.forget.ensures.external c.forget.ensures.bridges c.forget.ensures.slots c.forget.ensures.latest c.connect_both-moves.ensures.depth;
     }

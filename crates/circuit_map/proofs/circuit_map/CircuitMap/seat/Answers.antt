@@ -10,6 +10,7 @@ use Rattle.circuit_map.proofs.Sockets.{length-given}
 use Rattle.circuit_map.proofs.Seating.{lowest_port, position-members, no_number, holds_seat, no_lowest, ports_with_none_given, port_of_idle_portless, count_by-is_member_full, not_full}
 use Rattle.circuit_map.proofs.Rows.{hears_set, given_keeps}
 use Rattle.circuit_map.proofs.NextMemory.{shown_as, shown_row, shown_given, shown_by}
+use Rattle.circuit_map.proofs.Recent.{forgotten}
 use Rattle.circuit_map.proofs.Views.{shown_with, held_with, idle_seen, obeyed, held_after, joined_seen, moves_seen, port_seen}
 use Rattle.circuit_map.proofs.Ends.{port_given}
 use Rattle.circuit_model.proofs.Slots.{same_slot-refl}
@@ -41,6 +42,7 @@ invariant_of-self g c =
       held = held_with _ _ same c.self.invariant.held;
       roomed = subst (AreRoomed (hears_in c.self.inside.external c.self.inside.heard.items)) (sym (c.take.ensures.owners ∙ owners_with_owned_none _ c.self.inside.ports.owners (no_number c.self.inside.ports.external _ (sym c.take.ensures.lowest ∙ c.in_default.is)))) c.self.invariant.roomed;
       shown = shown_by _ _ _ _ _ _ _ same c.self.invariant.shown;
+      recent = c.self.invariant.recent;
     }
 
 pub returns-in_default-clause-refused : goal.returns-in_default-clause-refused
@@ -57,12 +59,12 @@ returns-in_default-clause-full g c = λ h ports holds.
     (λ err. count_by-is_member_full c.args.self.now h ports holds (subst (λ (m : Connections). length m.ports ≡ 30 * m.bridges) is c.self.invariant.sockets) (subst (λ (p : Ports). position is_none p ≡ None) (ap (λ (m : Connections). m.ports) is) none), λ full. refl)
 
 pub connect_both-moves-requires : goal.connect_both-moves-requires
-connect_both-moves-requires g c = (port_given _ _ _ _ _ _ _ _ c.self.view_is c.self.invariant c.args.x c.in-Some.port c.requires.external c.requires.idle refl (sym c.take.ensures.lowest ∙ c.in-Some.is)).can
+connect_both-moves-requires g c = (port_given _ _ _ _ _ _ _ _ _ c.self.view_is c.self.invariant c.args.x c.in-Some.port c.requires.external c.requires.idle refl (sym c.take.ensures.lowest ∙ c.in-Some.is)).can
 
 pub returns-clause-full : goal.returns-clause-full
 returns-clause-full g c = λ h ports holds.
     let is = c.self.view_is in
-    let gets = port_given _ _ _ _ _ _ _ _ is c.self.invariant c.args.x c.in-Some.port c.requires.external c.requires.idle refl (sym c.take.ensures.lowest ∙ c.in-Some.is) in
+    let gets = port_given _ _ _ _ _ _ _ _ _ is c.self.invariant c.args.x c.in-Some.port c.requires.external c.requires.idle refl (sym c.take.ensures.lowest ∙ c.in-Some.is) in
     let old : Represents _ h ports = subst (λ (m : Connections). Represents m h ports) (sym is) holds in
     (λ err. absurd (cc), λ full. absurd (not_full _ h ports gets.lowest.number old c.self.invariant.sockets gets.lowest.lowest (full ∙ ap (λ (m : Connections). 30 * m.bridges) (sym is))))
 
@@ -70,7 +72,7 @@ pub returns-clause-layout : goal.returns-clause-layout
 returns-clause-layout g c =
     let is = c.self.view_is in
     let x = c.args.x in
-    let gets = port_given _ _ _ _ _ _ _ _ is c.self.invariant x c.in-Some.port c.requires.external c.requires.idle refl (sym c.take.ensures.lowest ∙ c.in-Some.is) in
+    let gets = port_given _ _ _ _ _ _ _ _ _ is c.self.invariant x c.in-Some.port c.requires.external c.requires.idle refl (sym c.take.ensures.lowest ∙ c.in-Some.is) in
     let at_p = port_seen _ _ x c.in-Some.port _ is c.take.ensures.members gets.port in
     subst (λ o. IfSome o (λ port. g.P.PathMap.layout c.connect_both-moves.new.map ≡ joined_both c.args.self.now x port)) (sym at_p)
     (joined_seen _ _ _ x c.in-Some.port _ c.self.invariant.width is c.connect_both-moves.ensures.layout)
@@ -79,7 +81,7 @@ pub returns-clause-moves : goal.returns-clause-moves
 returns-clause-moves g c =
     let is = c.self.view_is in
     let x = c.args.x in
-    let gets = port_given _ _ _ _ _ _ _ _ is c.self.invariant x c.in-Some.port c.requires.external c.requires.idle refl (sym c.take.ensures.lowest ∙ c.in-Some.is) in
+    let gets = port_given _ _ _ _ _ _ _ _ _ is c.self.invariant x c.in-Some.port c.requires.external c.requires.idle refl (sym c.take.ensures.lowest ∙ c.in-Some.is) in
     let at_p = port_seen _ _ x c.in-Some.port _ is c.take.ensures.members gets.port in
     subst (λ o. IfSome o (λ port. AreMoves c.connect_both-moves.result c.args.self.now x port)) (sym at_p)
     (moves_seen _ _ _ x c.in-Some.port _ c.self.invariant.width is c.connect_both-moves.ensures.layout _ _ c.connect_both-moves.ensures.there c.connect_both-moves.ensures.back)
@@ -97,7 +99,7 @@ returns-clause-holds g c =
     let is = c.self.view_is in
     let x = c.args.x in
     let p = c.in-Some.port in
-    let gets = port_given _ _ _ _ _ _ _ _ is c.self.invariant x p c.requires.external c.requires.idle refl (sym c.take.ensures.lowest ∙ c.in-Some.is) in
+    let gets = port_given _ _ _ _ _ _ _ _ _ is c.self.invariant x p c.requires.external c.requires.idle refl (sym c.take.ensures.lowest ∙ c.in-Some.is) in
     obeyed _ _ _ (Seat x c.args.room) is
     (holds_seat _ _ x p c.args.room gets.lowest.number c.self.invariant.sockets gets.idle
     (record {
@@ -127,7 +129,7 @@ invariant_of-self-2 g c =
     let is = c.self.view_is in
     let x = c.args.x in
     let p = c.in-Some.port in
-    let gets = port_given _ _ _ _ _ _ _ _ is c.self.invariant x p c.requires.external c.requires.idle refl (sym c.take.ensures.lowest ∙ c.in-Some.is) in
+    let gets = port_given _ _ _ _ _ _ _ _ _ is c.self.invariant x p c.requires.external c.requires.idle refl (sym c.take.ensures.lowest ∙ c.in-Some.is) in
     let seat = Some (Member c.args.room x c.self.inside.next) in
     let rows = c.self.inside.heard.items in
     let long = c.self.invariant.listeners in
@@ -153,4 +155,5 @@ invariant_of-self-2 g c =
           (given_keeps (hears_in c.self.inside.external rows) (hears_in c.self.inside.external heard) x seat
           (λ z. hears_set c.self.inside.external rows x seat _ z c.to_index-at_x.ensures long gets.near.0 gets.near.1) gets.idle));
       shown = shown_by _ _ _ _ _ _ _ c.take.ensures.members two;
+      recent = forgotten _ _ _ _ _ _ _ _ _ _ _ _ c.self.invariant.recent c.forget.ensures.external c.forget.ensures.bridges c.forget.ensures.slots c.forget.ensures.latest c.connect_both-moves.ensures.depth;
     }

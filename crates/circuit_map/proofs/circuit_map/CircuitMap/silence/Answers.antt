@@ -6,6 +6,7 @@ use Rattle.circuit_map.proofs.OwnersRooms.{roomed_on, others_hear_on}
 use Rattle.circuit_map.proofs.Rows.{hears_set}
 use Rattle.circuit_map.proofs.Clearing.{clear_pathless, hearing_at, rows_one, pathless_pair, pathless_member, ports_without_nobody_returns}
 use Rattle.circuit_map.proofs.NextMemory.{shown_as, shown_row, port_of_unseated_portless}
+use Rattle.circuit_map.proofs.Recent.{forgotten}
 use Rattle.circuit_map.proofs.Views.{heeded, obeyed, held_after, roomed_seen, cleared_idle, pathless_seen}
 use Rattle.circuit_map.proofs.circuit_map.CircuitMap.silence.Goals as goal
 
@@ -56,4 +57,5 @@ invariant_of-self g c =
       roomed = roomed_on (hears_at c.args.self.now) _ _ (roomed_seen _ _ _ is c.self.invariant.roomed)
           (others_hear_on (hears_at c.args.self.now) _ x (returns-clause-hears g c) (λ room s e. pathless_member (hears_at c.args.self.now x) room x s c.requires.pathless e));
       shown = shown_as _ _ _ _ _ _ _ c.set.ensures (shown_row _ _ _ _ _ _ x None _ c.self.invariant.shown c.self.invariant.listeners at.0.0 at.0.1 none c.to_index-at.ensures);
+      recent = forgotten _ _ _ _ _ _ _ _ _ _ _ _ c.self.invariant.recent c.forget.ensures.external c.forget.ensures.bridges c.forget.ensures.slots c.forget.ensures.latest refl;
     }

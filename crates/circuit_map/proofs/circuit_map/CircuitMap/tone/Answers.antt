@@ -7,6 +7,7 @@ use Rattle.circuit_map.proofs.OwnersRooms.{roomed_on}
 use Rattle.circuit_map.proofs.Holdings.{holds_tone}
 use Rattle.circuit_map.proofs.Seating.{port_of_idle_portless}
 use Rattle.circuit_map.proofs.NextMemory.{shown_as, shown_row}
+use Rattle.circuit_map.proofs.Recent.{forgotten}
 use Rattle.circuit_map.proofs.Views.{idle_seen, heeded, obeyed, held_after, roomed_seen}
 use Rattle.circuit_map.proofs.circuit_map.CircuitMap.tone.Goals as goal
 
@@ -44,4 +45,5 @@ invariant_of-self g c =
       roomed = roomed_on (hears_at c.args.self.now) _ _ (roomed_seen _ _ _ is c.self.invariant.roomed)
           (λ z room since e. given_keeps (hears_at c.args.self.now) _ x (Some (Tone c.args.kind x c.args.self.now.next)) (returns-clause-hears g c) c.requires.idle z _ e);
       shown = shown_as _ _ _ _ _ _ _ c.set.ensures (shown_row _ _ _ _ _ _ x (Some (Tone c.args.kind x c.self.inside.next)) _ c.self.invariant.shown c.self.invariant.listeners at.0.0 at.0.1 none c.to_index-at.ensures);
+      recent = forgotten _ _ _ _ _ _ _ _ _ _ _ _ c.self.invariant.recent c.forget.ensures.external c.forget.ensures.bridges c.forget.ensures.slots c.forget.ensures.latest refl;
     }
