@@ -111,8 +111,8 @@ fn play_paths(read: &[u8], heard: &[HeardWord], frame: u32, octets: &mut [u8; 30
     *octets = row;
 }
 
-// Returns an octet that is received, and the idle octet in place of another one. It selects by a mask, because LLVM makes
-// no vector code of a loop that selects by a condition.
+// Returns an octet that is received, and the idle octet otherwise. It selects by a mask, because LLVM makes no vector code
+// of a loop that selects by a condition.
 #[inline(always)]
 fn if_received(octet: u8, is_received: bool) -> u8
     ensures { result ≡ (if is_received then octet else idle_octet) }
