@@ -22,7 +22,7 @@ control_of frame external bridges slots t = record {
 abbrev pub AreSized : ℕ → ℕ → ℕ → FrameTables → Type 0
 AreSized external bridges slots t = IsSized external bridges slots t.incoming t.space t.outgoing (length t.heard) (length t.rooms.items)
 
--- the control memory with these tables instead of its own, and whether they have its sizes
+-- a control memory that shows these tables, and tables of its sizes
 abbrev pub with_tables : Control → FrameTables → Control
 with_tables m = control_of m.frame m.external m.bridges m.slots
 
