@@ -142,8 +142,8 @@ pub fn law_of_hunting()
 {}
 
 /// A call with further digits gets the called line's lowest idle slot, as for a SETUP, since a slot with a leg is not
-/// idle. It is refused with cause 34 only if there is no such slot, and with cause 42 only if there is no free port.
-/// Further digits end no call, so that nothing is recorded.
+/// idle. It is refused with cause 34 only if the data link of each called line is down or the line has no idle slot, and
+/// with cause 42 only if there is no free port. Further digits end no call, so that nothing is recorded.
 pub fn law_of_digits()
     ensures choice { (w : World) (x : Slot) (leg : Leg) (line : ℕ) → leg_at w.legs x ≡ Some leg → lowest_idle_beside w x line ≡ lowest_idle w line }
     ensures no_slot { (s : Setting) (w : World) (h : HeldLeg) (called : List ℕ) (m : Message) → leg_at w.legs h.slot ≡ Some h.leg

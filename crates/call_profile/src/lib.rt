@@ -16,8 +16,8 @@
 //!   fails it never expires ([`law_of_unfailing_links`]). If it expires, the call is cleared and recorded
 //!   ([`law_of_lost_legs`]).
 //! - A number of several lines gets the lowest idle slot of the first line that has one ([`law_of_hunting`]).
-//! - Further digits are refused with cause 34 only if no slot is free, and with cause 42 only if no port is free. They
-//!   end no call, so nothing is recorded ([`law_of_digits`]).
+//! - Further digits are refused with cause 34 only if each called line is down or has no idle slot, and with cause 42
+//!   only if no port is free. They end no call, so nothing is recorded ([`law_of_digits`]).
 //! - The layout of the paths and the number of internal slots decide only how many paths move
 //!   ([`law_of_paths`], [`law_of_fabrics`]). An answered call and a granted nail get both paths
 //!   ([`law_of_answered_calls`], [`law_of_granted_nails`]).

@@ -97,8 +97,9 @@ impl RecentTables {
         true
     }
 
-    /// Makes the tables of a control memory the latest, which it then shares. None apply afterwards if the spare tables
-    /// are still shared.
+    /// Makes the tables of a control memory the latest, which it then shares. None apply afterwards if the control memory
+    /// shares its tables already, if the spare tables are still shared, or if the owners of the spare tables cannot be
+    /// counted.
     pub fn keep(&mut self, image: &mut Image)
         requires { Fits self.old image.old }
         ensures same { image.new ≡ image.old }

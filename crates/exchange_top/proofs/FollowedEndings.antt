@@ -1,22 +1,30 @@
 -- The endings of lines that are followed, by other words for what is due.
-use Rattle.std.proofs.Common.{ℕ, List, Option, refl, sym, subst}
+use Rattle.std.proofs.Common.{◌≡◌, ◌+◌, ℕ, List, [], ◌∷◌, length, Option, Some, None, refl, sym, ap, ◌∙◌, subst, arith}
+use Rattle.std.proofs.lemmas.List.Elements.{All-nil}
 use Rattle.circuit_model.specs.Dimensions.{Dimensions}
 use Rattle.circuit_model.specs.Hears.{Plays}
 use Rattle.exchange_events.specs.declared.record.CallRecord.{CallRecord}
 use Rattle.std.specs.Option.{option_map}
 use Rattle.meters.specs.Changing.{handed_in, steps_text}
 use Rattle.linked_exchange.specs.declared.exchange.LinkedExchange.{LinkedExchange}
-use Rattle.linked_text.specs.LinkLines.{LinkSoFar}
-use Rattle.followed_events.specs.InTurn.{setting_in_turn, world_in_turn}
+use Rattle.linked_text.specs.LinkEffects.{linked_in, plain_told}
+use Rattle.linked_text.specs.LinkLines.{Content, LinkSoFar}
+use Rattle.trace_text.specs.declared.said.Sizes.{Sizes}
+use Rattle.trace_text.specs.TraceGrammar.{events_in, sizes_in}
+use Rattle.call_profile.specs.Step.{MovesAtMost}
+use Rattle.followed_events.specs.Told.{MovesFewIn, MovesFewSaid}
+use Rattle.followed_events.specs.InTurn.{MovesFewInTurn, events_by, events_in_turn, setting_in_turn, world_in_turn}
+use Rattle.followed_events.proofs.LinkedSteppingLemmas.{early_few}
+use Rattle.followed_events.proofs.TurnSteps.{no_inputs}
 use Rattle.lone_exchange.specs.declared.exchange.LoneExchange.{LoneExchange}
 use Rattle.lone_exchange.specs.At.{Carrying}
 use Rattle.exchange_top.specs.Following.{AreAnswered, FollowsTo, HasReturned, IsAnswered, IsEngineOf, course, dues_of, follow_parties}
-use Rattle.exchange_top.specs.Handling.{HasHandled, IsEngineAfter, engine_returned, exchange_of, handler_dues}
+use Rattle.exchange_top.specs.Handling.{HasHandled, IsDriven, IsDrivenBy, IsEngineAfter, IsLinkedDriven, engine_returned, exchange_of, handler_dues}
 use Rattle.exchange_top.specs.Outcomes.{HandsOut}
-use Rattle.line_follower.specs.Following.{Dues, HasFollowed, IsSettled, with_end}
+use Rattle.line_follower.specs.Following.{Dues, HasFollowed, IsSettled}
 use Rattle.line_follower.specs.declared.following.Following.{Following}
 use Rattle.line_follower.specs.declared.following.Following.TheVariants as ended
-use Rattle.line_follower.proofs.Endings.{IsToo, followed_too, settled_too, with_end_too}
+use Rattle.line_follower.proofs.Endings.{IsToo, followed_too, settled_too}
 
 -- ---- a handler of a trace
 
@@ -34,11 +42,28 @@ module _ {M P E : Type 0} (stands : M → List CallRecord → Type 0) (text : M 
     refuses_end = λ ls said due. due;
   }
 
+  -- each new path of these lines moved few live paths
+  few_driven : (told : List Content) (ls : List ℕ) → linked_in told ≡ ls → IsDrivenBy carries frames sizes slots moves ls told exchange linked
+      → (z : Sizes) → sizes_in (plain_told told) ≡ Some z → MovesFewInTurn slots moves z told
+  few_driven told [] is driven z known = subst (MovesFewIn moves (setting_in_turn slots z told)) (sym events) (plain exchange driven.0)
+    where
+      events : events_in_turn slots z told ≡ events_in (plain_told told)
+      events = ap (λ (l : List ℕ). events_by l slots z told) is
+
+      plain : (x : Option (LoneExchange P E)) → IsDriven carries frames sizes slots moves (plain_told told) x → MovesFewSaid slots moves z (plain_told told)
+      plain None none = subst (MovesFewIn moves (setting_in_turn slots z told)) (sym none) (All-nil (MovesAtMost (moves (z.external + z.bridges))))
+      plain (Some x) (some, at) = let both : Some at.header ≡ Some z = sym at.given ∙ known in let same : at.header ≡ z = grind (arith, both) in subst (λ (v : Sizes). MovesFewSaid slots moves v (plain_told told)) same at.few
+  few_driven told (line ∷ lines) is driven z known = by linked driven.1
+    where
+      by : (y : Option (LinkedExchange P E)) → IsLinkedDriven carries frames sizes slots moves told y → MovesFewInTurn slots moves z told
+      by None none = early_few slots moves told z (let long = ap length is in omega (arith, long)) (no_inputs told none)
+      by (Some y) (some, at) = let both : Some at.header ≡ Some z = sym at.given ∙ known in let same : at.header ≡ z = grind (arith, both) in subst (λ (v : Sizes). MovesFewInTurn slots moves v told) same at.few
+
   pub answered : (heard said : List ℕ) → IsSettled (HasHandled carries frames sizes (course plays slots moves stands text old old_spare on spare) heading count exchange linked) heard said
-      → IsAnswered plays slots (λ steps. steps_text text steps (handed_in old old_spare)) heard said
+      → IsAnswered plays slots moves (λ steps. steps_text text steps (handed_in old old_spare)) heard said
   answered heard said settled =
-      settled_too (HasHandled carries frames sizes (course plays slots moves stands text old old_spare on spare) heading count exchange linked) (AreAnswered plays slots (λ steps. steps_text text steps (handed_in old old_spare)))
-      (λ ls s h. record { told = h.told; meets = h.meets; text = h.text }) heard said settled
+      settled_too (HasHandled carries frames sizes (course plays slots moves stands text old old_spare on spare) heading count exchange linked) (AreAnswered plays slots moves (λ steps. steps_text text steps (handed_in old old_spare)))
+      (λ ls s h. record { told = h.told; meets = h.meets; few = few_driven h.told (linked_in h.told) refl h.driven; text = h.text }) heard said settled
 
   engine_after : (ls : List (List ℕ)) → IsEngineAfter carries frames sizes slots moves ls exchange linked
       → IsEngineOf (follow_parties plays slots moves sizes carries (option_map (λ (x : LoneExchange P E). x.engine) (exchange_of exchange linked)) stands text old old_spare on spare) ls
@@ -51,7 +76,7 @@ module _ {M P E : Type 0} (stands : M → List CallRecord → Type 0) (text : M 
         (sym a.is) (a.sized, a.carried);
   }
 
-  returned : (over : Type 0) (ending : Following) (heard said : List ℕ) → HasFollowed ending (with_end over mine) heard said
+  returned : (over : Type 0) (ending : Following) (heard said : List ℕ) → HasFollowed over ending mine heard said
       → HasReturned (follow_parties plays slots moves sizes carries (engine_returned ending (option_map (λ (x : LoneExchange P E). x.engine) (exchange_of exchange linked))) stands text old old_spare on spare) ending heard
   returned over ended.Completed heard said due = engine_after _ due.1.engine
   returned over ended.Refused heard said due = refl
@@ -60,13 +85,12 @@ module _ {M P E : Type 0} (stands : M → List CallRecord → Type 0) (text : M 
   returned over ended.OutOfMemory heard said due = refl
 
   pub follows_to : (stood : List ℕ → List ℕ → Type 0) (over : Type 0) (ending : Following) (heard said : List ℕ) → stood heard said
-      → HasFollowed ending (with_end over mine) heard said
+      → HasFollowed over ending mine heard said
       → FollowsTo (follow_parties plays slots moves sizes carries (engine_returned ending (option_map (λ (x : LoneExchange P E). x.engine) (exchange_of exchange linked))) stands text old old_spare on spare) stood over ending
   follows_to stood over ending heard said stands_so due = record {
     heard = heard;
     said = said;
     stood = stands_so;
-    due = followed_too (with_end over mine) (with_end over (dues_of (course plays slots moves stands text old old_spare on spare)))
-        (with_end_too over mine (dues_of (course plays slots moves stands text old old_spare on spare)) handler_too) ending heard said due;
+    due = followed_too over over (λ has. has) mine (dues_of (course plays slots moves stands text old old_spare on spare)) handler_too ending heard said due;
     engine = returned over ending heard said due;
   }

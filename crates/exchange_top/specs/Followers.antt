@@ -6,7 +6,7 @@ use Rattle.std.specs.declared.dyn_box.DynBox.{DynBox}
 use Rattle.std.specs.declared.vec.Vec.{Vec}
 use Rattle.exchange_events.specs.declared.record.CallRecord.{CallRecord}
 use Rattle.frame_engine.specs.declared.carrier.Carrier.{Ghosts as CarrierKind}
-use Rattle.line_follower.specs.Following.{CountsReads, CountsWrites, Dues, HasFollowed, status_of, with_end}
+use Rattle.line_follower.specs.Following.{CountsReads, CountsWrites, Dues, HasFollowed, status_of}
 use Rattle.line_follower.specs.Progress.{HasStopped, IsUnderway, OwesText}
 use Rattle.line_follower.specs.declared.following.Following.{Following}
 use Rattle.line_wire.specs.declared.wire.Wire.{Ghosts as WireKind}
@@ -23,9 +23,9 @@ use Rattle.exchange_top.specs.Handling.{HasRead, handler_dues}
 
 module _ {V : Type 0} {F : V → Type 0} {E : Type 0} (m : (v : V) → MeterKind (F v)) (c : CarrierKind E) where
   -- the other side relies only on this: exactly the text of all whole lines was written, from these meters on
-  abbrev pub ReliesBy : ℕ → (on spare : List (DynBox V Global F)) → (relies : List ℕ → List ℕ → Type 0) → Type 0
-  ReliesBy slots on spare relies =
-      (heard said : List ℕ) → IsAnswered c.plays slots (λ steps. steps_text (λ (b : DynBox V Global F). (m b.vtable).text b.value) steps (handed_in on spare)) heard said → relies heard said
+  abbrev pub ReliesBy : ℕ → (ℕ → ℕ) → (on spare : List (DynBox V Global F)) → (relies : List ℕ → List ℕ → Type 0) → Type 0
+  ReliesBy slots moves on spare relies =
+      (heard said : List ℕ) → IsAnswered c.plays slots moves (λ steps. steps_text (λ (b : DynBox V Global F). (m b.vtable).text b.value) steps (handed_in on spare)) heard said → relies heard said
 
   -- the parties of a call
   abbrev pub parties_by : ℕ → (ℕ → ℕ) → Option E → (old old_spare new new_spare : List (DynBox V Global F)) → FollowParties
@@ -156,7 +156,7 @@ module _ {V : Type 0} {F : V → Type 0} {P E R : Type 0} (m : (v : V) → Meter
   -- the call ends; it processes the end of the input only if the input has ended
   abbrev pub EndsIn : Following → (before after : List ℕ → List ℕ → Type 0) (ended : Type 0) (x y : TraceFollower P E R V F) (rest : List ℕ) → (t u : Vec ℕ Global) → Type 0
   EndsIn why before after ended x y rest t u = (old old_spare : List (DynBox V Global F)) (heard : List ℕ) → IsUnderFrom before old old_spare x heard rest t
-      → (said : List ℕ) × after heard said × HasFollowed why (with_end ended (dues_from old old_spare y)) heard (said ++ u.items)
+      → (said : List ℕ) × after heard said × HasFollowed ended why (dues_from old old_spare y) heard (said ++ u.items)
 
   -- ---- the call
 
@@ -167,9 +167,9 @@ module _ {V : Type 0} {F : V → Type 0} {P E R : Type 0} (m : (v : V) → Meter
   -- the call ended for this cause, and the text is still to be written
   abbrev pub EndsWith : Following → (after : List ℕ → List ℕ → Type 0) (ended : Type 0) (x y : TraceFollower P E R V F) → Vec ℕ Global → Type 0
   EndsWith why after ended x y t = (heard : List ℕ) × (said : List ℕ) × after heard said
-      × HasFollowed why (with_end ended (dues_from x.metering.on.items x.metering.spare.items y)) heard (said ++ t.items)
+      × HasFollowed ended why (dues_from x.metering.on.items x.metering.spare.items y) heard (said ++ t.items)
 
   -- the call ended for this cause
   abbrev pub Ends : Following → (after : List ℕ → List ℕ → Type 0) (ended : Type 0) (x y : TraceFollower P E R V F) → Type 0
   Ends why after ended x y = (heard : List ℕ) × (said : List ℕ) × after heard said
-      × HasFollowed why (with_end ended (dues_from x.metering.on.items x.metering.spare.items y)) heard said
+      × HasFollowed ended why (dues_from x.metering.on.items x.metering.spare.items y) heard said

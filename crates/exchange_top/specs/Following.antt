@@ -14,7 +14,7 @@ use Rattle.trace_text.specs.declared.said.Sizes.{Sizes}
 use Rattle.trace_text.specs.TraceGrammar.{IsTrace, sizes_in}
 use Rattle.trace_text.specs.TraceWords.{lines}
 use Rattle.run_verifier.specs.Verdicts.{IsValid}
-use Rattle.line_follower.specs.Following.{Dues, HasFollowed, IsSettled, with_end}
+use Rattle.line_follower.specs.Following.{Dues, HasFollowed, IsSettled}
 use Rattle.line_follower.specs.declared.following.Following.{Following}
 use Rattle.line_follower.specs.declared.following.Following.TheVariants as followed
 use Rattle.call_processor.specs.Frames.{Carrying}
@@ -49,15 +49,16 @@ pub record Course : Type 1 where
 abbrev pub course : {M : Type 0} → Plays → ℕ → (ℕ → ℕ) → (M → List CallRecord → Type 0) → (M → List CallRecord → List ℕ) → (old spare new new_spare : List M) → Course
 course plays slots moves stands text old spare new new_spare = record { plays = plays; slots = slots; moves = moves; meters = meter_story stands text old spare new new_spare }
 
--- the octets that are due for these lines are the text of their story
-pub record AreAnswered (plays : Plays) (slots : ℕ) (written : List Step → List ℕ) (ls : List (List ℕ)) (said : List ℕ) : Type 0 where
+-- the octets that are due for these lines are the text of their story, in which each new path moved few live paths
+pub record AreAnswered (plays : Plays) (slots : ℕ) (moves : ℕ → ℕ) (written : List Step → List ℕ) (ls : List (List ℕ)) (said : List ℕ) : Type 0 where
   pub told : List Content
   pub meets : EachInTurn [] ls told
+  pub few : (sizes : Sizes) → sizes_in (plain_told told) ≡ Some sizes → MovesFewInTurn slots moves sizes told
   pub text : said ≡ written (story_in_turn plays slots told)
 
 -- all whole lines of an input were processed, and exactly the text of their story was written
-abbrev pub IsAnswered : Plays → ℕ → (List Step → List ℕ) → (heard said : List ℕ) → Type 0
-IsAnswered plays slots written heard said = IsSettled (AreAnswered plays slots written) heard said
+abbrev pub IsAnswered : Plays → ℕ → (ℕ → ℕ) → (List Step → List ℕ) → (heard said : List ℕ) → Type 0
+IsAnswered plays slots moves written heard said = IsSettled (AreAnswered plays slots moves written) heard said
 
 -- these lines were processed: the text of their story is due, and the meters are its result
 pub record AreProcessed (x : Course) (ls : List (List ℕ)) (said : List ℕ) : Type 0 where
@@ -161,10 +162,10 @@ HasReturned x followed.WriteFailed heard = x.no_engine
 HasReturned x followed.OutOfMemory heard = x.no_engine
 
 -- The octets that were read and written, by the ending. The definition `HasFollowed` has a case for each ending. The end
--- of the input was processed only if the input has ended.
+-- of the input, and a line without its line feed, were processed only if the input has ended.
 pub record FollowsTo (x : FollowParties) (stands : List ℕ → List ℕ → Type 0) (ended : Type 0) (ending : Following) : Type 0 where
   pub heard : List ℕ
   pub said : List ℕ
   pub stood : stands heard said
-  pub due : HasFollowed ending (with_end ended (dues_of x.course)) heard said
+  pub due : HasFollowed ended ending (dues_of x.course) heard said
   pub engine : HasReturned x ending heard

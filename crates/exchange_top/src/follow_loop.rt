@@ -1,5 +1,5 @@
 // The lines of a wire, which an exchange processes in sequence.
-ghost use Rattle.std.specs.Prelude.{◌≡◌, ◌<◌, ◌≤◌, ◌+◌, [], length, drop, IfOk, IfErr, OnOk};
+ghost use Rattle.std.specs.Prelude.{◌≡◌, ◌⊎◌, ◌<◌, ◌≤◌, ◌+◌, [], length, drop, IfOk, IfErr, OnOk};
 ghost use Rattle.line_follower.specs.Following.{CountsReads, CountsWrites, HasNoFeed};
 ghost use Rattle.line_follower.specs.declared.following.Following.TheVariants as ended;
 ghost use Rattle.exchange_top.specs.Followers.{Ends, EndsIn, EndsWith, GoesOn, GoesToEnd, HandlesLine, IsOwing, IsPending, IsUnder, IsUnread, OwesLine, ReliesBy, StopsLine, StopsOwing};
@@ -138,7 +138,8 @@ fn handle_lines<W: Wire, P: Fabric, C: Carrier, R: Threads + Sync>(
     }
 }
 
-// Processes the octets after the last line feed. They are a line, unless there are none.
+// Processes the octets after the last line feed, at the end of the input or if they are too many for a line. They are a
+// line, unless there are none.
 //
 // # Errors
 //
@@ -153,6 +154,7 @@ fn handle_rest<W: Wire, P: Fabric, C: Carrier, R: Threads + Sync>(
         (W.stands wire.old) handler.old rest.now text.old }
     requires partial { HasNoFeed rest.now }
     requires room { length rest.now ≤ 131072 }
+    requires last { W.ended wire.old ⊎ (65535 < length rest.now) }
 
     ensures done { OnOk result (GoesToEnd ⟦<dyn Meter as Meter>⟧ C.Carrier P.Fabric.own
         (W.stands wire.old) (W.stands wire.new) handler.old handler.new rest.now text.old text.new) }
@@ -216,7 +218,7 @@ fn follow_to_end<W: Wire, P: Fabric, C: Carrier, R: Threads + Sync>(
     requires blank { text.old.items ≡ [] }
     requires fresh { W.stands wire.old [] [] }
     requires unread { IsUnread ⟦<dyn Meter as Meter>⟧ C.Carrier P.Fabric.own handler.old }
-    requires promise { ReliesBy ⟦<dyn Meter as Meter>⟧ C.Carrier P.slots
+    requires promise { ReliesBy ⟦<dyn Meter as Meter>⟧ C.Carrier P.slots P.moves
         handler.old.metering.on.items handler.old.metering.spare.items W.relies }
 
     ensures ended { EndsWith ⟦<dyn Meter as Meter>⟧ C.Carrier P.Fabric.own
@@ -260,7 +262,7 @@ fn follow_with<W: Wire, P: Fabric, C: Carrier, R: Threads + Sync>(
     requires blank { text.old.items ≡ [] }
     requires fresh { W.stands wire.old [] [] }
     requires unread { IsUnread ⟦<dyn Meter as Meter>⟧ C.Carrier P.Fabric.own handler.old }
-    requires promise { ReliesBy ⟦<dyn Meter as Meter>⟧ C.Carrier P.slots
+    requires promise { ReliesBy ⟦<dyn Meter as Meter>⟧ C.Carrier P.slots P.moves
         handler.old.metering.on.items handler.old.metering.spare.items W.relies }
 
     ensures followed { Ends ⟦<dyn Meter as Meter>⟧ C.Carrier P.Fabric.own
@@ -291,7 +293,7 @@ pub fn follow_lines<W: Wire, P: Fabric, C: Carrier, R: Threads + Sync>(
 ) -> Following
     requires fresh { W.stands wire.old [] [] }
     requires unread { IsUnread ⟦<dyn Meter as Meter>⟧ C.Carrier P.Fabric.own handler.old }
-    requires promise { ReliesBy ⟦<dyn Meter as Meter>⟧ C.Carrier P.slots
+    requires promise { ReliesBy ⟦<dyn Meter as Meter>⟧ C.Carrier P.slots P.moves
         handler.old.metering.on.items handler.old.metering.spare.items W.relies }
 
     ensures followed { Ends ⟦<dyn Meter as Meter>⟧ C.Carrier P.Fabric.own

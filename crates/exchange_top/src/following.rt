@@ -83,7 +83,8 @@ fn follow_on<W: Wire, P: Fabric, C: Carrier, R: Threads + Sync>(
     spare: &mut VecDeque<Box<dyn Meter>>,
 ) -> CallEnd<C>
     requires fresh { W.stands wire.old [] [] }
-    requires promise { ReliesBy ⟦<dyn Meter as Meter>⟧ C.Carrier P.slots meters.old.items spare.old.items W.relies }
+    requires promise { ReliesBy ⟦<dyn Meter as Meter>⟧ C.Carrier P.slots P.moves
+        meters.old.items spare.old.items W.relies }
     ensures ends { FollowsTo (parties_by ⟦<dyn Meter as Meter>⟧ C.Carrier P.slots P.moves result.engine
         meters.old.items spare.old.items meters.new.items spare.new.items)
         (W.stands wire.new) (W.ended wire.new) result.ending }
@@ -140,8 +141,9 @@ pub fn follow<W: Wire, C: Carrier, R: Threads + Sync>(
     spare: &mut VecDeque<Box<dyn Meter>>,
 ) -> FollowOutcome<C>
     requires fresh { W.stands wire.old [] [] }
-    // At each read the other side may rely on the output: it is exactly the text of the lines so far.
-    requires promise { ReliesBy ⟦<dyn Meter as Meter>⟧ C.Carrier (slots_of strict)
+    // At each read the other side may rely on the output: it is exactly the text of the lines so far, and each new path
+    // has moved few live paths.
+    requires promise { ReliesBy ⟦<dyn Meter as Meter>⟧ C.Carrier (slots_of strict) (moves_of strict)
         meters.old.items spare.old.items W.relies }
     // The ending of the call. Statuses 3 and 4 occur only after an error was counted, and no other status hides one.
     ensures ends { FollowEnds W.Wire wire.old wire.new

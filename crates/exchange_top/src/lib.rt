@@ -23,7 +23,7 @@
 //!
 //! [`follow`] processes the lines of a trace when they arrive. Before each read it has written exactly the text of the
 //! lines read so far (`promise`), and its clause `ends` has a case for each ending (`FollowsTo`). It processes the end
-//! of the input only if the wire has ended (`with_end`). A followed trace has the report of a run in file order
+//! of the input only if the wire has ended (`IsDue`). A followed trace has the report of a run in file order
 //! ([`followed_traces_are_runs`]), and each trace with short lines is followed ([`traces_are_followed`],
 //! [`plain_lines_are_followed`]). The lines that are followed may have data links (`EachInTurn`, `story_in_turn`).
 //!

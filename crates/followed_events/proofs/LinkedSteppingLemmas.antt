@@ -1,5 +1,5 @@
 -- An exchange with data links that is made, and an event on it.
-use Rattle.std.proofs.Common.{◌≡◌, ℕ, ◌+◌, ◌<◌, Bool, true, false, List, [], ◌∷◌, ◌++◌, length, Option, Some, None, ◌⊎◌, inl, inr, refl, sym, ap, ◌∙◌, subst, arith, append-nil, append_assoc, codes}
+use Rattle.std.proofs.Common.{◌≤◌, ◌≡◌, ℕ, ◌+◌, ◌<◌, Bool, true, false, List, [], ◌∷◌, ◌++◌, length, Option, Some, None, ◌⊎◌, inl, inr, refl, sym, ap, ◌∙◌, subst, arith, append-nil, append_assoc, codes}
 use Rattle.std.specs.Prelude.{All, IsTrue, is_some}
 use Rattle.std.proofs.lemmas.List.Elements.{All-weaker}
 use Rattle.circuit_model.specs.Dimensions.{Dimensions}
@@ -98,6 +98,17 @@ module _ (slots : ℕ) (told : List Content) (z : Sizes) (heading : LinkSoFar) (
 quiet_few : (n : ℕ) (r : Reply) → r ≡ Sent [] None [] → MovesAtMost n r
 quiet_few n r is = subst (MovesAtMost n) (sym is) tt
 
+-- few live paths are moved before the first event: the links are down then
+pub early_few : (slots : ℕ) (moves : ℕ → ℕ) (told : List Content) (z : Sizes) → 1 ≤ length (linked_in told) → inputs_in told ≡ [] → MovesFewInTurn slots moves z told
+early_few slots moves told z some inputs =
+    let s = setting_in_turn slots z told in
+    let n = moves (z.external + z.bridges) in
+    let down = links_down 0 (link_row z.external (linked_in told)) in
+    let events : trace_by slots z (in_turn told) (inputs_in told) ≡ down = ap (trace_by slots z (in_turn told)) inputs ∙ append-nil down in
+    let few : MovesFewIn moves s down =
+    All-weaker (λ (r : Reply). r ≡ Sent [] None []) (MovesAtMost n) (quiet_few n) (run s (start s.dimensions) down) (start_quiet s (link_row z.external (linked_in told))) in
+    subst (MovesFewIn moves s) (sym (events_linked (linked_in told) slots z told some refl ∙ events)) few
+
 module _ {P E : Type 0} (carries : Carrying E) (frames : E → ℕ) (sizes : E → Dimensions) (slots : ℕ) (moves : ℕ → ℕ) (told : List Content) (z : Sizes) (heading : LinkSoFar) where
   pub linked_old : (exchange : Option (LinkedExchange P E)) → is_some exchange ≡ true → IsLinkedHeard carries frames sizes slots moves told z heading exchange → IsLinkedRunning carries frames sizes slots moves told z exchange
   linked_old None some heard = absurd (grind (arith, some))
@@ -128,17 +139,12 @@ module _ {P E : Type 0} (carries : Carrying E) (frames : E → ℕ) (sizes : E �
       let begins : StartsLinkedAt carries frames sizes settings z.external z.bridges depth row x = subst (λ (v : Sizes). StartsLinkedAt carries frames sizes settings v.external v.bridges depth row x) same starts in
       let first : IsLinkedAt carries frames sizes x s (start_joint s row) = begins s (ap (size z.external z.bridges) (sym deep)) (has_settings slots told z heading settings given is) in
       let joint : start_joint s row ≡ joint_said slots z told = ap (start_joint s) lines ∙ ap (joint_after_all s timers (first_joint slots z told)) (sym inputs) in
-      let n = moves (z.external + z.bridges) in
-      let events : trace_by slots z (in_turn told) (inputs_in told) ≡ links_down 0 (link_row z.external (linked_in told)) =
-      ap (trace_by slots z (in_turn told)) inputs ∙ append-nil (links_down 0 (link_row z.external (linked_in told))) in
-      let few : MovesFewIn moves s (links_down 0 (link_row z.external (linked_in told))) =
-      All-weaker (λ (r : Reply). r ≡ Sent [] None []) (MovesAtMost n) (quiet_few n) (run s (start s.dimensions) (links_down 0 (link_row z.external (linked_in told)))) (start_quiet s (link_row z.external (linked_in told))) in
       record {
         driver = x;
         is = refl;
         at = subst (λ (v : Joint). IsLinkedAt carries frames sizes x s v) joint first;
         bound = subst (λ (v : Sizes). x.exchange.control.map.bound ≡ moves (v.external + v.bridges)) same bound;
-        few = subst (MovesFewIn moves s) (sym (events_linked (linked_in told) slots z told given.some refl ∙ events)) few;
+        few = early_few slots moves told z given.some inputs;
       }
 
   -- the plan has only lines of the exchange that is made

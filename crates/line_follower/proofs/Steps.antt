@@ -1,64 +1,68 @@
 -- One line more, and the end of a call behind a line.
-use Rattle.std.proofs.Common.{◌≡◌, ◌≢◌, ◌⊎◌, ℕ, ◌+◌, ◌≤◌, List, [], ◌∷◌, ◌++◌, ◌-◌, length, take, drop, take-add, refl, sym, ap, subst, ◌∙◌, arith, inl, inr, append_assoc, append-nil, length-append}
+use Rattle.std.proofs.Common.{◌≡◌, ◌≢◌, ◌⊎◌, ℕ, ◌+◌, ◌≤◌, ◌<◌, List, [], ◌∷◌, ◌++◌, ◌-◌, length, take, drop, take-add, refl, sym, ap, subst, ◌∙◌, arith, inl, inr, append_assoc, append-nil, length-append}
 use Rattle.std.proofs.lemmas.List.{take-append-drop}
 use Rattle.std.proofs.Math.Seq.{drop-append_seam}
 use Rattle.trace_text.specs.TraceWords.{AreEnded, lines}
-use Rattle.line_follower.specs.Following.{AreFirst, At_line, CountsReads, CountsWrites, Due, Dues, HasFollowed, HasNoFeed, IsDue, IsSettled, with_end}
+use Rattle.line_follower.specs.Following.{AreFirst, At_line, CountsReads, CountsWrites, Due, Dues, EndsLong, HasFollowed, HasNoFeed, IsDue, IsSettled}
 use Rattle.line_follower.specs.Progress.{HasStopped, OwesText, IsUnderway}
 use Rattle.line_follower.specs.declared.following.Following.{Following}
 use Rattle.line_follower.specs.declared.following.Following.TheVariants as ended
-use Rattle.std.specs.Prelude.{IfErr, OnErr, OnOk, Ok, Err}
+use Rattle.std.specs.Prelude.{⊤, IfErr, OnErr, OnOk, Ok, Err}
 use Rattle.std.specs.declared.result.Result.{Result}
 use Rattle.trace_text.proofs.LineLemmas.{ended_both, fed_line, lines_behind, unfed_line}
 
 -- a call that ends at a line, of an input of which it has the lines before it; the end of the input plays no part
-pub stopped_at : (over : Type 0) (why : Following) (due : Dues) (heard : List ℕ) (done : List (List ℕ)) (line full : List ℕ) → AreFirst heard (done ++ line ∷ [])
-    → HasStopped why due done line full → HasFollowed why (with_end over due) heard full
+pub stopped_at : (over : Type 0) (why : Following) (due : Dues) (heard : List ℕ) (done : List (List ℕ)) (line full : List ℕ) → AreFirst over heard (done ++ line ∷ [])
+    → HasStopped why due done line full → HasFollowed over why due heard full
 stopped_at over ended.Completed due heard done line full after stopped = absurd stopped
 stopped_at over ended.Refused due heard done line full after stopped = At_line (done ++ line ∷ []) after stopped
 stopped_at over ended.ReadFailed due heard done line full after stopped = absurd stopped
 stopped_at over ended.WriteFailed due heard done line full after (unsaid, answers) = (ended.WriteFailed, unsaid, (done ++ line ∷ [], after, answers))
 stopped_at over ended.OutOfMemory due heard done line full after stopped = (done ++ line ∷ [], after, stopped)
 
--- a line of some octets, with its line feed or at their end
-pub record HasLine (rest line others : List ℕ) : Type 0 where
+-- a line of some octets, with its line feed, or at their end if the input has ended or the line is too long
+pub record HasLine (over : Type 0) (rest line others : List ℕ) : Type 0 where
   pub piece : List ℕ
   pub parts : rest ≡ piece ++ others
   pub one : lines piece ≡ line ∷ []
-  pub ended : AreEnded piece ⊎ (others ≡ [])
+  pub ended : AreEnded piece ⊎ ((others ≡ []) × (over ⊎ (65535 < length line)))
 
-pub has_fed : (rest line others : List ℕ) → rest ≡ line ++ 10 ∷ others → HasNoFeed line → HasLine rest line others
-has_fed rest line others is none = record {
+pub has_fed : (over : Type 0) (rest line others : List ℕ) → rest ≡ line ++ 10 ∷ others → HasNoFeed line → HasLine over rest line others
+has_fed over rest line others is none = record {
   piece = line ++ 10 ∷ [];
   parts = is ∙ sym (append_assoc line (10 ∷ []) others);
   one = fed_line line [] none;
   ended = inl (inr (line, refl));
 }
 
-pub has_unfed : (rest : List ℕ) → rest ≢ [] → HasNoFeed rest → HasLine rest rest []
-has_unfed [] some none = absurd (some refl)
-has_unfed (x ∷ rest) some none = record {
+pub has_unfed : (over : Type 0) (rest : List ℕ) → rest ≢ [] → HasNoFeed rest → over ⊎ (65535 < length rest) → HasLine over rest rest []
+has_unfed over [] some none last = absurd (some refl)
+has_unfed over (x ∷ rest) some none last = record {
   piece = x ∷ rest;
   parts = sym (append-nil (x ∷ rest));
   one = unfed_line x rest none;
-  ended = inr refl;
+  ended = inr (refl, last);
 }
 
-module _ (heard whole rest line others : List ℕ) (parts : heard ≡ whole ++ rest) (ended : AreEnded whole) (next : HasLine rest line others) where
+module _ (over : Type 0) (heard whole rest line others : List ℕ) (parts : heard ≡ whole ++ rest) (ended : AreEnded whole) (next : HasLine over rest line others) where
   pub lines_after : lines (whole ++ next.piece) ≡ lines whole ++ line ∷ []
   lines_after = lines_behind whole next.piece ended ∙ ap (λ (l : List (List ℕ)). lines whole ++ l) next.one
 
   pub parts_after : heard ≡ (whole ++ next.piece) ++ others
   parts_after = parts ∙ ap (λ (l : List ℕ). whole ++ l) next.parts ∙ sym (append_assoc whole next.piece others)
 
-  ended_after : AreEnded (whole ++ next.piece) ⊎ (others ≡ [])
+  ended_after : AreEnded (whole ++ next.piece) ⊎ ((others ≡ []) × (over ⊎ EndsLong (lines whole ++ line ∷ [])))
   ended_after = go next.ended
     where
-      go : AreEnded next.piece ⊎ (others ≡ []) → AreEnded (whole ++ next.piece) ⊎ (others ≡ [])
-      go (inl is) = inl (ended_both whole next.piece ended is)
-      go (inr none) = inr none
+      last : over ⊎ (65535 < length line) → over ⊎ EndsLong (lines whole ++ line ∷ [])
+      last (inl has) = inl has
+      last (inr long) = inr (lines whole, line, refl, long)
 
-  after_line : length rest ≤ 131072 → AreFirst heard (lines whole ++ line ∷ [])
+      go : AreEnded next.piece ⊎ ((others ≡ []) × (over ⊎ (65535 < length line))) → AreEnded (whole ++ next.piece) ⊎ ((others ≡ []) × (over ⊎ EndsLong (lines whole ++ line ∷ [])))
+      go (inl is) = inl (ended_both whole next.piece ended is)
+      go (inr (none, has)) = inr (none, last has)
+
+  after_line : length rest ≤ 131072 → AreFirst over heard (lines whole ++ line ∷ [])
   after_line few = record {
     whole = whole ++ next.piece;
     rest = others;
@@ -68,9 +72,9 @@ module _ (heard whole rest line others : List ℕ) (parts : heard ≡ whole ++ r
     few = let e = ap length next.parts in omega (arith, e, length-append next.piece others, few);
   }
 
-  pub stopped_line : length rest ≤ 131072 → (over : Type 0) (why : Following) (due : Dues) (full : List ℕ) → HasStopped why due (lines whole) line full
-      → HasFollowed why (with_end over due) heard full
-  stopped_line few over why due full = stopped_at over why due heard (lines whole) line full (after_line few)
+  pub stopped_line : length rest ≤ 131072 → (why : Following) (due : Dues) (full : List ℕ) → HasStopped why due (lines whole) line full
+      → HasFollowed over why due heard full
+  stopped_line few why due full = stopped_at over why due heard (lines whole) line full (after_line few)
 
 -- one line with its line feed was processed
 pub underway_more : (old now : List ℕ → List ℕ → Type 0) (before after : Due) (heard rest line others text more : List ℕ) (count next : ℕ)
@@ -79,23 +83,23 @@ pub underway_more : (old now : List ℕ → List ℕ → Type 0) (before after :
     → IsUnderway now after heard others more next
 unfolding has_fed
 underway_more old now before after heard rest line others text more count next u is none step =
-    let has = has_fed rest line others is none in
+    let has = has_fed ⊥ rest line others is none in
     record {
       whole = u.whole ++ has.piece;
-      parts = parts_after heard u.whole rest line others u.parts u.ended has;
+      parts = parts_after ⊥ heard u.whole rest line others u.parts u.ended has;
       ended = ended_both u.whole has.piece u.ended (inr (line, refl));
-      answered = subst (λ (l : List (List ℕ)). OwesText now after heard l more next) (sym (lines_after heard u.whole rest line others u.parts u.ended has))
+      answered = subst (λ (l : List (List ℕ)). OwesText now after heard l more next) (sym (lines_after ⊥ heard u.whole rest line others u.parts u.ended has))
           (step (lines u.whole) u.answered);
     }
 
 -- the call ends at the next line
 pub stopped_next : (old now : List ℕ → List ℕ → Type 0) (over : Type 0) (before : Due) (due : Dues) (why : Following) (heard rest line others text more : List ℕ) (count : ℕ)
-    → IsUnderway old before heard rest text count → HasLine rest line others → length rest ≤ 131072
+    → IsUnderway old before heard rest text count → HasLine over rest line others → length rest ≤ 131072
     → ((done : List (List ℕ)) → OwesText old before heard done text count → (said : List ℕ) × now heard said × HasStopped why due done line (said ++ more))
-    → (said : List ℕ) × now heard said × HasFollowed why (with_end over due) heard (said ++ more)
+    → (said : List ℕ) × now heard said × HasFollowed over why due heard (said ++ more)
 stopped_next old now over before due why heard rest line others text more count u has few step =
     let (said, stood, stopped) = step (lines u.whole) u.answered in
-    (said, stood, stopped_line heard u.whole rest line others u.parts u.ended has few over why due (said ++ more) stopped)
+    (said, stood, stopped_line over heard u.whole rest line others u.parts u.ended has few why due (said ++ more) stopped)
 
 -- the octets after the last line feed were processed as a line
 pub answered_all : (old now : List ℕ → List ℕ → Type 0) (before after : Due) (heard rest text more : List ℕ) (count next : ℕ)
@@ -103,10 +107,10 @@ pub answered_all : (old now : List ℕ → List ℕ → Type 0) (before after : 
     → ((done : List (List ℕ)) → OwesText old before heard done text count → OwesText now after heard (done ++ rest ∷ []) more next)
     → OwesText now after heard (lines heard) more next
 answered_all old now before after heard rest text more count next u some none step =
-    let has = has_unfed rest some none in
-    let all : heard ≡ u.whole ++ has.piece = parts_after heard u.whole rest rest [] u.parts u.ended has ∙ append-nil (u.whole ++ has.piece) in
+    let has = has_unfed ⊤ rest some none (inl tt) in
+    let all : heard ≡ u.whole ++ has.piece = parts_after ⊤ heard u.whole rest rest [] u.parts u.ended has ∙ append-nil (u.whole ++ has.piece) in
     subst (λ (l : List (List ℕ)). OwesText now after heard l more next)
-    (sym (ap lines all ∙ lines_after heard u.whole rest rest [] u.parts u.ended has))
+    (sym (ap lines all ∙ lines_after ⊤ heard u.whole rest rest [] u.parts u.ended has))
     (step (lines u.whole) u.answered)
 
 -- there are no octets after the last line feed
@@ -166,9 +170,9 @@ underway_written old now answers heard rest text count u step = record {
   answered = answered_written old now answers heard (lines u.whole) text count u.answered step;
 }
 
--- all lines of an input
-pub all_first : (heard : List ℕ) → AreFirst heard (lines heard)
-all_first heard = record { whole = heard; rest = []; parts = sym (append-nil heard); ended = inr refl; are = refl; few = omega arith }
+-- all lines of an input that has ended
+pub all_first : (over : Type 0) (heard : List ℕ) → over → AreFirst over heard (lines heard)
+all_first over heard has = record { whole = heard; rest = []; parts = sym (append-nil heard); ended = inr (refl, inl has); are = refl; few = omega arith }
 
 -- other words for the octets that are left
 pub underway_same : (stands : List ℕ → List ℕ → Type 0) (answers : Due) (heard rest other text : List ℕ) (count : ℕ)
@@ -209,23 +213,23 @@ pub unwritten_answer : (old : List ℕ → List ℕ → Type 0) (answers : Due) 
 unwritten_answer old answers heard done text front back blank count a is none = unwritten (answers done) a.said text front back blank is none a.due
 
 -- a prefix of all that is due was written
-pub cut_due : (why : Following) (due : Dues) (heard full said back : List ℕ) → full ≡ said ++ back → HasFollowed why due heard full → HasFollowed ended.WriteFailed due heard said
-cut_due ended.Completed due heard full said back is has = (ended.Completed, back, subst (IsDue ended.Completed due heard) is has)
-cut_due ended.Refused due heard full said back is has = (ended.Refused, back, subst (IsDue ended.Refused due heard) is has)
-cut_due ended.ReadFailed due heard full said back is has = (ended.ReadFailed, back, subst (IsDue ended.ReadFailed due heard) is has)
-cut_due ended.WriteFailed due heard full said back is (why, unsaid, has) =
-    (why, back ++ unsaid, subst (IsDue why due heard) (ap (λ (l : List ℕ). l ++ unsaid) is ∙ append_assoc said back unsaid) has)
-cut_due ended.OutOfMemory due heard full said back is has = (ended.OutOfMemory, back, subst (IsDue ended.OutOfMemory due heard) is has)
+pub cut_due : (over : Type 0) (why : Following) (due : Dues) (heard full said back : List ℕ) → full ≡ said ++ back → HasFollowed over why due heard full → HasFollowed over ended.WriteFailed due heard said
+cut_due over ended.Completed due heard full said back is has = (ended.Completed, back, subst (IsDue over ended.Completed due heard) is has)
+cut_due over ended.Refused due heard full said back is has = (ended.Refused, back, subst (IsDue over ended.Refused due heard) is has)
+cut_due over ended.ReadFailed due heard full said back is has = (ended.ReadFailed, back, subst (IsDue over ended.ReadFailed due heard) is has)
+cut_due over ended.WriteFailed due heard full said back is (why, unsaid, has) =
+    (why, back ++ unsaid, subst (IsDue over why due heard) (ap (λ (l : List ℕ). l ++ unsaid) is ∙ append_assoc said back unsaid) has)
+cut_due over ended.OutOfMemory due heard full said back is has = (ended.OutOfMemory, back, subst (IsDue over ended.OutOfMemory due heard) is has)
 
 -- a prefix of the text was written after the earlier octets
-pub cut_text : (why : Following) (due : Dues) (heard said text front back : List ℕ) → text ≡ front ++ back → HasFollowed why due heard (said ++ text)
-    → HasFollowed ended.WriteFailed due heard (said ++ front)
-cut_text why due heard said text front back is has =
-    cut_due why due heard (said ++ text) (said ++ front) back (ap (λ (l : List ℕ). said ++ l) is ∙ sym (append_assoc said front back)) has
+pub cut_text : (over : Type 0) (why : Following) (due : Dues) (heard said text front back : List ℕ) → text ≡ front ++ back → HasFollowed over why due heard (said ++ text)
+    → HasFollowed over ended.WriteFailed due heard (said ++ front)
+cut_text over why due heard said text front back is has =
+    cut_due over why due heard (said ++ text) (said ++ front) back (ap (λ (l : List ℕ). said ++ l) is ∙ sym (append_assoc said front back)) has
 
 -- the text is blank
-pub all_written : (why : Following) (due : Dues) (heard said text : List ℕ) → text ≡ [] → HasFollowed why due heard (said ++ text) → HasFollowed why due heard said
-all_written why due heard said text none has = subst (HasFollowed why due heard) (ap (λ (l : List ℕ). said ++ l) none ∙ append-nil said) has
+pub all_written : (over : Type 0) (why : Following) (due : Dues) (heard said text : List ℕ) → text ≡ [] → HasFollowed over why due heard (said ++ text) → HasFollowed over why due heard said
+all_written over why due heard said text none has = subst (HasFollowed over why due heard) (ap (λ (l : List ℕ). said ++ l) none ∙ append-nil said) has
 
 -- ---- reads
 
@@ -272,8 +276,8 @@ behind_line bytes rest line others is cut =
 
 -- the first lines of an input of which others are held
 pub first_underway : (stands : List ℕ → List ℕ → Type 0) (answers : Due) (heard rest text : List ℕ) (count : ℕ) (u : IsUnderway stands answers heard rest text count)
-    → length rest ≤ 131072 → AreFirst heard (lines u.whole)
-first_underway stands answers heard rest text count u few =
+    → length rest ≤ 131072 → (over : Type 0) → AreFirst over heard (lines u.whole)
+first_underway stands answers heard rest text count u few over =
     record { whole = u.whole; rest = rest; parts = u.parts; ended = inl u.ended; are = refl; few = few }
 
 -- ---- counts

@@ -1,5 +1,5 @@
 -- The lines of an input that is read in parts, and the octets that are due for them. Source: this project.
-use Rattle.std.specs.Prelude.{◌≡◌, ◌≢◌, ◌⊎◌, ◌≤◌, ℕ, List, [], ◌++◌, length, All}
+use Rattle.std.specs.Prelude.{◌≡◌, ◌≢◌, ◌⊎◌, ◌≤◌, ◌<◌, ℕ, List, [], ◌∷◌, ◌++◌, length, All}
 use Rattle.ex_io.specs.Ends.{Rose}
 use Rattle.trace_text.specs.TraceWords.{AreEnded, lines}
 use Rattle.line_follower.specs.declared.following.Following.{Following}
@@ -20,10 +20,6 @@ pub record Dues : Type 1 where
   pub ends : Due
   pub refuses_end : Due
 
--- the same relations for a handler that processes the end of the input only if the input has ended
-abbrev pub with_end : Type 0 → Dues → Dues
-with_end ended due = record due { ends = λ ls said. ended × due.ends ls said; refuses_end = λ ls said. ended × due.refuses_end ls said }
-
 -- ---- before each read
 
 -- no octet is a line feed
@@ -39,41 +35,50 @@ pub record IsSettled (answers : Due) (heard said : List ℕ) : Type 0 where
   pub partial : HasNoFeed rest
   pub done : answers (lines whole) said
 
--- ---- at the end
+-- ---- at the end: `over` states that the input has ended
 
 -- the maximum number of octets that were read and not processed
 abbrev pub buffer_octets : ℕ
 buffer_octets = 131072
 
--- these are the first lines of an input, and the octets after them fit in the buffer
-pub record AreFirst (heard : List ℕ) (front : List (List ℕ)) : Type 0 where
+-- the maximum number of octets in a line
+abbrev pub max_line : ℕ
+max_line = 65535
+
+-- the last of these lines has too many octets
+abbrev pub EndsLong : List (List ℕ) → Type 0
+EndsLong front = (before : List (List ℕ)) × (line : List ℕ) × (front ≡ before ++ line ∷ []) × (max_line < length line)
+
+-- These are the first lines of an input, and the octets after them fit in the buffer. The last line has its line feed,
+-- unless the input has ended or the line is too long.
+pub record AreFirst (over : Type 0) (heard : List ℕ) (front : List (List ℕ)) : Type 0 where
   pub whole : List ℕ
   pub rest : List ℕ
   pub parts : heard ≡ whole ++ rest
-  pub ended : AreEnded whole ⊎ (rest ≡ [])
+  pub ended : AreEnded whole ⊎ ((rest ≡ []) × (over ⊎ EndsLong front))
   pub are : front ≡ lines whole
   pub few : length rest ≤ buffer_octets
 
 -- a line is refused, or the end of the input is
-pub data IsRefused (due : Dues) (heard said : List ℕ) : Type 0 where
-  At_line : (front : List (List ℕ)) → AreFirst heard front → due.refuses front said → IsRefused due heard said
-  At_end : due.refuses_end (lines heard) said → IsRefused due heard said
+pub data IsRefused (over : Type 0) (due : Dues) (heard said : List ℕ) : Type 0 where
+  At_line : (front : List (List ℕ)) → AreFirst over heard front → due.refuses front said → IsRefused over due heard said
+  At_end : over → due.refuses_end (lines heard) said → IsRefused over due heard said
 
--- the octets that are due for an input, by the ending of the call
-abbrev pub IsDue : Following → Dues → List ℕ → List ℕ → Type 0
-IsDue ended.Completed due heard said = due.ends (lines heard) said
-IsDue ended.Refused due heard said = IsRefused due heard said
-IsDue ended.ReadFailed due heard said = IsSettled due.answers heard said
-IsDue ended.WriteFailed due heard said = (front : List (List ℕ)) × AreFirst heard front × due.answers front said
-IsDue ended.OutOfMemory due heard said = (front : List (List ℕ)) × AreFirst heard front × due.strands front said
+-- the octets that are due for an input, by the ending of the call; the end of the input was processed only if the input has ended
+abbrev pub IsDue : (over : Type 0) → Following → Dues → List ℕ → List ℕ → Type 0
+IsDue over ended.Completed due heard said = over × due.ends (lines heard) said
+IsDue over ended.Refused due heard said = IsRefused over due heard said
+IsDue over ended.ReadFailed due heard said = IsSettled due.answers heard said
+IsDue over ended.WriteFailed due heard said = (front : List (List ℕ)) × AreFirst over heard front × due.answers front said
+IsDue over ended.OutOfMemory due heard said = (front : List (List ℕ)) × AreFirst over heard front × due.strands front said
 
 -- everything that is due was written; if a write failed, a prefix of the octets for some other ending
-abbrev pub HasFollowed : Following → Dues → List ℕ → List ℕ → Type 0
-HasFollowed ended.Completed due heard said = IsDue ended.Completed due heard said
-HasFollowed ended.Refused due heard said = IsDue ended.Refused due heard said
-HasFollowed ended.ReadFailed due heard said = IsDue ended.ReadFailed due heard said
-HasFollowed ended.WriteFailed due heard said = (otherwise : Following) × (unsaid : List ℕ) × IsDue otherwise due heard (said ++ unsaid)
-HasFollowed ended.OutOfMemory due heard said = IsDue ended.OutOfMemory due heard said
+abbrev pub HasFollowed : (over : Type 0) → Following → Dues → List ℕ → List ℕ → Type 0
+HasFollowed over ended.Completed due heard said = IsDue over ended.Completed due heard said
+HasFollowed over ended.Refused due heard said = IsDue over ended.Refused due heard said
+HasFollowed over ended.ReadFailed due heard said = IsDue over ended.ReadFailed due heard said
+HasFollowed over ended.WriteFailed due heard said = (otherwise : Following) × (unsaid : List ℕ) × IsDue over otherwise due heard (said ++ unsaid)
+HasFollowed over ended.OutOfMemory due heard said = IsDue over ended.OutOfMemory due heard said
 
 -- the count of failed reads rises if and only if a read failed
 abbrev pub CountsReads : Following → ℕ → ℕ → Type 0

@@ -1,18 +1,25 @@
-//! A wire over a source and a sink. No clause states the octets that were read and written.
-ghost use Rattle.std.specs.Prelude.{◌≡◌, ◌<◌, ◌≤◌, ℕ, List, length, take, ⊤, IfOk, OnOk, OnErr};
+//! A wire over a source and a sink. Its octets are those of the source and the sink, if these expose them.
+ghost use Rattle.std.specs.Prelude.{◌≡◌, ◌<◌, ◌≤◌, ℕ, List, [], length, take, ⊤, IfOk, OnOk, OnErr};
 ghost use Rattle.std.specs.Io.KnownBytes.{Appends, Consumes, IsAtEnd, Keeps};
 ghost use Rattle.ex_io.specs.Ends.{Rose};
+ghost use Rattle.line_wire.specs.Passing.{HasPassed};
 
 use crate::wire::Wire;
 use ex_io::{Failed, Sink, Source};
+use std::fmt::{self, Debug, Formatter, Write};
+use std::snapshot::Snapshot;
 
 /// A wire over a source and a sink. Each read is a read of the source, and each write is a write of the sink.
-#[derive(Debug, Drop)]
+#[derive(Drop)]
 pub struct StdWire<S, K> {
     /// The source of the input.
     pub source: S,
     /// The sink of the output.
     pub sink: K,
+    /// The source when the wire was made.
+    pub given: Snapshot<S>,
+    /// The sink when the wire was made.
+    pub had: Snapshot<K>,
 }
 
 impl<S: Source, K: Sink> StdWire<S, K> {
@@ -20,13 +27,34 @@ impl<S: Source, K: Sink> StdWire<S, K> {
     pub fn new(source: S, sink: K) -> StdWire<S, K>
         ensures source { result.source ≡ source }
         ensures sink { result.sink ≡ sink }
+        ensures given { result.given.value ≡ source }
+        ensures had { result.had.value ≡ sink }
+        ensures fresh { HasPassed (S.left result.given.value) (S.left result.source)
+            (K.written result.had.value) (K.written result.sink) [] [] }
     {
-        StdWire { source, sink }
+        let given = Snapshot::of(&source);
+        let had = Snapshot::of(&sink);
+        StdWire {
+            source,
+            sink,
+            given,
+            had,
+        }
+    }
+}
+
+impl<S: Debug, K: Debug> Debug for StdWire<S, K> {
+    fn fmt<W: Write>(&self, f: &mut Formatter<W>) -> fmt::Result {
+        f.debug_struct("StdWire")
+            .field("source", &self.source)
+            .field("sink", &self.sink)
+            .finish()
     }
 }
 
 impl<S: Source, K: Sink> Wire for StdWire<S, K> {
-    ghost stands = { λ _ _ _. ⊤ };
+    ghost stands = { λ w heard said. HasPassed (S.left w.given.value) (S.left w.source)
+        (K.written w.had.value) (K.written w.sink) heard said };
 
     ghost relies = { λ _ _. ⊤ };
 
@@ -46,6 +74,8 @@ impl<S: Source, K: Sink> Wire for StdWire<S, K> {
         ensures kept { OnErr result (Keeps (S.left self.old.source) (S.left self.new.source)) }
         ensures cause { OnErr result (Rose (S.faults self.old.source) (S.faults self.new.source)) }
         ensures sink { self.new.sink ≡ self.old.sink }
+        ensures given { self.new.given ≡ self.old.given }
+        ensures had { self.new.had ≡ self.old.had }
     {
         self.source.read(buf)
     }
@@ -58,6 +88,8 @@ impl<S: Source, K: Sink> Wire for StdWire<S, K> {
         ensures kept { OnErr result (Keeps (K.written self.old.sink) (K.written self.new.sink)) }
         ensures cause { OnErr result (Rose (K.faults self.old.sink) (K.faults self.new.sink)) }
         ensures source { self.new.source ≡ self.old.source }
+        ensures given { self.new.given ≡ self.old.given }
+        ensures had { self.new.had ≡ self.old.had }
     {
         self.sink.write(bytes)
     }

@@ -1,5 +1,5 @@
 // Alternate reads and writes of a wire.
-ghost use Rattle.std.specs.Prelude.{◌≤◌};
+ghost use Rattle.std.specs.Prelude.{◌≡◌, ◌≤◌, ◌++◌, ℕ, List};
 
 use crate::memory::MemWire;
 use crate::standard::StdWire;
@@ -98,5 +98,16 @@ fn a_wire_over_a_source_and_a_sink_passes_octets_on(rt: HostRuntime) -> Result<(
     assert!(rt; wire.write(&buf[..13]) == Ok(13));
     assert!(rt; wire.sink.bytes() == TEXT);
     assert!(rt; wire.read(&mut buf) == Ok(0));
+    knows_its_octets(&wire);
     Ok(())
+}
+
+// The octets that a wire over ends in memory has read and written are those of its source and its sink.
+fn knows_its_octets(wire: &StdWire<MemSource, MemSink>)
+    ensures heard { (heard said : List ℕ) → ⟦<StdWire<MemSource, MemSink> as Wire>⟧.stands wire.now heard said
+        → wire.now.given.value.left ≡ heard ++ wire.now.source.left }
+    ensures said { (heard said : List ℕ) → ⟦<StdWire<MemSource, MemSink> as Wire>⟧.stands wire.now heard said
+        → wire.now.sink.written ≡ wire.now.had.value.written ++ said }
+{
+    let _ = wire;
 }

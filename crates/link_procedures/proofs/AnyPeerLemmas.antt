@@ -24,30 +24,37 @@ use Rattle.link_procedures.specs.Receiving.{answers, on_sabme, on_disc, is_solic
 use Rattle.link_procedures.specs.Timing.{is_due, calls_again, enquires_at, calls_or_releases, on_expiry, first_retries, turned}
 use Rattle.link_procedures.specs.declared.state.Running.{Running}
 use Rattle.link_procedures.specs.declared.state.Running.TheVariants.{T200, T203}
-use Rattle.link_procedures.specs.AnyPeer.{IsShort, IsQueue, IsLink, accepted, acknowledged_by, Keeps, IsLossTold, IsDebtSettled, IsAdded, IsLossOwed, IsInWindow, IsFormed, HasSent, IsSequenced, IsInSequence}
+use Rattle.link_procedures.specs.AnyPeer.{IsShort, IsQueue, IsLink, accepted, acknowledged_by, Keeps, IsLossTold, AddsOrOwes, KeepsOrSettles, IsInWindow, Acknowledges, IsFormed, HasSent, IsSequenced, IsInSequence}
 
 by_test : {A : Type 0} (P : A → Type 0) (b : Bool) (x y : A) → (b ≡ true → P x) → (b ≡ false → P y) → P (if b then x else y)
 by_test P true x y f g = f refl
 by_test P false x y f g = g refl
 
+not_both : {A : Type 0} (b : Bool) → b ≡ true → b ≡ false → A
+not_both b on off = absurd (cc)
+
 -- ---- frames
 
-sent_none : (q : SendQueue) (o : List (List ℕ)) → HasSent q o o
-sent_none q o = record { sent = []; appended = sym (append-nil o); formed = All-nil (IsFormed q) }
+sent_none : (q : SendQueue) (r : ℕ) (o : List (List ℕ)) → HasSent q r o o
+sent_none q r o = record { sent = []; appended = sym (append-nil o); formed = All-nil (IsFormed q r) }
 
-pub sent_one : (q : SendQueue) (o : List (List ℕ)) (f : Frame) → IsWritable f.command f.control → IsInWindow q f.control → HasSent q o (o ++ encoding Network f ∷ [])
-sent_one q o f w i = record {
+pub sent_one : (q : SendQueue) (r : ℕ) (o : List (List ℕ)) (f : Frame) → IsWritable f.command f.control → IsInWindow q f.control → Acknowledges r f.control → HasSent q r o (o ++ encoding Network f ∷ [])
+sent_one q r o f w i a = record {
   sent = encoding Network f ∷ [];
   appended = refl;
-  formed = All-cons (IsFormed q) (encoding Network f) [] (record { frame = f; read = reading_of_encoding Network f w; inside = i }) (All-nil (IsFormed q));
+  formed = All-cons (IsFormed q r) (encoding Network f) [] (record { frame = f; read = reading_of_encoding Network f w; inside = i; acknowledges = a }) (All-nil (IsFormed q r));
 }
 
-sent_both : (q : SendQueue) (a b c : List (List ℕ)) → HasSent q a b → HasSent q b c → HasSent q a c
-sent_both q a b c h k = record {
+sent_both : (q : SendQueue) (r : ℕ) (a b c : List (List ℕ)) → HasSent q r a b → HasSent q r b c → HasSent q r a c
+sent_both q r a b c h k = record {
   sent = h.sent ++ k.sent;
   appended = k.appended ∙ ap (λ o. o ++ k.sent) h.appended ∙ append_assoc a h.sent k.sent;
-  formed = All-append (IsFormed q) h.sent k.sent h.formed k.formed;
+  formed = All-append (IsFormed q r) h.sent k.sent h.formed k.formed;
 }
+
+-- the same if V(R) has another name
+sent_by : (q : SendQueue) (r n : ℕ) (a b : List (List ℕ)) → n ≡ r → HasSent q n a b → HasSent q r a b
+sent_by q r n a b e h = subst (λ k. HasSent q k a b) e h
 
 -- ---- parts of a step that tell layer 3 nothing: the first n messages leave the queue, and V(R) is r
 
@@ -55,7 +62,7 @@ pub record Quiet (n r : ℕ) (s t : Step) : Type 0 where
   pub keeps : Keeps n s.link t.link
   pub next : t.link.received ≡ r
   pub ranges : IsLink s.link → IsLink t.link
-  pub sent : IsLink s.link → (q : SendQueue) → HasSent q s.out t.out
+  pub sent : IsLink s.link → (q : SendQueue) → HasSent q r s.out t.out
 
 same : (l m : DataLink) → m.queue ≡ l.queue → m.received ≡ l.received → m.retries ≡ l.retries → IsLink l → IsLink m
 same l m queue next counter h = record {
@@ -65,14 +72,14 @@ same l m queue next counter h = record {
 }
 
 pub quiet_none : (s : Step) → Quiet 0 s.link.received s s
-quiet_none s = record { keeps = (refl, refl); next = refl; ranges = λ h. h; sent = λ h q. sent_none q s.out }
+quiet_none s = record { keeps = (refl, refl); next = refl; ranges = λ h. h; sent = λ h q. sent_none q s.link.received s.out }
 
 pub quiet_both : (n r : ℕ) (s t u : Step) → Quiet 0 r s t → Quiet n t.link.received t u → Quiet n r s u
 quiet_both n r s t u h k = record {
   keeps = (k.keeps.0 ∙ ap (λ w. drop n w) h.keeps.0, k.keeps.1 ∙ h.keeps.1);
   next = k.next ∙ h.next;
   ranges = λ l. k.ranges (h.ranges l);
-  sent = λ l q. sent_both q s.out t.out u.out (h.sent l q) (k.sent (h.ranges l) q);
+  sent = λ l q. sent_both q r s.out t.out u.out (h.sent l q) (sent_by q r t.link.received t.out u.out h.next (k.sent (h.ranges l) q));
 }
 
 pub acknowledges_quiet : (final : Bool) (s : Step) → Quiet 0 s.link.received s (acknowledges final s)
@@ -81,7 +88,7 @@ acknowledges_quiet final s = record {
   keeps = (refl, refl);
   next = refl;
   ranges = λ h. record { queue = h.queue; next = h.next; counter = h.counter };
-  sent = λ h q. sent_one q s.out (response (receive_ready final s.link)) h.next tt;
+  sent = λ h q. sent_one q s.link.received s.out (response (receive_ready final s.link)) h.next tt refl;
 }
 
 pub enquires_quiet : (s : Step) → Quiet 0 s.link.received s (enquires s)
@@ -90,7 +97,7 @@ enquires_quiet s = record {
   keeps = (refl, refl);
   next = refl;
   ranges = λ h. record { queue = h.queue; next = h.next; counter = h.counter };
-  sent = λ h q. sent_one q s.out (command (receive_ready true s.link)) h.next tt;
+  sent = λ h q. sent_one q s.link.received s.out (command (receive_ready true s.link)) h.next tt refl;
 }
 
 pub rejects_quiet : (final : Bool) (s : Step) → Quiet 0 s.link.received s (rejects final s)
@@ -99,7 +106,7 @@ rejects_quiet final s = record {
   keeps = (refl, refl);
   next = refl;
   ranges = λ h. record { queue = h.queue; next = h.next; counter = h.counter };
-  sent = λ h q. sent_one q s.out (response (control.Supervisory Rej final s.link.received)) h.next tt;
+  sent = λ h q. sent_one q s.link.received s.out (response (control.Supervisory Rej final s.link.received)) h.next tt refl;
 }
 
 pub establishes_quiet : (asked : Bool) (at : ℕ) (s : Step) → Quiet 0 s.link.received s (establishes asked at s)
@@ -108,15 +115,15 @@ establishes_quiet asked at s = record {
   keeps = (refl, refl);
   next = refl;
   ranges = λ h. record { queue = h.queue; next = h.next; counter = omega arith };
-  sent = λ h q. sent_one q s.out (command (control.Sabme true)) tt tt;
+  sent = λ h q. sent_one q s.link.received s.out (command (control.Sabme true)) tt tt tt;
 }
 
 -- U frames
-ua_sent : (final : Bool) (s : Step) (q : SendQueue) → HasSent q s.out (answers (control.Ua final) s).out
-ua_sent final s q = sent_one q s.out (response (control.Ua final)) tt tt
+ua_sent : (final : Bool) (s : Step) (q : SendQueue) (r : ℕ) → HasSent q r s.out (answers (control.Ua final) s).out
+ua_sent final s q r = sent_one q r s.out (response (control.Ua final)) tt tt tt
 
-dm_sent : (final : Bool) (s : Step) (q : SendQueue) → HasSent q s.out (answers (control.Dm final) s).out
-dm_sent final s q = sent_one q s.out (response (control.Dm final)) tt tt
+dm_sent : (final : Bool) (s : Step) (q : SendQueue) (r : ℕ) → HasSent q r s.out (answers (control.Dm final) s).out
+dm_sent final s q r = sent_one q r s.out (response (control.Dm final)) tt tt tt
 
 pub answers_enquiry_quiet : (b : Bool) (s : Step) → Quiet 0 s.link.received s (answers_enquiry b s)
 unfolding answers_enquiry
@@ -206,7 +213,7 @@ numbered_is : (nr at : ℕ) (l : DataLink) → nr < 128 → is_valid l.queue nr 
 numbered_is nr at l number valid = by_test (Acknowledged (distance l.queue nr) l) (is_established l.state && not l.busy) _ _ (λ e. retimed_is (distance l.queue nr) (has_moved nr l) at l (acknowledge nr l) (acknowledge_is nr l number valid)) (λ e. acknowledge_is nr l number valid)
 
 quiet_of : (n : ℕ) (s : Step) (m : DataLink) → Acknowledged n s.link m → Quiet n s.link.received s (step m s.out)
-quiet_of n s m h = record { keeps = h.keeps; next = h.next; ranges = h.ranges; sent = λ l q. sent_none q s.out }
+quiet_of n s m h = record { keeps = h.keeps; next = h.next; ranges = h.ranges; sent = λ l q. sent_none q s.link.received s.out }
 
 pub valid_quiet : (command : Bool) (kind : Supervisory) (pf : Bool) (nr at : ℕ) (s : Step) → nr < 128 → Quiet (accepted s.link.queue nr) s.link.received s (on_valid command kind pf nr at s)
 unfolding on_valid
@@ -230,7 +237,7 @@ enquiry_queue true s = refl
 enquiry_queue false s = refl
 
 pub busied_quiet : (kind : Supervisory) (s : Step) → Quiet 0 s.link.received s (step (busy_by kind s.link) s.out)
-busied_quiet kind s = record { keeps = (refl, refl); next = refl; ranges = λ h. record { queue = h.queue; next = h.next; counter = h.counter }; sent = λ h q. sent_none q s.out }
+busied_quiet kind s = record { keeps = (refl, refl); next = refl; ranges = λ h. record { queue = h.queue; next = h.next; counter = h.counter }; sent = λ h q. sent_none q s.link.received s.out }
 
 supervisory_quiet : (command : Bool) (kind : Supervisory) (pf : Bool) (nr at : ℕ) (s : Step) → nr < 128 → Quiet (acknowledged_by (control.Supervisory kind pf nr) s.link) s.link.received s (on_supervisory command kind pf nr at s)
 unfolding on_supervisory
@@ -249,11 +256,11 @@ supervisory_quiet command kind pf nr at s number = cases (is_multiple_frame s.li
 -- ---- N(S)
 
 in_sequence_quiet : (s : Step) → Quiet 0 ((s.link.received + 1) % 128) s (step (in_sequence s.link) s.out)
-in_sequence_quiet s = record { keeps = (refl, refl); next = refl; ranges = λ h. record { queue = h.queue; next = omega arith; counter = h.counter }; sent = λ h q. sent_none q s.out }
+in_sequence_quiet s = record { keeps = (refl, refl); next = refl; ranges = λ h. record { queue = h.queue; next = omega arith; counter = h.counter }; sent = λ h q. sent_none q ((s.link.received + 1) % 128) s.out }
 
 later_quiet : (poll : Bool) (s : Step) → Quiet 0 s.link.received s (acknowledges_later poll s)
 later_quiet true s = acknowledges_quiet true s
-later_quiet false s = record { keeps = (refl, refl); next = refl; ranges = λ h. record { queue = h.queue; next = h.next; counter = h.counter }; sent = λ h q. sent_none q s.out }
+later_quiet false s = record { keeps = (refl, refl); next = refl; ranges = λ h. record { queue = h.queue; next = h.next; counter = h.counter }; sent = λ h q. sent_none q s.link.received s.out }
 
 later_queue : (poll : Bool) (s : Step) → (acknowledges_later poll s).link.queue ≡ s.link.queue
 unfolding acknowledges
@@ -275,11 +282,11 @@ out_queue poll s = by_test (λ (t : Step). t.link.queue ≡ s.link.queue) s.link
 pub record Processed (c : Control) (s : Step) (o : Outcome) : Type 0 where
   pub losses : Keeps (acknowledged_by c s.link) s.link o.link ⊎ IsLossTold o
   pub ranges : IsLink s.link → IsLink o.link
-  pub sent : IsLink s.link → HasSent o.link.queue s.out o.out
+  pub sent : IsLink s.link → HasSent o.link.queue o.link.received s.out o.out
   pub sequence : IsInSequence c s.link o
 
 quietly_processed : (c : Control) (s t : Step) → Quiet (acknowledged_by c s.link) s.link.received s t → Processed c s (quietly t)
-quietly_processed c s t h = record { losses = inl h.keeps; ranges = h.ranges; sent = λ l. h.sent l t.link.queue; sequence = inl h.next }
+quietly_processed c s t h = record { losses = inl h.keeps; ranges = h.ranges; sent = λ l. sent_by t.link.queue t.link.received s.link.received s.out t.out (sym h.next) (h.sent l t.link.queue); sequence = inl h.next }
 
 none_of : (b : Bool) (n : ℕ) → (if b then n else n) ≡ n
 none_of true n = refl
@@ -322,13 +329,13 @@ information_processed poll ns nr information at s number = cases (is_multiple_fr
         let h = all_quiet (ns == s.link.received) in record {
           losses = inl (subst (λ n. Keeps n s.link t.link) (sym (ap (λ c. if c then accepted s.link.queue nr else 0) e)) h.keeps);
           ranges = h.ranges;
-          sent = λ l. h.sent l t.link.queue;
+          sent = λ l. sent_by t.link.queue t.link.received _ s.out t.out (sym h.next) (h.sent l t.link.queue);
           sequence = sequenced (ns == s.link.received) t.link refl h.next;
         }
     cases false e = record {
       losses = inl (subst (λ n. Keeps n s.link s.link) (sym (ap (λ c. if c then accepted s.link.queue nr else 0) e)) (refl, refl));
       ranges = λ h. h;
-      sent = λ h. sent_none s.link.queue s.out;
+      sent = λ h. sent_none s.link.queue s.link.received s.out;
       sequence = inl refl;
     }
 
@@ -344,36 +351,36 @@ empty_queue q none zero_sent number =
       number = number;
     }
 
-begun_processed : (c : Control) (is_new : Bool) (at : ℕ) (s : Step) (o : List (List ℕ)) → acknowledged_by c s.link ≡ 0 → ((q : SendQueue) → HasSent q s.out o) → Processed c s (record { link = begun is_new at s.link; out = o; indication = begun_indication is_new })
+begun_processed : (c : Control) (is_new : Bool) (at : ℕ) (s : Step) (o : List (List ℕ)) → acknowledged_by c s.link ≡ 0 → ((q : SendQueue) (r : ℕ) → HasSent q r s.out o) → Processed c s (record { link = begun is_new at s.link; out = o; indication = begun_indication is_new })
 unfolding begun established lost emptied renumbered
 begun_processed c true at s o none sent = record {
   losses = inr (refl, refl, tt);
   ranges = λ h. record { queue = empty_queue _ refl refl (omega arith); next = omega arith; counter = h.counter };
-  sent = λ h. sent _;
+  sent = λ h. sent _ _;
   sequence = inr (refl, refl, refl);
 }
 begun_processed c false at s o none sent = record {
   losses = inl (subst (λ n. Keeps n s.link (begun false at s.link)) (sym none) (refl, refl));
   ranges = λ h. record { queue = let q = h.queue in record { window = omega arith; sent = omega arith; few = q.few; short = q.short; number = omega arith }; next = omega arith; counter = h.counter };
-  sent = λ h. sent _;
+  sent = λ h. sent _ _;
   sequence = inr (refl, refl, refl);
 }
 
-released_processed : (c : Control) (at : ℕ) (s : Step) (o : List (List ℕ)) → ((q : SendQueue) → HasSent q s.out o) → Processed c s (releases at (step s.link o))
+released_processed : (c : Control) (at : ℕ) (s : Step) (o : List (List ℕ)) → ((q : SendQueue) (r : ℕ) → HasSent q r s.out o) → Processed c s (releases at (step s.link o))
 unfolding released lost emptied
 released_processed c at s o sent = record {
   losses = inr (refl, refl, tt);
   ranges = λ h. let q = h.queue in record { queue = empty_queue _ refl refl q.number; next = h.next; counter = h.counter };
-  sent = λ h. sent _;
+  sent = λ h. sent _ _;
   sequence = inl refl;
 }
 
 -- a U frame is sent, and nothing else changes
-replied_processed : (c : Control) (s : Step) (o : List (List ℕ)) → acknowledged_by c s.link ≡ 0 → ((q : SendQueue) → HasSent q s.out o) → Processed c s (quietly (step s.link o))
+replied_processed : (c : Control) (s : Step) (o : List (List ℕ)) → acknowledged_by c s.link ≡ 0 → ((q : SendQueue) (r : ℕ) → HasSent q r s.out o) → Processed c s (quietly (step s.link o))
 replied_processed c s o none sent = record {
   losses = inl (subst (λ n. Keeps n s.link s.link) (sym none) (refl, refl));
   ranges = λ h. h;
-  sent = λ h. sent _;
+  sent = λ h. sent _ _;
   sequence = inl refl;
 }
 
@@ -396,13 +403,13 @@ unfolding answered answer_indication
 ua_processed c final at s none = cases (is_solicited final s.link)
   where
     cases : (b : Bool) → Processed c s (record { link = if b then begun (is_new s.link) at s.link else s.link; out = s.out; indication = if b then begun_indication (is_new s.link) else None })
-    cases true = begun_processed c (is_new s.link) at s s.out none (λ q. sent_none q s.out)
-    cases false = replied_processed c s s.out none (λ q. sent_none q s.out)
+    cases true = begun_processed c (is_new s.link) at s s.out none (λ q r. sent_none q r s.out)
+    cases false = replied_processed c s s.out none (λ q r. sent_none q r s.out)
 
 dm_processed : (c : Control) (st : State) (final : Bool) (at : ℕ) (s : Step) → acknowledged_by c s.link ≡ 0 → Processed c s (on_dm st final at s)
 unfolding on_dm
 dm_processed c state.TeiAssigned final at s none = unnumbered_processed c s s none (quiet_none s)
-dm_processed c state.AwaitingEstablishment true at s none = released_processed c at s s.out (λ q. sent_none q s.out)
+dm_processed c state.AwaitingEstablishment true at s none = released_processed c at s s.out (λ q r. sent_none q r s.out)
 dm_processed c state.AwaitingEstablishment false at s none = unnumbered_processed c s s none (quiet_none s)
 dm_processed c state.MultipleFrameEstablished true at s none = unnumbered_processed c s s none (quiet_none s)
 dm_processed c state.MultipleFrameEstablished false at s none = unnumbered_processed c s _ none (establishes_quiet false at s)
@@ -431,10 +438,10 @@ pub record Flushed (s t : Step) : Type 0 where
   pub number : t.link.queue.acknowledged ≡ s.link.queue.acknowledged
   pub next : t.link.received ≡ s.link.received
   pub ranges : IsLink s.link → IsLink t.link
-  pub sent : IsLink s.link → (q : SendQueue) → q.waiting ≡ s.link.queue.waiting → q.acknowledged ≡ s.link.queue.acknowledged → HasSent q s.out t.out
+  pub sent : IsLink s.link → (q : SendQueue) → q.waiting ≡ s.link.queue.waiting → q.acknowledged ≡ s.link.queue.acknowledged → HasSent q s.link.received s.out t.out
 
 flushed_none : (s : Step) → Flushed s s
-flushed_none s = record { keeps = (refl, refl); number = refl; next = refl; ranges = λ h. h; sent = λ h q w a. sent_none q s.out }
+flushed_none s = record { keeps = (refl, refl); number = refl; next = refl; ranges = λ h. h; sent = λ h q w a. sent_none q s.link.received s.out }
 
 flushed_both : (s t u : Step) → Flushed s t → Flushed t u → Flushed s u
 flushed_both s t u h k = record {
@@ -442,7 +449,7 @@ flushed_both s t u h k = record {
   number = k.number ∙ h.number;
   next = k.next ∙ h.next;
   ranges = λ l. k.ranges (h.ranges l);
-  sent = λ l q w a. sent_both q s.out t.out u.out (h.sent l q w a) (k.sent (h.ranges l) q (w ∙ sym h.keeps.0) (a ∙ sym h.number));
+  sent = λ l q w a. sent_both q s.link.received s.out t.out u.out (h.sent l q w a) (sent_by q s.link.received t.link.received t.out u.out h.next (k.sent (h.ranges l) q (w ∙ sym h.keeps.0) (a ∙ sym h.number)));
 }
 
 both_true : (a b : Bool) → (a && b) ≡ true → (a ≡ true) × (b ≡ true)
@@ -469,14 +476,14 @@ one_more_queue : (q : SendQueue) → q.sent < 7 → q.sent < length q.waiting �
 unfolding one_more_sent
 one_more_queue q few waits h = record { window = omega (arith, few); sent = omega (arith, waits); few = h.few; short = h.short; number = h.number }
 
-frame_sent : (l : DataLink) (q : SendQueue) (o : List (List ℕ)) → l.queue.sent < 7 → l.queue.sent < length l.queue.waiting → IsLink l → q.waiting ≡ l.queue.waiting → q.acknowledged ≡ l.queue.acknowledged → HasSent q o (o ++ encoding Network (next_frame l) ∷ [])
+frame_sent : (l : DataLink) (q : SendQueue) (o : List (List ℕ)) → l.queue.sent < 7 → l.queue.sent < length l.queue.waiting → IsLink l → q.waiting ≡ l.queue.waiting → q.acknowledged ≡ l.queue.acknowledged → HasSent q l.received o (o ++ encoding Network (next_frame l) ∷ [])
 frame_sent l q o few waits h w a =
     let k = h.queue in
     let at : distance q (next_number l.queue) ≡ l.queue.sent = distance_is l.queue q a k.number few in
     let long : length (slice_index_or l.queue.waiting l.queue.sent []) ≤ 112 = k.short l.queue.sent [] waits in
     let count : length q.waiting ≡ length l.queue.waiting = ap length w in
-    sent_one q o (next_frame l) (number_is l.queue k.number, h.next, omega (arith, long))
-    (omega (arith, at, few), omega (arith, at, count, waits), ap (λ xs. slice_index_or xs l.queue.sent []) (sym w) ∙ ap (λ n. slice_index_or q.waiting n []) (sym at))
+    sent_one q l.received o (next_frame l) (number_is l.queue k.number, h.next, omega (arith, long))
+    (omega (arith, at, few), omega (arith, at, count, waits), ap (λ xs. slice_index_or xs l.queue.sent []) (sym w) ∙ ap (λ n. slice_index_or q.waiting n []) (sym at)) refl
 
 one_waiting : (q : SendQueue) → (one_more_sent q).waiting ≡ q.waiting
 unfolding one_more_sent
@@ -510,38 +517,38 @@ flushes_flushed at s = waiting_flushed 7 at s
 pub pending_flushed : (s : Step) → Flushed s (acknowledges_pending s)
 unfolding acknowledges_pending acknowledges
 pending_flushed s = by_test (Flushed s) (s.link.pending && is_multiple_frame s.link.state) _ _
-    (λ e. record { keeps = (refl, refl); number = refl; next = refl; ranges = λ h. record { queue = h.queue; next = h.next; counter = h.counter }; sent = λ h q w a. sent_one q s.out (response (receive_ready false s.link)) h.next tt })
-    (λ e. record { keeps = (refl, refl); number = refl; next = refl; ranges = λ h. record { queue = h.queue; next = h.next; counter = h.counter }; sent = λ h q w a. sent_none q s.out })
+    (λ e. record { keeps = (refl, refl); number = refl; next = refl; ranges = λ h. record { queue = h.queue; next = h.next; counter = h.counter }; sent = λ h q w a. sent_one q s.link.received s.out (response (receive_ready false s.link)) h.next tt refl })
+    (λ e. record { keeps = (refl, refl); number = refl; next = refl; ranges = λ h. record { queue = h.queue; next = h.next; counter = h.counter }; sent = λ h q w a. sent_none q s.link.received s.out })
 
 pub finished_flushed : (at : ℕ) (s : Step) → Flushed s (finished at s)
 unfolding finished
 finished_flushed at s = flushed_both s (flushes at s) _ (flushes_flushed at s) (pending_flushed (flushes at s))
 
-pub flushed_sent : (s t : Step) → Flushed s t → IsLink s.link → HasSent t.link.queue s.out t.out
-flushed_sent s t h l = h.sent l t.link.queue h.keeps.0 h.number
+pub flushed_sent : (s t : Step) → Flushed s t → IsLink s.link → HasSent t.link.queue t.link.received s.out t.out
+flushed_sent s t h l = sent_by t.link.queue t.link.received s.link.received s.out t.out (sym h.next) (h.sent l t.link.queue h.keeps.0 h.number)
 
 -- ---- a message of layer 3
 
 pub record Taken (m : List ℕ) (s t : Step) : Type 0 where
-  pub losses : Keeps 0 s.link t.link ⊎ IsAdded m s.link t.link ⊎ IsLossOwed t.link
+  pub losses : AddsOrOwes m s.link t.link
   pub next : t.link.received ≡ s.link.received
   pub ranges : IsShort m → IsLink s.link → IsLink t.link
-  pub sent : IsShort m → IsLink s.link → HasSent t.link.queue s.out t.out
+  pub sent : IsShort m → IsLink s.link → HasSent t.link.queue t.link.received s.out t.out
 
-pub overflows_taken : (m : List ℕ) (at : ℕ) (s : Step) → Taken m s (overflows at s)
+pub overflows_taken : (m : List ℕ) (at : ℕ) (s : Step) → is_up s.link ≡ true → Taken m s (overflows at s)
 unfolding overflows establishes emptied
-overflows_taken m at s = by_test (Taken m s) (is_awaiting s.link.state) _ _
+overflows_taken m at s up = by_test (Taken m s) (is_awaiting s.link.state) _ _
     (λ e. record {
-      losses = inr (inr (refl, refl));
+      losses = record { up = λ on. inr (refl, refl); down = λ off. not_both (is_up s.link) up off };
       next = refl;
       ranges = λ short h. let q = h.queue in record { queue = empty_queue _ refl refl q.number; next = h.next; counter = h.counter };
-      sent = λ short h. sent_none _ s.out;
+      sent = λ short h. sent_none _ s.link.received s.out;
     })
     (λ e. record {
-      losses = inr (inr (refl, refl));
+      losses = record { up = λ on. inr (refl, refl); down = λ off. not_both (is_up s.link) up off };
       next = refl;
       ranges = λ short h. let q = h.queue in record { queue = empty_queue _ refl refl q.number; next = h.next; counter = omega arith };
-      sent = λ short h. sent_one _ s.out (command (control.Sabme true)) tt tt;
+      sent = λ short h. sent_one _ s.link.received s.out (command (control.Sabme true)) tt tt tt;
     })
 
 queued_queue : (m : List ℕ) (q : SendQueue) → IsShort m → length q.waiting < 64 → IsQueue q → IsQueue (queued m q)
@@ -561,16 +568,24 @@ queued_waiting m q = refl
 
 pub submitted_taken : (m : List ℕ) (at : ℕ) (s : Step) → Taken m s (submitted m at s)
 unfolding submitted
-submitted_taken m at s = by_test (Taken m s) (not (is_up s.link)) _ _ (λ e. unchanged) (λ e. by_test (Taken m s) (nat_le 64 (length s.link.queue.waiting)) _ _ (λ d. overflows_taken m at s) (λ d. waits m at s (leb-false 64 (length s.link.queue.waiting) d)))
+submitted_taken m at s = by_test (Taken m s) (not (is_up s.link)) _ _ (λ e. unchanged (is_not (is_up s.link) e)) (λ e. by_test (Taken m s) (nat_le 64 (length s.link.queue.waiting)) _ _ (λ d. overflows_taken m at s (is_so (is_up s.link) e)) (λ d. waits m at s (is_so (is_up s.link) e) (leb-false 64 (length s.link.queue.waiting) d)))
   where
-    unchanged : Taken m s s
-    unchanged = record { losses = inl (refl, refl); next = refl; ranges = λ short h. h; sent = λ short h. sent_none s.link.queue s.out }
+    is_not : (b : Bool) → not b ≡ true → b ≡ false
+    is_not true e = absurd (cc)
+    is_not false e = refl
 
-    waits : (m : List ℕ) (at : ℕ) (s : Step) → length s.link.queue.waiting < 64 → Taken m s (flushes at (step (record s.link { queue = queued m s.link.queue }) s.out))
-    waits m at s few =
+    is_so : (b : Bool) → not b ≡ false → b ≡ true
+    is_so true e = refl
+    is_so false e = absurd (cc)
+
+    unchanged : is_up s.link ≡ false → Taken m s s
+    unchanged off = record { losses = record { up = λ on. not_both (is_up s.link) on off; down = λ e. (refl, refl) }; next = refl; ranges = λ short h. h; sent = λ short h. sent_none s.link.queue s.link.received s.out }
+
+    waits : (m : List ℕ) (at : ℕ) (s : Step) → is_up s.link ≡ true → length s.link.queue.waiting < 64 → Taken m s (flushes at (step (record s.link { queue = queued m s.link.queue }) s.out))
+    waits m at s on few =
         let t : Step = step (record s.link { queue = queued m s.link.queue }) s.out in
         let f = flushes_flushed at t in record {
-          losses = inr (inl (f.keeps.0 ∙ queued_waiting m s.link.queue, f.keeps.1));
+          losses = record { up = λ e. inl (f.keeps.0 ∙ queued_waiting m s.link.queue, f.keeps.1); down = λ off. not_both (is_up s.link) on off };
           next = f.next;
           ranges = λ short h. f.ranges (record { queue = queued_queue m s.link.queue short few h.queue; next = h.next; counter = h.counter });
           sent = λ short h. flushed_sent t (flushes at t) f (record { queue = queued_queue m s.link.queue short few h.queue; next = h.next; counter = h.counter });
@@ -579,11 +594,11 @@ submitted_taken m at s = by_test (Taken m s) (not (is_up s.link)) _ _ (λ e. unc
 -- ---- the turn of a link
 
 pub record Turned (s : Step) (o : Outcome) : Type 0 where
-  pub losses : Keeps 0 s.link o.link ⊎ IsLossTold o ⊎ IsDebtSettled s.link o
+  pub losses : KeepsOrSettles s.link o
   pub untaken : o.indication ≢ Some indication.Data
   pub next : o.link.received ≡ s.link.received
   pub ranges : IsLink s.link → IsLink o.link
-  pub sent : IsLink s.link → HasSent o.link.queue s.out o.out
+  pub sent : IsLink s.link → HasSent o.link.queue o.link.received s.out o.out
 
 nothing_taken : (None ≡ Some indication.Data) → ⊥
 nothing_taken e = absurd (cc)
@@ -591,8 +606,18 @@ nothing_taken e = absurd (cc)
 released_taken : (Some indication.Released ≡ Some indication.Data) → ⊥
 released_taken e = absurd (cc)
 
-quietly_turned : (s t : Step) → Quiet 0 s.link.received s t → Turned s (quietly t)
-quietly_turned s t h = record { losses = inl h.keeps; untaken = nothing_taken; next = h.next; ranges = h.ranges; sent = λ l. h.sent l t.link.queue }
+-- layer 3 knows of each earlier loss
+kept_even : (l : DataLink) (o : Outcome) → l.owed ≡ false → Keeps 0 l o.link ⊎ IsLossTold o → KeepsOrSettles l o
+kept_even l o off h = record { owing = λ on. not_both l.owed on off; even = λ e. h }
+
+quietly_turned : (s t : Step) → s.link.owed ≡ false → Quiet 0 s.link.received s t → Turned s (quietly t)
+quietly_turned s t off h = record {
+  losses = kept_even s.link (quietly t) off (inl h.keeps);
+  untaken = nothing_taken;
+  next = h.next;
+  ranges = h.ranges;
+  sent = λ l. sent_by t.link.queue t.link.received s.link.received s.out t.out (sym h.next) (h.sent l t.link.queue);
+}
 
 pub enquires_at_quiet : (retries at : ℕ) (s : Step) → retries ≤ 3 → Quiet 0 s.link.received s (enquires_at retries at s)
 unfolding enquires_at
@@ -603,35 +628,35 @@ enquires_at_quiet retries at s few = let h = enquires_quiet s in record {
   sent = h.sent;
 }
 
-calls_turned : (at : ℕ) (s : Step) → (s.link.retries == 3) ≡ false → Turned s (quietly (calls_again at s))
-calls_turned at s more = record {
-  losses = inl (refl, refl);
+calls_turned : (at : ℕ) (s : Step) → s.link.owed ≡ false → (s.link.retries == 3) ≡ false → Turned s (quietly (calls_again at s))
+calls_turned at s off more = record {
+  losses = kept_even s.link (quietly (calls_again at s)) off (inl (refl, refl));
   untaken = nothing_taken;
   next = refl;
   ranges = λ h. let c = h.counter in let other = eqb-false s.link.retries 3 more in record { queue = h.queue; next = h.next; counter = one_less s.link.retries c other };
-  sent = λ h. sent_one _ s.out (command (control.Sabme true)) tt tt;
+  sent = λ h. sent_one _ s.link.received s.out (command (control.Sabme true)) tt tt tt;
 }
   where
     one_less : (n : ℕ) → n ≤ 3 → n ≢ 3 → n + 1 ≤ 3
     one_less n few other = omega (arith, few, other)
 
-releases_turned : (at : ℕ) (s : Step) → Turned s (releases at s)
+releases_turned : (at : ℕ) (s : Step) → s.link.owed ≡ false → Turned s (releases at s)
 unfolding released lost emptied
-releases_turned at s = record {
-  losses = inr (inl (refl, refl, tt));
+releases_turned at s off = record {
+  losses = kept_even s.link (releases at s) off (inr (refl, refl, tt));
   untaken = released_taken;
   next = refl;
   ranges = λ h. let q = h.queue in record { queue = empty_queue _ refl refl q.number; next = h.next; counter = h.counter };
-  sent = λ h. sent_none _ s.out;
+  sent = λ h. sent_none _ s.link.received s.out;
 }
 
-again_turned : (at : ℕ) (s : Step) → Turned s (calls_or_releases at s)
+again_turned : (at : ℕ) (s : Step) → s.link.owed ≡ false → Turned s (calls_or_releases at s)
 unfolding calls_or_releases
-again_turned at s = by_test (Turned s) (s.link.retries == 3) _ _ (λ e. releases_turned at s) (λ e. calls_turned at s e)
+again_turned at s off = by_test (Turned s) (s.link.retries == 3) _ _ (λ e. releases_turned at s off) (λ e. calls_turned at s off e)
 
-recovery_turned : (at : ℕ) (s : Step) → IsLink s.link → Turned s (on_expiry state.TimerRecovery at s)
+recovery_turned : (at : ℕ) (s : Step) → s.link.owed ≡ false → IsLink s.link → Turned s (on_expiry state.TimerRecovery at s)
 unfolding on_expiry
-recovery_turned at s l = by_test (Turned s) (s.link.retries == 3) _ _ (λ e. quietly_turned s _ (establishes_quiet false at s)) (λ e. let c = l.counter in let other = eqb-false s.link.retries 3 e in quietly_turned s _ (enquires_at_quiet (s.link.retries + 1) at s (one_less s.link.retries c other)))
+recovery_turned at s off l = by_test (Turned s) (s.link.retries == 3) _ _ (λ e. quietly_turned s _ off (establishes_quiet false at s)) (λ e. let c = l.counter in let other = eqb-false s.link.retries 3 e in quietly_turned s _ off (enquires_at_quiet (s.link.retries + 1) at s (one_less s.link.retries c other)))
   where
     one_less : (n : ℕ) → n ≤ 3 → n ≢ 3 → n + 1 ≤ 3
     one_less n few other = omega (arith, few, other)
@@ -640,24 +665,24 @@ first_few : (r : Running) → first_retries r ≤ 3
 first_few T200 = omega arith
 first_few T203 = omega arith
 
-expiry_turned : (st : State) (at : ℕ) (s : Step) → IsLink s.link → Turned s (on_expiry st at s)
+expiry_turned : (st : State) (at : ℕ) (s : Step) → s.link.owed ≡ false → IsLink s.link → Turned s (on_expiry st at s)
 unfolding on_expiry
-expiry_turned state.TeiAssigned at s l = quietly_turned s _ (establishes_quiet true at s)
-expiry_turned state.AwaitingEstablishment at s l = again_turned at s
-expiry_turned state.MultipleFrameEstablished at s l = quietly_turned s _ (enquires_at_quiet (first_retries s.link.timer.running) at s (first_few s.link.timer.running))
-expiry_turned state.TimerRecovery at s l = recovery_turned at s l
+expiry_turned state.TeiAssigned at s off l = quietly_turned s _ off (establishes_quiet true at s)
+expiry_turned state.AwaitingEstablishment at s off l = again_turned at s off
+expiry_turned state.MultipleFrameEstablished at s off l = quietly_turned s _ off (enquires_at_quiet (first_retries s.link.timer.running) at s (first_few s.link.timer.running))
+expiry_turned state.TimerRecovery at s off l = recovery_turned at s off l
 
 pub turned_turned : (t : Timers) (at : ℕ) (s : Step) → IsLink s.link → Turned s (turned t at s)
 unfolding turned
 turned_turned t at s l = by_test (Turned s) s.link.owed _ _
     (λ e. record {
-      losses = inr (inr (e, refl, refl, tt));
+      losses = record { owing = λ on. (refl, refl, tt); even = λ off. not_both s.link.owed e off };
       untaken = released_taken;
       next = refl;
       ranges = λ h. record { queue = h.queue; next = h.next; counter = h.counter };
-      sent = λ h. sent_none s.link.queue s.out;
+      sent = λ h. sent_none s.link.queue s.link.received s.out;
     })
-    (λ e. by_test (Turned s) (is_due t at s.link.timer) _ _ (λ d. expiry_turned s.link.state at s l) (λ d. quietly_turned s s (quiet_none s)))
+    (λ e. by_test (Turned s) (is_due t at s.link.timer) _ _ (λ d. expiry_turned s.link.state at s e l) (λ d. quietly_turned s s e (quiet_none s)))
 
 pub initial_link : (at : ℕ) → IsLink (initial at)
 initial_link at = record { queue = empty_queue _ refl refl (omega arith); next = omega arith; counter = omega arith }

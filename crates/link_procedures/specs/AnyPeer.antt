@@ -7,7 +7,7 @@ use Rattle.link_frames.specs.declared.frame.Frame.{Frame}
 use Rattle.link_frames.specs.Reading.{reading}
 use Rattle.link_procedures.specs.declared.state.Indication.{Indication}
 use Rattle.link_procedures.specs.declared.state.Indication.TheVariants as indication
-use Rattle.link_procedures.specs.Links.{SendQueue, DataLink, Step, distance, is_valid, is_multiple_frame}
+use Rattle.link_procedures.specs.Links.{SendQueue, DataLink, Step, distance, is_valid, is_multiple_frame, is_up}
 use Rattle.link_procedures.specs.Establishment.{Outcome}
 
 -- the octets of a message of layer 3 that a link can carry
@@ -59,7 +59,7 @@ IsLossTold o = (o.link.queue.waiting ≡ []) × (o.link.owed ≡ false) × IsLos
 
 -- layer 3 is informed of an earlier loss
 abbrev pub IsDebtSettled : DataLink → Outcome → Type 0
-IsDebtSettled before o = (before.owed ≡ true) × (o.link.queue.waiting ≡ before.queue.waiting) × (o.link.owed ≡ false) × IsLossIndication o.indication
+IsDebtSettled before o = (o.link.queue.waiting ≡ before.queue.waiting) × (o.link.owed ≡ false) × IsLossIndication o.indication
 
 -- the message waits after the others
 abbrev pub IsAdded : List ℕ → DataLink → DataLink → Type 0
@@ -73,13 +73,15 @@ IsLossOwed l = (l.queue.waiting ≡ []) × (l.owed ≡ true)
 abbrev pub KeepsOrTells : Control → DataLink → Outcome → Type 0
 KeepsOrTells c before o = Keeps (acknowledged_by c before) before o.link ⊎ IsLossTold o
 
--- the message is not taken, it waits after the others, or all are lost
-abbrev pub AddsOrOwes : List ℕ → DataLink → DataLink → Type 0
-AddsOrOwes message before after = Keeps 0 before after ⊎ IsAdded message before after ⊎ IsLossOwed after
+-- if the link is up, the message waits after the others, or all are lost; otherwise the message is not taken
+pub record AddsOrOwes (message : List ℕ) (before after : DataLink) : Type 0 where
+  pub up : is_up before ≡ true → IsAdded message before after ⊎ IsLossOwed after
+  pub down : is_up before ≡ false → Keeps 0 before after
 
--- nothing leaves the queue, or layer 3 is informed
-abbrev pub KeepsOrSettles : DataLink → Outcome → Type 0
-KeepsOrSettles before o = Keeps 0 before o.link ⊎ IsLossTold o ⊎ IsDebtSettled before o
+-- if layer 3 has not been informed of a loss, it is informed now; otherwise nothing leaves the queue, or layer 3 is informed
+pub record KeepsOrSettles (before : DataLink) (o : Outcome) : Type 0 where
+  pub owing : before.owed ≡ true → IsDebtSettled before o
+  pub even : before.owed ≡ false → Keeps 0 before o.link ⊎ IsLossTold o
 
 -- ---- what is sent
 
@@ -91,20 +93,27 @@ abbrev pub IsInWindow : SendQueue → Control → Type 0
 IsInWindow q (control.Information poll ns nr information) = CarriesItsMessage q ns information
 IsInWindow q _ = Unit {0}
 
+-- an I frame or an S frame acknowledges the frames before this number, which is V(R): N(R) is V(R) (3.5.2.4)
+abbrev pub Acknowledges : ℕ → Control → Type 0
+Acknowledges received (control.Information poll ns nr information) = nr ≡ received
+Acknowledges received (control.Supervisory kind pf nr) = nr ≡ received
+Acknowledges received _ = Unit {0}
+
 -- the peer reads the octets as one frame
-pub record IsFormed (q : SendQueue) (octets : List ℕ) : Type 0 where
+pub record IsFormed (q : SendQueue) (received : ℕ) (octets : List ℕ) : Type 0 where
   pub frame : Frame
   pub read : reading Network octets ≡ Some frame
   pub inside : IsInWindow q frame.control
+  pub acknowledges : Acknowledges received frame.control
 
 -- the frames sent are appended, and each is well formed
-pub record HasSent (q : SendQueue) (before after : List (List ℕ)) : Type 0 where
+pub record HasSent (q : SendQueue) (received : ℕ) (before after : List (List ℕ)) : Type 0 where
   pub sent : List (List ℕ)
   pub appended : after ≡ before ++ sent
-  pub formed : All (IsFormed q) sent
+  pub formed : All (IsFormed q received) sent
 
 abbrev pub SendsFrames : Step → DataLink → List (List ℕ) → Type 0
-SendsFrames s after out = IsLink s.link → HasSent after.queue s.out out
+SendsFrames s after out = IsLink s.link → HasSent after.queue after.received s.out out
 
 -- ---- what is delivered
 

@@ -21,7 +21,7 @@ pub fn law_of_windows()
 {}
 
 /// A message leaves the queue only if a valid N(R) acknowledges it, or with all others. In the second case layer 3 is
-/// informed, in the same step or in the next turn.
+/// informed, in the same step or in the next turn. A link that is up takes each message, or loses all in this way.
 pub fn law_of_losses()
     ensures received { (f : Frame) (at : ℕ) (s : Step) → IsNumbered f.control → KeepsOrTells f.control s.link (received f at s) }
     ensures submitted { (m : List ℕ) (at : ℕ) (s : Step) → AddsOrOwes m s.link (submitted m at s).link }
@@ -30,7 +30,7 @@ pub fn law_of_losses()
 {}
 
 /// The peer reads each string of octets that is sent as one frame. An I frame carries the message of its number, which
-/// is one of the seven from V(A).
+/// is one of the seven from V(A). N(R) of an I frame and of an S frame is V(R) after the step.
 pub fn law_of_frames()
     ensures received { (f : Frame) (at : ℕ) (s : Step) → IsNumbered f.control → SendsFrames s (received f at s).link (received f at s).out }
     ensures submitted { (m : List ℕ) (at : ℕ) (s : Step) → IsShort m → SendsFrames s (submitted m at s).link (submitted m at s).out }

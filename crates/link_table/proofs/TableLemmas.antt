@@ -77,8 +77,8 @@ marked_length line lines frames h =
     let b = length-replicate (length frames - length lines) line in
     omega (arith, a, b, h)
 
-grown : (q : SendQueue) (a b : List (List ℕ)) → HasSent q a b → length a ≤ length b
-grown q a b h =
+grown : (q : SendQueue) (r : ℕ) (a b : List (List ℕ)) → HasSent q r a b → length a ≤ length b
+grown q r a b h =
     let e : length b ≡ length (a ++ h.sent) = ap length h.appended in
     let f = length-append a h.sent in
     omega (arith, e, f)
@@ -112,7 +112,7 @@ received_table t line at l f links lines frames h free none e number links_are f
     let now : Table = record { links = links; receiving = Some line; messages = t.messages; lines = lines; frames = frames } in
     let p = received_processed f at (step l t.frames) number in
     let range = h.links.ranges line l e in
-    let long = grown o.link.queue t.frames o.out (p.sent range) in
+    let long = grown o.link.queue o.link.received t.frames o.out (p.sent range) in
     let same : length frames ≡ length o.out = ap length frames_are in
     let pairs = h.marked in
     let empty : length t.frames ≡ 0 = ap length none in record {
@@ -166,7 +166,7 @@ submitted_table t line at l m links lines frames h room short e links_are frames
     range = h.links.ranges line l e
 
     long : length t.frames ≤ length u.out
-    long = grown u.link.queue t.frames u.out (w.sent short range)
+    long = grown u.link.queue u.link.received t.frames u.out (w.sent short range)
 
     same : length frames ≡ length u.out
     same = ap length frames_are
@@ -228,7 +228,7 @@ finished_table t line at l links lines frames h on e links_are frames_are lines_
     let u : Step = finished at (step l t.frames) in
     let w = finished_flushed at (step l t.frames) in
     let range = h.links.ranges line l e in
-    let long = grown u.link.queue t.frames u.out (flushed_sent (step l t.frames) u w range) in
+    let long = grown u.link.queue u.link.received t.frames u.out (flushed_sent (step l t.frames) u w range) in
     let same : length frames ≡ length u.out = ap length frames_are in
     let pairs = h.marked in record {
       links = subst (λ ls. AreLinks ls None) (sym links_are)
@@ -254,7 +254,7 @@ turned_table t timers line at l links lines frames h free none e links_are frame
     let now : Table = record { links = links; receiving = t.receiving; messages = t.messages; lines = lines; frames = frames } in
     let range = h.links.ranges line l e in
     let p = turned_turned timers at (step l t.frames) range in
-    let long = grown o.link.queue t.frames o.out (p.sent range) in
+    let long = grown o.link.queue o.link.received t.frames o.out (p.sent range) in
     let same : length frames ≡ length o.out = ap length frames_are in
     let pairs = h.marked in
     let empty : length t.frames ≡ 0 = ap length none in record {

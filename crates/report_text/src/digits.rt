@@ -1,12 +1,14 @@
 // Rows of octets, and their hexadecimal digits.
 //
 // The octets of a line are processed as a row of 32, so that loops of fixed length become vector code.
-ghost use Rattle.std.specs.Prelude.{◌≡◌, true, ◌==◌, ◌++◌, ◌-◌, ◌<◌, ◌≤◌, length, drop, slice_index, replicate};
+ghost use Rattle.std.specs.Prelude.{◌≡◌, true, ◌==◌, ◌++◌, ◌-◌, ◌/◌, ◌%◌, ◌<◌, ◌≤◌, length, drop, map, slice_index, replicate};
 ghost use Rattle.std.specs.List.{flat_map, list_all};
+ghost use Rattle.std.specs.Simd.Lanes.{Each1};
 ghost use Rattle.hex.specs.Hex.{encode_upper, upper_digits};
 ghost use Rattle.circuit_model.specs.FrameInput.{idle_octet};
 
 use circuit_model::IDLE;
+use std::simd::prelude::*;
 
 // At most 32 octets, and idle octets after them.
 pub(crate) fn wide_row(octets: &[u8]) -> [u8; 32]
@@ -72,18 +74,47 @@ fn is_piece_idle(octets: &[u8]) -> bool
 pub(crate) fn put_row_digits(text: &mut [u8; 86], row: &[u8; 32])
     ensures { drop 22 text.new ≡ encode_upper row.now }
 {
-    for place in 0..32 {
-        let octet = row[place];
-        text[22 + 2 * place] = digit(octet >> 4);
-        text[22 + 2 * place + 1] = digit(octet & 0x0F);
-    }
+    let (first, second) = digits_of(u8x16::from_slice(row));
+    let (third, fourth) = digits_of(u8x16::from_slice(&row[16..]));
+    first.copy_to_slice(&mut text[22..38]);
+    second.copy_to_slice(&mut text[38..54]);
+    third.copy_to_slice(&mut text[54..70]);
+    fourth.copy_to_slice(&mut text[70..86]);
 }
 
-// Returns the hexadecimal digit of a value, in upper case. It is computed, because a table would be read digit by
-// digit.
-fn digit(value: u8) -> u8
-    requires { value < 16 }
-    ensures { result ≡ slice_index upper_digits value }
+// Returns the digits of sixteen octets, in two halves.
+#[inline(always)]
+fn digits_of(octets: u8x16) -> (u8x16, u8x16)
+    ensures halves { (length result.0 ≡ 16) × (length result.1 ≡ 16) }
+    ensures digits { result.0 ++ result.1 ≡ encode_upper octets }
 {
-    value + if value > 9 { b'A' - 10 } else { b'0' }
+    high_digits(octets).interleave(low_digits(octets))
+}
+
+// Returns the first digit of each octet.
+#[inline(always)]
+fn high_digits(octets: u8x16) -> u8x16
+    ensures { result ≡ map (λ octet. slice_index upper_digits (octet / 16)) octets }
+{
+    byte_shuffle(u8x16::from_array(DIGITS), octets >> u8x16::splat(4))
+}
+
+// Returns the second digit of each octet.
+#[inline(always)]
+fn low_digits(octets: u8x16) -> u8x16
+    ensures { result ≡ map (λ octet. slice_index upper_digits (octet % 16)) octets }
+{
+    byte_shuffle(u8x16::from_array(DIGITS), octets & u8x16::splat(15))
+}
+
+// The hexadecimal digits, in upper case.
+const DIGITS: [u8; 16] = *b"0123456789ABCDEF";
+
+// Looks sixteen places up in a table at once. A compiler makes one instruction of it.
+#[inline(always)]
+fn byte_shuffle(table: u8x16, places: u8x16) -> u8x16
+    requires { Each1 (λ place. place < 16) places }
+    ensures { result ≡ map (λ place. slice_index table place) places }
+{
+    table.swizzle_dyn_within::<16>(places)
 }

@@ -1,2 +1,5 @@
 pub mod RowsAfter
 pub mod Starts
+pub mod Turns
+pub mod Shuffles
+pub mod Slots

@@ -7,7 +7,7 @@ ghost use Rattle.control_memory.specs.Tables.{HasSize};
 ghost use Rattle.control_memory.specs.Image.{lines_of};
 ghost use Rattle.time_stage.specs.Interchange.{reads_by, sends_by, sends, reads, IsSent, IsRead};
 
-use crate::store::Store;
+use crate::store::{Store, fetch_thirty};
 use circuit_model::CHANNELS_PER_LINE;
 use control_memory::{ControlTable, Image};
 use frame_buffer::{Crossed, FrameBuffer, Highway, fill_idle};
@@ -74,8 +74,13 @@ fn send_row(buffer: &FrameBuffer, table: &ControlTable, line: u8, store: &mut St
     ensures size { length row.new ≡ length row.old }
     ensures octets { (slot : ℕ) → slot < length row.new → slice_index row.new slot ≡ sends_by table.now buffer.now line slot }
 {
-    store.load(buffer.row(line));
-    store.fetch(table.row(line), row);
+    let octets = buffer.row(line);
+    if row.len() == 30 {
+        fetch_thirty(octets, table.row(line), row);
+    } else {
+        store.load(octets);
+        store.fetch(table.row(line), row);
+    }
 }
 
 /// Performs the outgoing time stage of one frame: each place of a line reads the octet of the internal slot in its
@@ -139,6 +144,11 @@ fn read_row(crossed: &Crossed, table: &ControlTable, line: u8, store: &mut Store
     ensures size { length row.new ≡ length row.old }
     ensures octets { (place : ℕ) → place < length row.new → slice_index row.new place ≡ reads_by table.now crossed.now line place }
 {
-    store.load(crossed.row(line));
-    store.fetch(table.row(line), row);
+    let octets = crossed.row(line);
+    if octets.len() == 30 {
+        fetch_thirty(octets, table.row(line), row);
+    } else {
+        store.load(octets);
+        store.fetch(table.row(line), row);
+    }
 }

@@ -1,10 +1,12 @@
 //! The octets of one line, which a time stage fetches in another order.
 
-ghost use Rattle.std.specs.Prelude.{◌≡◌, ℕ, ◌<◌, ◌≤◌, length, slice_index};
+ghost use Rattle.std.specs.Prelude.{◌≡◌, ℕ, ◌<◌, ◌≤◌, length, map, slice_index, slice_index_or};
+ghost use Rattle.std.specs.Simd.Lanes.{Each1};
 ghost use Rattle.circuit_model.specs.FrameInput.{idle_octet};
 
 use circuit_model::IDLE;
 use std::marker::Model;
+use std::simd::prelude::*;
 
 // The octets of one line, which a time stage reads in the order that a control table gives.
 //
@@ -52,4 +54,46 @@ impl Store {
             *octet = self.octets[usize::from(table[at])];
         }
     }
+}
+
+// Fetches thirty octets of thirty by the bytes of a table. A byte without a place or slot is 255, and gives an idle
+// octet.
+#[inline(always)]
+pub(crate) fn fetch_thirty(octets: &[u8], table: &[u8], row: &mut [u8])
+    requires octets { length octets.now ≡ 30 }
+    requires table { length table.now ≡ 30 }
+    requires bytes { (at : ℕ) → at < 30 → 30 ≤ slice_index table.now at → slice_index table.now at ≡ 255 }
+    requires row { length row.old ≡ 30 }
+    ensures size { length row.new ≡ length row.old }
+    ensures octets { (at : ℕ) → at < 30 → slice_index row.new at ≡ slice_index_or octets.now (slice_index table.now at) idle_octet }
+{
+    let front = fetch_sixteen(octets, u8x16::from_slice(&table[..16]));
+    let back = fetch_sixteen(octets, u8x16::from_slice(&table[14..]));
+    front.copy_to_slice(&mut row[..16]);
+    back.copy_to_slice(&mut row[14..]);
+}
+
+// Fetches sixteen octets of thirty. The octets are looked up as their difference from an idle octet, in the first
+// sixteen and in the last sixteen, and a place that is in neither gives no difference.
+#[inline(always)]
+fn fetch_sixteen(octets: &[u8], places: u8x16) -> u8x16
+    requires octets { length octets.now ≡ 30 }
+    requires places { Each1 (λ place. 30 ≤ place → place ≡ 255) places }
+    ensures { result ≡ map (λ place. slice_index_or octets.now place idle_octet) places }
+{
+    let idle = u8x16::splat(IDLE);
+    let front = u8x16::from_slice(&octets[..16]) - idle;
+    let back = u8x16::from_slice(&octets[14..]) - idle;
+    let in_front = ((places + u8x16::splat(112)) | places) & u8x16::splat(0x8F);
+    let in_back = places - u8x16::splat(14);
+    (byte_shuffle(front, in_front) | byte_shuffle(back, in_back)) + idle
+}
+
+// Looks sixteen places up in a table at once. A place from 128 on gives 0.
+#[inline(always)]
+fn byte_shuffle(table: u8x16, places: u8x16) -> u8x16
+    requires { Each1 (λ place. 16 ≤ place → 128 ≤ place) places }
+    ensures { result ≡ map (λ place. slice_index table place) places }
+{
+    table.swizzle_dyn_within::<16>(places)
 }

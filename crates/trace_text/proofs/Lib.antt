@@ -10,3 +10,4 @@ pub mod TraceAnswers
 pub mod SegmentLemmas
 pub mod SoundLemmas
 pub mod PlainLemmas
+pub mod DigitVectors

@@ -394,7 +394,7 @@ lost_wide digits even lost =
     let front : (list_all is_digit digits && true) ≡ false = sym (ap (λ b. list_all is_digit digits && b) (zeros_are (64 - length digits))) ∙ sym (list_all-append is_digit digits more) ∙ lost in
     all_digits digits even ∙ and_false (list_all is_digit digits) front
 
-is_thirty : (digits octets : List ℕ) (o : Option (List ℕ)) → o ≡ Some octets → length digits ≡ 60 → IfSome o (λ octets. length digits ≡ 2 * length octets) → thirty o ≡ Ok octets
+pub is_thirty : (digits octets : List ℕ) (o : Option (List ℕ)) → o ≡ Some octets → length digits ≡ 60 → IfSome o (λ octets. length digits ≡ 2 * length octets) → thirty o ≡ Ok octets
 is_thirty digits octets None e sixty half = absurd cc
 is_thirty digits octets (Some others) e sixty half =
     let same : others ≡ octets = cc in

@@ -1,6 +1,6 @@
 -- The fields of a trace's lines: lines, slots and rooms of the exchange, octets in hexadecimal digits, sizes. Source: this project. The channels are
 -- from ITU-T Q.931 (05/98), section 4.5.13.
-use Rattle.std.specs.Prelude.{ℕ, ◌+◌, ◌-◌, ◌*◌, Bool, ◌&&◌, nat_lt, nat_le, ◌==◌, List, [], ◌∷◌, length, codes, Option, Some, None, option_and_then, is_some, Result, Ok, Err, if◌then◌else◌}
+use Rattle.std.specs.Prelude.{ℕ, ◌+◌, ◌-◌, ◌*◌, ◌/◌, ◌%◌, Bool, ◌&&◌, nat_lt, nat_le, ◌==◌, List, [], ◌∷◌, length, codes, Option, Some, None, option_and_then, is_some, Result, Ok, Err, if◌then◌else◌}
 use Rattle.std.specs.Str.{bytes_eq}
 use Rattle.circuit_model.specs.Channels.{between, place_of}
 use Rattle.circuit_model.specs.declared.channel.Slot.{Slot}
@@ -50,6 +50,10 @@ digit_value digit =
     else if between 65 70 digit then Some (digit - 55)
     else if between 97 102 digit then Some (digit - 87)
     else None
+
+-- the low half of an octet, and nine more for a letter
+abbrev pub reckoned : ℕ → ℕ
+reckoned digit = digit % 16 + 9 * (digit / 64)
 
 -- the octet is a hexadecimal digit
 abbrev pub is_digit : ℕ → Bool

@@ -2,14 +2,15 @@
 //
 // The loops read 64 digits at a time. They have a fixed length, no table, and one test at their end, so that they
 // become vector instructions. Fewer digits are padded to 64.
-ghost use Rattle.std.specs.Prelude.{◌≡◌, ◌++◌, ◌*◌, ◌-◌, ◌%◌, ◌<◌, ◌≤◌, ◌^◌, ℕ, List, length, take, true, Some, is_some, option_map, map, replicate, ok_or, IfOk, IfErr, OnOk, Ok};
+ghost use Rattle.std.specs.Prelude.{◌≡◌, ◌++◌, ◌*◌, ◌-◌, ◌%◌, ◌<◌, ◌≤◌, ◌^◌, ℕ, List, length, take, drop, true, Some, is_some, option_map, map, replicate, ok_or, IfOk, IfErr, OnOk, Ok};
 ghost use Rattle.std.specs.List.{list_all};
-ghost use Rattle.trace_text.specs.TraceFields.{digit_value, is_digit, octets_written, thirty, at_most, max_message_len, of_tone};
+ghost use Rattle.trace_text.specs.TraceFields.{digit_value, reckoned, is_digit, octets_written, thirty, at_most, max_message_len, of_tone};
 ghost use Rattle.trace_text.specs.TraceLines.{Fails, Gives};
 
 use crate::fault::{LineError, Reason};
 use exchange_events::{INLINE_OCTETS, Octets};
 use std::alloc::Global;
+use std::simd::prelude::*;
 use tone_rules::ToneOctets;
 
 /// The maximum number of octets of a message.
@@ -87,15 +88,6 @@ fn octets_of(values: &[u8; 64]) -> [u8; 32]
     octets
 }
 
-// Returns the first 30 octets.
-fn front(row: &[u8; 32]) -> [u8; 30]
-    ensures { result ≡ take 30 row.now }
-{
-    let mut octets = [0; 30];
-    octets.copy_from_slice(&row[..30]);
-    octets
-}
-
 /// Returns the 30 octets of a line of one frame, from 60 hexadecimal digits.
 pub(crate) fn thirty_octets(digits: &[u8]) -> Result<[u8; 30], Reason>
     ensures { result ≡ thirty (octets_written digits.now) }
@@ -111,7 +103,53 @@ pub(crate) fn thirty_octets(digits: &[u8]) -> Result<[u8; 30], Reason>
     if !are_digits(&text) {
         return Err(Reason::Hex);
     }
-    Ok(front(&octets_of(&values_of(&text))))
+    Ok(thirty_of(&text))
+}
+
+// Returns the octets of the first sixty of these digits.
+fn thirty_of(text: &[u8; 64]) -> [u8; 30]
+    requires { list_all is_digit text.now ≡ true }
+    ensures { octets_written (take 60 text.now) ≡ Some result }
+{
+    let mut octets = [0; 30];
+    let front = octets_from(text, 0);
+    let back = octets_from(text, 28);
+    front.copy_to_slice(&mut octets[..16]);
+    back.copy_to_slice(&mut octets[14..]);
+    octets
+}
+
+// Returns the octets of the thirty-two digits from one on.
+#[inline(always)]
+fn octets_from(text: &[u8; 64], start: usize) -> u8x16
+    requires digits { list_all is_digit text.now ≡ true }
+    requires start { start ≤ 32 }
+    ensures { octets_written (take 32 (drop start text.now)) ≡ Some result }
+{
+    sixteen_octets(
+        u8x16::from_slice(&text[start..]),
+        u8x16::from_slice(&text[start + 16..]),
+    )
+}
+
+// Returns the octets of thirty-two digits.
+#[inline(always)]
+fn sixteen_octets(first: u8x16, second: u8x16) -> u8x16
+    requires { list_all is_digit (first ++ second) ≡ true }
+    ensures { octets_written (first ++ second) ≡ Some result }
+{
+    let (high, low) = digit_values(first).deinterleave(digit_values(second));
+    (high << u8x16::splat(4)) | low
+}
+
+// Returns the values of sixteen digits: the low half of each octet, plus 9 for a letter. The value for another octet is
+// not specified.
+#[inline(always)]
+fn digit_values(digits: u8x16) -> u8x16
+    ensures { result ≡ map reckoned digits }
+{
+    let letters = digits >> u8x16::splat(6);
+    (digits & u8x16::splat(15)) + letters + (letters << u8x16::splat(3))
 }
 
 // Appends the octets of at most 64 digits.

@@ -12,6 +12,7 @@
 //! no contract. Nothing is proved about standard input and output, so the tests here run whole traces over in-memory
 //! streams.
 #![tactic(auto)]
+ghost use Rattle.std.specs.Prelude.{[]};
 
 #[cfg(test)]
 mod changes;
@@ -31,7 +32,7 @@ use ex_io::{Sink, Source, StdSink, StdSource};
 use exchange_top::{FollowOutcome, Outcome, exchange, follow};
 use frame_engine::Engine;
 use gate::OpenGate;
-use line_wire::StdWire;
+use line_wire::{StdWire, Wire};
 use meters::{CallDetail, HoldingTime, Meter, PegCount};
 use std::alloc::{AllocError, Global};
 use std::collections::VecDeque;
@@ -58,7 +59,9 @@ fn status_of<S: Source, K: Sink, R: Threads + Wait + Sync>(
     alloc: Global,
     words: &[String],
     wire: &mut StdWire<S, K>,
-) -> Result<u8, AllocError> {
+) -> Result<u8, AllocError>
+    requires fresh { ⟦<StdWire<S, K> as Wire>⟧.stands wire.old [] [] }
+{
     let mut boxed: VecDeque<Box<dyn Meter>> = VecDeque::with_capacity(alloc, 6)?;
     for _ in 0..2 {
         boxed.push_back(Box::new(alloc, CallDetail::new(alloc, 10)?)?)?;

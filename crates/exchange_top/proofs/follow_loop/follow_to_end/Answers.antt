@@ -74,7 +74,7 @@ returns-in-Err-flush-clause-ended g c =
     let (unsaid, due) = unwritten_answer _ _ _ _ _ front back c.flush.new.text.items _ next.answered is c.flush.ensures.blank in
     let short = c.in-Ok-handle_lines.ensures.short in
     let few : length (drop c.in-Ok-handle_lines.taken bytes) ≤ 131072 = omega (arith, length-drop c.in-Ok-handle_lines.taken bytes, short) in
-    (all, next.answered.said ++ front, stood, (ended.WriteFailed, unsaid, (lines next.whole, first_underway _ _ _ _ _ _ next few, due)))
+    (all, next.answered.said ++ front, stood, (ended.WriteFailed, unsaid, (lines next.whole, first_underway _ _ _ _ _ _ next few _, due)))
 
 pub loop-more-preserved : goal.loop-more-preserved
 loop-more-preserved g c =

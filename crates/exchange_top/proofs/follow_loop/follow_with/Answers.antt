@@ -1,15 +1,14 @@
 use Rattle.std.proofs.Common.{◌++◌, ◌∙◌, refl, sym}
-use Rattle.line_follower.specs.Following.{with_end}
 use Rattle.exchange_top.specs.Handling.{handler_dues}
 use Rattle.line_follower.specs.declared.following.Following.TheVariants as ended
-use Rattle.line_follower.proofs.Endings.{end_too, followed_too}
+use Rattle.line_follower.proofs.Endings.{followed_too, same_too}
 use Rattle.line_follower.proofs.Steps.{cut_due, cut_text, reads_same, writes_same}
 use Rattle.exchange_top.proofs.follow_loop.follow_with.Goals as goal
 
 pub returns-in-WriteFailed-clause-followed : goal.returns-in-WriteFailed-clause-followed
 returns-in-WriteFailed-clause-followed g c =
     let (heard, said, stood, has) = c.in-WriteFailed.ensures.ended in
-    (heard, said, stood, cut_due ended.WriteFailed _ heard (said ++ c.follow_to_end-why.new.text.items) said c.follow_to_end-why.new.text.items refl has)
+    (heard, said, stood, cut_due _ ended.WriteFailed _ heard (said ++ c.follow_to_end-why.new.text.items) said c.follow_to_end-why.new.text.items refl has)
 
 pub returns-in-Ok-clause-followed : goal.returns-in-Ok-clause-followed
 returns-in-Ok-clause-followed g c =
@@ -19,7 +18,7 @@ returns-in-Ok-clause-followed g c =
     let (heard, said, stood, has) = c.follow_to_end-why.ensures.ended in
     let text = c.follow_to_end-why.new.text.items in
     let written = rw c.as_slice.ensures.value at c.in-Ok.ensures.whole in
-    (heard, said ++ text, written heard said stood, followed_too (with_end before due) (with_end after due) (end_too before after due c.write_all.ensures.end) c.follow_to_end-why.result heard (said ++ text) has)
+    (heard, said ++ text, written heard said stood, followed_too before after c.write_all.ensures.end due due (same_too due) c.follow_to_end-why.result heard (said ++ text) has)
 
 pub returns-in-Err : goal.returns-in-Err
 returns-in-Err g c =
@@ -31,7 +30,7 @@ returns-in-Err g c =
     let reads = reads_same c.follow_to_end-why.result _ _ c.in_default.not-ReadFailed c.follow_to_end-why.ensures.reads in
     let writes = writes_same c.follow_to_end-why.result _ _ c.in_default.not-WriteFailed c.follow_to_end-why.ensures.writes in
     record {
-      followed = (heard, said ++ front, now, followed_too (with_end before due) (with_end after due) (end_too before after due c.write_all.ensures.end) ended.WriteFailed heard (said ++ front) (cut_text c.follow_to_end-why.result (with_end before due) heard said c.follow_to_end-why.new.text.items front back (sym c.as_slice.ensures.value ∙ is) has));
+      followed = (heard, said ++ front, now, followed_too before after c.write_all.ensures.end due due (same_too due) ended.WriteFailed heard (said ++ front) (cut_text before c.follow_to_end-why.result due heard said c.follow_to_end-why.new.text.items front back (sym c.as_slice.ensures.value ∙ is) has));
       reads = c.write_all.ensures.reads ∙ reads;
       writes = rw writes at c.in-Err.ensures.cause;
     }

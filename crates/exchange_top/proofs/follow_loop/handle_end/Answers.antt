@@ -18,9 +18,9 @@ returns-in-Ok-finish-clause-ended g c old old_spare heard u =
 pub returns-in-Err-Refused-clause-ended : goal.returns-in-Err-Refused-clause-ended
 returns-in-Err-Refused-clause-ended g c old old_spare heard u =
     let a = c.in-Ok.ensures.done old old_spare heard u in
-    (a.said, a.stood, At_end (c.handle_rest.ensures.end c.requires.end, c.in-Err-Refused.ensures.refused (search rules) old old_spare (lines heard) a.said a.due))
+    (a.said, a.stood, At_end (c.handle_rest.ensures.end c.requires.end) (c.in-Err-Refused.ensures.refused (search rules) old old_spare (lines heard) a.said a.due))
 
 pub returns-in-Err-OutOfMemory-clause-ended : goal.returns-in-Err-OutOfMemory-clause-ended
 returns-in-Err-OutOfMemory-clause-ended g c old old_spare heard u =
     let a = c.in-Ok.ensures.done old old_spare heard u in
-    (a.said, a.stood, (lines heard, all_first heard, c.in-Err-OutOfMemory.ensures.stranded (search rules) old old_spare (lines heard) a.said a.due))
+    (a.said, a.stood, (lines heard, all_first _ heard (c.handle_rest.ensures.end c.requires.end), c.in-Err-OutOfMemory.ensures.stranded (search rules) old old_spare (lines heard) a.said a.due))

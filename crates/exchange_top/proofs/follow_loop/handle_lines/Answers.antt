@@ -22,7 +22,7 @@ returns-in_err-handle_line-clause-stopped g c =
     (handler_dues (λ m. (goal.Meter-dyn g (m.vtable, m.value)).stands m.value) (λ m. (goal.Meter-dyn g (m.vtable, m.value)).text m.value) g.C.Carrier.carries g.C.Carrier.next g.C.Carrier.sizes g.C.Carrier.plays g.P.Fabric.slots g.P.Fabric.moves old old_spare c.handle_line.new.handler.metering.on.items c.handle_line.new.handler.metering.spare.items c.handle_line.new.handler.heading c.handle_line.new.handler.lines c.handle_line.new.handler.exchange c.handle_line.new.handler.linked)
     c.in_err-handle_line.field-0.0 heard c.loop-line.rest.now c.in-Some.line.now c.in-Some.others.now c.loop-line.text.items c.handle_line.new.text.items
     c.loop-line.handler.lines (inv.underway old old_spare heard u)
-    (has_fed c.loop-line.rest.now c.in-Some.line.now c.in-Some.others.now c.in-Some.ensures.0 c.in-Some.ensures.1) (omega (arith, within, room))
+    (has_fed _ c.loop-line.rest.now c.in-Some.line.now c.in-Some.others.now c.in-Some.ensures.0 c.in-Some.ensures.1) (omega (arith, within, room))
     (c.in_err-handle_line.ensures.stopped old old_spare heard))
 
 pub loop-line-preserved : goal.loop-line-preserved

@@ -1,4 +1,4 @@
-use Rattle.std.proofs.Common.{rules, ◌≢◌, []}
+use Rattle.std.proofs.Common.{rules, ◌≢◌, ◌⊎◌, ◌<◌, [], length, inl, inr}
 use Rattle.std.proofs.lemmas.Result.{IfErr-weaker}
 use Rattle.exchange_top.specs.Handling.{handler_dues}
 use Rattle.line_follower.proofs.Steps.{answered_all, has_unfed, ok_weaker, stopped_next}
@@ -18,5 +18,9 @@ returns-clause-stopped g c =
     _
     (handler_dues (λ m. (goal.Meter-dyn g (m.vtable, m.value)).stands m.value) (λ m. (goal.Meter-dyn g (m.vtable, m.value)).text m.value) g.C.Carrier.carries g.C.Carrier.next g.C.Carrier.sizes g.C.Carrier.plays g.P.Fabric.slots g.P.Fabric.moves old old_spare c.handle_line.new.handler.metering.on.items c.handle_line.new.handler.metering.spare.items c.handle_line.new.handler.heading c.handle_line.new.handler.lines c.handle_line.new.handler.exchange c.handle_line.new.handler.linked)
     why heard c.args.rest.now c.args.rest.now [] c.args.text.now.items c.handle_line.new.text.items c.args.handler.now.lines u
-    (has_unfed c.args.rest.now some c.requires.partial) c.requires.room (step old old_spare heard))
+    (has_unfed _ c.args.rest.now some c.requires.partial (last c.requires.last)) c.requires.room (step old old_spare heard))
     c.handle_line.ensures.stopped
+  where
+    last : g.W.Wire.ended c.args.wire.now ⊎ (65535 < length c.args.rest.now) → g.W.Wire.ended c.handle_line.new.wire ⊎ (65535 < length c.args.rest.now)
+    last (inl has) = inl (c.handle_line.ensures.end has)
+    last (inr long) = inr long

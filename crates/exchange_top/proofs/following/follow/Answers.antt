@@ -1,6 +1,12 @@
 use Rattle.exchange_top.proofs.following.follow.Goals as goal
 use Rattle.exchange_top.proofs.following.follow.Goals.{then-strict, else-strict}
 
+pub follow_on-ended-requires-clause-promise : goal.follow_on-ended-requires-clause-promise
+follow_on-ended-requires-clause-promise g c κs within = rw c.if-strict.true at c.requires.promise
+
+pub follow_on-ended-requires-else-strict-clause-promise : goal.follow_on-ended-requires-else-strict-clause-promise
+follow_on-ended-requires-else-strict-clause-promise g c κs within = rw c.if-strict.false at c.requires.promise
+
 pub returns : goal.returns
 returns g c =
     elim c.if-strict.branch [

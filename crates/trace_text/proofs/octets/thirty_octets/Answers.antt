@@ -1,7 +1,8 @@
 use Rattle.std.proofs.Common.{◌≡◌, length, ap, ◌∙◌, sym, arith}
 use Rattle.std.specs.List.{list_all}
-use Rattle.trace_text.specs.TraceFields.{is_digit, octets_written}
-use Rattle.trace_text.proofs.TraceOctets.{thirty_refused_length, thirty_refused_digits, lost_wide, thirty_wide}
+use Rattle.trace_text.specs.TraceFields.{is_digit}
+use Rattle.trace_text.proofs.TraceOctets.{thirty_refused_length, thirty_refused_digits, lost_wide}
+use Rattle.trace_text.proofs.DigitVectors.{thirty_read}
 use Rattle.trace_text.proofs.octets.thirty_octets.Goals as goal
 
 pub returns-then-are_pairs : goal.returns-then-are_pairs
@@ -18,5 +19,4 @@ returns-then-not-are_digits c =
     sym (thirty_refused_digits digits lost)
 
 pub returns : goal.returns
-returns c =
-    rw c.front.ensures (sym (thirty_wide c.args.digits.now c.octets_of.result c.if-digits-ne60.false (ap octets_written (sym c.wide-text.ensures) ∙ c.octets_of.ensures _ c.values_of.ensures)))
+returns c = sym (thirty_read c.args.digits.now c.wide-text.result c.thirty_of.result c.if-digits-ne60.false c.wide-text.ensures c.thirty_of.ensures)
