@@ -13,8 +13,8 @@ from __future__ import annotations
 
 from dataclasses import dataclass, field, replace
 
-from commands import Refused
-from q931 import (
+from nemzhuul.command_line import Refused
+from nemzhuul.signalling.q931 import (
     ALERTING,
     CALL_PROCEEDING,
     CONNECT,
@@ -29,7 +29,7 @@ from q931 import (
     Message,
     read_message,
 )
-from reading import PLACES, Arrival, Frame, Free, Link, Nail, Seat, Slot, place_of_channel
+from nemzhuul.traces.reading import PLACES, Arrival, Frame, Free, Link, Nail, Seat, Slot, place_of_channel
 
 
 @dataclass(frozen=True)

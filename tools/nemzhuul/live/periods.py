@@ -4,8 +4,8 @@ import os
 import time
 from pathlib import Path
 
-from commands import NAME, say
-from reading import FRAMES_PER_SECOND
+from nemzhuul.command_line import NAME, say
+from nemzhuul.traces.reading import FRAMES_PER_SECOND
 
 LATE = 0.1  # seconds from which on it is said
 SAID = 1  # seconds between two times

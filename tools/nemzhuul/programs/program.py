@@ -8,10 +8,10 @@ import tempfile
 import time
 from pathlib import Path
 
-from commands import NAME, Refused, say
-from reading import METER, MOST_BYTES, MOST_EVENTS, reply
+from nemzhuul.command_line import NAME, Refused, say
+from nemzhuul.traces.reading import METER, MOST_BYTES, MOST_EVENTS, reply
 
-TOP = Path(__file__).resolve().parent.parent
+TOP = Path(__file__).resolve().parents[3]
 PROGRAM = TOP / "crates" / "tst" / "out" / "tst"  # proved
 UNPROVED = TOP / "tools" / "out" / "tst"
 BUILD_SECONDS = 10  # between two lines on how long a build takes

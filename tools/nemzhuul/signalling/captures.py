@@ -8,8 +8,8 @@ from dataclasses import dataclass
 from fractions import Fraction
 from pathlib import Path
 
-from commands import Refused, watched
-from reading import FRAMES_PER_SECOND
+from nemzhuul.command_line import Refused, watched
+from nemzhuul.traces.reading import FRAMES_PER_SECOND
 
 MAGIC = 0xA1B2C3D4  # of a pcap file with microseconds, in the order of octets that its writer uses
 NANOSECONDS = 0xA1B23C4D  # of one with nanoseconds

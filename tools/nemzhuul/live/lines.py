@@ -10,10 +10,10 @@ import select
 import socket
 from collections import deque
 
-from commands import NAME, Refused, say
-from lapd import FCS, MOST_FRAME, check_sequence
-from live import FRAMES, IDLE_ROW, LONGEST_LINE, MESSAGE, NO_FRAMES, PIECE, without_delay
-from q931 import RESTART, restart_indicator, written
+from nemzhuul.command_line import NAME, Refused, say
+from nemzhuul.signalling.lapd import FCS, MOST_FRAME, check_sequence
+from nemzhuul.live.wire import FRAMES, IDLE_ROW, LONGEST_LINE, MESSAGE, NO_FRAMES, PIECE, without_delay
+from nemzhuul.signalling.q931 import RESTART, restart_indicator, written
 
 AHEAD = 8_000  # frames and messages in a queue from which on its endpoint is not read
 MOST_UNREAD = 1 << 23  # octets that an endpoint may leave unread: 16 seconds of frames

@@ -9,7 +9,7 @@ import re
 from dataclasses import dataclass
 from pathlib import Path
 
-from commands import Refused, say, watched
+from nemzhuul.command_line import Refused, say, watched
 
 IDLE = 0xD5
 PLACES = 30

@@ -5,9 +5,9 @@ import struct
 import sys
 from pathlib import Path
 
-from alaw import octet_of
-from commands import Refused
-from reading import FRAMES_PER_SECOND
+from nemzhuul.sound.alaw import octet_of
+from nemzhuul.command_line import Refused
+from nemzhuul.traces.reading import FRAMES_PER_SECOND
 
 LINEAR = 1  # the format tags
 A_LAW = 6

@@ -9,8 +9,8 @@ from __future__ import annotations
 
 from dataclasses import dataclass
 
-from commands import Refused
-from q931 import (
+from nemzhuul.command_line import Refused
+from nemzhuul.signalling.q931 import (
     ALERTING,
     CALL_PROCEEDING,
     CALLED_PARTY_NUMBER,

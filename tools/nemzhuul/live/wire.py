@@ -12,8 +12,8 @@ import socket
 import time
 from dataclasses import dataclass
 
-from commands import Refused
-from reading import FRAME_DIGITS, IDLE, MOST_MESSAGE_DIGITS, PLACES
+from nemzhuul.command_line import Refused
+from nemzhuul.traces.reading import FRAME_DIGITS, IDLE, MOST_MESSAGE_DIGITS, PLACES
 
 IDLE_ROW = b"%02X" % IDLE * PLACES
 FRAMES = re.compile(rb"(?:F [0-9A-Fa-f]{%d}\n)+" % FRAME_DIGITS)

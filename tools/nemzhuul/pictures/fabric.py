@@ -9,7 +9,7 @@ from __future__ import annotations
 
 from dataclasses import dataclass
 
-from reading import PLACES, place_of_channel
+from nemzhuul.traces.reading import PLACES, place_of_channel
 
 SLOTS, STRICT_SLOTS = 30, 59  # internal slots of a line
 

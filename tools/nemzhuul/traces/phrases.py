@@ -8,8 +8,8 @@ from __future__ import annotations
 
 import re
 
-from commands import Refused
-from reading import NUMERAL, USUAL_TIMERS, place_of_channel
+from nemzhuul.command_line import Refused
+from nemzhuul.traces.reading import NUMERAL, USUAL_TIMERS, place_of_channel
 
 CAPITALS = re.compile(r"[A-Z]+")
 SPELLINGS = {

@@ -6,7 +6,7 @@ import selectors
 import subprocess
 import time
 
-from live import PIECE
+from nemzhuul.live.wire import PIECE
 
 FINISH_SECONDS = 30  # that the exchange has for its last replies
 

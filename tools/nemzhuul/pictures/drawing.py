@@ -10,12 +10,12 @@ from dataclasses import dataclass, field
 from html import escape
 from math import log2
 
-from alaw import value_of
-from fabric import end_of
-from following import Use
-from ladders import frames_text
-from q931 import message_text
-from reading import PLACES, Arrival, Frame, Free, Link, Nail, Slot
+from nemzhuul.sound.alaw import value_of
+from nemzhuul.pictures.fabric import end_of
+from nemzhuul.traces.following import Use
+from nemzhuul.pictures.ladders import frames_text
+from nemzhuul.signalling.q931 import message_text
+from nemzhuul.traces.reading import PLACES, Arrival, Frame, Free, Link, Nail, Slot
 
 COLUMN, WIDER = 18, 9  # the width of a column, and how much wider it is with twice the frames
 MOST_COLUMNS = 2000

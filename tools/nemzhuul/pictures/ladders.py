@@ -1,6 +1,6 @@
 """What a ladder of a call says: its title, its ends, and each message in words."""
 
-from q931 import cause_text, contents_text, printable
+from nemzhuul.signalling.q931 import cause_text, contents_text, printable
 
 
 def title(call, run):

@@ -6,7 +6,7 @@ caller gives. The messages that it gets, the frames that it sends and what it in
 
 from __future__ import annotations
 
-from lapd import INVALID, MODULUS, SUPERVISORY, LinkFrame, read_frame, written_frame
+from nemzhuul.signalling.lapd import INVALID, MODULUS, SUPERVISORY, LinkFrame, read_frame, written_frame
 
 WINDOW = 7  # k: sent I frames that are not acknowledged
 MOST_RETRIES = 3  # N200

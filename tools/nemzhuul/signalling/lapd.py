@@ -8,7 +8,7 @@ from __future__ import annotations
 
 from dataclasses import dataclass
 
-from q931 import message_text
+from nemzhuul.signalling.q931 import message_text
 
 MOST_INFORMATION = 260  # N201: octets of the information field of an I frame
 MOST_FRAME = 4 + MOST_INFORMATION + 1  # octets of a frame that a trace takes: one more than an I frame has

@@ -1,0 +1,319 @@
+"""Runs the exchange live: endpoints attach to its lines over sockets, and a clock makes its frames.
+
+It is not proved, and neither is the clock. `tst follow`, which is, reads the lines of a trace from it and writes their
+report to it. All that happens is in the log, and a run of `tst follow` over the log writes the same report.
+"""
+
+import signal
+import socket
+from collections import deque
+
+from nemzhuul.signalling.captures import CaptureWriter
+from nemzhuul.command_line import NAME, Refused, WrongWords, say
+from nemzhuul.signalling.lapd import frame_text
+from nemzhuul.live.lines import SHUT_DOWN, DChannel, Line
+from nemzhuul.live.wire import read_address
+from nemzhuul.live.periods import Use
+from nemzhuul.live.processes import Exchange, Loop
+from nemzhuul.programs.program import program_at
+from nemzhuul.signalling.q931 import SETUP, message_text
+from nemzhuul.traces.reading import FRAMES_PER_SECOND, NUMERAL, Arrival, Frame, Link, LinkArrival, TraceReader, is_said, lines_of, take_lines
+
+USAGE = """usage: tools/attach [OPTION ..] [--line L ADDRESS ..] [--link L ADDRESS ..] SETTINGS
+runs the exchange that the file SETTINGS begins (a trace without messages and frames), 8000 frames a second. One
+endpoint at a time attaches to each line with an ADDRESS: unix:PATH or tcp:HOST:PORT. It ends at an interrupt.
+    --link L unix:PATH  gives line L a data link (LAPD), whose frames are datagrams of a SOCK_SEQPACKET socket, each
+                     with two octets of check sequence at its end
+    --burst MS       makes the frames of this time at once, 1 to 1000 ms (20)
+    --log FILE       writes the trace of all that happens, which `tst follow <FILE` runs again
+    --report FILE    writes the report
+    --pcap FILE      writes a capture of the messages, for Wireshark
+    --seconds N      ends after this time
+    --strict         runs the fabric on which no path moves
+    --program FILE   runs this exchange (crates/tst/out/tst)
+An endpoint sends and gets lines: `M HEX`, a message, and `F HEX`, the octets of a frame. It gets frames from its first
+`F HEX` or `F none` on. With --line and --link, a line has its frames at the one socket and its messages at the other.
+Signal USR1 prints how much of its time the exchange has used so far."""
+
+
+class Options:
+    """The options of the command, and the settings with which its trace begins."""
+
+    def __init__(self, words):
+        self.addresses = {}  # of the endpoints, by line
+        self.links = {}  # of the data links
+        self.frames = FRAMES_PER_SECOND // 50  # of a burst
+        self.seconds = None
+        self.files = {"log": None, "report": None, "pcap": None, "program": None}
+        self.flags = []
+        words = list(words)
+        while words and words[0].startswith("--"):
+            self.option(words.pop(0)[2:], words)
+        if len(words) != 1 or not (self.addresses or self.links):
+            raise WrongWords
+        self.settings = self.read_settings(words[0])
+
+    def option(self, name, words):
+        values = {"line": 2, "link": 2, "strict": 0}.get(name, 1)
+        if len(words) <= values:
+            raise WrongWords
+        given = [words.pop(0) for _ in range(values)]
+        if name in ("line", "link"):
+            self.address(*given, self.addresses if name == "line" else self.links)
+        elif name == "strict":
+            self.flags = ["--strict"]
+        elif name == "burst":
+            self.frames = int_of(*given, 1, 1000) * FRAMES_PER_SECOND // 1000
+        elif name == "seconds":
+            self.seconds = int_of(*given, 1, 999_999_999)
+        elif name in self.files:
+            (self.files[name],) = given
+        else:
+            raise WrongWords
+
+    def address(self, line, word, addresses):
+        if int_of(line, 0, 31) in addresses:
+            raise Refused(f"line {line} has two addresses")
+        address = addresses[int(line)] = read_address(word)
+        if addresses is self.links and address.path is None:
+            raise Refused(f"{word} is no address of a data link: it is unix:PATH")
+
+    def read_settings(self, path):
+        """The lines of a trace in which no message and no frame arrives."""
+        reader = TraceReader(is_followed=True)
+        lines = lines_of(path)
+        refusal = take_lines(reader, lines)
+        if refusal:
+            raise Refused("{} is no trace: line {}, {}".format(path, *refusal))
+        if any(isinstance(event, (Arrival, LinkArrival, Frame)) for event in reader.events) or reader.changes:
+            raise Refused(f"{path} has messages, frames or changes of meters: endpoints send them")
+        for line in (*self.addresses, *self.links):
+            if line >= reader.sizes[0]:
+                raise Refused(f"{path} has no line {line}: it has lines 0 to {reader.sizes[0] - 1}")
+        for event in reader.events:
+            if isinstance(event, Link) and event.line in self.links:
+                raise Refused(f"{path} has a line `up` or `down` for line {event.line}, whose data link is attached")
+        self.linked = {*reader.linked, *self.links}
+        self.events = len(reader.events)
+        header = next(at for at, line in enumerate(lines, start=1) if is_said(line))
+        lines[header:header] = [f"link {line}" for line in self.links if line not in reader.linked]
+        return "".join(f"{line}\n" for line in lines).encode("latin-1")
+
+
+def int_of(word, least, most):
+    if not NUMERAL.fullmatch(word) or not least <= int(word) <= most:
+        raise WrongWords
+    return int(word)
+
+
+class Live:
+    """An exchange that runs by the clock, with its lines."""
+
+    def __init__(self, options):
+        self.options = options
+        self.log, report, self.capture = (Output(options.files[name]) for name in ("log", "report", "pcap"))
+        self.packets = CaptureWriter(options.linked)
+        self.given = self.replied = 0  # events
+        self.frame = 0  # the number of the next frame in the report
+        self.asked = deque()  # messages and frames of data links without replies so far: their lines and digits
+        self.refusal = ""
+        self.use = Use(options.frames)
+        self.loop = Loop()
+        words = [program_at(options.files["program"]), "follow", *options.flags]
+        self.exchange = Exchange(words, self.loop, self.take, report)
+        self.lines = {}
+        self.channels = {}  # the D channels of data links
+
+    def start(self):
+        """Gives the exchange its settings, and opens its lines."""
+        self.interrupts = self.catch_interrupts()
+        self.capture.write(self.packets.HEADER)
+        self.give(self.options.settings, self.options.events)
+        for number, address in self.options.addresses.items():
+            self.lines[number] = Line(number, address, self.loop, number in self.options.linked)
+            self.lines[number].open()
+        for number, address in self.options.links.items():
+            self.channels[number] = DChannel(number, address, self.loop)
+            self.channels[number].open()
+
+    def run(self):
+        """Makes frames by the clock until an interrupt, the end of the exchange, or the end of its time."""
+        self.use.begin(self.exchange.process.pid)
+        while not (self.interrupts or self.exchange.has_ended or self.use.has_passed(self.options.seconds)):
+            waits = self.replied < self.given
+            left = self.use.left()
+            if waits or left > 0:
+                self.loop.wait(1 if waits else left)
+            else:
+                self.burst()
+
+    def catch_interrupts(self):
+        """A list to which each interrupt is appended; it also ends a wait."""
+        came = []
+        reader, writer = socket.socketpair()
+        writer.setblocking(False)
+        signal.set_wakeup_fd(writer.fileno())
+        self.loop.watch(reader, lambda: reader.recv(64))
+        for number in (signal.SIGINT, signal.SIGTERM):
+            signal.signal(number, lambda *_: came.append(writer))
+        signal.signal(signal.SIGUSR1, lambda *_: say(self.use.text()))
+        return came
+
+    def end(self):
+        """Ends the exchange, and says what was used and taken."""
+        ended = self.exchange.has_ended
+        status = self.exchange.finish()
+        say(self.use.text())
+        for line in self.lines.values():
+            late = f"; the octets of {line.late} frames came late" if line.late else ""
+            line.say(f"{line.messages} messages and {line.frames} frames with octets were taken{late}")
+        for channel in self.channels.values():
+            channel.say(f"{channel.frames} frames of its data link were taken, {channel.cut} cut; {channel.lost} were lost to it")
+        if status is None:
+            raise Refused("the exchange does not end")
+        if ended or status:
+            raise Refused(f"the exchange ended with status {status}: {self.refusal}")
+
+    def close(self):
+        for port in (*self.lines.values(), *self.channels.values()):
+            port.close()
+        self.exchange.kill()
+
+    # ---- to the exchange
+
+    def burst(self):
+        """Gives the exchange the frames of a period, with the messages between them."""
+        self.use.burst()
+        text, left = [], self.use.frames
+        messages = self.link_frames(text)
+        while True:
+            due = [(number, digits) for number, line in self.lines.items() for digits in line.messages_due()]
+            text += [b"M %d %s\n" % message for message in due]
+            self.asked += due
+            messages += len(due)
+            if not left:
+                break
+            count = min([left, *(len(line.queue[0]) for line in self.lines.values() if len(line.queue) > 1)])
+            columns = [[b""] * count, *(line.column(count) for line in self.lines.values())]
+            text.append(b"F" + b"\nF".join(map(b"".join, zip(*columns))) + b"\n")
+            left -= count
+        self.give(b"".join(text), self.use.frames + messages)
+        for port in (*self.lines.values(), *self.channels.values()):
+            port.watch()
+
+    def link_frames(self, text):
+        """Appends the frames of data links that have come, each below a comment. Returns how many they are."""
+        before = len(self.asked)
+        for number, channel in self.channels.items():
+            for octets in channel.frames_due():
+                digits = octets.hex().upper().encode()
+                line = b"L %d %s" % (number, digits)
+                text.append(comment(number, octets, is_sent=False) + b"\n" + line.rstrip() + b"\n")
+                self.asked.append((number, digits))
+        return len(self.asked) - before
+
+    def give(self, text, events):
+        self.log.write(text)
+        self.given += events
+        self.exchange.send(text)
+
+    # ---- from the exchange
+
+    def take(self, text):
+        """Takes whole lines of the report."""
+        listeners = [line for line in self.lines.values() if line.is_listening]
+        for reply in text.replace(b":", b" ").split(b"\n"):
+            words = reply.split(b" ")
+            word = words[1:2]
+            self.replied += 1
+            if word == [b"frame"]:
+                self.frame += 1
+                first = self.take_sends(words)
+                octets = dict(zip(words[first::2], words[first + 1 :: 2]))
+                for line in listeners:
+                    line.hear(octets.get(line.key))
+            elif word == [b"message"]:
+                self.take_message(words[2:])
+            elif word == [b"link"]:
+                told = words[2:3] and words[2] in (b"took", b"up", b"down")
+                self.take_message(words[3:] if told else words[2:])
+            elif words[0] == b"refused":
+                self.refusal = reply.decode("latin-1")
+        for line in self.lines.values():
+            line.send()
+        if self.replied == self.given:
+            self.use.replied()
+
+    def take_sends(self, words):
+        """Takes what is sent at the start of a frame of the exchange. Returns where the octets begin."""
+        at = 3
+        while words[at : at + 1] and words[at] in (b"send", b"up", b"down"):
+            if words[at] == b"send":
+                self.deliver(*words[at + 1 : at + 3])
+            at += 3 if words[at] == b"send" else 2
+        return at
+
+    def take_message(self, sent):
+        """Takes the reply to a message, or to a frame of a data link: the lines and the digits of what is sent."""
+        number, digits = self.asked.popleft()
+        self.capture.write(self.packets.packet(self.frame, number, False, bytes.fromhex(digits.decode())))
+        for at in range(3 if sent[:1] == [b"moved"] else 0, len(sent), 2):
+            self.deliver(*sent[at : at + 2])
+        if digits is SHUT_DOWN:
+            self.lines[number].open()
+
+    def deliver(self, key, digits):
+        octets = bytes.fromhex(digits.decode())
+        number = int(key)
+        self.capture.write(self.packets.packet(self.frame, number, True, octets))
+        line = self.lines.get(number)
+        if number in self.options.linked:
+            self.deliver_frame(number, octets)
+        elif line is not None and line.endpoint is not None:
+            line.due.append(b"M " + digits)
+        elif octets[4] == SETUP:
+            say(f"{NAME}: line {number}: no endpoint gets {message_text(octets)}")
+
+    def deliver_frame(self, number, octets):
+        """Sends a frame of a data link, which is lost if nothing is attached."""
+        self.log.write(comment(number, octets, is_sent=True) + b"\n")
+        if number in self.channels:
+            self.channels[number].send(octets)
+
+
+def comment(number, octets, is_sent):
+    """A comment of the log on a frame of a data link."""
+    return f"# line {number} {'gets' if is_sent else 'sends'} {frame_text(octets, not is_sent)}".encode("ascii", "backslashreplace")
+
+
+class Output:
+    """A file that is written while the exchange runs; without a path nothing is written."""
+
+    def __init__(self, path):
+        self.path = path
+        try:
+            self.file = None if path is None else open(path, "wb", buffering=0)
+        except OSError as error:
+            raise self.refused(error) from None
+
+    def refused(self, error):
+        return Refused(f"{self.path} cannot be written: {error.strerror}")
+
+    def write(self, text):
+        left = memoryview(text if self.file else b"")
+        try:
+            while left:
+                left = left[self.file.write(left) :]
+        except OSError as error:
+            raise self.refused(error) from None
+
+
+def main(*words):
+    live = Live(Options(words))
+    try:
+        live.start()
+        live.run()
+        live.end()
+    finally:
+        live.close()
+    return ""

@@ -1,0 +1,340 @@
+"""An endpoint on a line of a running exchange: it calls, answers, speaks and records as the lines of a script say."""
+
+import functools
+import os
+import select
+from pathlib import Path
+
+from nemzhuul.command_line import Refused, WrongWords, write_file, write_output
+from nemzhuul.signalling.endpoints import CALLS, CLEARS, DIALS, IS_CALLED, PROCEEDS, RELEASES, STANDING, TALKS, UNANSWERED, Endpoints
+from nemzhuul.live.wire import FRAMES, PIECE, frames_text, octets_of, read_address
+from nemzhuul.traces.phrases import Phrases, Values
+from nemzhuul.programs.program import TEXT
+from nemzhuul.signalling.q931 import cause_text, message_text, read_message
+from nemzhuul.traces.reading import FRAMES_PER_SECOND, IDLE, PLACES, place_of_channel
+from nemzhuul.sound.wave import a_law_wave, read_sound
+
+USAGE = """usage: tools/endpoint ADDRESS [SCRIPT]
+attaches to the line of tools/attach at ADDRESS, unix:PATH or tcp:HOST:PORT, and does in turn what each line of the file
+SCRIPT, or of standard input, says. `channel C` may be in front of any of them:
+    calls DIGITS [as DIGITS]                  hangs up [with CAUSE]
+    begins to dial                            dials DIGITS [to the end]
+    proceeds, alerts, answers                 rejects [with CAUSE]
+    asks for its state, restarts              sends HEX
+    speaks from WAV, is silent                records to WAV, stops recording
+    is called, is answered, is cleared        (it waits until that is so)
+    N frames pass                             frames pass until the sounds end
+It waits too if there is no call to do it with yet. It prints each message. A recording ends with its call. A sound has
+8,000 samples a second of A-law or 16 bits, and a recording is A-law; both are looked for beside SCRIPT."""
+
+LEAD = FRAMES_PER_SECOND // 5  # frames that are sent before their time, so that this process may be late
+NORMAL_CLEARING = 16
+REJECTED = 21
+
+
+def main(*words):
+    if len(words) not in (1, 2) or words[0].startswith("-"):
+        raise WrongWords
+    address, *script = words
+    endpoint = Endpoint(read_address(address), *script)
+    try:
+        endpoint.run()
+    finally:
+        endpoint.save(list(endpoint.recordings))
+    return ""
+
+
+class OneLine(Values):
+    """The values of phrases on the only line that the endpoint has."""
+
+    def __init__(self, line):
+        super().__init__(line + 1)
+        self.own = line
+
+    def line(self, word):
+        if int(word) != self.own:
+            raise Refused(f"this is the endpoint of line {self.own}")
+        return self.own
+
+
+class Endpoint:
+    """The endpoint of a line, with its calls, its sounds and its recordings."""
+
+    def __init__(self, address, script=None):
+        self.name = script or "standard input"
+        self.folder = Path(script).parent if script else Path()
+        self.script = os.open(script, os.O_RDONLY) if script else 0
+        self.connection = address.connected()
+        self.connection.setblocking(False)
+        self.unsent = bytearray()
+        self.begun = b""
+        self.line = None  # its number, once the exchange has said it
+        self.calls_of_line = Endpoints()
+        self.cause = None  # the last one that the exchange sent
+        self.gets_frames = False
+        self.heard = 0  # frames
+        self.lead = 0  # frames that were sent before their time
+        self.sounds = {}  # by place, the octets that are still to be sent
+        self.read_sound = functools.lru_cache(read_sound)
+        self.recordings = {}  # by place, the file, the octets so far, and whether a call has the place
+
+    def run(self):
+        phrases = Phrases(ACTS)
+        self.wait(lambda: self.line is not None)
+        for number, text in enumerate(self.texts(), start=1):
+            try:
+                self.take(phrases, text)
+            except Refused as refusal:
+                raise Refused(f"{self.name}: line {number}: {refusal}") from None
+            except OSError as error:
+                raise Refused(f"{self.name}: line {number}: {error.filename} cannot be read: {error.strerror}") from None
+        self.wait(lambda: not (self.unsent or self.legs(self.line, (CLEARS, RELEASES))))
+
+    def texts(self):
+        """The lines of the script, as they come. The line of the exchange is served meanwhile."""
+        begun = b""
+        while True:
+            self.wait(lambda: False, self.script)
+            text = os.read(self.script, PIECE)
+            *whole, begun = (begun + text).split(b"\n")
+            if not text and begun:
+                whole.append(begun)
+            yield from (line.decode(*TEXT) for line in whole)
+            if not text:
+                return
+
+    def take(self, phrases, text):
+        words = text.split()
+        if not words or words[0].startswith("#"):
+            return
+        self.say("# " + " ".join(words))
+        if words[0] not in ("line", "frames") and not words[0][0].isdecimal():
+            words = ["line", str(self.line), *words]
+        act, pairs = phrases.read(words)
+        act(self, *OneLine(self.line).read(pairs))
+
+    @staticmethod
+    def say(text):
+        write_output(f"{text}\n")
+
+    # ---- the socket
+
+    def wait(self, is_met, other=None):
+        """Serves the line until a condition is met, or until there is something to read at another end."""
+        while not is_met():
+            reads = [self.connection] if other is None else [self.connection, other]
+            ready, writable, _ = select.select(reads, [self.connection] if self.unsent else [], [])
+            if writable:
+                self.send(b"")
+            if self.connection in ready:
+                self.receive()
+            if other is not None and other in ready:
+                return
+
+    def send(self, text):
+        self.unsent += text
+        try:
+            del self.unsent[: self.connection.send(self.unsent)]
+        except BlockingIOError:
+            pass
+        except OSError:  # what was received says why
+            self.receive()
+
+    def receive(self):
+        try:
+            text = self.connection.recv(PIECE)
+        except BlockingIOError:
+            return
+        except OSError:
+            text = b""
+        if not text:
+            raise Refused("the exchange has closed the line")
+        whole, end, self.begun = (self.begun + text).rpartition(b"\n")
+        at, whole = 0, whole + end
+        while at < len(whole):
+            frames = FRAMES.match(whole, at)
+            end = frames.end() if frames else whole.index(b"\n", at) + 1
+            if frames:
+                self.hear(octets_of(frames.group()))
+            else:
+                self.get(whole[at : end - 1].decode())
+            at = end
+
+    def get(self, text):
+        word, _, rest = text.partition(" ")
+        if word == "line":
+            self.line = int(rest)
+        elif word == "refused":
+            raise Refused(f"the exchange has closed the line: {rest}")
+        elif word == "M":
+            self.get_message(bytes.fromhex(rest))
+
+    # ---- messages
+
+    def message(self, octets):
+        self.say(f"line {self.line} sends {message_text(octets)}")
+        self.send(f"M {octets.hex().upper()}\n".encode())
+
+    def get_message(self, octets):
+        self.say(f"line {self.line} gets {message_text(octets)}")
+        self.cause = read_message(octets).cause or self.cause
+        reply = self.calls_of_line.receive(self.line, octets)
+        if reply is not None:
+            self.message(reply)
+        over = [place for place, (_, _, leg) in self.recordings.items() if leg is not None and leg.state != TALKS]
+        self.save(over)
+
+    def legs(self, who, states):
+        _, channel = who if isinstance(who, tuple) else (who, None)
+        return [leg for leg in self.calls_of_line.legs if leg.state in states and channel in (None, leg.channel)]
+
+    def when(self, who, *states):
+        """Waits for a call that is in one of these states."""
+        self.wait(lambda: self.legs(who, states))
+
+    def calls(self, who, digits, caller=None):
+        self.message(self.calls_of_line.call(who, digits, caller))
+
+    def begins_to_dial(self, who):
+        self.message(self.calls_of_line.call(who))
+
+    def dials(self, who, digits, to_the_end=False):
+        self.when(who, DIALS)
+        self.message(self.calls_of_line.dial(who, digits, to_the_end))
+
+    def dials_to_the_end(self, who, digits):
+        self.dials(who, digits, to_the_end=True)
+
+    def is_called(self, who):
+        self.when(who, *UNANSWERED)
+
+    def proceeds(self, who):
+        self.when(who, IS_CALLED)
+        self.message(self.calls_of_line.proceed(who))
+
+    def alerts(self, who):
+        self.when(who, IS_CALLED, PROCEEDS)
+        self.message(self.calls_of_line.alert(who))
+
+    def answers(self, who):
+        self.when(who, *UNANSWERED)
+        self.message(self.calls_of_line.answer(who))
+
+    def rejects(self, who, cause=REJECTED):
+        self.when(who, IS_CALLED)
+        self.message(self.calls_of_line.reject(who, cause))
+
+    def is_answered(self, who):
+        self.wait(lambda: self.legs(who, (TALKS,)) or not self.legs(who, (CALLS, DIALS)))
+        if not self.legs(who, (TALKS,)):
+            raise Refused("there is no call" + ("" if self.cause is None else f": {cause_text(self.cause)}"))
+
+    def is_cleared(self, who):
+        self.wait(lambda: not self.legs(who, STANDING))
+
+    def hangs_up(self, who, cause=NORMAL_CLEARING):
+        self.message(self.calls_of_line.hang_up(who, cause))
+
+    def asks(self, who):
+        self.message(self.calls_of_line.ask(who))
+
+    def restarts(self, who):
+        self.message(self.calls_of_line.restart(who))
+
+    def sends(self, who, octets):
+        self.message(octets)
+
+    # ---- frames
+
+    def place(self, who):
+        """The place of a channel; without one, it is the channel of the only call that is answered."""
+        if not isinstance(who, tuple):
+            self.when(who, TALKS)
+            who = who, self.calls_of_line.find(who, (TALKS,), "that is answered").channel
+        return place_of_channel(who[1])
+
+    def speaks(self, who, file):
+        sound = self.read_sound(self.folder / file)  # before the call is there, since it takes long
+        self.sounds[self.place(who)] = memoryview(sound)
+        self.speak()
+
+    def is_silent(self, who):
+        self.sounds.pop(self.place(who), None)
+
+    def records(self, who, file):
+        place = self.place(who)
+        leg = next((leg for leg in self.legs(self.line, (TALKS,)) if place_of_channel(leg.channel) == place), None)
+        self.recordings[place] = self.folder / file, bytearray(), leg
+        self.listen()
+
+    def stops(self, who):
+        self.save([self.place(who)])
+
+    def frames_pass(self, count):
+        self.listen()
+        end = self.heard + count
+        self.wait(lambda: self.heard >= end)
+
+    def sounds_end(self):
+        self.wait(lambda: not (self.sounds or self.lead))
+
+    def listen(self):
+        if not self.gets_frames:
+            self.gets_frames = True
+            self.send(b"F none\n")
+
+    def hear(self, octets):
+        """The octets of some frames. As many more may be sent."""
+        count = len(octets) // PLACES
+        self.heard += count
+        for place, (_, recorded, _) in self.recordings.items():
+            recorded += octets[place::PLACES]
+        self.lead = max(0, self.lead - count)
+        self.speak()
+
+    def speak(self):
+        """Sends the next frames of the sounds; after the last one, none."""
+        while self.sounds and self.lead < LEAD:
+            count = min(LEAD - self.lead, max(map(len, self.sounds.values())))
+            octets = bytearray([IDLE]) * (count * PLACES)
+            for place, sound in self.sounds.items():
+                octets[place::PLACES] = bytes(sound[:count]).ljust(count, bytes([IDLE]))
+            self.sounds = {place: sound[count:] for place, sound in self.sounds.items() if len(sound) > count}
+            self.lead += count
+            self.gets_frames = True
+            self.send(frames_text(octets) + (b"" if self.sounds else b"F none\n"))
+
+    def save(self, places):
+        for place in places:
+            file, recorded, _ = self.recordings.pop(place, (None, b"", None))
+            if recorded:
+                write_file(file, a_law_wave([recorded]))
+                self.say(f"line {self.line} recorded {len(recorded)} frames to {file}")
+
+
+ACTS = {
+    "WHO calls DIGITS": Endpoint.calls,
+    "WHO calls DIGITS as DIGITS": Endpoint.calls,
+    "WHO begins to dial": Endpoint.begins_to_dial,
+    "WHO dials DIGITS": Endpoint.dials,
+    "WHO dials DIGITS to the end": Endpoint.dials_to_the_end,
+    "WHO is called": Endpoint.is_called,
+    "WHO proceeds": Endpoint.proceeds,
+    "WHO alerts": Endpoint.alerts,
+    "WHO answers": Endpoint.answers,
+    "WHO rejects": Endpoint.rejects,
+    "WHO rejects with CAUSE": Endpoint.rejects,
+    "WHO is answered": Endpoint.is_answered,
+    "WHO is cleared": Endpoint.is_cleared,
+    "WHO hangs up": Endpoint.hangs_up,
+    "WHO hangs up with CAUSE": Endpoint.hangs_up,
+    "WHO asks for its state": Endpoint.asks,
+    "WHO restarts": Endpoint.restarts,
+    "WHO sends HEX": Endpoint.sends,
+    "WHO speaks from FILE": Endpoint.speaks,
+    "WHO is silent": Endpoint.is_silent,
+    "WHO records to FILE": Endpoint.records,
+    "WHO stops recording": Endpoint.stops,
+    "COUNT frame|frames pass|passes": Endpoint.frames_pass,
+    "frames pass until the sounds end": Endpoint.sounds_end,
+}

@@ -1,0 +1,196 @@
+"""Explains why the exchange refuses a trace or a report: the line, the column, and the likely cause."""
+
+import re
+import shlex
+
+from nemzhuul.command_line import Refused, WrongWords
+from nemzhuul.traces.reading import METER, USUAL_LINK_TIMERS, Frame, TraceReader, lines_of, read_run, reply, take_lines
+
+USAGE = """usage: tools/explain TRACE [REPORT]
+       tools/explain --status [N]
+explains why the exchange refuses TRACE, or which line of REPORT cannot be one: the line, the column and the
+likely cause. With --status it explains an exit status of the exchange, or all of them."""
+
+STATUSES = {
+    0: """the trace was run and its report was written (`run`, `follow`), the summary was written (`gen`), or the report is
+one of the trace (`check`, which writes `valid`).""",
+    1: """the input is not a trace. Standard output has `refused N REASON`: line N is the first that fails. With `follow`
+the report of the lines before it comes first. `tools/explain TRACE` says where and why.""",
+    2: """the arguments are no command. Standard output has `refused words`. The commands are `run [--strict]`,
+`follow [--strict]`, `gen SEED CALLS` with 1 to 2000 calls, and `check [--strict]`.""",
+    3: """reading failed: standard input is closed or is a directory, or the disk reports an error. Nothing is
+written, or with `follow` the report of the whole lines that were read.""",
+    4: """writing failed: standard output is closed, the disk is full, or the program that reads it has ended
+(`.. | head`). What was written is a prefix of the report.""",
+    5: """memory ran out: see `ulimit -v`, or the limit of the container. What was written is a prefix of the report,
+which ends with a segment, or with `follow` with a line.""",
+    6: """the report is not one of the trace (`check`). Standard output has `invalid N`: line N of the report is wrong
+or missing.""",
+}
+
+WINDOW = 72  # how many characters of a line are shown
+
+
+def main(*words):
+    if words[:1] == ("--status",):
+        return statuses(*words[1:])
+    if len(words) not in (1, 2) or words[0].startswith("-"):
+        raise WrongWords
+    texts = [explain_trace(words[0])]
+    if len(words) == 2:
+        texts.append(explain_report(*words))
+    return "".join(texts)
+
+
+def statuses(*words):
+    """The text of an exit status, or of all."""
+    if not words:
+        return "".join(f"{number}: {text}\n" for number, text in STATUSES.items())
+    if len(words) > 1 or not re.fullmatch("[0-9]{1,3}", words[0]):
+        raise WrongWords
+    number = int(words[0])
+    if number > 128:
+        return f"{number}: signal {number - 128} ended the program; 137 often means that the machine's memory ran out.\n"
+    return f"{number}: {STATUSES.get(number, 'the program never ends so: the shell did not find it, or could not start it.')}\n"
+
+
+# ---- traces
+
+
+def explain_trace(path):
+    lines = lines_of(path)
+    if "report" in lines:  # an input of `check`
+        lines = lines[: lines.index("report")]
+    reader = TraceReader()
+    refusal = take_lines(reader, lines)
+    if refusal is None:
+        return summary(path, reader)
+    number, fault = refusal
+    line = lines[number - 1] if number <= len(lines) else ""
+    head = f"{path} is no trace: the exchange writes `refused {number} {fault}` and ends with status 1\n"
+    return head + (octet_text(path, number, line) or word_text(number, line, fault))
+
+
+def summary(path, reader):
+    lines, bridges, processors = reader.sizes
+    frames = sum(isinstance(event, Frame) for event in reader.events)
+    said = [f"{lines} lines", f"{bridges} bridges", f"{processors} processors", f"{len(reader.numbers)} numbers"]
+    said.append(f"{len(reader.events)} events, {frames} of them frames")
+    return f"{path} is a trace: {', '.join(said)}\n"
+
+
+def octet_text(path, number, line):
+    """What is said of an octet that no line of a trace or a report has; nothing where there is none."""
+    out = f"<{shlex.quote(path)} >good"
+    causes = (
+        ("\xef\xbb\xbf", "the file begins with a byte order mark, as some editors write it", f"tail -c +4 {out}"),
+        ("\xff\xfe|\xfe\xff|\0", "the file is in UTF-16", f"iconv -f UTF-16 -t ASCII {out}"),
+        ("\r$", "the line ends with a carriage return, as on Windows", f"tr -d '\\r' {out}"),
+        ("\t", "there is a tab, and only spaces part words", f"tr '\\t' ' ' {out}"),
+        ("\xc2\xa0", "there is a no-break space, as word processors write it", f"sed 's/\\xc2\\xa0/ /g' {out}"),
+    )
+    for pattern, said, remedy in causes:
+        if match := re.search(pattern, line):
+            return place(number, line, match.start(), said) + f"remedy: {remedy}\n"
+    if match := re.search("[^ -~]+", line):
+        octets = match.group().encode("latin-1")
+        said = f"{octets.decode(errors='replace')!r} is no text of ASCII"
+        return place(number, line, match.start(), said)
+    return ""
+
+
+def word_text(number, line, fault):
+    """What is said of the word that fails, and where it may come from."""
+    starts = [match.start() for match in re.finditer("[^ ]+", line)]
+    words = line.split()
+    at = starts[fault.word] if fault.word < len(starts) else len(line)
+    word = words[fault.word] if fault.word < len(words) else ""
+    return place(number, line, at, fault.said) + likely(word_cause(fault, word, words))
+
+
+def word_cause(fault, word, words):
+    """Where a word comes from that is none, or nothing."""
+    reason = str(fault)
+    if reason == "header":
+        return header_cause(words)
+    if reason == "hex" or reason == "length":
+        return digits_cause(word.rpartition(":")[2])
+    if reason == "word" and fault.word == 0 and reply(" ".join(words)):
+        return "this is a line of a report, and not of a trace"
+    if reason == "word" and word in ("link", "L", *USUAL_LINK_TIMERS):
+        return "only `tst follow` takes data links"
+    if reason == "word" and fault.word == 0:
+        known = {name.lower(): name for name in TraceReader().kinds}
+        return f"the word is `{known[word.lower()]}`" if word.lower() in known else ""
+    if reason == "word" and words[:1] == ["M"]:
+        return "the octets of a message are written without spaces between them"
+    if re.fullmatch("0[0-9]+", word) and reason != "prefix":
+        return "a number has no leading zero"
+    if reason == "slot" and re.search("/(0|16)$", word):
+        return "channel 0 carries the framing of a primary rate line, and channel 16 its signalling"
+    return ""
+
+
+def header_cause(words):
+    if re.fullmatch("exchange [0-9]+ lines?", " ".join(words[:3])):
+        return "this is a script: `tools/script FILE >TRACE` writes its trace"
+    if words and reply(" ".join(words)):
+        return "this is a report; the trace is another file"
+    return ""
+
+
+def digits_cause(digits):
+    if digits.lower().startswith("0x"):
+        return "the octets have no 0x in front"
+    wrong = [digit for digit in digits if digit in "OoIl"]
+    return f"the letter {wrong[0]} is written for a digit" if wrong else ""
+
+
+# ---- reports
+
+
+def explain_report(trace, path):
+    lines = lines_of(path)
+    for number, line in enumerate(lines, start=1):
+        if reply(line) is None and not METER.fullmatch(line):
+            return f"{path} is no report\n" + (octet_text(path, number, line) or report_text(number, line))
+    try:
+        read_run(trace, path)
+    except Refused as refusal:
+        return f"{refusal}\n"
+    return f"{path} has a line for each event of {trace}; `tst check` finds out whether it is its report\n"
+
+
+def report_text(number, line):
+    """What is said of a line that no report has."""
+    causes = (
+        ("^refused ()", "this is the report of a refusal"),
+        (":[0-9A-F]*([a-f])", "octets of a report are upper-case digits"),
+        ("(^ | {2,}| $)", "there is one space between two words, and none before or after them"),
+        (r"\b(0[0-9]+)\b(?!:)", "a number has no leading zero"),
+    )
+    for pattern, said in causes:
+        if match := re.search(pattern, line):
+            return place(number, line, match.start(1), said)
+    return place(number, line, 0, "no line of a report is so written")
+
+
+# ---- the text
+
+
+def likely(cause):
+    return f"likely cause: {cause}\n" if cause else ""
+
+
+def place(number, line, at, said):
+    """A line with a mark under the column, which counts from 1; of a long line the part around it."""
+    first = max(0, at - WINDOW // 2)
+    before, rest = printed(line[first:at]), printed(line[at : first + WINDOW])
+    dots = "..." if first else ""
+    text = f"{dots}{before}{rest}" + ("..." if len(line) > first + WINDOW else "")
+    return f"line {number}, column {at + 1}: {said}\n    {text}\n    {' ' * len(dots + before)}^\n"
+
+
+def printed(text):
+    """The text with each octet that is not printable as an escape."""
+    return "".join(c if " " <= c <= "~" else c.encode("unicode_escape").decode() for c in text)

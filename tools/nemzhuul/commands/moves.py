@@ -1,0 +1,119 @@
+"""Plots a run: the taken slots after each event, and the paths that were moved for it.
+
+The events are in the order of the report. A slot is taken while a nail, a seat or a leg of a call
+has it. Where there are more events than columns, a column shows the most taken slots of its events,
+and the sum of their moved paths.
+"""
+
+from nemzhuul.command_line import WrongWords
+from nemzhuul.traces.following import Run
+from nemzhuul.traces.reading import PLACES, read_run
+
+USAGE = """usage: tools/moves [--svg] TRACE REPORT
+plots the taken slots and the moved paths of the run, event by event, as text or as SVG"""
+
+TEXT_COLUMNS = 72
+TEXT_ROWS = 10
+
+SVG_COLUMNS = 720
+SVG_PANEL = 140  # the height of a panel
+SVG_LEFT = 60
+SVG_TOP = 40
+SVG_GAP = 60
+
+
+def main(*words):
+    as_svg = words[:1] == ("--svg",)
+    files = words[1:] if as_svg else words
+    if len(files) != 2 or any(word.startswith("-") for word in files):
+        raise WrongWords
+    trace, steps = read_run(*files)
+    taken, moved = counts(steps, trace)
+    most = trace.external * PLACES
+    panels = [
+        (f"taken slots: at most {max(taken, default=0)} of {most}", taken, max),
+        (f"moved paths: {sum(moved)} in all, at most {max(moved, default=0)} for an event", moved, sum),
+    ]
+    return svg(panels, len(steps)) if as_svg else text(panels, len(steps))
+
+
+def counts(steps, trace):
+    """After each event, how many slots are taken; and how many paths were moved for it."""
+    run = Run(trace)
+    taken, moved = [], []
+    for event, reply in steps:
+        run.take(event, reply)
+        taken.append(len(run.uses))
+        moved.append(sum(reply.moved or ()))
+    return taken, moved
+
+
+def columns(values, most, join):
+    """The values, or as many columns as there may be, each with what joins those that fall in it."""
+    width = min(len(values), most)
+    bounds = [len(values) * at // width for at in range(width + 1)] if width else [0]
+    return [join(values[start:end]) for start, end in zip(bounds, bounds[1:])]
+
+
+# ---- text
+
+
+def text(panels, events):
+    parts = [panel_text(title, columns(values, TEXT_COLUMNS, join)) for title, values, join in panels]
+    return "\n".join(parts) + f"\n{'':6}{foot(events, TEXT_COLUMNS)}\n"
+
+
+def foot(events, most):
+    if events == 0:
+        return "no events"
+    said = f"events 1 to {events}, in the order of the report"
+    return f"{said}; some {events / most:.1f} events to a column" if events > most else said
+
+
+def panel_text(title, heights):
+    top = max(heights, default=0)
+    rows = min(top, TEXT_ROWS)
+    lines = [f"{'':6}{title}"]
+    for row in range(rows, 0, -1):
+        # A row is full in a column that reaches its lower end.
+        bound = top * (row - 1) // rows
+        label = str(-(-top * row // rows))
+        bars = "".join("#" if height > bound else " " for height in heights)
+        lines.append(f"{label:>5}|{bars}".rstrip())
+    lines.append(f"{0:>5}+{'-' * len(heights)}")
+    return "\n".join(lines) + "\n"
+
+
+# ---- SVG
+
+
+def svg(panels, events):
+    height = SVG_TOP + 2 * (SVG_PANEL + SVG_GAP)
+    width = SVG_LEFT + SVG_COLUMNS + 20
+    parts = [
+        f'<svg xmlns="http://www.w3.org/2000/svg" viewBox="0 0 {width} {height}"'
+        f' width="{width}" height="{height}" font-family="DejaVu Sans, Arial, sans-serif" font-size="13">',
+        f'<rect width="{width}" height="{height}" fill="white"/>',
+    ]
+    colours = ("#2b6cb0", "#c05621")
+    for at, ((title, values, join), colour) in enumerate(zip(panels, colours)):
+        top = SVG_TOP + at * (SVG_PANEL + SVG_GAP)
+        parts += panel_svg(title, columns(values, SVG_COLUMNS, join), top, colour)
+    parts.append(f'<text x="{SVG_LEFT}" y="{height - 20}">{foot(events, SVG_COLUMNS)}</text>')
+    return "\n".join(parts) + "\n</svg>\n"
+
+
+def panel_svg(title, heights, top, colour):
+    most = max(heights, default=0)
+    bottom = top + SVG_PANEL
+    yield f'<text x="{SVG_LEFT}" y="{top - 10}">{title}</text>'
+    yield f'<path d="M{SVG_LEFT} {top}V{bottom}H{SVG_LEFT + SVG_COLUMNS}" fill="none" stroke="black"/>'
+    yield f'<text x="{SVG_LEFT - 8}" y="{bottom + 4}" text-anchor="end">0</text>'
+    if most == 0:
+        return
+    yield f'<text x="{SVG_LEFT - 8}" y="{top + 4}" text-anchor="end">{most}</text>'
+    step = SVG_COLUMNS / len(heights)
+    outline = [f"M{SVG_LEFT} {bottom}"]
+    for at, height in enumerate(heights):
+        outline.append(f"V{bottom - SVG_PANEL * height / most:.1f}H{SVG_LEFT + (at + 1) * step:.1f}")
+    yield f'<path d="{"".join(outline)}V{bottom}Z" fill="{colour}"/>'

@@ -1,0 +1,48 @@
+"""Writes a trace with data links as a trace without them, which has the same calls, octets and call records.
+
+A received frame is the message that the data link takes from it, or the change that it makes of the link, or nothing. Both
+are in the report. Each event is a segment of its own, so the processors of the exchange cannot change the order.
+"""
+
+from nemzhuul.command_line import WrongWords
+from nemzhuul.signalling.lapd import read_frame
+from nemzhuul.traces.reading import USUAL_LINK_TIMERS, is_said, lines_of, read_run
+
+USAGE = """usage: tools/plain TRACE REPORT >TRACE
+writes the trace without data links, for `tst run` and the other tools. A frame that arrives becomes a line `M`, `up` or
+`down`, by REPORT, or is left out"""
+
+
+def main(*words):
+    if len(words) != 2:
+        raise WrongWords
+    trace, steps = read_run(*words, is_followed=True)
+    return "".join(f"{line}\n" for line in plain_lines(lines_of(words[0]), trace, [reply for _, reply in steps]))
+
+
+def plain_lines(lines, trace, replies):
+    """The lines of the trace, where the links are down before the first event."""
+    events = zip(trace.events, replies)
+    starts = [f"down {line}" for line in sorted(trace.linked)]
+    for line in lines:
+        word = (line.split() or [""])[0] if is_said(line) else "#"
+        if word == "link" or word == "timer" and line.split()[1] in USUAL_LINK_TIMERS:
+            continue
+        if word in ("#", "exchange", "number", "tone", "timer", "sync", "change"):
+            yield line
+            continue
+        event, reply = next(events)
+        yield from starts
+        starts = []
+        yield from [line] if word != "L" else received(event, reply)
+        yield from [f"{reply.told} {reply.turned}"] if reply.turned is not None else []
+        yield "sync"
+    yield from starts
+
+
+def received(event, reply):
+    """The line for a frame that a data link received, if the link indicates something."""
+    if reply.told == "took":
+        yield f"M {event.line} {read_frame(event.octets, is_from_user=True).information.hex().upper()}".rstrip()
+    elif reply.told:
+        yield f"{reply.told} {event.line}"

@@ -1,0 +1,24 @@
+"""Runs the exchange: the proved program where it is built, and else an unproved one, which is built once."""
+
+import subprocess
+import sys
+import time
+
+from nemzhuul.command_line import NAME, WrongWords, say
+from nemzhuul.programs.program import UNPROVED, program_at
+
+USAGE = """usage: tools/run COMMAND.. <TRACE >REPORT
+runs the exchange with the arguments of a command: `run`, `follow`, `check`, `gen SEED CALLS`. It runs the
+proved program, crates/tst/out/tst. If that is not built it runs an unproved one, which `rt try` builds once, in
+about two minutes. Standard error says which of the two was run, and how long it took."""
+
+
+def main(*words):
+    if not words:
+        raise WrongWords
+    program = program_at()
+    begun = time.monotonic()
+    status = subprocess.run([program, *words], check=False).returncode
+    kind = "an unproved" if program == UNPROVED else "the proved"
+    say(f"{NAME}: {kind} program ran for {time.monotonic() - begun:.2f} s and ended with status {status}")
+    sys.exit(status)

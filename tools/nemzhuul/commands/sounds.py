@@ -1,0 +1,48 @@
+"""Makes three sounds as WAV files of 16 bits: two notes of a bell, and one that rises."""
+
+from math import exp, pi, sin
+from pathlib import Path
+
+from nemzhuul.command_line import WrongWords, write_file
+from nemzhuul.traces.reading import FRAMES_PER_SECOND
+from nemzhuul.sound.wave import linear_wave
+
+USAGE = """usage: tools/sounds FOLDER [SECONDS]
+makes three sounds in a folder, of one second or of SECONDS (0.02 to 8): low.wav, a note of 262 hertz; high.wav,
+a note of 392 hertz; and rising.wav, a note that rises from 523 to 659 hertz"""
+
+LOUDEST = 12_000
+SOUNDS = {"low.wav": (262, 262), "high.wav": (392, 392), "rising.wav": (523, 659)}  # first and last pitch
+PARTIALS = {1: 0.65, 2: 0.25, 3: 0.1}  # how loud each multiple of the pitch is
+DECAY = 2.5  # a second
+ATTACK, RELEASE = 0.01, 0.1  # seconds
+
+
+def main(*words):
+    if len(words) not in (1, 2) or words[0].startswith("-"):
+        raise WrongWords
+    length = seconds(*words[1:])
+    for name, pitches in SOUNDS.items():
+        write_file(Path(words[0]) / name, linear_wave(samples(*pitches, length)))
+    return ""
+
+
+def seconds(word="1"):
+    try:
+        length = float(word)
+    except ValueError:
+        raise WrongWords from None
+    if not 0.02 <= length <= 8:
+        raise WrongWords
+    return length
+
+
+def samples(first, last, length):
+    """A note whose pitch goes from one to another, with a quick attack and a slow decay."""
+    made = []
+    for at in range(round(length * FRAMES_PER_SECOND)):
+        time = at / FRAMES_PER_SECOND
+        turns = (first + (last - first) * time / length / 2) * time
+        loud = min(1, time / ATTACK, (length - time) / RELEASE) * exp(-DECAY * time)
+        made.append(round(LOUDEST * loud * sum(part * sin(2 * pi * n * turns) for n, part in PARTIALS.items())))
+    return made
