@@ -1,4 +1,4 @@
-//! A wire over a source and a sink. Its octets are those of the source and the sink, if these expose them.
+//! A wire over a source and a sink. Its octets are the octets of the source and the sink, if these expose them.
 ghost use Rattle.std.specs.Prelude.{◌≡◌, ◌<◌, ◌≤◌, ℕ, List, [], length, take, ⊤, IfOk, OnOk, OnErr};
 ghost use Rattle.std.specs.Io.KnownBytes.{Appends, Consumes, IsAtEnd, Keeps};
 ghost use Rattle.ex_io.specs.Ends.{Rose};

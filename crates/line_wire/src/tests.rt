@@ -102,7 +102,7 @@ fn a_wire_over_a_source_and_a_sink_passes_octets_on(rt: HostRuntime) -> Result<(
     Ok(())
 }
 
-// The octets that a wire over ends in memory has read and written are those of its source and its sink.
+// A wire over in-memory streams has read the octets of its source and written the octets of its sink.
 fn knows_its_octets(wire: &StdWire<MemSource, MemSink>)
     ensures heard { (heard said : List ℕ) → ⟦<StdWire<MemSource, MemSink> as Wire>⟧.stands wire.now heard said
         → wire.now.given.value.left ≡ heard ++ wire.now.source.left }

@@ -1,4 +1,4 @@
--- Octets that are fetched by places: of thirty octets, the first sixteen and the last sixteen are looked up.
+-- Octets that are fetched by places: the first 16 and the last 16 of 30 octets are looked up.
 use Rattle.std.proofs.Common.{◌≡◌, ℕ, ◌+◌, ◌-◌, ◌%◌, ◌^◌, ◌<◌, ◌≤◌, Bool, true, false, cond, eqb, leb, ltb, List, [], ◌∷◌, length, get_or, map, replicate, take, drop, bit_and, bit_or, Fits, refl, sym, ap, subst, ◌∙◌, arith, w8, inl, inr, ◌++◌, length-drop, length-append}
 use Rattle.std.specs.Int.Bits.{or_zero_l, or_zero_r, or_self}
 use Rattle.std.specs.Simd.Lanes.{Each1, zip2, chunk, put_chunk}
@@ -13,7 +13,7 @@ sum a b = (a + b) % 2 ^ 8
 abbrev pub less : ℕ → ℕ → ℕ
 less a b = (a + (2 ^ 8 - b)) % 2 ^ 8
 
--- the place among the first sixteen, and among the last sixteen
+-- the place among the first 16, and among the last 16
 abbrev pub in_front : ℕ → ℕ
 in_front place = bit_and (bit_or (sum place 112) place) 143
 

@@ -56,7 +56,7 @@ impl Store {
     }
 }
 
-// Fetches thirty octets of thirty by the bytes of a table. A byte without a place or slot is 255, and gives an idle
+// Fetches 30 octets out of 30 by the bytes of a table. A byte without a place or slot is 255, and gives an idle
 // octet.
 #[inline(always)]
 pub(crate) fn fetch_thirty(octets: &[u8], table: &[u8], row: &mut [u8])
@@ -73,8 +73,8 @@ pub(crate) fn fetch_thirty(octets: &[u8], table: &[u8], row: &mut [u8])
     back.copy_to_slice(&mut row[14..]);
 }
 
-// Fetches sixteen octets of thirty. The octets are looked up as their difference from an idle octet, in the first
-// sixteen and in the last sixteen, and a place that is in neither gives no difference.
+// Fetches 16 octets out of 30. The octets are looked up as their difference from an idle octet, in the first
+// 16 and in the last 16, and a place that is in neither gives no difference.
 #[inline(always)]
 fn fetch_sixteen(octets: &[u8], places: u8x16) -> u8x16
     requires octets { length octets.now ≡ 30 }
@@ -89,7 +89,7 @@ fn fetch_sixteen(octets: &[u8], places: u8x16) -> u8x16
     (byte_shuffle(front, in_front) | byte_shuffle(back, in_back)) + idle
 }
 
-// Looks sixteen places up in a table at once. A place from 128 on gives 0.
+// Looks 16 places up in a table at once. A place from 128 on gives 0.
 #[inline(always)]
 fn byte_shuffle(table: u8x16, places: u8x16) -> u8x16
     requires { Each1 (λ place. 16 ≤ place → 128 ≤ place) places }

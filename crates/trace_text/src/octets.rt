@@ -106,7 +106,7 @@ pub(crate) fn thirty_octets(digits: &[u8]) -> Result<[u8; 30], Reason>
     Ok(thirty_of(&text))
 }
 
-// Returns the octets of the first sixty of these digits.
+// Returns the octets of the first 60 of these digits.
 fn thirty_of(text: &[u8; 64]) -> [u8; 30]
     requires { list_all is_digit text.now ≡ true }
     ensures { octets_written (take 60 text.now) ≡ Some result }
@@ -119,7 +119,7 @@ fn thirty_of(text: &[u8; 64]) -> [u8; 30]
     octets
 }
 
-// Returns the octets of the thirty-two digits from one on.
+// Returns the octets of the 32 digits from one on.
 #[inline(always)]
 fn octets_from(text: &[u8; 64], start: usize) -> u8x16
     requires digits { list_all is_digit text.now ≡ true }
@@ -132,7 +132,7 @@ fn octets_from(text: &[u8; 64], start: usize) -> u8x16
     )
 }
 
-// Returns the octets of thirty-two digits.
+// Returns the octets of 32 digits.
 #[inline(always)]
 fn sixteen_octets(first: u8x16, second: u8x16) -> u8x16
     requires { list_all is_digit (first ++ second) ≡ true }

@@ -15,7 +15,7 @@ USAGE = """usage: tools/page TRACE REPORT >PAGE
 writes one HTML file: each call as a ladder, what has each channel, the internal slots of each line, and a player
 with a waveform for what each channel was sent. It needs no other file, and works without a network."""
 
-PARTS = Path(__file__).resolve().parent.parent / "pictures"  # of a page
+PARTS = Path(__file__).resolve().parent.parent / "pictures"  # the style and the script of a page
 MOST_CALLS = 200  # that are drawn
 MOST_OCTETS = 4_000_000  # of sounds
 SHORT = 0.25  # seconds that are too short to hear
