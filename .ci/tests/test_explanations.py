@@ -1,0 +1,105 @@
+"""Why a trace or a report is refused, by tools/explain."""
+
+from __future__ import annotations
+
+import re
+import runpy
+import shutil
+
+import support
+from nemzhuul.traces import reading
+from support import EXAMPLES, TOP, InFolder, slow, tool
+
+
+class Explanations(InFolder):
+    """Why a trace or a report is refused."""
+
+    def explained(self, content: bytes, *more: str) -> list[str]:
+        """The lines of an explanation."""
+        (self.folder / "some.trace").write_bytes(content)
+        status, output, said = tool("explain", "some.trace", *more, folder=self.folder)
+        self.assertEqual((status, said), (0, ""))
+        return output.decode().splitlines()
+
+    def test_causes(self) -> None:
+        head, likely = b"exchange 1 2 0 1\n", "likely cause: "
+        cases = (
+            (b"# a\r\nexchange 1 2 0 1\r\n", "2 header", 17, "remedy: tr -d '\\r' <some.trace >good"),
+            (b"\xef\xbb\xbfexchange 1 2 0 1\n", "1 header", 1, "remedy: tail -c +4 <some.trace >good"),
+            ("exchange".encode("utf-16"), "1 header", 1, "remedy: iconv -f UTF-16 -t ASCII <some.trace >good"),
+            (head + b"nail\t0/1 1/1\n", "2 word", 5, "remedy: tr '\\t' ' ' <some.trace >good"),
+            (head + b"free\xc2\xa00/1\n", "2 word", 5, "remedy: sed 's/\\xc2\\xa0/ /g' <some.trace >good"),
+            (b"exchange 2 lines\n", "1 header", 1, likely + "this is a script: `tools/script FILE >TRACE` writes its trace"),
+            (b"1 busy\n", "1 header", 1, likely + "this is a report; the trace is another file"),
+            (head + b"1 busy\n", "2 word", 1, likely + "this is a line of a report, and not of a trace"),
+            (head + b"f 0:00\n", "2 word", 1, likely + "the word is `F`"),
+            (head + b"M 0 08 02\n", "2 word", 8, likely + "the octets of a message are written without spaces between them"),
+            (head + b"M 0 0x08\n", "2 hex", 5, likely + "the octets have no 0x in front"),
+            (head + b"M 0 O8\n", "2 hex", 5, likely + "the letter O is written for a digit"),
+            (head + b"free 0/16\n", "2 slot", 6, likely + "channel 0 carries the framing of a primary rate line, and channel 16 its signalling"),
+            (head + b"seat 0/1 01\n", "2 number", 10, likely + "a number has no leading zero"),
+        )
+        for content, refusal, column, cause in cases:
+            with self.subTest(content=content):
+                number, _ = refusal.split()
+                first, where, text, mark, last = self.explained(content)
+                self.assertIn(f"the exchange writes `refused {refusal}` and ends with status 1", first)
+                self.assertTrue(where.startswith(f"line {number}, column {column}: "), where)
+                self.assertEqual(last, cause)
+                self.assertEqual(mark.strip(), "^")
+                self.assertLess(mark.index("^"), len(text) + 1)
+
+    @slow
+    def test_every_refusal_of_the_tables(self) -> None:
+        """Each input that the program refuses is refused here at the same line with the same word."""
+        tables = runpy.run_path(str(TOP / ".ci" / "tables"))
+        rows = [(*row, name == "follows") for name in ("inputs", "follows") for row in tables["rows"](name)]
+        count = 0
+        for wanted, text, is_followed in rows:
+            content = tables["written_out"](text)
+            refusal = re.search(rb"^refused .*\n\Z", tables["written_out"](wanted), re.MULTILINE)
+            if refusal is None and not is_followed or len(content) > reading.MOST_BYTES:
+                continue
+            count += 1
+            (self.folder / "some.trace").write_bytes(content)
+            found = reading.take_lines(reading.TraceReader(is_followed), reading.lines_of(self.folder / "some.trace"))
+            with self.subTest(text=text):
+                self.assertEqual(found and "refused {} {}\n".format(*found).encode(), refusal and refusal.group())
+        self.assertGreater(count, 90)
+
+    def test_long_lines(self) -> None:
+        """The mark is under the octet that fails, also in a line of which only a part is shown."""
+        line = "M 0 " + "08" * 100 + "0\t" + "08" * 100
+        _, _, text, mark, _ = self.explained(f"exchange 1 2 0 1\n{line}\n".encode())
+        self.assertEqual(text[mark.index("^") :][:3], "\\t0")
+        self.assertLess(len(text), 100)
+
+    def test_reports(self) -> None:
+        shutil.copy(EXAMPLES / "whole_call.report", self.folder)
+        trace = (EXAMPLES / "whole_call.trace").read_bytes()
+        said = self.explained(trace, "whole_call.report")
+        self.assertTrue(said[0].startswith("some.trace is a trace: 2 lines, 0 bridges, 2 processors, 1 numbers, 10 events, 3 "))
+        self.assertTrue(said[1].startswith("whole_call.report has a line for each event of some.trace"))
+        cases = (
+            ("7 frame 2 0:a1d5", 13, "octets of a report are upper-case digits"),
+            ("1 busy\r", 7, "the line ends with a carriage return, as on Windows"),
+            ("1  busy", 2, "there is one space between two words, and none before or after them"),
+            ("01 busy", 1, "a number has no leading zero"),
+            ("1 bsy", 1, "no line of a report is so written"),
+            ("refused 3 slot", 9, "this is the report of a refusal"),
+        )
+        for line, column, wanted in cases:
+            (self.folder / "some.report").write_bytes(f"{line}\n".encode())
+            said = self.explained(trace, "some.report")
+            self.assertEqual(said[1:3], ["some.report is no report", f"line 1, column {column}: {wanted}"])
+
+    def test_statuses(self) -> None:
+        _, output, _ = tool("explain", "--status")
+        self.assertEqual([line[:2] for line in output.decode().splitlines() if line[1] == ":"], [f"{n}:" for n in range(7)])
+        for number, wanted in ((3, "3: reading failed"), (137, "137: signal 9"), (77, "77: the program never")):
+            _, output, _ = tool("explain", "--status", number)
+            self.assertTrue(output.decode().startswith(wanted))
+
+
+if __name__ == "__main__":
+    support.main()

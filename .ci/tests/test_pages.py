@@ -1,0 +1,184 @@
+"""Pages of runs, by tools/page."""
+
+from __future__ import annotations
+
+import base64
+import re
+import shutil
+import subprocess
+import tempfile
+import unittest
+from collections.abc import Mapping
+from dataclasses import dataclass
+from html.parser import HTMLParser
+from pathlib import Path
+
+import support
+from nemzhuul.pictures import fabric
+from nemzhuul.signalling import q931
+from nemzhuul.traces import following, reading
+from support import EXAMPLES, IDLE, TRACES, is_refused, report_of, signals, silence, slow, tool
+
+
+BROWSER = shutil.which("chromium") or shutil.which("chromium-browser") or shutil.which("google-chrome") or ""
+
+
+@dataclass
+class Element:
+    """An element of a page, with its text so far."""
+
+    tag: str
+    attrs: dict[str, str]
+    text: str = ""
+
+
+class Elements(HTMLParser):
+    """The elements of a page: their names, classes, attributes and texts; and whether each that begins ends."""
+
+    EMPTY = ("meta", "input", "link", "br", "img")
+
+    def __init__(self, text: str) -> None:
+        super().__init__()
+        self.open: list[Element] = []
+        self.all: list[Element] = []
+        self.feed(text)
+        self.close()
+
+    def handle_starttag(self, tag: str, attrs: list[tuple[str, str | None]]) -> None:
+        self.handle_startendtag(tag, attrs)
+        if tag not in self.EMPTY:
+            self.open.append(self.all[-1])
+
+    def handle_startendtag(self, tag: str, attrs: list[tuple[str, str | None]]) -> None:
+        self.all.append(Element(tag, {name: value or "" for name, value in attrs}))
+
+    def handle_endtag(self, tag: str) -> None:
+        assert self.open.pop().tag == tag, f"</{tag}> ends another element"
+
+    def handle_data(self, data: str) -> None:
+        for element in self.open:
+            element.text += data
+
+    def of(self, tag: str) -> list[Element]:
+        """Each element of a name."""
+        return [element for element in self.all if element.tag == tag]
+
+
+def octet_at(octets: Mapping[int, bytes], slot: reading.Slot) -> int:
+    """The octet of a slot in a frame."""
+    row = octets.get(slot.line)
+    return IDLE if row is None else row[reading.place_of_channel(slot.channel)]
+
+
+class Pages(unittest.TestCase):
+    """Pages of runs, by their parts, and where a browser is installed as it shows them."""
+
+    RUNS = ("whole_call", "conversation", "rearrangement", "strict_rearrangement", "called_user_silent", "dialled_to_a_room")
+
+    @staticmethod
+    def page(name: str) -> str:
+        status, output, said = tool("page", f"{name}.trace", f"{name}.report")
+        assert (status, said) == (0, ""), said
+        return output.decode()
+
+    @staticmethod
+    def names(name: str) -> list[str]:
+        """The names of the messages of a run, of which the exchange ignores some."""
+        texts = [reading_of(octets) for _, _, octets in signals(EXAMPLES / f"{name}.trace")]
+        return sorted(texts)
+
+    def check(self, name: str, elements: Elements) -> dict[str, bytes]:
+        texts = [element.text for element in elements.of("b")]
+        arrows = [text for text in texts if re.search(" [0-9A-F]{4}$|^ignored octets$", text)]
+        self.assertEqual(sorted(arrows), self.names(name))
+        figures = [figure.attrs for figure in elements.of("figure")]
+        sounds = {attrs["data-name"]: base64.b64decode(attrs["data-octets"]) for attrs in figures}
+        for slot, octets in sounds.items():
+            _, wave_file, _ = tool("audio", f"{name}.report", *slot.split("-"))
+            self.assertEqual(octets, wave_file[58 : 58 + len(octets)], slot)
+        return sounds
+
+    @slow
+    def test_parts(self) -> None:
+        """Each page has the messages of its run and what its channels heard, and names no other file."""
+        for name in self.RUNS:
+            with self.subTest(run=name):
+                elements = Elements(self.page(name))
+                self.assertEqual(elements.open, [])
+                self.check(name, elements)
+                for element in elements.all:
+                    self.assertNotIn("src", element.attrs)
+                    self.assertTrue(element.attrs.get("href", "#").startswith("#"))
+                for label in elements.of("input") + elements.of("button"):
+                    self.assertTrue(label.text or "aria-label" in label.attrs or label.attrs["type"] == "checkbox")
+
+    def test_channels(self) -> None:
+        """Which channel is connected with which, and for which event paths were moved."""
+        elements = Elements(self.page("rearrangement"))
+        titles = [element.text for element in elements.of("title")]
+        for slot in ("0/17 with 1/17", "1/17 with 0/17", "0/1 with 2/1"):
+            self.assertIn(slot, titles)
+        self.assertEqual([text for text in titles if text.endswith("paths moved")], [
+            "event 34: nail 0/17 to 1/17: granted; 2 paths moved there, 0 back: 2 paths moved"])  # fmt: skip
+
+    def test_internal_slots(self) -> None:
+        """Two paths change their internal slots, and the other thirty stay where they are."""
+        titles = [element.text for element in Elements(self.page("rearrangement")).of("title")]
+        from_lines = [re.fullmatch("internal slot ([0-9]+): (.*) to (.*)", text) for text in titles]
+        places: dict[tuple[str, str], list[int]] = {}
+        for number, near, far in (match.groups() for match in from_lines if match):
+            places.setdefault((near, far), []).append(int(number))
+        self.assertEqual(sum(len(numbers) > 1 for numbers in places.values()), 2)
+        self.assertEqual(len(places), 62)
+
+    def test_the_fabric_of_every_run(self) -> None:
+        """The paths that nemzhuul.pictures.fabric moves are as many as each report says, on either fabric; and a connected slot
+        was sent its partner's octet of two frames before."""
+        for trace_path in filter(lambda trace: not is_refused(trace), TRACES):
+            with silence():
+                trace, steps = reading.read_run(trace_path, report_of(trace_path))
+            slots = fabric.STRICT_SLOTS if trace_path.stem.startswith("strict") else fabric.SLOTS
+            run, paths, arrived, since = following.Run(trace), fabric.Fabric(trace, slots), [], {}
+            for event, reply in steps:
+                run.take(event, reply)
+                with self.subTest(trace=trace_path.name, event=reply.event):
+                    self.assertEqual(paths.take(run), reply.moved)
+                for slot, use in run.joined:
+                    since[slot] = since[use.partner] = run.frames
+                if reply.frame is None:
+                    continue
+                arrived.append(event.octets)
+                for slot, use in run.uses.items():
+                    if use.partner and since[slot] + 2 <= reply.frame:
+                        there = octet_at(arrived[reply.frame - 2], use.partner)
+                        self.assertEqual(octet_at(reply.octets, slot), there, f"{trace_path.name}, frame {reply.frame}")
+
+    @unittest.skipUnless(BROWSER, "no browser is there")
+    @slow
+    def test_in_a_browser(self) -> None:
+        """It loads without an error, with every message; each player has a sample for each frame."""
+        for name, frames in (("whole_call", 3), ("conversation", 16004)):
+            with self.subTest(run=name), tempfile.TemporaryDirectory() as folder:
+                path = Path(folder) / "page.html"
+                path.write_text(self.page(name))
+                words = [BROWSER, "--headless", "--no-sandbox", "--disable-gpu", f"--user-data-dir={folder}/profile", "--dump-dom"]
+                shown = subprocess.run([*words, path.as_uri()], capture_output=True, check=True, timeout=300).stdout
+                elements = Elements(shown.decode())
+                (html,) = elements.of("html")
+                self.assertEqual((html.attrs.get("data-ready"), html.attrs.get("data-error")), ("yes", None))
+                self.check(name, elements)
+                samples = [int(figure.attrs["data-samples"]) for figure in elements.of("figure")]
+                self.assertEqual(samples, [frames] * len(samples))
+                self.assertGreater(len(samples), 1)
+
+
+def reading_of(octets: bytes) -> str:
+    """The name of a message and its call reference, worked out from its octets."""
+    if len(octets) < 5 or octets[:2] != b"\x08\x02":
+        return "ignored octets"
+    name = q931.TYPES.get(octets[4], f"type {octets[4]:02X}")
+    return f"{name} {octets[2:4].hex().upper()}"
+
+
+if __name__ == "__main__":
+    support.main()

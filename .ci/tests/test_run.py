@@ -1,0 +1,92 @@
+"""Which program a tool runs, proved or not."""
+
+from __future__ import annotations
+
+import os
+import re
+import shutil
+import signal
+import subprocess
+import sys
+import time
+from pathlib import Path
+
+import support
+from support import TOP, InFolder, stream
+
+
+class Programs(InFolder):
+    """Which program a tool runs."""
+
+    def setUp(self) -> None:
+        super().setUp()
+        self.copy = self.folder
+        shutil.copytree(TOP / "tools", self.copy / "tools", ignore=shutil.ignore_patterns("out", "__pycache__"))
+        (self.copy / "crates" / "tst" / "src").mkdir(parents=True)
+        (self.copy / "crates" / "tst" / "src" / "main.rt").write_text("")
+        self.bin = self.copy / "bin"
+        self.bin.mkdir()
+
+    def make(self, path: Path, text: str) -> None:
+        path.parent.mkdir(exist_ok=True, parents=True)
+        path.write_text("#!/bin/sh\n" + text)
+        path.chmod(0o755)
+
+    def ran(self, *words: str) -> tuple[int, str, str]:
+        """What `tools/run` does where these commands alone are on the path."""
+        env = {"PATH": f"{self.bin}:/usr/bin:/bin", "PYTHONDONTWRITEBYTECODE": "1"}
+        command = [sys.executable, str(self.copy / "tools" / "run"), *words]
+        done = subprocess.run(command, capture_output=True, env=env, check=False)
+        return done.returncode, done.stdout.decode(), re.sub(r"[0-9]+\.[0-9]+ s", "T s", done.stderr.decode())
+
+    def test_the_proved_program(self) -> None:
+        self.make(self.copy / "crates" / "tst" / "out" / "tst", 'echo "$@"; exit 6')
+        said = "run: the proved program ran for T s and ended with status 6\n"
+        self.assertEqual(self.ran("check", "--strict"), (6, "check --strict\n", said))
+
+    def test_an_interrupt(self) -> None:
+        self.make(self.copy / "crates" / "tst" / "out" / "tst", "echo begun; exec sleep 60")
+        command = [sys.executable, str(self.copy / "tools" / "run"), "run"]
+        with subprocess.Popen(command, start_new_session=True, stdout=subprocess.PIPE, stderr=subprocess.PIPE) as work:
+            self.assertEqual(stream(work.stdout).readline(), b"begun\n")
+            os.killpg(work.pid, signal.SIGINT)
+            self.assertEqual((work.wait(), stream(work.stderr).read()), (1, b"run: interrupted\n"))
+
+    def make_builder(self, before: str = "") -> None:
+        """The command of the kit that builds a program. It takes half a second, and ends when its program was found."""
+        self.make(self.bin / "rt", f"{before}mkdir $TMPDIR/a; printf '#!/bin/sh\\necho hello' >$TMPDIR/a/b; chmod +x $TMPDIR/a/b\n"
+                  "mv $TMPDIR/a/b $TMPDIR/a/program; sleep 0.5; until [ -e $TMPDIR/../tst ]; do sleep 0.05; done; rm -r $TMPDIR/a\n")  # fmt: skip
+
+    def test_a_long_build(self) -> None:
+        """How long it has taken is reported while it lasts."""
+        self.make_builder()
+        program = self.copy / "tools" / "nemzhuul" / "programs" / "program.py"
+        program.write_text(program.read_text().replace("BUILD_SECONDS = 10", "BUILD_SECONDS = 0.1"))
+        self.assertRegex(self.ran("run")[2], r"(?m)^run: `rt try` has been building for [0-9]+ s$")
+
+    def test_an_unproved_program(self) -> None:
+        """It is built once, and again where a source is newer."""
+        self.make_builder()
+        builds = "crates/tst/out/tst is not built: `rt try` builds an unproved program, which takes about two minutes\n"
+        ends = "run: an unproved program ran for T s and ended with status 0\n"
+        self.assertEqual(self.ran("run"), (0, "hello\n", builds + ends))
+        self.assertEqual(self.ran("run"), (0, "hello\n", ends))
+        later = time.time() + 10
+        os.utime(self.copy / "crates" / "tst" / "src" / "main.rt", (later, later))
+        self.assertEqual(self.ran("run"), (0, "hello\n", builds + ends))
+
+    def test_a_build_that_removes_folders(self) -> None:
+        """A folder that is gone before it is read is passed over."""
+        self.make_builder("for n in $(seq 150); do mkdir -p $TMPDIR/b/c; rm -r $TMPDIR/b; done; ")
+        self.assertEqual(self.ran("run")[:2], (0, "hello\n"))
+
+    def test_no_program(self) -> None:
+        said = "run: crates/tst/out/tst is not built, and the commands of the Rattle kit are not on the path\n"
+        self.assertEqual(self.ran("run"), (1, "", said))
+        self.make(self.bin / "rt", "exit 1")
+        status, _, said = self.ran("run")
+        self.assertEqual((status, said.splitlines()[1][:38]), (1, "run: `rt try` built no program: `(cd c"))
+
+
+if __name__ == "__main__":
+    support.main()
