@@ -70,14 +70,6 @@ def write_output(output):
         raise Refused(f"standard output cannot be written: {error.strerror}") from None
 
 
-def write_file(path, content):
-    """Writes a file that a tool makes."""
-    try:
-        Path(path).write_bytes(content)
-    except OSError as error:
-        raise Refused(f"{path} cannot be written: {error.strerror}") from None
-
-
 def watched(items, what):
     """Yields the items. Where they take long, a line on standard error each second says how many were taken."""
     said = time.monotonic()

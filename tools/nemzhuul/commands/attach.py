@@ -4,9 +4,13 @@ It is not proved, and neither is the clock. `tst follow`, which is, reads the li
 report to it. All that happens is in the log, and a run of `tst follow` over the log writes the same report.
 """
 
+from __future__ import annotations
+
+import contextlib
 import signal
 import socket
 from collections import deque
+from pathlib import Path
 
 from nemzhuul.signalling.captures import CaptureWriter
 from nemzhuul.command_line import NAME, Refused, WrongWords, say
@@ -15,7 +19,8 @@ from nemzhuul.live.lines import SHUT_DOWN, DChannel, Line
 from nemzhuul.live.wire import read_address
 from nemzhuul.live.periods import Use
 from nemzhuul.live.processes import Exchange, Loop
-from nemzhuul.programs.program import program_at
+from nemzhuul.outputs import Output, check_output, is_same_file
+from nemzhuul.programs.program import PROGRAM, TOP, UNPROVED, is_program, program_at
 from nemzhuul.signalling.q931 import SETUP, message_text
 from nemzhuul.traces.reading import FRAMES_PER_SECOND, NUMERAL, Arrival, Frame, Link, LinkArrival, TraceReader, is_said, lines_of, take_lines
 
@@ -28,12 +33,18 @@ endpoint at a time attaches to each line with an ADDRESS: unix:PATH or tcp:HOST:
     --log FILE       writes the trace of all that happens, which `tst follow <FILE` runs again
     --report FILE    writes the report
     --pcap FILE      writes a capture of the messages, for Wireshark
-    --seconds N      ends after this time
+    --overwrite      replaces these files; without it, one that has content is refused
+    --seconds N      ends after N seconds by the clock, also if frames are late
     --strict         runs the fabric on which no path moves
-    --program FILE   runs this exchange (crates/tst/out/tst)
+    --program FILE   runs this exchange, and not the proved one (crates/tst/out/tst)
+    --unproved       runs an unproved one if the proved one is not built; it is too slow for real time
+A socket that no process has any more is removed before a line listens at its PATH, and no other file there.
 An endpoint sends and gets lines: `M HEX`, a message, and `F HEX`, the octets of a frame. It gets frames from its first
 `F HEX` or `F none` on. With --line and --link, a line has its frames at the one socket and its messages at the other.
 Signal USR1 prints how much of its time the exchange has used so far."""
+
+OUTPUTS = {"log": "the log", "report": "the report", "pcap": "the capture"}
+BUILD = "`rt all check --jobs 4`, then `(cd crates/tst && rt run -- run <stdin)`"
 
 
 class Options:
@@ -46,15 +57,17 @@ class Options:
         self.seconds = None
         self.files = {"log": None, "report": None, "pcap": None, "program": None}
         self.flags = []
+        self.may_overwrite = self.may_be_unproved = False
         words = list(words)
         while words and words[0].startswith("--"):
             self.option(words.pop(0)[2:], words)
         if len(words) != 1 or not (self.addresses or self.links):
             raise WrongWords
         self.settings = self.read_settings(words[0])
+        self.check_files(words[0])
 
     def option(self, name, words):
-        values = {"line": 2, "link": 2, "strict": 0}.get(name, 1)
+        values = {"line": 2, "link": 2, "strict": 0, "overwrite": 0, "unproved": 0}.get(name, 1)
         if len(words) <= values:
             raise WrongWords
         given = [words.pop(0) for _ in range(values)]
@@ -62,6 +75,10 @@ class Options:
             self.address(*given, self.addresses if name == "line" else self.links)
         elif name == "strict":
             self.flags = ["--strict"]
+        elif name == "overwrite":
+            self.may_overwrite = True
+        elif name == "unproved":
+            self.may_be_unproved = True
         elif name == "burst":
             self.frames = int_of(*given, 1, 1000) * FRAMES_PER_SECOND // 1000
         elif name == "seconds":
@@ -99,6 +116,39 @@ class Options:
         lines[header:header] = [f"link {line}" for line in self.links if line not in reader.linked]
         return "".join(f"{line}\n" for line in lines).encode("latin-1")
 
+    def check_files(self, settings: str) -> None:
+        """Refuses, before anything starts, an output that is another file of this command or cannot be written."""
+        taken: list[tuple[str, str | Path]] = [("the settings", settings), ("the program", self.files["program"] or PROGRAM)]
+        for line, address in (*self.addresses.items(), *self.links.items()):
+            if address.path is not None:
+                taken.append((f"a socket of line {line}", address.path))
+        for name, what in OUTPUTS.items():
+            path = self.files[name]
+            if path is None:
+                continue
+            for other, place in taken:
+                if is_same_file(path, place):
+                    raise Refused(f"{path} cannot be both {other} and {what}")
+            check_output(path, self.may_overwrite)
+            taken.append((what, path))
+
+
+def exchange_program(named: str | None, may_be_unproved: bool) -> Path:
+    """The program of the exchange: the named one, or the proved one, or if that may be so an unproved one. It is said."""
+    if named is None and not is_program(PROGRAM) and not may_be_unproved:
+        raise Refused(
+            f"{PROGRAM.relative_to(TOP)} is not built, and an unproved program is too slow for real time: "
+            f"{BUILD} proves and builds it; --unproved goes on without"
+        )
+    program = program_at(named)
+    if program == PROGRAM:
+        say(f"{NAME}: runs the proved program, {PROGRAM.relative_to(TOP)}")
+    elif program == UNPROVED:
+        say(f"{NAME}: runs an unproved program, too slow for real time, so that frames are late: {BUILD} builds the proved one")
+    else:
+        say(f"{NAME}: runs {named}, which may not be proved")
+    return program
+
 
 def int_of(word, least, most):
     if not NUMERAL.fullmatch(word) or not least <= int(word) <= most:
@@ -109,9 +159,13 @@ def int_of(word, least, most):
 class Live:
     """An exchange that runs by the clock, with its lines."""
 
-    def __init__(self, options):
+    def __init__(self, options: Options, ends: contextlib.ExitStack) -> None:
         self.options = options
-        self.log, report, self.capture = (Output(options.files[name]) for name in ("log", "report", "pcap"))
+        program = exchange_program(options.files["program"], options.may_be_unproved)
+        outputs = [Output(options.files[name], options.may_overwrite) for name in OUTPUTS]
+        for output in outputs:
+            ends.callback(output.close)
+        self.log, report, self.capture = outputs
         self.packets = CaptureWriter(options.linked)
         self.given = self.replied = 0  # events
         self.frame = 0  # the number of the next frame in the report
@@ -119,22 +173,26 @@ class Live:
         self.refusal = ""
         self.use = Use(options.frames)
         self.loop = Loop()
-        words = [program_at(options.files["program"]), "follow", *options.flags]
-        self.exchange = Exchange(words, self.loop, self.take, report)
+        self.interrupts = self.catch_interrupts()
         self.lines = {}
         self.channels = {}  # the D channels of data links
+        for number, address in options.addresses.items():
+            self.lines[number] = Line(number, address, self.loop, number in options.linked)
+            ends.callback(self.lines[number].close)
+        for number, address in options.links.items():
+            self.channels[number] = DChannel(number, address, self.loop)
+            ends.callback(self.channels[number].close)
+        for output in outputs:
+            output.begin()
+        self.exchange = Exchange([program, "follow", *options.flags], self.loop, self.take, report)
+        ends.callback(self.exchange.kill)
 
     def start(self):
         """Gives the exchange its settings, and opens its lines."""
-        self.interrupts = self.catch_interrupts()
         self.capture.write(self.packets.HEADER)
         self.give(self.options.settings, self.options.events)
-        for number, address in self.options.addresses.items():
-            self.lines[number] = Line(number, address, self.loop, number in self.options.linked)
-            self.lines[number].open()
-        for number, address in self.options.links.items():
-            self.channels[number] = DChannel(number, address, self.loop)
-            self.channels[number].open()
+        for port in (*self.lines.values(), *self.channels.values()):
+            port.open()
 
     def run(self):
         """Makes frames by the clock until an interrupt, the end of the exchange, or the end of its time."""
@@ -174,11 +232,6 @@ class Live:
         if ended or status:
             raise Refused(f"the exchange ended with status {status}: {self.refusal}")
 
-    def close(self):
-        for port in (*self.lines.values(), *self.channels.values()):
-            port.close()
-        self.exchange.kill()
-
     # ---- to the exchange
 
     def burst(self):
@@ -186,6 +239,8 @@ class Live:
         self.use.burst()
         text, left = [], self.use.frames
         messages = self.link_frames(text)
+        for line in self.lines.values():
+            line.begin_period()
         while True:
             due = [(number, digits) for number, line in self.lines.items() for digits in line.messages_due()]
             text += [b"M %d %s\n" % message for message in due]
@@ -193,7 +248,7 @@ class Live:
             messages += len(due)
             if not left:
                 break
-            count = min([left, *(len(line.queue[0]) for line in self.lines.values() if len(line.queue) > 1)])
+            count = min([left, *filter(None, (line.frames_before_message() for line in self.lines.values()))])
             columns = [[b""] * count, *(line.column(count) for line in self.lines.values())]
             text.append(b"F" + b"\nF".join(map(b"".join, zip(*columns))) + b"\n")
             left -= count
@@ -286,34 +341,11 @@ def comment(number, octets, is_sent):
     return f"# line {number} {'gets' if is_sent else 'sends'} {frame_text(octets, not is_sent)}".encode("ascii", "backslashreplace")
 
 
-class Output:
-    """A file that is written while the exchange runs; without a path nothing is written."""
-
-    def __init__(self, path):
-        self.path = path
-        try:
-            self.file = None if path is None else open(path, "wb", buffering=0)
-        except OSError as error:
-            raise self.refused(error) from None
-
-    def refused(self, error):
-        return Refused(f"{self.path} cannot be written: {error.strerror}")
-
-    def write(self, text):
-        left = memoryview(text if self.file else b"")
-        try:
-            while left:
-                left = left[self.file.write(left) :]
-        except OSError as error:
-            raise self.refused(error) from None
-
-
 def main(*words):
-    live = Live(Options(words))
-    try:
+    options = Options(words)
+    with contextlib.ExitStack() as ends:
+        live = Live(options, ends)
         live.start()
         live.run()
         live.end()
-    finally:
-        live.close()
     return ""

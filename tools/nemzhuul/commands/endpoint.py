@@ -5,7 +5,8 @@ import os
 import select
 from pathlib import Path
 
-from nemzhuul.command_line import Refused, WrongWords, write_file, write_output
+from nemzhuul.command_line import Refused, WrongWords, write_output
+from nemzhuul.outputs import Output, is_same_file
 from nemzhuul.signalling.endpoints import CALLS, CLEARS, DIALS, IS_CALLED, PROCEEDS, RELEASES, STANDING, TALKS, UNANSWERED, Endpoints
 from nemzhuul.live.wire import FRAMES, PIECE, frames_text, octets_of, read_address
 from nemzhuul.traces.phrases import Phrases, Values
@@ -14,7 +15,7 @@ from nemzhuul.signalling.q931 import cause_text, message_text, read_message
 from nemzhuul.traces.reading import FRAMES_PER_SECOND, IDLE, PLACES, place_of_channel
 from nemzhuul.sound.wave import a_law_wave, read_sound
 
-USAGE = """usage: tools/endpoint ADDRESS [SCRIPT]
+USAGE = """usage: tools/endpoint [--overwrite] ADDRESS [SCRIPT]
 attaches to the line of tools/attach at ADDRESS, unix:PATH or tcp:HOST:PORT, and does in turn what each line of the file
 SCRIPT, or of standard input, says. `channel C` may be in front of any of them:
     calls DIGITS [as DIGITS]                  hangs up [with CAUSE]
@@ -25,7 +26,8 @@ SCRIPT, or of standard input, says. `channel C` may be in front of any of them:
     is called, is answered, is cleared        (it waits until that is so)
     N frames pass                             frames pass until the sounds end
 It waits too if there is no call to do it with yet. It prints each message. A recording ends with its call. A sound has
-8,000 samples a second of A-law or 16 bits, and a recording is A-law; both are looked for beside SCRIPT."""
+8,000 samples a second of A-law or 16 bits, and a recording is A-law; both are looked for beside SCRIPT. A recording
+does not replace a file that has content, unless --overwrite is given."""
 
 LEAD = FRAMES_PER_SECOND // 5  # frames that are sent before their time, so that this process may be late
 NORMAL_CLEARING = 16
@@ -33,10 +35,12 @@ REJECTED = 21
 
 
 def main(*words):
+    may_overwrite = words[:1] == ("--overwrite",)
+    words = words[may_overwrite:]
     if len(words) not in (1, 2) or words[0].startswith("-"):
         raise WrongWords
     address, *script = words
-    endpoint = Endpoint(read_address(address), *script)
+    endpoint = Endpoint(read_address(address), *script, may_overwrite=may_overwrite)
     try:
         endpoint.run()
     finally:
@@ -60,7 +64,8 @@ class OneLine(Values):
 class Endpoint:
     """The endpoint of a line, with its calls, its sounds and its recordings."""
 
-    def __init__(self, address, script=None):
+    def __init__(self, address, script=None, may_overwrite=False):
+        self.may_overwrite = may_overwrite
         self.name = script or "standard input"
         self.folder = Path(script).parent if script else Path()
         self.script = os.open(script, os.O_RDONLY) if script else 0
@@ -76,7 +81,7 @@ class Endpoint:
         self.lead = 0  # frames that were sent before their time
         self.sounds = {}  # by place, the octets that are still to be sent
         self.read_sound = functools.lru_cache(read_sound)
-        self.recordings = {}  # by place, the file, the octets so far, and whether a call has the place
+        self.recordings = {}  # by place, the output, the octets so far, and the leg of a call that has the place
 
     def run(self):
         phrases = Phrases(ACTS)
@@ -264,8 +269,15 @@ class Endpoint:
     def records(self, who, file):
         place = self.place(who)
         leg = next((leg for leg in self.legs(self.line, (TALKS,)) if place_of_channel(leg.channel) == place), None)
-        self.recordings[place] = self.folder / file, bytearray(), leg
+        self.save([place])
+        self.recordings[place] = self.output(self.folder / file), bytearray(), leg
         self.listen()
+
+    def output(self, path: Path) -> Output:
+        """The file of a recording, which is refused before the recording begins if its script is there, or other content."""
+        if self.script and is_same_file(path, self.name):
+            raise Refused(f"{path} cannot be both the script and a recording")
+        return Output(path, self.may_overwrite)
 
     def stops(self, who):
         self.save([self.place(who)])
@@ -306,10 +318,12 @@ class Endpoint:
 
     def save(self, places):
         for place in places:
-            file, recorded, _ = self.recordings.pop(place, (None, b"", None))
+            output, recorded, _ = self.recordings.pop(place, (Output(None), b"", None))
             if recorded:
-                write_file(file, a_law_wave([recorded]))
-                self.say(f"line {self.line} recorded {len(recorded)} frames to {file}")
+                output.begin()
+                output.write(a_law_wave([recorded]))
+                self.say(f"line {self.line} recorded {len(recorded)} frames to {output.path}")
+            output.close()
 
 
 ACTS = {

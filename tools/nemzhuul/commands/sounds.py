@@ -3,13 +3,15 @@
 from math import exp, pi, sin
 from pathlib import Path
 
-from nemzhuul.command_line import WrongWords, write_file
+from nemzhuul.command_line import WrongWords
+from nemzhuul.outputs import check_output, write_file
 from nemzhuul.traces.reading import FRAMES_PER_SECOND
 from nemzhuul.sound.wave import linear_wave
 
-USAGE = """usage: tools/sounds FOLDER [SECONDS]
+USAGE = """usage: tools/sounds [--overwrite] FOLDER [SECONDS]
 makes three sounds in a folder, of one second or of SECONDS (0.02 to 8): low.wav, a note of 262 hertz; high.wav,
-a note of 392 hertz; and rising.wav, a note that rises from 523 to 659 hertz"""
+a note of 392 hertz; and rising.wav, a note that rises from 523 to 659 hertz. A file of one of these names with
+other content is refused before anything is written, unless --overwrite is given"""
 
 LOUDEST = 12_000
 SOUNDS = {"low.wav": (262, 262), "high.wav": (392, 392), "rising.wav": (523, 659)}  # first and last pitch
@@ -19,11 +21,17 @@ ATTACK, RELEASE = 0.01, 0.1  # seconds
 
 
 def main(*words):
+    may_overwrite = words[:1] == ("--overwrite",)
+    words = words[may_overwrite:]
     if len(words) not in (1, 2) or words[0].startswith("-"):
         raise WrongWords
     length = seconds(*words[1:])
-    for name, pitches in SOUNDS.items():
-        write_file(Path(words[0]) / name, linear_wave(samples(*pitches, length)))
+    sounds = {Path(words[0]) / name: linear_wave(samples(*pitches, length)) for name, pitches in SOUNDS.items()}
+    others = {path: sound for path, sound in sounds.items() if not (path.is_file() and path.read_bytes() == sound)}
+    for path in others:
+        check_output(path, may_overwrite)
+    for path, sound in others.items():
+        write_file(path, sound, may_overwrite)
     return ""
 
 

@@ -16,6 +16,8 @@ from nemzhuul.live.wire import FRAMES, IDLE_ROW, LONGEST_LINE, MESSAGE, NO_FRAME
 from nemzhuul.signalling.q931 import RESTART, restart_indicator, written
 
 AHEAD = 8_000  # frames and messages in a queue from which on its endpoint is not read
+MAX_MESSAGES = 64  # of a line in a period, so that no endpoint delays the others; the rest waits
+MAX_WAITING = 8_000  # messages in a queue, after which its endpoint is treated as one that does not read
 MOST_UNREAD = 1 << 23  # octets that an endpoint may leave unread: 16 seconds of frames
 MOST_LINK_FRAMES = 256  # in the queue of a D channel, from which on its endpoint is not read
 DATAGRAM = 4096  # octets that are read of a datagram, of which fewer are used
@@ -30,26 +32,24 @@ class Port:
     def __init__(self, number, address, loop, kind=socket.SOCK_STREAM):
         self.number = number
         self.loop = loop
-        self.address = address
-        self.listener, self.place = address.listening(kind)
-        self.listener.setblocking(False)
+        self.listener = address.listening(kind)
+        self.listener.sock.setblocking(False)
         self.endpoint = None
         self.queue = deque()  # what the endpoint sent
 
     def open(self):
         """Accepts an endpoint."""
-        self.loop.watch(self.listener, self.accept)
+        self.loop.watch(self.listener.sock, self.accept)
 
     def close(self):
         if self.endpoint is not None:
             self.endpoint.close()
         self.listener.close()
-        self.address.remove()
 
     def accepted(self):
         """The socket of an endpoint that has come; None if it has gone again."""
         try:
-            connection, _ = self.listener.accept()
+            connection, _ = self.listener.sock.accept()
         except OSError:
             return None
         connection.setblocking(False)
@@ -71,13 +71,17 @@ class Line(Port):
         self.key = b"%d" % number
         self.has_link = has_link
         self.queued = 0  # frames and messages
+        self.waiting = 0  # the messages among them
+        self.left = 0  # messages that may still be taken in this period
         self.begun = b""  # the line that the endpoint has sent a part of
         self.unsent = bytearray()  # what the endpoint's socket did not take yet
         self.due = []  # lines for the endpoint, without their ends
         self.is_speaking = False  # it sends octets
+        self.has_lead = False  # it sent octets before this period: a frame that is not there is late, and not delayed
         self.is_listening = False  # it gets octets
         self.messages = self.frames = self.late = 0  # how many were taken, and how many frames were not there in time
-        self.say(f"listens on {self.place}")
+        self.owed = 0  # late frames, which are left out when they come: the line was idle in their time
+        self.say(f"listens on {self.listener.place}")
 
     # ---- its endpoint
 
@@ -116,6 +120,8 @@ class Line(Port):
                 raise Refused(f"a line has at most {LONGEST_LINE} octets")
         except Refused as refusal:
             self.leave(f"is refused: {refusal}", refusal)
+        if self.waiting > MAX_WAITING and self.endpoint is not None:
+            self.leave(f"has sent more than {MAX_WAITING} messages that wait")
         self.watch()
 
     def send(self):
@@ -141,7 +147,7 @@ class Line(Port):
         self.say(f"its endpoint {why}")
         gone, self.endpoint = self.endpoint, None
         self.loop.watch(gone)
-        self.loop.watch(self.listener)
+        self.loop.watch(self.listener.sock)
         if refusal is None:
             gone.close()
         else:
@@ -188,11 +194,15 @@ class Line(Port):
     def take_frames(self, text):
         rows = text.replace(b"F ", b" %d:" % self.number).split(b"\n")
         rows.pop()
+        self.is_listening = True
+        left_out = min(self.owed, len(rows))
+        self.owed -= left_out
+        if left_out == len(rows):
+            return
         if not (self.queue and isinstance(self.queue[-1], list)):
             self.queue.append([])
-        self.queue[-1] += rows
-        self.queued += len(rows)
-        self.is_listening = True
+        self.queue[-1] += rows[left_out:]
+        self.queued += len(rows) - left_out
 
     def take_line(self, text):
         message = MESSAGE.fullmatch(text)
@@ -201,7 +211,9 @@ class Line(Port):
         if message:
             self.queue.append(message.group(1))
             self.queued += 1
+            self.waiting += 1
         elif text == NO_FRAMES:
+            self.owed = 0
             self.queue.append(SILENCE)
             self.is_listening = True
         elif FRAMES.fullmatch(text + b"\n"):
@@ -212,25 +224,39 @@ class Line(Port):
 
     # ---- what the exchange gets
 
+    def begin_period(self) -> None:
+        """A period of frames begins. An endpoint's lead is settled in the first period in which it sends octets."""
+        self.left = MAX_MESSAGES
+        self.has_lead = self.is_speaking
+
     def messages_due(self):
         """Takes what comes before the next frame. A shutdown of the line is a message too, if it has no data link."""
         while self.queue and not isinstance(self.queue[0], list):
+            if isinstance(self.queue[0], bytes) and not self.left:
+                return
             item = self.queue.popleft()
             if isinstance(item, bytes):
                 self.queued -= 1
+                self.waiting -= 1
+                self.left -= 1
                 self.messages += 1
                 yield item
             else:
-                self.is_speaking = False
+                self.is_speaking = self.has_lead = False
+                self.owed = 0
                 if item is GONE and self.has_link:
                     self.open()
                 elif item is GONE:
                     yield SHUT_DOWN
 
+    def frames_before_message(self) -> int | None:
+        """How many frames come before the next message or mark; None if none is there."""
+        return len(self.queue[0]) if len(self.queue) > 1 and isinstance(self.queue[0], list) else None
+
     def column(self, count):
-        """Takes the parts of the next frames; an idle frame has none."""
+        """Takes the parts of the next frames; an idle frame has none, nor has one behind messages that wait."""
         rows = []
-        if self.queue:
+        if self.queue and isinstance(self.queue[0], list):
             rows, rest = self.queue[0][:count], self.queue[0][count:]
             if rest:
                 self.queue[0] = rest
@@ -242,6 +268,8 @@ class Line(Port):
         missing = count - len(rows)
         if self.is_speaking:
             self.late += missing
+        if self.has_lead:
+            self.owed += missing
         return rows + [b""] * missing if missing else rows
 
     # ---- what the exchange sends
@@ -260,7 +288,7 @@ class DChannel(Port):
     def __init__(self, number, address, loop):
         super().__init__(number, address, loop, socket.SOCK_SEQPACKET)
         self.frames = self.cut = self.lost = 0  # how many were taken, and cut, and how many of the exchange were lost
-        self.say(f"its data link listens on {self.place}")
+        self.say(f"its data link listens on {self.listener.place}")
 
     def accept(self):
         connection = self.accepted()
@@ -302,8 +330,8 @@ class DChannel(Port):
         self.endpoint = None
 
     def frames_due(self):
-        """Takes the frames that have come."""
-        while self.queue:
+        """Takes the frames that have come, at most as many as a line has messages in a period."""
+        for _ in range(min(len(self.queue), MAX_MESSAGES)):
             yield self.queue.popleft()
 
     def send(self, octets):

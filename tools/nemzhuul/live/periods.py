@@ -35,7 +35,8 @@ class Use:
         return self.start + self.count * self.period - time.monotonic()
 
     def has_passed(self, seconds):
-        return seconds is not None and self.count * self.period >= seconds
+        """Whether this time has passed by the clock, which frames that are late do not change."""
+        return seconds is not None and time.monotonic() >= self.start + seconds
 
     def burst(self):
         """A period begins. It is said if that is late."""

@@ -6,13 +6,18 @@ it sends no octets from there on. It gets `line L` first. A last line `refused .
 
 from __future__ import annotations
 
+import contextlib
+import fcntl
 import os
 import re
 import socket
+import stat
 import time
+from collections.abc import Iterator
 from dataclasses import dataclass
 
 from nemzhuul.command_line import Refused
+from nemzhuul.outputs import identity
 from nemzhuul.traces.reading import FRAME_DIGITS, IDLE, MOST_MESSAGE_DIGITS, PLACES
 
 IDLE_ROW = b"%02X" % IDLE * PLACES
@@ -22,6 +27,7 @@ NO_FRAMES = b"F none"
 LONGEST_LINE = len("M ") + MOST_MESSAGE_DIGITS
 PIECE = 1 << 18  # octets of a read
 CONNECT_SECONDS = 3
+LOCK_SECONDS = 3
 
 
 def frames_text(octets):
@@ -68,33 +74,86 @@ class Address:
             raise
         return connection
 
-    def listening(self, kind=socket.SOCK_STREAM):
-        """A socket that listens at this address, and the address in words. Only a Unix socket can be of another kind."""
+    def listening(self, kind: int = socket.SOCK_STREAM) -> Listener:
+        """A socket that listens at this address. Only a Unix socket can be of another kind."""
         try:
             if self.path is None:
                 listener = socket.create_server((self.host, self.port))
-                return listener, f"tcp:{self.host}:{listener.getsockname()[1]}"
-            self._remove_unused(kind)
-            listener = socket.socket(socket.AF_UNIX, kind)
-            listener.bind(self.path)
-            listener.listen()
-            return listener, self.word
+                return Listener(listener, f"tcp:{self.host}:{listener.getsockname()[1]}")
+            with locked(os.path.dirname(self.path) or "."):
+                self._remove_unused(self.path)
+                listener = socket.socket(socket.AF_UNIX, kind)
+                try:
+                    listener.bind(self.path)
+                    listener.listen()
+                except OSError:
+                    listener.close()
+                    raise
+                return Listener(listener, self.word, self.path, identity(self.path))
         except OSError as error:
-            raise Refused(f"{self.word} cannot be listened on: {error.strerror or error}") from None
+            raise self._refused(error.strerror or str(error)) from None
 
-    def _remove_unused(self, kind):
-        """Removes a socket that another process has left."""
-        if not os.path.exists(self.path):
+    def _refused(self, why: str) -> Refused:
+        return Refused(f"{self.word} cannot be listened on: {why}")
+
+    def _remove_unused(self, path: str) -> None:
+        """Removes a socket that no process has any more. No other file is removed, nor a symbolic link to a socket."""
+        found = identity(path)
+        if found is None:
             return
-        with socket.socket(socket.AF_UNIX, kind) as connection:
+        if found[2] != stat.S_IFSOCK:
+            raise self._refused(f"{path} is there, and it is not a socket")
+        # A datagram socket is refused by a file without a process, and never connects to a socket of another kind.
+        with socket.socket(socket.AF_UNIX, socket.SOCK_DGRAM) as probe:
             try:
-                connection.connect(self.path)
+                probe.connect(path)
             except ConnectionRefusedError:
-                os.unlink(self.path)
+                os.unlink(path)
+            except OSError:
+                pass  # a process has it, and this one cannot
 
-    def remove(self):
-        if self.path is not None and os.path.exists(self.path):
-            os.unlink(self.path)
+
+@dataclass(frozen=True)
+class Listener:
+    """A socket that listens, and its address in words. A Unix socket has a file, whose identity is kept."""
+
+    sock: socket.socket
+    place: str
+    path: str | None = None
+    file: tuple[int, int, int] | None = None
+
+    def close(self) -> None:
+        """Closes the socket, and removes its file, but no other one that has come to its place."""
+        if self.path is not None and self.file is not None and identity(self.path) == self.file:
+            with contextlib.suppress(OSError):
+                os.unlink(self.path)
+        self.sock.close()
+
+
+@contextlib.contextmanager
+def locked(folder: str) -> Iterator[None]:
+    """Locks a folder, so that no other exchange looks for unused sockets there at the same time."""
+    handle = os.open(folder, os.O_RDONLY)
+    try:
+        last = time.monotonic() + LOCK_SECONDS
+        while not is_locked(handle):
+            if time.monotonic() > last:
+                raise BlockingIOError(0, f"another process has locked the folder {folder}")
+            time.sleep(0.01)
+        yield
+    finally:
+        os.close(handle)
+
+
+def is_locked(handle: int) -> bool:
+    """Locks a file, and returns whether that is done; a file system without locks does not need it."""
+    try:
+        fcntl.flock(handle, fcntl.LOCK_EX | fcntl.LOCK_NB)
+    except BlockingIOError:
+        return False
+    except OSError:
+        pass
+    return True
 
 
 def read_address(word):
