@@ -22,12 +22,13 @@ from unittest import mock
 TOP = Path(__file__).resolve().parents[2]
 sys.path.insert(0, str(TOP / "tools"))
 sys.dont_write_bytecode = True
+from nemzhuul.programs.program import NAMED, PROGRAM, misfit  # noqa: E402
+
 signal.signal(signal.SIGINT, signal.default_int_handler)  # a shell has its background commands ignore it, and so their tools
 
 EXAMPLES = TOP / "examples"
 WANTED = TOP / "tools" / "wanted"
-PROGRAM = TOP / "crates" / "tst" / "out" / "tst"
-IS_BUILT = os.access(PROGRAM, os.X_OK)
+LACK = misfit()  # why the proved program is not the one of these sources
 IDLE = 0xD5
 PATIENCE = 30  # seconds until an endpoint gets a line
 CONVERSATION_FRAMES = 16004
@@ -48,7 +49,7 @@ def slow(test: Marked) -> Marked:
     return test
 
 
-needs_program = unittest.skipUnless(IS_BUILT, "the program is not built")
+needs_program = unittest.skipIf(LACK, "the program is not built")
 
 
 def main() -> None:

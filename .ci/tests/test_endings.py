@@ -28,7 +28,7 @@ WORKING = {
     "unpcap": ("FILE",),
 }
 FILES = {"audio": "whole_call.report", "script": "some.script", "unpcap": "some.pcap"}  # of others whole_call.trace
-OTHERS = ("attach", "endpoint", "run", "sounds", "traffic")
+OTHERS = ("attach", "build", "endpoint", "run", "sounds", "traffic")
 
 
 class Usages(unittest.TestCase):

@@ -8,7 +8,6 @@ import shutil
 import signal
 import subprocess
 import sys
-import time
 from pathlib import Path
 
 import support
@@ -24,6 +23,7 @@ class Programs(InFolder):
         shutil.copytree(TOP / "tools", self.copy / "tools", ignore=shutil.ignore_patterns("out", "__pycache__"))
         (self.copy / "crates" / "tst" / "src").mkdir(parents=True)
         (self.copy / "crates" / "tst" / "src" / "main.rt").write_text("")
+        (self.copy / "crates.txt").write_text("tst: low\n")
         self.bin = self.copy / "bin"
         self.bin.mkdir()
 
@@ -31,6 +31,12 @@ class Programs(InFolder):
         path.parent.mkdir(exist_ok=True, parents=True)
         path.write_text("#!/bin/sh\n" + text)
         path.chmod(0o755)
+
+    def make_proved(self, text: str) -> None:
+        """A proved program, with the record of its sources."""
+        self.make(self.copy / "crates" / "tst" / "out" / "tst", text)
+        lines = ("from nemzhuul.programs import built, program", "program.BUILT.record(built.sources_of('tst'))")
+        subprocess.run([sys.executable, "-Bc", "\n".join(lines)], cwd=self.copy / "tools", check=True)
 
     def ran(self, *words: str) -> tuple[int, str, str]:
         """What `tools/run` does where these commands alone are on the path."""
@@ -40,12 +46,12 @@ class Programs(InFolder):
         return done.returncode, done.stdout.decode(), re.sub(r"[0-9]+\.[0-9]+ s", "T s", done.stderr.decode())
 
     def test_the_proved_program(self) -> None:
-        self.make(self.copy / "crates" / "tst" / "out" / "tst", 'echo "$@"; exit 6')
+        self.make_proved('echo "$@"; exit 6')
         said = "run: the proved program ran for T s and ended with status 6\n"
         self.assertEqual(self.ran("check", "--strict"), (6, "check --strict\n", said))
 
     def test_an_interrupt(self) -> None:
-        self.make(self.copy / "crates" / "tst" / "out" / "tst", "echo begun; exec sleep 60")
+        self.make_proved("echo begun; exec sleep 60")
         command = [sys.executable, str(self.copy / "tools" / "run"), "run"]
         with subprocess.Popen(command, start_new_session=True, stdout=subprocess.PIPE, stderr=subprocess.PIPE) as work:
             self.assertEqual(stream(work.stdout).readline(), b"begun\n")
@@ -65,14 +71,13 @@ class Programs(InFolder):
         self.assertRegex(self.ran("run")[2], r"(?m)^run: `rt try` has been building for [0-9]+ s$")
 
     def test_an_unproved_program(self) -> None:
-        """It is built once, and again where a source is newer."""
+        """It is built once, and again if a source is another."""
         self.make_builder()
         builds = "crates/tst/out/tst is not built: `rt try` builds an unproved program, which takes about two minutes\n"
         ends = "run: an unproved program ran for T s and ended with status 0\n"
         self.assertEqual(self.ran("run"), (0, "hello\n", builds + ends))
         self.assertEqual(self.ran("run"), (0, "hello\n", ends))
-        later = time.time() + 10
-        os.utime(self.copy / "crates" / "tst" / "src" / "main.rt", (later, later))
+        (self.copy / "crates" / "tst" / "src" / "main.rt").write_text("another")
         self.assertEqual(self.ran("run"), (0, "hello\n", builds + ends))
 
     def test_a_build_that_removes_folders(self) -> None:
@@ -85,7 +90,7 @@ class Programs(InFolder):
         self.assertEqual(self.ran("run"), (1, "", said))
         self.make(self.bin / "rt", "exit 1")
         status, _, said = self.ran("run")
-        self.assertEqual((status, said.splitlines()[1][:38]), (1, "run: `rt try` built no program: `(cd c"))
+        self.assertEqual((status, said.splitlines()[1][:38]), (1, "run: `rt try` built no program: `tools"))
 
 
 if __name__ == "__main__":

@@ -1,4 +1,4 @@
-"""Runs the exchange: the proved program where it is built, and else an unproved one, which is built once."""
+"""Runs the exchange: the proved program if it fits the sources, and otherwise an unproved one, which is built once."""
 
 import subprocess
 import sys
@@ -8,9 +8,9 @@ from nemzhuul.command_line import NAME, WrongWords, say
 from nemzhuul.programs.program import UNPROVED, program_at
 
 USAGE = """usage: tools/run COMMAND.. <TRACE >REPORT
-runs the exchange with the arguments of a command: `run`, `follow`, `check`, `gen SEED CALLS`. It runs the
-proved program, crates/tst/out/tst. If that is not built it runs an unproved one, which `rt try` builds once, in
-about two minutes. Standard error says which of the two was run, and how long it took."""
+runs the exchange with the arguments of a command: `run`, `follow`, `check`, `gen SEED CALLS`. It runs the proved
+program, crates/tst/out/tst, if that was built from the sources that lie there (`tools/build`). Otherwise it runs an
+unproved one, which `rt try` builds once, in about two minutes. Standard error says which was run, and how long it took."""
 
 
 def main(*words):

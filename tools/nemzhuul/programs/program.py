@@ -1,50 +1,89 @@
 """A trace that is being written, and the program, proved or not, that runs it."""
 
+from __future__ import annotations
+
 import contextlib
+import functools
 import os
 import shutil
 import subprocess
+import sys
 import tempfile
 import time
 from pathlib import Path
+from typing import Optional
 
 from nemzhuul.command_line import NAME, Refused, say
+from nemzhuul.programs.built import PROVED_PARTS, TOP, UNPROVED_PARTS, Sources, program_in, sources_of
 from nemzhuul.traces.reading import METER, MOST_BYTES, MOST_EVENTS, reply
 
-TOP = Path(__file__).resolve().parents[3]
-PROGRAM = TOP / "crates" / "tst" / "out" / "tst"  # proved
-UNPROVED = TOP / "tools" / "out" / "tst"
+BUILT = program_in(TOP / "crates" / "tst" / "out")  # proved
+BUILT_UNPROVED = program_in(TOP / "tools" / "out")
+PROGRAM, UNPROVED = BUILT.file, BUILT_UNPROVED.file
+NAMED = PROGRAM.relative_to(TOP)  # in a text
+REMEDY = "`tools/build` proves and builds it"
 BUILD_SECONDS = 10  # between two lines on how long a build takes
 TEXT = ("utf-8", "surrogateescape")  # how octets of scripts and comments are read and written: none is lost
 
 
-def program_at(path=None):
-    """The program to run: the one that is named, or the proved one, or else the unproved one, which is built once."""
-    if path is not None and not is_program(Path(path)):
+def program_at(path: Optional[str] = None) -> Path:
+    """The program to run: the one that is named, or else one that was built from the sources that lie there."""
+    if path is None:
+        return fitting_program()
+    if not is_program(Path(path)):
         raise Refused(f"{path} is no program")
-    if path is None and not is_program(PROGRAM) and not is_fresh(UNPROVED):
-        build_unproved()
-    return next(found for found in (path and Path(path).resolve(), PROGRAM, UNPROVED) if found and is_program(found))
+    return Path(path).resolve()
 
 
-def is_program(path):
+def is_program(path: Path) -> bool:
     return path.is_file() and os.access(path, os.X_OK)
 
 
-def is_fresh(path):
-    """Whether a program is there that is newer than each source of it."""
-    if not is_program(path):
-        return False
-    built = path.stat().st_mtime
-    return all(source.stat().st_mtime < built for source in (TOP / "crates").glob("*/src/**/*.rt"))
+def misfit() -> Optional[str]:
+    """Why the proved program is not the one of the sources that lie there, or None if it is."""
+    return BUILT.misfit(functools.partial(sources_of, "tst", PROVED_PARTS))
 
 
-def build_unproved():
+def proved_program() -> Path:
+    """The proved program of the sources that lie there. No other is run where only the proved one will do."""
+    why = misfit()
+    if why:
+        raise Refused(f"{NAMED} {why}: {REMEDY}")
+    return PROGRAM
+
+
+def program_or_exit() -> Path:
+    """The proved program for a script, which ends with status 2 and one line where there is none."""
+    try:
+        return proved_program()
+    except Refused as why:
+        say(f"{NAME}: {why}")
+        sys.exit(2)
+
+
+@functools.lru_cache(maxsize=None)
+def fitting_program() -> Path:
+    """The proved program, or else the unproved one, which is built if it does not fit the sources either."""
+    why = misfit()
+    if why is None:
+        return PROGRAM
+    if BUILT_UNPROVED.misfit(unproved_sources):
+        build_unproved(why)
+    elif PROGRAM.exists():
+        say(f"{NAMED} {why}: {REMEDY}")
+    return UNPROVED
+
+
+def unproved_sources() -> Sources:
+    return sources_of("tst", UNPROVED_PARTS)
+
+
+def build_unproved(why: str) -> None:
     """Keeps the program that `rt try` builds without a proof, which `rt` removes when it ends."""
-    place = PROGRAM.relative_to(TOP)
     if shutil.which("rt") is None:
-        raise Refused(f"{place} is not built, and the commands of the Rattle kit are not on the path")
-    say(f"{place} is not built: `rt try` builds an unproved program, which takes about two minutes")
+        raise Refused(f"{NAMED} {why}, and the commands of the Rattle kit are not on the path")
+    say(f"{NAMED} {why}: `rt try` builds an unproved program, which takes about two minutes")
+    sources = unproved_sources()
     UNPROVED.parent.mkdir(exist_ok=True)
     UNPROVED.unlink(missing_ok=True)
     with tempfile.TemporaryDirectory(dir=UNPROVED.parent) as folder:
@@ -60,7 +99,10 @@ def build_unproved():
             time.sleep(0.05)
     if build.returncode or not is_program(UNPROVED):
         UNPROVED.unlink(missing_ok=True)
-        raise Refused(f"`rt try` built no program: `(cd {PROGRAM.parent.parent.relative_to(TOP)} && rt run -- run <stdin)` proves and builds one")
+        raise Refused(f"`rt try` built no program: {REMEDY}, or says why not")
+    if unproved_sources() != sources:
+        raise Refused("a source changed while `rt try` built the program: run this again")
+    BUILT_UNPROVED.record(sources)
 
 
 def keep_program(folder):
