@@ -64,10 +64,17 @@ class InFolder(unittest.TestCase):
         path.write_text(STAND_IN)
         path.chmod(0o755)
 
+    def make_device(self, name: str, minor: int) -> bool:
+        """Makes a device like /dev/null (3) or /dev/full (7), which a fault may remove without harm. Only root can."""
+        try:
+            os.mknod(self.folder / name, stat.S_IFCHR | 0o666, os.makedev(1, minor))
+        except PermissionError:
+            return False
+        return True
+
     def tool(self, name: str, *words: object, tools: Path = TOOLS) -> Ran:
         command = [tools / name, *map(str, words)]
-        streams = {"stdout": subprocess.DEVNULL, "stderr": subprocess.PIPE}
-        done = subprocess.run(command, cwd=self.folder, env=ENV, text=True, timeout=PATIENCE, check=False, **streams)
+        done = subprocess.run(command, cwd=self.folder, env=ENV, text=True, timeout=PATIENCE, check=False, capture_output=True)
         return Ran(done.returncode, done.stderr)
 
     def is_refused(self, said: str, *words: object) -> None:
@@ -124,18 +131,18 @@ class Sockets(InFolder):
         for name, target in (("link", "notes"), ("nowhere", "none"), ("to_socket", "left")):
             (self.folder / name).symlink_to(target)
         os.mkfifo(self.folder / "pipe")
+        devices = ["null"] if self.make_device("null", 3) else []
         before = {path.name: os.lstat(path) for path in self.folder.iterdir()}
-        for option in ("--line", "--link"):
-            for name in ("notes", "link", "nowhere", "to_socket", "place", "pipe", "/dev/null"):
-                with self.subTest(option=option, name=name):
-                    found = self.tool("attach", "--program", "./program", option, 0, f"unix:{name}", "settings")
-                    said = f"attach: unix:{name} cannot be listened on: {name} is there, and it is not a socket"
-                    self.assertEqual((found.status, found.said.splitlines()[-1]), (1, said))
+        names = ("notes", "link", "nowhere", "to_socket", "place", "pipe", *devices)
+        for option, name in (*(("--line", name) for name in names), ("--link", "notes")):
+            with self.subTest(option=option, name=name):
+                found = self.tool("attach", "--program", "./program", option, 0, f"unix:{name}", "settings")
+                said = f"attach: unix:{name} cannot be listened on: {name} is there, and it is not a socket"
+                self.assertEqual((found.status, found.said.splitlines()[-1]), (1, said))
         for name, state in before.items():
             after = os.lstat(self.folder / name)
             self.assertEqual((after.st_ino, after.st_mode, after.st_size), (state.st_ino, state.st_mode, state.st_size), name)
         self.assertEqual((self.folder / "notes").read_text(), "mine")
-        self.assertTrue(stat.S_ISCHR(os.stat("/dev/null").st_mode))
 
     def test_a_socket_that_nobody_listens_on(self) -> None:
         for kind in (socket.SOCK_STREAM, socket.SOCK_SEQPACKET, socket.SOCK_DGRAM):
@@ -239,7 +246,7 @@ class Outputs(InFolder):
         (self.folder / "link").symlink_to("log")
         for option in ("--log", "--report", "--pcap"):
             self.is_refused("log is there already: --overwrite replaces it", option, "log")
-            self.is_refused("link is there already: --overwrite replaces it", option, "link")
+        self.is_refused("link is there already: --overwrite replaces it", "--log", "link")
         self.assertEqual((self.folder / "log").read_text(), "mine")
         self.end(self.listening("line0", "--overwrite", "--log", "log"))
         self.assertTrue((self.folder / "log").read_text().startswith(SETTINGS))
@@ -255,9 +262,8 @@ class Outputs(InFolder):
         os.link(self.folder / "settings", self.folder / "hard")
         for name in ("settings", "./settings", "link", "hard", self.folder / "settings"):
             self.is_refused(f"{name} cannot be both the settings and the log", "--log", name, "--overwrite")
-        for name in ("other", "./other", "/dev/null"):
-            first = "other" if "other" in name else name
-            self.is_refused(f"{name} cannot be both the log and the report", "--log", first, "--report", name)
+        for name in ("other", "./other", self.folder / "other"):
+            self.is_refused(f"{name} cannot be both the log and the report", "--log", "other", "--report", name)
         self.is_refused("a cannot be both the report and the capture", "--log", "b", "--report", "a", "--pcap", "a")
         self.is_refused("program cannot be both the program and the report", "--report", "program", "--overwrite")
         self.is_refused("line0 cannot be both a socket of line 0 and the log", "--log", "line0")
@@ -269,21 +275,23 @@ class Outputs(InFolder):
         with socket.socket(socket.AF_UNIX) as left:
             left.bind(str(self.folder / "left"))
         (self.folder / "place").mkdir()
-        cases = (
+        cases = [
             ("left", "left cannot be written: it is a socket"),
             ("place", "place cannot be written: it is a folder"),
-            ("/dev/full", "/dev/full cannot be written: No space left on device"),
             ("no/log", "no/log cannot be written: No such file or directory"),
             ("settings/log", "settings/log cannot be written: Not a directory"),
-        )
-        for name, said in cases:
-            for option in ("--log", "--report", "--pcap"):
-                with self.subTest(name=name, option=option):
-                    found = self.tool("attach", "--program", "./program", "--line", 0, "unix:line0", option, name, "settings")
-                    self.assertEqual((found.status, found.said.splitlines()[-1]), (1, f"attach: {said}"))
-                    self.assertNotIn("listens", found.said)
-        self.end(self.listening("line0", "--log", "/dev/null"))
-        self.assertTrue(stat.S_ISCHR(os.stat("/dev/null").st_mode))
+        ]
+        if self.make_device("full", 7):
+            cases.append(("full", "full cannot be written: No space left on device"))
+        for at, (name, said) in enumerate(cases):
+            option = ("--log", "--report", "--pcap")[at % 3]
+            with self.subTest(name=name, option=option):
+                found = self.tool("attach", "--program", "./program", "--line", 0, "unix:line0", option, name, "settings")
+                self.assertEqual((found.status, found.said.splitlines()[-1]), (1, f"attach: {said}"))
+                self.assertNotIn("listens", found.said)
+        if self.make_device("null", 3):
+            self.end(self.listening("line0", "--log", "null"))
+            self.assertTrue(stat.S_ISCHR(os.stat(self.folder / "null").st_mode))
 
     def test_a_log_that_is_being_written(self) -> None:
         first = self.listening("line0", "--log", "log")
