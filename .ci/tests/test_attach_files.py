@@ -1,6 +1,6 @@
 """Which files tools/attach, tools/endpoint and tools/sounds leave alone, which program runs, and what one endpoint does to others.
 
-Only the class `Live` needs the program; the other tests run a stand-in that reads lines and replies to none.
+Only the class `Live` needs the program; the other tests run a substitute that reads lines and replies to none.
 """
 
 from __future__ import annotations
@@ -38,7 +38,7 @@ PATIENCE = 30  # seconds until a tool says or sends something
 PERIOD = 160  # frames
 ENV = {**os.environ, "PYTHONDONTWRITEBYTECODE": "1"}
 SETTINGS = "exchange 1 3 0 1\nnumber 100 line 0\nnail 0/1 1/1\nnail 0/2 1/2\n"
-STAND_IN = "#!/bin/sh\ncat >/dev/null\n"  # its output stays open
+SUBSTITUTE = "#!/bin/sh\ncat >/dev/null\n"  # its output stays open
 STATUS_ENQUIRY = "M 0802{:04X}75"
 
 
@@ -50,7 +50,7 @@ class Ran(NamedTuple):
 
 
 class InFolder(unittest.TestCase):
-    """Tests in a temporary folder, which has settings and a stand-in for the exchange."""
+    """Tests in a temporary folder, which has settings and a substitute for the exchange."""
 
     def setUp(self) -> None:
         folder = tempfile.TemporaryDirectory()
@@ -61,7 +61,7 @@ class InFolder(unittest.TestCase):
 
     def make_program(self, path: Path) -> None:
         path.parent.mkdir(parents=True, exist_ok=True)
-        path.write_text(STAND_IN)
+        path.write_text(SUBSTITUTE)
         path.chmod(0o755)
 
     def make_device(self, name: str, minor: int) -> bool:
@@ -268,7 +268,7 @@ class Outputs(InFolder):
         self.is_refused("program cannot be both the program and the report", "--report", "program", "--overwrite")
         self.is_refused("line0 cannot be both a socket of line 0 and the log", "--log", "line0")
         self.assertEqual((self.folder / "settings").read_text(), SETTINGS)
-        self.assertEqual((self.folder / "program").read_text(), STAND_IN)
+        self.assertEqual((self.folder / "program").read_text(), SUBSTITUTE)
         self.assertFalse((self.folder / "other").exists())
 
     def test_what_is_no_file(self) -> None:
@@ -342,7 +342,7 @@ class Programs(InFolder):
         self.assertEqual(self.said("--program", "./program"), (0, "attach: runs ./program, which may not be proved"))
 
     def test_seconds(self) -> None:
-        """They pass by the clock, though this program replies to nothing and its frames stand still."""
+        """They pass by the clock, though this program replies to nothing, so that no frame follows."""
         begun = time.monotonic()
         self.assertEqual(self.tool("attach", "--program", "./program", "--seconds", 2, "--line", 0, "unix:line0", "settings").status, 0)
         self.assertTrue(2 <= time.monotonic() - begun < PATIENCE / 2)
