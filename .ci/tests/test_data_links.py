@@ -120,7 +120,7 @@ class DataLinks(Attached):
 
     def test_both_sides_call_the_link(self) -> None:
         """The exchange sends SABME each time T200 has run out, until the user answers one."""
-        (self.folder / "settings").write_text(self.SETTINGS.replace("\n", "\ntimer T200 400\n", 1))
+        (self.folder / "settings").write_text(self.SETTINGS.replace("\n", "\ntimer T200 2000\n", 1))
         self.attach("--burst", "5", lines=(), linked=(0,))
         user = self.user()
         for _ in range(2):
