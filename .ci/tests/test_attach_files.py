@@ -317,6 +317,13 @@ class Programs(InFolder):
         super().setUp()
         self.copy = self.folder / "copy"
         shutil.copytree(TOOLS, self.copy / "tools", ignore=shutil.ignore_patterns("out", "__pycache__"))
+        (self.copy / "crates" / "tst" / "src").mkdir(parents=True)
+        (self.copy / "crates.txt").write_text("tst:\n")
+
+    def record(self, what: str, sources: str) -> None:
+        """Records that a program was built from the sources that lie there."""
+        text = f"from nemzhuul.programs import built, program\nprogram.{what}.record({sources})\n"
+        subprocess.run([sys.executable, "-c", text], cwd=self.copy / "tools", env=ENV, check=True)
 
     def said(self, *words: object) -> Ran:
         """How a second of the exchange of a copy of the tools ends, and the first line that it says."""
@@ -326,14 +333,16 @@ class Programs(InFolder):
     def test_an_unproved_program(self) -> None:
         """It runs only if it may, and what to type for a proved one is said before it starts."""
         self.make_program(self.copy / "tools" / "out" / "tst")
+        self.record("BUILT_UNPROVED", "program.unproved_sources()")
         status, said = self.said()
         self.assertEqual((status, said[:79]), (1, "attach: crates/tst/out/tst is not built, and an unproved program is too slow fo"))
-        self.assertIn("`rt all check --jobs 4`, then `(cd crates/tst && rt run -- run <stdin)`", said)
+        self.assertIn("`tools/build` proves and builds it", said)
         status, said = self.said("--unproved")
         self.assertEqual((status, said[:67]), (0, "attach: runs an unproved program, too slow for real time, so that f"))
 
     def test_a_proved_program(self) -> None:
         self.make_program(self.copy / "crates" / "tst" / "out" / "tst")
+        self.record("BUILT", "built.sources_of('tst')")
         for words in ((), ("--unproved",), ("--program", self.copy / "crates" / "tst" / "out" / "tst")):
             with self.subTest(words=words):
                 self.assertEqual(self.said(*words), (0, "attach: runs the proved program, crates/tst/out/tst"))

@@ -20,7 +20,7 @@ from nemzhuul.live.wire import read_address
 from nemzhuul.live.periods import Use
 from nemzhuul.live.processes import Exchange, Loop
 from nemzhuul.outputs import Output, check_output, is_same_file
-from nemzhuul.programs.program import PROGRAM, TOP, UNPROVED, is_program, program_at
+from nemzhuul.programs.program import NAMED, PROGRAM, REMEDY, UNPROVED, misfit, program_at
 from nemzhuul.signalling.q931 import SETUP, message_text
 from nemzhuul.traces.reading import FRAMES_PER_SECOND, NUMERAL, Arrival, Frame, Link, LinkArrival, TraceReader, is_said, lines_of, take_lines
 
@@ -44,7 +44,6 @@ An endpoint sends and gets lines: `M HEX`, a message, and `F HEX`, the octets of
 Signal USR1 prints how much of its time the exchange has used so far."""
 
 OUTPUTS = {"log": "the log", "report": "the report", "pcap": "the capture"}
-BUILD = "`rt all check --jobs 4`, then `(cd crates/tst && rt run -- run <stdin)`"
 
 
 class Options:
@@ -135,16 +134,14 @@ class Options:
 
 def exchange_program(named: str | None, may_be_unproved: bool) -> Path:
     """The program of the exchange: the named one, or the proved one, or if that may be so an unproved one. It is said."""
-    if named is None and not is_program(PROGRAM) and not may_be_unproved:
-        raise Refused(
-            f"{PROGRAM.relative_to(TOP)} is not built, and an unproved program is too slow for real time: "
-            f"{BUILD} proves and builds it; --unproved goes on without"
-        )
+    why = misfit() if named is None and not may_be_unproved else None
+    if why is not None:
+        raise Refused(f"{NAMED} {why}, and an unproved program is too slow for real time: {REMEDY}; --unproved goes on without")
     program = program_at(named)
     if program == PROGRAM:
-        say(f"{NAME}: runs the proved program, {PROGRAM.relative_to(TOP)}")
+        say(f"{NAME}: runs the proved program, {NAMED}")
     elif program == UNPROVED:
-        say(f"{NAME}: runs an unproved program, too slow for real time, so that frames are late: {BUILD} builds the proved one")
+        say(f"{NAME}: runs an unproved program, too slow for real time, so that frames are late: {REMEDY}")
     else:
         say(f"{NAME}: runs {named}, which may not be proved")
     return program
