@@ -21,7 +21,6 @@ use Rattle.call_states.specs.declared.leg.Peer.{Peer}
 use Rattle.call_states.specs.declared.leg.Peer.TheVariants as peer
 use Rattle.call_states.specs.declared.leg.Side.{Side}
 use Rattle.call_states.specs.declared.leg.Side.TheVariants.{Caller}
-use Rattle.call_states.proofs.Causes.{cause_fits}
 use Rattle.clearing_rules.specs.declared.scope.Restart.{Restart}
 use Rattle.clearing_rules.specs.UnknownReference.{answer_without_call}
 use Rattle.exchange_events.specs.declared.trace.Event.TheVariants.{LinkUp, LinkDown}
@@ -44,13 +43,13 @@ use Rattle.call_profile.specs.World.{World}
 use Rattle.call_profile.proofs.BesideLemmas.{leg_at-with_entry_here, leg_at-with_entry_else, same_or_apart}
 use Rattle.call_profile.proofs.ClearingLemmas.{held_there}
 use Rattle.call_profile.proofs.DroppedLineLemmas.{active_wait, call_active, other_lines_are_left}
-use Rattle.call_profile.proofs.MessageToLegLemmas.{Asked, Asked-act_of}
 use Rattle.call_profile.proofs.NamedLegLemmas.{received_stands}
 use Rattle.call_profile.proofs.RestartedLineLemmas.{leg_at_restarted_others}
 use Rattle.call_profile.proofs.ResumedLineLemmas.{legs_are_resumed}
 use Rattle.call_profile.proofs.StandingLegLemmas.{happened_kept}
 use Rattle.privacy.specs.Ending.{IsClearing, By_disconnect, By_release, By_release_complete, By_status, IsEnding, Of_leg, Of_slot, Lasts}
 use Rattle.privacy.specs.Undisturbed.{AreCalling}
+use Rattle.privacy.proofs.LegStateLemmas.{digits_overlap}
 use Rattle.privacy.proofs.LineLemmas.{IsStrange, act_skip, answer_skip, by_skip, setup_skip}
 use Rattle.privacy.proofs.StayingLemmas.{one_leg, used_by_leg}
 
@@ -386,9 +385,7 @@ module _ (s : Setting) (w : World) (line : ℕ) (planned : IsPlanned s) (stands 
 
       -- digits come for a leg without another leg
       overlap : act_on h.leg.state m ≡ act.Digits → h.leg.state ≡ overlap_sending
-      overlap acts =
-          let asked = subst (Asked h.leg.state) acts (Asked-act_of h.leg.state m.kind (clearing_cause m.elements) (is_null (call_state_in m.elements)) (cause_fits m.elements)) in
-          eqb-true h.leg.state overlap_sending asked
+      overlap acts = digits_overlap h.leg m acts
 
       dialled : act_on h.leg.state m ≡ act.Digits → CallsStand s (after act.Digits) → LastsIn (after act.Digits)
       dialled acts stands_v =
