@@ -23,8 +23,10 @@ pub data IsClearing (m : Message) : Type 0 where
 
 -- the octets on the line are a clearing message for the leg at one of the two slots, or a RESTART of one of the two slots
 pub data IsEnding (w : World) (x y : Slot) (line : ℕ) (octets : List ℕ) : Type 0 where
-  Of_leg : (h : HeldLeg) (m : Message) → request_of w.legs line octets ≡ For_leg h m → (h.slot ≡ x) ⊎ (h.slot ≡ y) → IsClearing m → IsEnding w x y line octets
-  Of_slot : (r : Restart) → request_of w.legs line octets ≡ Restarts r → (restarts_slot r line x ≡ true) ⊎ (restarts_slot r line y ≡ true) → IsEnding w x y line octets
+  Of_leg : (h : HeldLeg) (m : Message) → request_of w.legs line octets ≡ For_leg h m → (h.slot ≡ x) ⊎ (h.slot ≡ y) → IsClearing m
+      → IsEnding w x y line octets
+  Of_slot : (r : Restart) → request_of w.legs line octets ≡ Restarts r → (restarts_slot r line x ≡ true) ⊎ (restarts_slot r line y ≡ true)
+      → IsEnding w x y line octets
 
 -- the call of these two legs goes on: the legs at the two slots are still of one call, with the same call references
 abbrev pub Lasts : Setting → World → Slot → Slot → Leg → Leg → Type 0
