@@ -1,4 +1,4 @@
-mod LinkLemmas
+pub mod LinkLemmas
 pub mod PlainLemmas
 pub mod QuietLemmas
 pub mod AtLemmas

@@ -206,7 +206,7 @@ run-append : (s : Setting) (w : World) (es fs : List Event) → run s w (es ++ f
 run-append s w [] fs = refl
 run-append s w (e ∷ es) fs = ap (λ rs. reply s w e ∷ rs) (run-append s (next s w e) es fs)
 
-all_world : (s : Setting) (timers : Timers) (j : Joint) (is : List LinkedInput) → (joint_after_all s timers j is).world ≡ world_after_all s j.world (derived_all s timers j is)
+pub all_world : (s : Setting) (timers : Timers) (j : Joint) (is : List LinkedInput) → (joint_after_all s timers j is).world ≡ world_after_all s j.world (derived_all s timers j is)
 all_world s timers j [] = refl
 all_world s timers j (i ∷ is) =
     let later = next_joint s timers j i in

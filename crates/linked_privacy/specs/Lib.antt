@@ -1,0 +1,2 @@
+pub mod OtherLinks
+pub mod Worked
