@@ -24,7 +24,7 @@ use Rattle.link_procedures.specs.Receiving.{answers, on_sabme, on_disc, is_solic
 use Rattle.link_procedures.specs.Timing.{is_due, calls_again, enquires_at, calls_or_releases, on_expiry, first_retries, turned}
 use Rattle.link_procedures.specs.declared.state.Running.{Running}
 use Rattle.link_procedures.specs.declared.state.Running.TheVariants.{T200, T203}
-use Rattle.link_procedures.specs.AnyPeer.{IsShort, IsQueue, IsLink, accepted, acknowledged_by, Keeps, IsLossTold, AddsOrOwes, KeepsOrSettles, IsInWindow, Acknowledges, IsFormed, HasSent, IsSequenced, IsInSequence}
+use Rattle.link_procedures.specs.AnyPeer.{IsShort, IsQueue, IsLink, accepted, acknowledged_by, Keeps, IsLossTold, IsAdded, IsLossOwed, AddsOrOwes, KeepsOrSettles, IsInWindow, Acknowledges, IsFormed, HasSent, IsSequenced, IsInSequence}
 
 by_test : {A : Type 0} (P : A → Type 0) (b : Bool) (x y : A) → (b ≡ true → P x) → (b ≡ false → P y) → P (if b then x else y)
 by_test P true x y f g = f refl
@@ -535,17 +535,41 @@ pub record Taken (m : List ℕ) (s t : Step) : Type 0 where
   pub ranges : IsShort m → IsLink s.link → IsLink t.link
   pub sent : IsShort m → IsLink s.link → HasSent t.link.queue t.link.received s.out t.out
 
-pub overflows_taken : (m : List ℕ) (at : ℕ) (s : Step) → is_up s.link ≡ true → Taken m s (overflows at s)
+not_fewer : {A : Type 0} (n : ℕ) → n < 64 → 64 ≤ n → A
+not_fewer n few many = absurd (omega (arith, few, many))
+
+owed_full : (m : List ℕ) (l k : DataLink) → is_up l ≡ true → 64 ≤ length l.queue.waiting → IsLossOwed k → AddsOrOwes m l k
+owed_full m l k up many h = record {
+  room = λ on few. not_fewer (length l.queue.waiting) few many;
+  full = λ on more. h;
+  down = λ off. not_both (is_up l) up off;
+}
+
+added_room : (m : List ℕ) (l k : DataLink) → is_up l ≡ true → length l.queue.waiting < 64 → IsAdded m l k → AddsOrOwes m l k
+added_room m l k up few h = record {
+  room = λ on less. h;
+  full = λ on many. not_fewer (length l.queue.waiting) few many;
+  down = λ off. not_both (is_up l) up off;
+}
+
+unchanged_down : (m : List ℕ) (l : DataLink) → is_up l ≡ false → AddsOrOwes m l l
+unchanged_down m l off = record {
+  room = λ on few. not_both (is_up l) on off;
+  full = λ on many. not_both (is_up l) on off;
+  down = λ e. (refl, refl);
+}
+
+pub overflows_taken : (m : List ℕ) (at : ℕ) (s : Step) → is_up s.link ≡ true → 64 ≤ length s.link.queue.waiting → Taken m s (overflows at s)
 unfolding overflows establishes emptied
-overflows_taken m at s up = by_test (Taken m s) (is_awaiting s.link.state) _ _
+overflows_taken m at s up full = by_test (Taken m s) (is_awaiting s.link.state) _ _
     (λ e. record {
-      losses = record { up = λ on. inr (refl, refl); down = λ off. not_both (is_up s.link) up off };
+      losses = owed_full m s.link _ up full (refl, refl);
       next = refl;
       ranges = λ short h. let q = h.queue in record { queue = empty_queue _ refl refl q.number; next = h.next; counter = h.counter };
       sent = λ short h. sent_none _ s.link.received s.out;
     })
     (λ e. record {
-      losses = record { up = λ on. inr (refl, refl); down = λ off. not_both (is_up s.link) up off };
+      losses = owed_full m s.link _ up full (refl, refl);
       next = refl;
       ranges = λ short h. let q = h.queue in record { queue = empty_queue _ refl refl q.number; next = h.next; counter = omega arith };
       sent = λ short h. sent_one _ s.link.received s.out (command (control.Sabme true)) tt tt tt;
@@ -568,7 +592,7 @@ queued_waiting m q = refl
 
 pub submitted_taken : (m : List ℕ) (at : ℕ) (s : Step) → Taken m s (submitted m at s)
 unfolding submitted
-submitted_taken m at s = by_test (Taken m s) (not (is_up s.link)) _ _ (λ e. unchanged (is_not (is_up s.link) e)) (λ e. by_test (Taken m s) (nat_le 64 (length s.link.queue.waiting)) _ _ (λ d. overflows_taken m at s (is_so (is_up s.link) e)) (λ d. waits m at s (is_so (is_up s.link) e) (leb-false 64 (length s.link.queue.waiting) d)))
+submitted_taken m at s = by_test (Taken m s) (not (is_up s.link)) _ _ (λ e. unchanged (is_not (is_up s.link) e)) (λ e. by_test (Taken m s) (nat_le 64 (length s.link.queue.waiting)) _ _ (λ d. overflows_taken m at s (is_so (is_up s.link) e) (leb-true 64 (length s.link.queue.waiting) d)) (λ d. waits m at s (is_so (is_up s.link) e) (leb-false 64 (length s.link.queue.waiting) d)))
   where
     is_not : (b : Bool) → not b ≡ true → b ≡ false
     is_not true e = absurd (cc)
@@ -579,13 +603,13 @@ submitted_taken m at s = by_test (Taken m s) (not (is_up s.link)) _ _ (λ e. unc
     is_so false e = absurd (cc)
 
     unchanged : is_up s.link ≡ false → Taken m s s
-    unchanged off = record { losses = record { up = λ on. not_both (is_up s.link) on off; down = λ e. (refl, refl) }; next = refl; ranges = λ short h. h; sent = λ short h. sent_none s.link.queue s.link.received s.out }
+    unchanged off = record { losses = unchanged_down m s.link off; next = refl; ranges = λ short h. h; sent = λ short h. sent_none s.link.queue s.link.received s.out }
 
     waits : (m : List ℕ) (at : ℕ) (s : Step) → is_up s.link ≡ true → length s.link.queue.waiting < 64 → Taken m s (flushes at (step (record s.link { queue = queued m s.link.queue }) s.out))
     waits m at s on few =
         let t : Step = step (record s.link { queue = queued m s.link.queue }) s.out in
         let f = flushes_flushed at t in record {
-          losses = record { up = λ e. inl (f.keeps.0 ∙ queued_waiting m s.link.queue, f.keeps.1); down = λ off. not_both (is_up s.link) on off };
+          losses = added_room m s.link _ on few (f.keeps.0 ∙ queued_waiting m s.link.queue, f.keeps.1);
           next = f.next;
           ranges = λ short h. f.ranges (record { queue = queued_queue m s.link.queue short few h.queue; next = h.next; counter = h.counter });
           sent = λ short h. flushed_sent t (flushes at t) f (record { queue = queued_queue m s.link.queue short few h.queue; next = h.next; counter = h.counter });
@@ -606,13 +630,13 @@ nothing_taken e = absurd (cc)
 released_taken : (Some indication.Released ≡ Some indication.Data) → ⊥
 released_taken e = absurd (cc)
 
--- layer 3 knows of each earlier loss
-kept_even : (l : DataLink) (o : Outcome) → l.owed ≡ false → Keeps 0 l o.link ⊎ IsLossTold o → KeepsOrSettles l o
-kept_even l o off h = record { owing = λ on. not_both l.owed on off; even = λ e. h }
+-- layer 3 is informed of each earlier loss
+kept_informed : (l : DataLink) (o : Outcome) → l.owed ≡ false → Keeps 0 l o.link ⊎ IsLossTold o → KeepsOrSettles l o
+kept_informed l o off h = record { owing = λ on. not_both l.owed on off; informed = λ e. h }
 
 quietly_turned : (s t : Step) → s.link.owed ≡ false → Quiet 0 s.link.received s t → Turned s (quietly t)
 quietly_turned s t off h = record {
-  losses = kept_even s.link (quietly t) off (inl h.keeps);
+  losses = kept_informed s.link (quietly t) off (inl h.keeps);
   untaken = nothing_taken;
   next = h.next;
   ranges = h.ranges;
@@ -630,7 +654,7 @@ enquires_at_quiet retries at s few = let h = enquires_quiet s in record {
 
 calls_turned : (at : ℕ) (s : Step) → s.link.owed ≡ false → (s.link.retries == 3) ≡ false → Turned s (quietly (calls_again at s))
 calls_turned at s off more = record {
-  losses = kept_even s.link (quietly (calls_again at s)) off (inl (refl, refl));
+  losses = kept_informed s.link (quietly (calls_again at s)) off (inl (refl, refl));
   untaken = nothing_taken;
   next = refl;
   ranges = λ h. let c = h.counter in let other = eqb-false s.link.retries 3 more in record { queue = h.queue; next = h.next; counter = one_less s.link.retries c other };
@@ -643,7 +667,7 @@ calls_turned at s off more = record {
 releases_turned : (at : ℕ) (s : Step) → s.link.owed ≡ false → Turned s (releases at s)
 unfolding released lost emptied
 releases_turned at s off = record {
-  losses = kept_even s.link (releases at s) off (inr (refl, refl, tt));
+  losses = kept_informed s.link (releases at s) off (inr (refl, refl, tt));
   untaken = released_taken;
   next = refl;
   ranges = λ h. let q = h.queue in record { queue = empty_queue _ refl refl q.number; next = h.next; counter = h.counter };
@@ -676,7 +700,7 @@ pub turned_turned : (t : Timers) (at : ℕ) (s : Step) → IsLink s.link → Tur
 unfolding turned
 turned_turned t at s l = by_test (Turned s) s.link.owed _ _
     (λ e. record {
-      losses = record { owing = λ on. (refl, refl, tt); even = λ off. not_both s.link.owed e off };
+      losses = record { owing = λ on. (refl, refl, tt); informed = λ off. not_both s.link.owed e off };
       untaken = released_taken;
       next = refl;
       ranges = λ h. record { queue = h.queue; next = h.next; counter = h.counter };

@@ -7,7 +7,7 @@ use Rattle.link_frames.specs.declared.frame.Frame.{Frame}
 use Rattle.link_frames.specs.Reading.{reading}
 use Rattle.link_procedures.specs.declared.state.Indication.{Indication}
 use Rattle.link_procedures.specs.declared.state.Indication.TheVariants as indication
-use Rattle.link_procedures.specs.Links.{SendQueue, DataLink, Step, distance, is_valid, is_multiple_frame, is_up}
+use Rattle.link_procedures.specs.Links.{SendQueue, DataLink, Step, distance, is_valid, is_multiple_frame, is_up, max_queue_len}
 use Rattle.link_procedures.specs.Establishment.{Outcome}
 
 -- the octets of a message of layer 3 that a link can carry
@@ -73,15 +73,16 @@ IsLossOwed l = (l.queue.waiting ≡ []) × (l.owed ≡ true)
 abbrev pub KeepsOrTells : Control → DataLink → Outcome → Type 0
 KeepsOrTells c before o = Keeps (acknowledged_by c before) before o.link ⊎ IsLossTold o
 
--- if the link is up, the message waits after the others, or all are lost; otherwise the message is not taken
+-- if the link is up, the message waits after the others, or, if the queue is full, all are lost; otherwise the queue is unchanged
 pub record AddsOrOwes (message : List ℕ) (before after : DataLink) : Type 0 where
-  pub up : is_up before ≡ true → IsAdded message before after ⊎ IsLossOwed after
+  pub room : is_up before ≡ true → length before.queue.waiting < max_queue_len → IsAdded message before after
+  pub full : is_up before ≡ true → max_queue_len ≤ length before.queue.waiting → IsLossOwed after
   pub down : is_up before ≡ false → Keeps 0 before after
 
--- if layer 3 has not been informed of a loss, it is informed now; otherwise nothing leaves the queue, or layer 3 is informed
+-- layer 3 is informed of an earlier loss; if it is informed of all, nothing leaves the queue, or all messages do and it is informed
 pub record KeepsOrSettles (before : DataLink) (o : Outcome) : Type 0 where
   pub owing : before.owed ≡ true → IsDebtSettled before o
-  pub even : before.owed ≡ false → Keeps 0 before o.link ⊎ IsLossTold o
+  pub informed : before.owed ≡ false → Keeps 0 before o.link ⊎ IsLossTold o
 
 -- ---- what is sent
 
@@ -93,13 +94,13 @@ abbrev pub IsInWindow : SendQueue → Control → Type 0
 IsInWindow q (control.Information poll ns nr information) = CarriesItsMessage q ns information
 IsInWindow q _ = Unit {0}
 
--- an I frame or an S frame acknowledges the frames before this number, which is V(R): N(R) is V(R) (3.5.2.4)
+-- N(R) of an I frame or an S frame is this number, which is V(R): all I frames before it are acknowledged (3.5.2.6)
 abbrev pub Acknowledges : ℕ → Control → Type 0
 Acknowledges received (control.Information poll ns nr information) = nr ≡ received
 Acknowledges received (control.Supervisory kind pf nr) = nr ≡ received
 Acknowledges received _ = Unit {0}
 
--- the peer reads the octets as one frame
+-- the peer reads the octets as one frame; an I frame carries the message of its number, and N(R) is this V(R)
 pub record IsFormed (q : SendQueue) (received : ℕ) (octets : List ℕ) : Type 0 where
   pub frame : Frame
   pub read : reading Network octets ≡ Some frame

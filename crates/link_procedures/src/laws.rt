@@ -21,7 +21,8 @@ pub fn law_of_windows()
 {}
 
 /// A message leaves the queue only if a valid N(R) acknowledges it, or with all others. In the second case layer 3 is
-/// informed, in the same step or in the next turn. A link that is up takes each message, or loses all in this way.
+/// informed, in the same step or in the next turn. A link that is up takes each message. If 64 messages wait already, it
+/// loses all in this way.
 pub fn law_of_losses()
     ensures received { (f : Frame) (at : ℕ) (s : Step) → IsNumbered f.control → KeepsOrTells f.control s.link (received f at s) }
     ensures submitted { (m : List ℕ) (at : ℕ) (s : Step) → AddsOrOwes m s.link (submitted m at s).link }
