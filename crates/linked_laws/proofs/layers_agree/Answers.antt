@@ -1,0 +1,8 @@
+use Rattle.linked_laws.proofs.LayerLemmas as layers
+use Rattle.linked_laws.proofs.layers_agree.Goals as goal
+
+pub returns-clause-down : goal.returns-clause-down
+returns-clause-down c = layers.layers_agree
+
+pub returns-clause-owing : goal.returns-clause-owing
+returns-clause-owing c = layers.owes_if_down

@@ -1,0 +1,53 @@
+//! Theorems on an exchange with data links: what its call control knows of them, and what they deliver.
+//!
+//! - [`layers_agree`]: a line is down for call control if and only if its link is not up, unless the link has lost messages
+//!   of which call control is not informed yet (`down`). Such a link is not up (`owing`).
+//! - [`in_order_on_a_line`]: the theorem [`in_order_or_told`](link_laws::in_order_or_told) holds of each line of a running
+//!   exchange and its user. The messages of call control and of the user are delivered at most once and in order, and only
+//!   the last ones before an indication can be lost.
+//! - [`sides_are_alike`]: the frames of the two sides of an interface differ in the C/R bit only. So the theorems of
+//!   `link_laws`, in which both links are the network side, hold of a network side and a user side.
+//!
+//! The exchange is the pair of its exchange state and its links, `Joint`. Each call of `LinkedExchange` changes it as
+//! `next_joint` defines (`step`).
+#![tactic(auto)]
+
+ghost use Rattle.std.specs.Prelude.{◌≡◌, Bool, List, ℕ};
+ghost use Rattle.exchange_events.specs.Sizes.{Setting};
+ghost use Rattle.link_frames.specs.declared.frame.Frame.{Frame};
+ghost use Rattle.link_frames.specs.declared.frame.Sender.TheVariants.{Network, User};
+ghost use Rattle.link_frames.specs.Reading.{reading};
+ghost use Rattle.link_frames.specs.Writing.{encoding};
+ghost use Rattle.link_procedures.specs.declared.state.Timers.{Timers};
+ghost use Rattle.linked_exchange.specs.Steps.{LinkedInput};
+ghost use Rattle.linked_exchange.specs.Runs.{joint_after_all, start_joint};
+ghost use Rattle.linked_laws.specs.Layers.{AreInputs, LayersAgree, OwesIfDown};
+ghost use Rattle.linked_laws.specs.Peers.{AlwaysOn, HasArrived, IsInOrderOrTold};
+ghost use Rattle.linked_laws.specs.Sides.{as_user};
+
+/// After any inputs, a line is down for call control if and only if its link is not up and owes call control no
+/// indication of a loss. A link that owes one is not up. The line begins with a link, and no other input changes it.
+pub fn layers_agree()
+    ensures down { (s : Setting) (timers : Timers) (linked : List Bool) (line : ℕ) (is : List LinkedInput)
+        → AreInputs s linked line is → LayersAgree line (joint_after_all s timers (start_joint s linked) is) }
+    ensures owing { (s : Setting) (timers : Timers) (linked : List Bool) (line : ℕ) (is : List LinkedInput)
+        → AreInputs s linked line is → OwesIfDown line (joint_after_all s timers (start_joint s linked) is) }
+{}
+
+/// On a line with a data link, for every loss and across establishments, each message is delivered at most once and in
+/// order, both ways. Only the last messages before an indication to the sender can be lost (`order`). While a link is up,
+/// no message since the last indication is lost (`arrived`). All other lines do anything.
+///
+/// The premises are that only the user sends on the line, that a message of call control has at most 112 octets, and
+/// that T200 does not expire in state 5 while SABME or its UA is on a wire. The user has a link of `link_procedures`.
+pub fn in_order_on_a_line()
+    ensures order { AlwaysOn IsInOrderOrTold }
+    ensures arrived { AlwaysOn HasArrived }
+{}
+
+/// The exchange reads the octets of its user as the user reads the same octets with the other C/R bit (`read`). A frame
+/// of the user has this C/R bit (`written`).
+pub fn sides_are_alike()
+    ensures read { (octets : List ℕ) → reading User (as_user octets) ≡ reading Network octets }
+    ensures written { (f : Frame) → as_user (encoding Network f) ≡ encoding User f }
+{}
