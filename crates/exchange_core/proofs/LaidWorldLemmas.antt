@@ -27,6 +27,7 @@ use Rattle.paull_matrix.specs.Matrix.{no_paths}
 use Rattle.paull_matrix.proofs.Laws.{legal_empty}
 use Rattle.path_memory.proofs.MatrixOfLayout.{bare_matches}
 use Rattle.tone_rules.specs.declared.tones.Tones.{Tones}
+use Rattle.exchange_events.specs.declared.trace.Event.{Event}
 use Rattle.exchange_events.specs.declared.trace.Trace.{Trace}
 use Rattle.exchange_events.specs.Sizes.{Setting, Dimensions}
 use Rattle.exchange_events.specs.Sound.{IsSound, setting_of}
@@ -35,8 +36,7 @@ use Rattle.call_profile.specs.Step.{events_of}
 use Rattle.call_profile.specs.World.{World, exchange_lines, one_way, both_ways, with_port, start}
 use Rattle.call_profile.proofs.KeptWorldLemmas.{Keeps, run_keeps}
 use Rattle.call_profile.proofs.StandingLegLemmas.{start_stands}
-use Rattle.exchange_core.specs.LaidOut.{IsLegalAfter, JoinsCircuitsAfter}
-use Rattle.exchange_core.specs.Working.{world_after}
+use Rattle.exchange_core.specs.LaidOut.{IsFitting, IsLegalAfter, IsLegalIn, JoinsCircuitsAfter, JoinsCircuitsIn, world_of_all}
 use Rattle.exchange_core.proofs.LegalPathLemmas.{IsMatched, IsJoined-connect, IsMatched-without_path}
 use Rattle.exchange_core.proofs.StepLemmas.{fits_all}
 
@@ -341,20 +341,35 @@ laid_keeps d tones enough = record {
   passes = λ w input laid. frame_laid d w.holding w.ports w.layout enough laid;
 }
 
-module _ (slots : ℕ) (trace : Trace) (order : List ℕ) (sound : IsSound trace) (enough : 30 ≤ slots) (few : slots ≤ 59) where
-  abbrev s : Setting
-  s = setting_of slots trace
-
-  laid_after : IsLaidOut s.dimensions (world_after slots trace order)
+-- after any list of events that fit
+module _ (s : Setting) (events : List Event) (fitting : IsFitting s events) where
+  laid_after : IsLaidOut s.dimensions (world_of_all s events)
   laid_after =
-      let some = sound.some in
-      let lines = sound.few in
-      let bridges = sound.bridges in
-      run_keeps s (IsLaidOut s.dimensions) (laid_keeps s.dimensions s.tones enough) (start s.dimensions) (events_of trace.events order) sound.planned (fits_all trace order sound.events) (start_stands s)
-      (start_laid s.dimensions (omega (arith, some), omega (arith, lines, bridges)) (omega (arith, enough), few))
+      let d = s.dimensions in
+      let some = fitting.sized.some in
+      let lines = fitting.sized.few in
+      let bridges = fitting.sized.bridges in
+      let enough = fitting.sized.enough in
+      let few = fitting.sized.most in
+      run_keeps s (IsLaidOut d) (laid_keeps d s.tones enough) (start d) events fitting.planned fitting.fit (start_stands s)
+      (start_laid d (omega (arith, some), omega (arith, lines, bridges)) (omega (arith, enough), few))
+
+  pub legal_reached : IsLegalIn s.dimensions (world_of_all s events)
+  legal_reached = laid_after.matched.holds.legal
+
+  pub joins_reached : JoinsCircuitsIn s.dimensions (world_of_all s events)
+  joins_reached = laid_after.holds.joined
+
+module _ (slots : ℕ) (trace : Trace) (order : List ℕ) (sound : IsSound trace) (enough : 30 ≤ slots) (few : slots ≤ 59) where
+  fitting_trace : IsFitting (setting_of slots trace) (events_of trace.events order)
+  fitting_trace = record {
+    sized = record { some = sound.some; few = sound.few; bridges = sound.bridges; enough = enough; most = few };
+    planned = sound.planned;
+    fit = fits_all trace order sound.events;
+  }
 
   pub legal_after : IsLegalAfter slots trace order
-  legal_after = laid_after.matched.holds.legal
+  legal_after = legal_reached (setting_of slots trace) (events_of trace.events order) fitting_trace
 
   pub joins_after : JoinsCircuitsAfter slots trace order
-  joins_after = laid_after.holds.joined
+  joins_after = joins_reached (setting_of slots trace) (events_of trace.events order) fitting_trace

@@ -1,7 +1,9 @@
-//! Theorems on the exchange states that the events of a trace produce.
+//! Theorems on the exchange states that events produce.
 ghost use Rattle.std.specs.Prelude.{ℕ, ◌≤◌, List};
-ghost use Rattle.exchange_core.specs.LaidOut.{IsLegalAfter, JoinsCircuitsAfter};
+ghost use Rattle.exchange_core.specs.LaidOut.{IsFitting, IsLegalAfter, IsLegalIn, JoinsCircuitsAfter, JoinsCircuitsIn, world_of_all};
+ghost use Rattle.exchange_events.specs.Sizes.{Setting};
 ghost use Rattle.exchange_events.specs.Sound.{IsSound};
+ghost use Rattle.exchange_events.specs.declared.trace.Event.{Event};
 ghost use Rattle.exchange_events.specs.declared.trace.Trace.{Trace};
 
 /// After any events of a sound trace, in any order, on 30 to 59 internal slots, the layout of the paths is legal. It
@@ -10,4 +12,10 @@ ghost use Rattle.exchange_events.specs.declared.trace.Trace.{Trace};
 pub fn law_of_layouts()
     ensures legal { (slots : ℕ) (trace : Trace) (order : List ℕ) → IsSound trace → 30 ≤ slots → slots ≤ 59 → IsLegalAfter slots trace order }
     ensures joins { (slots : ℕ) (trace : Trace) (order : List ℕ) → IsSound trace → 30 ≤ slots → slots ≤ 59 → JoinsCircuitsAfter slots trace order }
+{}
+
+/// The same after any list of events that fit an exchange, of whatever length.
+pub fn law_of_reached_layouts()
+    ensures legal { (s : Setting) (events : List Event) → IsFitting s events → IsLegalIn s.dimensions (world_of_all s events) }
+    ensures joins { (s : Setting) (events : List Event) → IsFitting s events → JoinsCircuitsIn s.dimensions (world_of_all s events) }
 {}

@@ -9,7 +9,7 @@
 //!   which stores a message that is parsed before its turn (`preparse`). `shared_exchange` implements the interface.
 //!
 //! After every list of events of a sound trace, the layout of the paths is legal and joins exactly the existing
-//! circuits ([`law_of_layouts`]).
+//! circuits ([`law_of_layouts`]). So it is after every list of events that fit ([`law_of_reached_layouts`]).
 //!
 //! `exchange_events` defines the events, and `call_profile` the rules of calls. The code of the rules is in
 //! `call_control`.
@@ -30,7 +30,7 @@ pub use exchange_events::{
     Answer, CallRecord, Encoded, Event, Events, Input, Kept, Octets, Outbox, Party, RecordList,
     Records, Reply, Response, Rows, Segments, Signal, SignalList, Signals, Trace,
 };
-pub use laws::law_of_layouts;
+pub use laws::{law_of_layouts, law_of_reached_layouts};
 pub use step::{Core, happen};
 pub use step_context::StepContext;
 pub use switchboard::Switchboard;
