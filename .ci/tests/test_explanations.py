@@ -58,7 +58,7 @@ class Explanations(InFolder):
         for wanted, text, is_followed in rows:
             content = tables["written_out"](text)
             refusal = re.search(rb"^refused .*\n\Z", tables["written_out"](wanted), re.MULTILINE)
-            if refusal is None and not is_followed or len(content) > reading.MOST_BYTES:
+            if refusal is None and not is_followed or len(content) > reading.MAX_BYTES:
                 continue
             count += 1
             (self.folder / "some.trace").write_bytes(content)

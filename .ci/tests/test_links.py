@@ -98,7 +98,7 @@ class Links(InFolder):
         some += [lapd.LinkFrame(kind, kind in ("SABME", "DISC"), pf) for kind in ("SABME", "DISC", "UA", "DM") for pf in (False, True)]
         for frame in some:
             for is_from_user in (False, True):
-                octets = lapd.written_frame(frame, is_from_user)
+                octets = lapd.write_frame(frame, is_from_user)
                 self.assertEqual(lapd.read_frame(octets, is_from_user), frame)
                 self.assertNotEqual(lapd.read_frame(octets, not is_from_user), frame)
                 self.assertEqual(lapd.check_sequence(octets), sequence_of(octets))

@@ -11,9 +11,13 @@ import errno
 import os
 import sys
 import time
+from collections.abc import Callable, Iterator, Sequence
 from pathlib import Path
+from typing import NoReturn, TypeVar
 
 NAME = Path(sys.argv[0]).name
+
+Item = TypeVar("Item")
 
 
 class Refused(Exception):
@@ -24,7 +28,7 @@ class WrongWords(Exception):
     """The arguments of a command are none of its own."""
 
 
-def command(usage, work):
+def command(usage: str, work: Callable[..., str | bytes]) -> NoReturn:
     """Runs a tool on its arguments, and ends with its status. What `work` returns is the tool's output."""
     try:
         words = sys.argv[1:]
@@ -44,13 +48,13 @@ def command(usage, work):
     sys.exit(status)
 
 
-def fail(reason):
+def fail(reason: object) -> int:
     """Says why a tool ends, and returns the status."""
     say(f"{NAME}: {reason}")
     return 1
 
 
-def say(text):
+def say(text: str) -> None:
     """Writes a line to standard error, if that takes it."""
     try:
         os.write(2, f"{text}\n".encode(errors="backslashreplace"))
@@ -58,7 +62,7 @@ def say(text):
         pass
 
 
-def write_output(output):
+def write_output(output: str | bytes) -> None:
     """Writes a text or octets to standard output, without a buffer, so that nothing is left to fail afterwards."""
     left = memoryview(output if isinstance(output, bytes) else output.encode())
     try:
@@ -70,7 +74,7 @@ def write_output(output):
         raise Refused(f"standard output cannot be written: {error.strerror}") from None
 
 
-def watched(items, what):
+def watched(items: Sequence[Item], what: object) -> Iterator[Item]:
     """Yields the items. Where they take long, a line on standard error each second says how many were taken."""
     said = time.monotonic()
     for number, item in enumerate(items):

@@ -1,8 +1,13 @@
 """Writes what slots sent in a run as a WAV file of G.711 A-law, one octet a frame and one channel a slot."""
 
+from __future__ import annotations
+
+from collections.abc import Mapping, Sequence
+from typing import NamedTuple
+
 from nemzhuul.command_line import NAME, Refused, WrongWords, say
-from nemzhuul.traces.reading import IDLE, numeral, place_of_channel, read_report
 from nemzhuul.sound.wave import a_law_wave
+from nemzhuul.traces.reading import IDLE, numeral, place_of_channel, read_report
 
 USAGE = """usage: tools/audio REPORT LINE CHANNEL [LINE CHANNEL ..] >SOUND
 writes what a channel (1 to 15, 17 to 31) of a line (0 to 31) was sent, as a WAV file of G.711 A-law;
@@ -11,31 +16,39 @@ several slots become the channels of one file, in their order. A line that no fr
 LINES = 32
 
 
-def main(report=None, *words):
+class Place(NamedTuple):
+    """A place of a line."""
+
+    line: int
+    number: int
+
+
+def main(report: str = "", *words: str) -> bytes:
     slots = list(zip(words[::2], words[1::2]))
     if not slots or len(words) % 2:
         raise WrongWords
     places = [place(*slot) for slot in slots]
     frames = [reply.octets for reply in read_report(report, changed=True) if reply.octets is not None]
-    for line, _ in places:
-        if not any(line in octets for octets in frames):
-            raise Refused(f"{report} has no octets of line {line}: it was sent idle octets alone, or there is no such line")
-    channels = [sent(frames, *slot) for slot in places]
+    for of_slot in places:
+        if not any(of_slot.line in octets for octets in frames):
+            raise Refused(f"{report} has no octets of line {of_slot.line}: it was sent idle octets alone, or there is no such line")
+    channels = [sent(frames, of_slot) for of_slot in places]
     for (line, channel), octets in zip(slots, channels):
         if octets == bytes([IDLE]) * len(octets):
             say(f"{NAME}: {line}/{channel} was sent idle octets alone")
     return a_law_wave(channels)
 
 
-def place(line, channel):
-    """The line and the place that two words name."""
-    line, channel = numeral(line), numeral(channel)
-    number = None if channel is None else place_of_channel(channel)
-    if line not in range(LINES) or number is None:
+def place(line: str, channel: str) -> Place:
+    """The place of a channel that two words name."""
+    of_line, of_channel = numeral(line), numeral(channel)
+    number = None if of_channel is None else place_of_channel(of_channel)
+    if of_line is None or of_line >= LINES or number is None:
         raise WrongWords
-    return line, number
+    return Place(of_line, number)
 
 
-def sent(frames, line, place):
+def sent(frames: Sequence[Mapping[int, bytes]], place: Place) -> bytes:
     """The octet of each frame; a line without a part in a frame's line of the report sent idle octets."""
-    return bytes(octets[line][place] if line in octets else IDLE for octets in frames)
+    line, number = place
+    return bytes(octets[line][number] if line in octets else IDLE for octets in frames)

@@ -1,8 +1,12 @@
 """Draws each call of a run as a ladder: which message went which way, in the order of the report."""
 
+from __future__ import annotations
+
+from collections.abc import Callable, Iterator, Sequence
+
 from nemzhuul.command_line import WrongWords
-from nemzhuul.traces.following import Run
 from nemzhuul.pictures.ladders import frames_text, name, note, place, title
+from nemzhuul.traces.following import Call, Row, Run, follow
 from nemzhuul.traces.reading import read_run
 
 USAGE = """usage: tools/calls TRACE REPORT
@@ -12,13 +16,11 @@ WIDTH = 30  # of the way between two rungs
 MARGIN = 8  # before the first rung
 
 
-def main(*words):
+def main(*words: str) -> str:
     if len(words) != 2:
         raise WrongWords
-    trace, steps = read_run(*words)
-    run = Run(trace)
-    for event, reply in steps:
-        run.take(event, reply)
+    trace_path, report_path = words
+    run = follow(*read_run(trace_path, report_path))
     parts = [call_text(call, run) for call in run.calls]
     if run.on_no_call:
         parts.append(no_call_text(run.on_no_call))
@@ -27,7 +29,7 @@ def main(*words):
     return "\n".join(parts)
 
 
-def call_text(call, run):
+def call_text(call: Call, run: Run) -> str:
     lines = [f"call {call.number}: {title(call, run)}", ""]
     right = call.called
     lines.append(heads(place(call.caller, call.line), place(right) if right else None))
@@ -35,13 +37,13 @@ def call_text(call, run):
     return "".join(line.rstrip() + "\n" for line in lines)
 
 
-def no_call_text(rows):
+def no_call_text(rows: Sequence[Row]) -> str:
     lines = ["messages on no call", "", heads("line", None)]
     lines += ladder(rows, lambda row: False, False, with_line=True)
     return "".join(line.rstrip() + "\n" for line in lines)
 
 
-def heads(left, right):
+def heads(left: str, right: str | None) -> str:
     row = f"{'event':>5}" + " " * (MARGIN - 5)
     row += left.ljust(WIDTH - 3) + "exchange"
     if right is not None:
@@ -49,9 +51,10 @@ def heads(left, right):
     return row
 
 
-def ladder(rows, is_right, has_right, with_line=False):
+def ladder(rows: Sequence[Row], is_right: Callable[[Row], bool], has_right: bool, with_line: bool = False) -> Iterator[str]:
     """The rungs of a ladder: a row for each message, and one for the frames between two of them."""
-    event, frame = None, rows[0].frame
+    event: int | None = None
+    frame = rows[0].frame
     for row in rows:
         if row.frame > frame:
             yield rung("", ":", frames_text(frame, row.frame - 1).center(WIDTH), has_right)
@@ -63,14 +66,14 @@ def ladder(rows, is_right, has_right, with_line=False):
         yield f"{text}  {note(row, with_line)}"
 
 
-def rung(event, mark, way, has_right, on_right=False):
+def rung(event: str, mark: str, way: str, has_right: bool, on_right: bool = False) -> str:
     blank = " " * WIDTH
     ways = [blank, way] if on_right else [way, blank]
     row = f"{event:>5}".ljust(MARGIN) + mark + ways[0] + mark
     return row + ways[1] + mark if has_right else row
 
 
-def arrow(row, towards_right):
+def arrow(row: Row, towards_right: bool) -> str:
     """The name of a message on its way, as `|--- SETUP 0001 --->|` without the rungs."""
     shaft = f" {name(row)} ".center(WIDTH - 1, "-")
     return f"{shaft}>" if towards_right else f"<{shaft}"

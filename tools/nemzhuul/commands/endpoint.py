@@ -7,7 +7,7 @@ from pathlib import Path
 
 from nemzhuul.command_line import Refused, WrongWords, write_output
 from nemzhuul.outputs import Output, is_same_file
-from nemzhuul.signalling.endpoints import CALLS, CLEARS, DIALS, IS_CALLED, PROCEEDS, RELEASES, STANDING, TALKS, UNANSWERED, Endpoints
+from nemzhuul.signalling.endpoints import CALLS, CLEARS, DIALS, IS_CALLED, PROCEEDS, RELEASES, STANDING, TALKS, UNANSWERED, Endpoints, place_of
 from nemzhuul.live.wire import FRAMES, PIECE, frames_text, octets_of, read_address
 from nemzhuul.traces.phrases import Phrases, Values
 from nemzhuul.programs.program import TEXT
@@ -190,7 +190,7 @@ class Endpoint:
         self.save(over)
 
     def legs(self, who, states):
-        _, channel = who if isinstance(who, tuple) else (who, None)
+        channel = place_of(who).channel
         return [leg for leg in self.calls_of_line.legs if leg.state in states and channel in (None, leg.channel)]
 
     def when(self, who, *states):
@@ -253,10 +253,11 @@ class Endpoint:
 
     def place(self, who):
         """The place of a channel; without one, it is the channel of the only call that is answered."""
-        if not isinstance(who, tuple):
+        channel = place_of(who).channel
+        if channel is None:
             self.when(who, TALKS)
-            who = who, self.calls_of_line.find(who, (TALKS,), "that is answered").channel
-        return place_of_channel(who[1])
+            channel = self.calls_of_line.find(who, (TALKS,), "that is answered").channel
+        return place_of_channel(channel)
 
     def speaks(self, who, file):
         sound = self.read_sound(self.folder / file)  # before the call is there, since it takes long

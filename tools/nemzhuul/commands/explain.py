@@ -1,10 +1,14 @@
 """Explains why the exchange refuses a trace or a report: the line, the column, and the likely cause."""
 
+from __future__ import annotations
+
 import re
 import shlex
+from collections.abc import Sequence
 
 from nemzhuul.command_line import Refused, WrongWords
-from nemzhuul.traces.reading import METER, USUAL_LINK_TIMERS, Frame, TraceReader, lines_of, read_run, reply, take_lines
+from nemzhuul.signalling.lapd import USUAL_TIMERS
+from nemzhuul.traces.reading import METER, Frame, LineError, TraceReader, lines_of, read_run, reply, take_lines
 
 USAGE = """usage: tools/explain TRACE [REPORT]
        tools/explain --status [N]
@@ -31,7 +35,7 @@ or missing.""",
 WINDOW = 72  # how many characters of a line are shown
 
 
-def main(*words):
+def main(*words: str) -> str:
     if words[:1] == ("--status",):
         return statuses(*words[1:])
     if len(words) not in (1, 2) or words[0].startswith("-"):
@@ -42,7 +46,7 @@ def main(*words):
     return "".join(texts)
 
 
-def statuses(*words):
+def statuses(*words: str) -> str:
     """The text of an exit status, or of all."""
     if not words:
         return "".join(f"{number}: {text}\n" for number, text in STATUSES.items())
@@ -57,21 +61,21 @@ def statuses(*words):
 # ---- traces
 
 
-def explain_trace(path):
+def explain_trace(path: str) -> str:
     lines = lines_of(path)
     if "report" in lines:  # an input of `check`
         lines = lines[: lines.index("report")]
     reader = TraceReader()
-    refusal = take_lines(reader, lines)
-    if refusal is None:
+    wrong = take_lines(reader, lines)
+    if wrong is None:
         return summary(path, reader)
-    number, fault = refusal
+    number, error = wrong
     line = lines[number - 1] if number <= len(lines) else ""
-    head = f"{path} is no trace: the exchange writes `refused {number} {fault}` and ends with status 1\n"
-    return head + (octet_text(path, number, line) or word_text(number, line, fault))
+    head = f"{path} is no trace: the exchange writes `refused {number} {error}` and ends with status 1\n"
+    return head + (octet_text(path, number, line) or word_text(number, line, error))
 
 
-def summary(path, reader):
+def summary(path: str, reader: TraceReader) -> str:
     lines, bridges, processors = reader.sizes
     frames = sum(isinstance(event, Frame) for event in reader.events)
     said = [f"{lines} lines", f"{bridges} bridges", f"{processors} processors", f"{len(reader.numbers)} numbers"]
@@ -79,7 +83,7 @@ def summary(path, reader):
     return f"{path} is a trace: {', '.join(said)}\n"
 
 
-def octet_text(path, number, line):
+def octet_text(path: str, number: int, line: str) -> str:
     """What is said of an octet that no line of a trace or a report has; nothing where there is none."""
     out = f"<{shlex.quote(path)} >good"
     causes = (
@@ -99,27 +103,27 @@ def octet_text(path, number, line):
     return ""
 
 
-def word_text(number, line, fault):
+def word_text(number: int, line: str, error: LineError) -> str:
     """What is said of the word that fails, and where it may come from."""
     starts = [match.start() for match in re.finditer("[^ ]+", line)]
     words = line.split()
-    at = starts[fault.word] if fault.word < len(starts) else len(line)
-    word = words[fault.word] if fault.word < len(words) else ""
-    return place(number, line, at, fault.said) + likely(word_cause(fault, word, words))
+    at = starts[error.word] if error.word < len(starts) else len(line)
+    word = words[error.word] if error.word < len(words) else ""
+    return place(number, line, at, error.said) + likely(word_cause(error, word, words))
 
 
-def word_cause(fault, word, words):
+def word_cause(error: LineError, word: str, words: Sequence[str]) -> str:
     """Where a word comes from that is none, or nothing."""
-    reason = str(fault)
+    reason = str(error)
     if reason == "header":
         return header_cause(words)
     if reason == "hex" or reason == "length":
         return digits_cause(word.rpartition(":")[2])
-    if reason == "word" and fault.word == 0 and reply(" ".join(words)):
+    if reason == "word" and error.word == 0 and reply(" ".join(words)):
         return "this is a line of a report, and not of a trace"
-    if reason == "word" and word in ("link", "L", *USUAL_LINK_TIMERS):
+    if reason == "word" and word in ("link", "L", *USUAL_TIMERS):
         return "only `tst follow` takes data links"
-    if reason == "word" and fault.word == 0:
+    if reason == "word" and error.word == 0:
         known = {name.lower(): name for name in TraceReader().kinds}
         return f"the word is `{known[word.lower()]}`" if word.lower() in known else ""
     if reason == "word" and words[:1] == ["M"]:
@@ -131,7 +135,7 @@ def word_cause(fault, word, words):
     return ""
 
 
-def header_cause(words):
+def header_cause(words: Sequence[str]) -> str:
     if re.fullmatch("exchange [0-9]+ lines?", " ".join(words[:3])):
         return "this is a script: `tools/script FILE >TRACE` writes its trace"
     if words and reply(" ".join(words)):
@@ -139,7 +143,7 @@ def header_cause(words):
     return ""
 
 
-def digits_cause(digits):
+def digits_cause(digits: str) -> str:
     if digits.lower().startswith("0x"):
         return "the octets have no 0x in front"
     wrong = [digit for digit in digits if digit in "OoIl"]
@@ -149,7 +153,7 @@ def digits_cause(digits):
 # ---- reports
 
 
-def explain_report(trace, path):
+def explain_report(trace: str, path: str) -> str:
     lines = lines_of(path)
     for number, line in enumerate(lines, start=1):
         if reply(line) is None and not METER.fullmatch(line):
@@ -161,7 +165,7 @@ def explain_report(trace, path):
     return f"{path} has a line for each event of {trace}; `tst check` finds out whether it is its report\n"
 
 
-def report_text(number, line):
+def report_text(number: int, line: str) -> str:
     """What is said of a line that no report has."""
     causes = (
         ("^refused ()", "this is the report of a refusal"),
@@ -178,11 +182,11 @@ def report_text(number, line):
 # ---- the text
 
 
-def likely(cause):
+def likely(cause: str) -> str:
     return f"likely cause: {cause}\n" if cause else ""
 
 
-def place(number, line, at, said):
+def place(number: int, line: str, at: int, said: str) -> str:
     """A line with a mark under the column, which counts from 1; of a long line the part around it."""
     first = max(0, at - WINDOW // 2)
     before, rest = printed(line[first:at]), printed(line[at : first + WINDOW])
@@ -191,6 +195,6 @@ def place(number, line, at, said):
     return f"line {number}, column {at + 1}: {said}\n    {text}\n    {' ' * len(dots + before)}^\n"
 
 
-def printed(text):
+def printed(text: str) -> str:
     """The text with each octet that is not printable as an escape."""
     return "".join(c if " " <= c <= "~" else c.encode("unicode_escape").decode() for c in text)

@@ -5,9 +5,14 @@ has it. Where there are more events than columns, a column shows the most taken 
 and the sum of their moved paths.
 """
 
+from __future__ import annotations
+
+from collections.abc import Callable, Iterable, Iterator, Sequence
+from typing import NamedTuple
+
 from nemzhuul.command_line import WrongWords
 from nemzhuul.traces.following import Run
-from nemzhuul.traces.reading import PLACES, read_run
+from nemzhuul.traces.reading import PLACES, Step, Trace, read_run
 
 USAGE = """usage: tools/moves [--svg] TRACE REPORT
 plots the taken slots and the moved paths of the run, event by event, as text or as SVG"""
@@ -22,25 +27,35 @@ SVG_TOP = 40
 SVG_GAP = 60
 
 
-def main(*words):
+class Panel(NamedTuple):
+    """A plot: its title, its values by event, and what joins those that fall in a column."""
+
+    title: str
+    values: Sequence[int]
+    join: Callable[[Sequence[int]], int]
+
+
+def main(*words: str) -> str:
     as_svg = words[:1] == ("--svg",)
     files = words[1:] if as_svg else words
     if len(files) != 2 or any(word.startswith("-") for word in files):
         raise WrongWords
-    trace, steps = read_run(*files)
+    trace_path, report_path = files
+    trace, steps = read_run(trace_path, report_path)
     taken, moved = counts(steps, trace)
-    most = trace.external * PLACES
+    most = trace.sizes.external * PLACES
     panels = [
-        (f"taken slots: at most {max(taken, default=0)} of {most}", taken, max),
-        (f"moved paths: {sum(moved)} in all, at most {max(moved, default=0)} for an event", moved, sum),
+        Panel(f"taken slots: at most {max(taken, default=0)} of {most}", taken, max),
+        Panel(f"moved paths: {sum(moved)} in all, at most {max(moved, default=0)} for an event", moved, sum),
     ]
     return svg(panels, len(steps)) if as_svg else text(panels, len(steps))
 
 
-def counts(steps, trace):
+def counts(steps: Iterable[Step], trace: Trace) -> tuple[list[int], list[int]]:
     """After each event, how many slots are taken; and how many paths were moved for it."""
     run = Run(trace)
-    taken, moved = [], []
+    taken: list[int] = []
+    moved: list[int] = []
     for event, reply in steps:
         run.take(event, reply)
         taken.append(len(run.uses))
@@ -48,7 +63,7 @@ def counts(steps, trace):
     return taken, moved
 
 
-def columns(values, most, join):
+def columns(values: Sequence[int], most: int, join: Callable[[Sequence[int]], int]) -> list[int]:
     """The values, or as many columns as there may be, each with what joins those that fall in it."""
     width = min(len(values), most)
     bounds = [len(values) * at // width for at in range(width + 1)] if width else [0]
@@ -58,19 +73,19 @@ def columns(values, most, join):
 # ---- text
 
 
-def text(panels, events):
+def text(panels: Iterable[Panel], events: int) -> str:
     parts = [panel_text(title, columns(values, TEXT_COLUMNS, join)) for title, values, join in panels]
     return "\n".join(parts) + f"\n{'':6}{foot(events, TEXT_COLUMNS)}\n"
 
 
-def foot(events, most):
+def foot(events: int, most: int) -> str:
     if events == 0:
         return "no events"
     said = f"events 1 to {events}, in the order of the report"
     return f"{said}; some {events / most:.1f} events to a column" if events > most else said
 
 
-def panel_text(title, heights):
+def panel_text(title: str, heights: Sequence[int]) -> str:
     top = max(heights, default=0)
     rows = min(top, TEXT_ROWS)
     lines = [f"{'':6}{title}"]
@@ -87,7 +102,7 @@ def panel_text(title, heights):
 # ---- SVG
 
 
-def svg(panels, events):
+def svg(panels: Iterable[Panel], events: int) -> str:
     height = SVG_TOP + 2 * (SVG_PANEL + SVG_GAP)
     width = SVG_LEFT + SVG_COLUMNS + 20
     parts = [
@@ -103,7 +118,7 @@ def svg(panels, events):
     return "\n".join(parts) + "\n</svg>\n"
 
 
-def panel_svg(title, heights, top, colour):
+def panel_svg(title: str, heights: Sequence[int], top: int, colour: str) -> Iterator[str]:
     most = max(heights, default=0)
     bottom = top + SVG_PANEL
     yield f'<text x="{SVG_LEFT}" y="{top - 10}">{title}</text>'

@@ -1,45 +1,61 @@
 """Writes a run as one HTML file to look at and to listen to, which needs no other file and no network."""
 
+from __future__ import annotations
+
 from base64 import b64encode
+from collections.abc import Callable, Iterable, Iterator, Mapping, Sequence
+from dataclasses import dataclass
 from html import escape
 from pathlib import Path
 
 from nemzhuul.command_line import WrongWords
-from nemzhuul.pictures.fabric import STRICT_SLOTS, Fabric
-from nemzhuul.traces.following import Run
-from nemzhuul.pictures.ladders import frames_text, name, note, place, title
 from nemzhuul.pictures.drawing import Pictures, waveform
-from nemzhuul.traces.reading import FRAMES_PER_SECOND, IDLE, PLACES, Slot, place_of_channel, read_run
+from nemzhuul.pictures.fabric import STRICT_SLOTS, Fabric
+from nemzhuul.pictures.ladders import frames_text, name, note, place, title
+from nemzhuul.traces.following import Call, Row, Run
+from nemzhuul.traces.reading import FRAMES_PER_SECOND, IDLE, PLACES, Slot, Step, Trace, place_of_channel, read_run
 
 USAGE = """usage: tools/page TRACE REPORT >PAGE
 writes one HTML file: each call as a ladder, what has each channel, the internal slots of each line, and a player
 with a waveform for what each channel was sent. It needs no other file, and works without a network."""
 
 PARTS = Path(__file__).resolve().parent.parent / "pictures"  # the style and the script of a page
-MOST_CALLS = 200  # that are drawn
-MOST_OCTETS = 4_000_000  # of sounds
+MAX_CALLS = 200  # that are drawn
+MAX_OCTETS = 4_000_000  # of sounds
 SHORT = 0.25  # seconds that are too short to hear
 CHANNELS = [*range(1, 16), *range(17, 32)]
 
 
-def main(*words):
+@dataclass(frozen=True)
+class Parts:
+    """The parts of a page, as HTML."""
+
+    summary: str
+    calls: str
+    channels: str
+    slots: str
+    sounds: str
+
+
+def main(*words: str) -> str:
     if len(words) != 2 or any(word.startswith("-") for word in words):
         raise WrongWords
-    trace, steps = read_run(*words)
-    pictures = followed(trace, steps)
+    trace_path, report_path = words
+    trace, steps = read_run(trace_path, report_path)
+    pictures = draw(trace, steps)
     run = pictures.run
-    heard = sounds([reply.octets for _, reply in steps if reply.octets is not None], trace.external)
-    parts = {
-        "summary": summary(trace, steps, run),
-        "calls": calls_part(run),
-        "channels": channels_part(pictures),
-        "slots": slots_part(pictures),
-        "sounds": sounds_part(heard, run.frames),
-    }
-    return document(Path(words[0]).name, parts, pictures)
+    heard = sounds([reply.octets for _, reply in steps if reply.octets is not None], trace.sizes.external)
+    parts = Parts(
+        summary=summary(trace, steps, run),
+        calls=calls_part(run),
+        channels=channels_part(pictures),
+        slots=slots_part(pictures),
+        sounds=sounds_part(heard, run.frames),
+    )
+    return document(Path(trace_path).name, parts, pictures)
 
 
-def followed(trace, steps):
+def draw(trace: Trace, steps: Sequence[Step]) -> Pictures:
     """The pictures of a run, on the fabric whose paths move as the report says."""
     for fabric in (Fabric(trace), Fabric(trace, STRICT_SLOTS)):
         pictures = Pictures(Run(trace), fabric)
@@ -51,22 +67,22 @@ def followed(trace, steps):
     return pictures
 
 
-def count(number, what):
+def count(number: int, what: str) -> str:
     return f"{number:,} {what}" + ("" if number == 1 else "s")
 
 
-def span(frames):
+def span(frames: int) -> str:
     """How long as many frames take."""
     seconds = frames / FRAMES_PER_SECOND
     return f"{seconds:.3g} s" if seconds >= 1 else f"{seconds * 1000:.3g} ms"
 
 
-def summary(trace, steps, run):
+def summary(trace: Trace, steps: Sequence[Step], run: Run) -> str:
     moved = sum(sum(reply.moved or ()) for _, reply in steps)
     answered = sum(call.answered is not None for call in run.calls)
     said = [
-        count(trace.external, "line"),
-        count(trace.bridges, "bridge"),
+        count(trace.sizes.external, "line"),
+        count(trace.sizes.bridges, "bridge"),
         count(len(steps), "event"),
         f"{count(run.frames, 'frame')}, {span(run.frames)}",
         f"{count(len(run.calls), 'call')}, {answered} answered",
@@ -78,18 +94,18 @@ def summary(trace, steps, run):
 # ---- calls
 
 
-def calls_part(run):
-    parts = [call_part(call, run) for call in run.calls[:MOST_CALLS]]
-    if len(run.calls) > MOST_CALLS:
-        parts.append(f"<p>The first {MOST_CALLS} of {len(run.calls):,} calls are drawn.</p>")
+def calls_part(run: Run) -> str:
+    parts = [call_part(call, run) for call in run.calls[:MAX_CALLS]]
+    if len(run.calls) > MAX_CALLS:
+        parts.append(f"<p>The first {MAX_CALLS} of {len(run.calls):,} calls are drawn.</p>")
     if run.on_no_call:
         heads = "<span>line</span><span>exchange</span>"
-        rungs = ladder(run.on_no_call[: 20 * MOST_CALLS], lambda row: False, False, with_line=True)
+        rungs = ladder(run.on_no_call[: 20 * MAX_CALLS], lambda row: False, False, with_line=True)
         parts.append(f'<article class="call"><h3>Messages on no call</h3>{ladder_part(heads, rungs, False)}</article>')
     return "".join(parts) or "<p>No call, and no message.</p>"
 
 
-def call_part(call, run):
+def call_part(call: Call, run: Run) -> str:
     right = call.called
     first, *rest = title(call, run).split("; ")
     facts = "".join(f"<li>{escape(text)}</li>" for text in rest)
@@ -99,14 +115,15 @@ def call_part(call, run):
             f'<ul class="facts">{facts}</ul>{ladder_part(heads, rungs, right is not None)}</article>')  # fmt: skip
 
 
-def ladder_part(heads, rungs, has_right):
+def ladder_part(heads: str, rungs: Iterable[str], has_right: bool) -> str:
     kind = "ladder" if has_right else "ladder narrow"
     return f'<div class="{kind}"><div class="heads">{heads}</div><ol>{"".join(rungs)}</ol></div>'
 
 
-def ladder(rows, is_right, has_right, with_line=False):
+def ladder(rows: Sequence[Row], is_right: Callable[[Row], bool], has_right: bool, with_line: bool = False) -> Iterator[str]:
     """The rungs of a ladder: one for each message, and one for the frames between two of them."""
-    event, frame = None, rows[0].frame
+    event: int | None = None
+    frame = rows[0].frame
     for row in rows:
         if row.frame > frame:
             text = f"{frames_text(frame, row.frame - 1)} · {span(row.frame - frame)}"
@@ -118,7 +135,7 @@ def ladder(rows, is_right, has_right, with_line=False):
         event, frame = row.event, row.frame
 
 
-def arrow(row, towards_right, with_line):
+def arrow(row: Row, towards_right: bool, with_line: bool) -> str:
     """A message on its way, with what it says and its octets."""
     kind = f"arrow {'right' if towards_right else 'left'} {'sent' if row.is_sent else 'arrived'}"
     said = escape(note(row, with_line))
@@ -129,7 +146,7 @@ def arrow(row, towards_right, with_line):
 # ---- channels and internal slots
 
 
-def channels_part(pictures):
+def channels_part(pictures: Pictures) -> str:
     channels = pictures.channels()
     if not channels:
         return "<p>Nothing has a channel in this run.</p>"
@@ -138,7 +155,7 @@ def channels_part(pictures):
     return f'<div class="picture channels"><ol>{labels}</ol><div class="scroll" tabindex="0">{pictures.timeline()}</div></div>{left_out}'
 
 
-def slots_part(pictures):
+def slots_part(pictures: Pictures) -> str:
     if not pictures.fits:
         return "<p>The numbers of moved paths are those of neither fabric, so no internal slots are shown.</p>"
     lines = pictures.lines_with_paths()
@@ -154,7 +171,7 @@ def slots_part(pictures):
     return "".join(parts)
 
 
-def line_text(line, pictures):
+def line_text(line: int, pictures: Pictures) -> str:
     bridge = line - pictures.fabric.external
     return f"{line}" if bridge < 0 else f"{line} (bridge {bridge})"
 
@@ -162,9 +179,9 @@ def line_text(line, pictures):
 # ---- sounds
 
 
-def sounds(frames, lines):
+def sounds(frames: Sequence[Mapping[int, bytes]], lines: int) -> dict[Slot, bytes]:
     """By slot, the octets that it was sent, of those that were sent anything but idle octets."""
-    heard = {}
+    heard: dict[Slot, bytes] = {}
     for line in range(lines):
         rows = [octets.get(line) for octets in frames]
         if any(rows):
@@ -177,10 +194,10 @@ def sounds(frames, lines):
     return heard
 
 
-def sounds_part(heard, frames):
+def sounds_part(heard: Mapping[Slot, bytes], frames: int) -> str:
     if not heard:
         return "<p>Every channel was sent idle octets only.</p>"
-    most = max(1, MOST_OCTETS // frames)
+    most = max(1, MAX_OCTETS // frames)
     parts = [sound_part(slot, octets) for slot, octets in list(heard.items())[:most]]
     if frames < SHORT * FRAMES_PER_SECOND:
         parts.insert(0, f"<p>{count(frames, 'frame')} last {span(frames)}, which is a click at most: <em>repeat</em> plays them over and over.</p>")
@@ -189,7 +206,7 @@ def sounds_part(heard, frames):
     return "".join(parts)
 
 
-def sound_part(slot, octets):
+def sound_part(slot: Slot, octets: bytes) -> str:
     length = span(len(octets))
     return (f'<figure class="sound" data-octets="{b64encode(octets).decode()}" data-name="{slot.line}-{slot.channel}">'
             f"<figcaption><b>{slot}</b> line {slot.line}, channel {slot.channel}</figcaption>"
@@ -202,12 +219,12 @@ def sound_part(slot, octets):
 # ---- the document
 
 
-def document(file, parts, pictures):
+def document(file: str, parts: Parts, pictures: Pictures) -> str:
     """The whole page. Its policy lets it load nothing."""
     style, script = ((PARTS / part).read_text() for part in ("page.css", "page.js"))
     steps = "".join(
-        f'<li data-x="{column.x:.1f}" data-w="{column.width:.1f}" data-event="{column.events[0]}" data-last="{column.events[1]}"'
-        f' data-frame="{column.frames[0] if column.frames else ""}">{escape(column.title)}</li>'
+        f'<li data-x="{column.x:.1f}" data-w="{column.width:.1f}" data-event="{column.events.first}" data-last="{column.events.last}"'
+        f' data-frame="{column.frames.first if column.frames else ""}">{escape(column.title)}</li>'
         for column in pictures.columns
     )
     run = pictures.run
@@ -225,14 +242,14 @@ def document(file, parts, pictures):
 <a class="skip" href="#calls">to the calls</a>
 <header>
 <h1>{escape(file)}</h1>
-<ul class="facts">{parts["summary"]}</ul>
+<ul class="facts">{parts.summary}</ul>
 <nav><a href="#calls">Calls</a> <a href="#channels">Channels</a> <a href="#sounds">Sounds</a> <a href="#slots">Internal slots</a></nav>
 </header>
 <main>
 <section id="calls">
 <h2>Calls</h2>
 <p class="control"{"" if run.calls or run.on_no_call else " hidden"}><label><input type="checkbox" id="octets"> show the octets of each message</label></p>
-<div class="calls">{parts["calls"]}</div>
+<div class="calls">{parts.calls}</div>
 </section>
 <section id="channels">
 <h2>Channels</h2>
@@ -241,18 +258,18 @@ and a mark above counts the live paths that an event moved. Frames in which noth
 <div class="control step"><button type="button" id="back" aria-label="one step back">◀</button>
 <input type="range" id="step" min="0" max="{max(len(pictures.columns) - 1, 0)}" value="0" aria-label="step">
 <button type="button" id="on" aria-label="one step on">▶</button><output id="said" aria-live="polite"></output></div>
-{parts["channels"]}
+{parts.channels}
 </section>
 <section id="sounds">
 <h2>Sounds</h2>
 <p>What each channel was sent: 8,000 octets of A-law a second.</p>
-{parts["sounds"]}
+{parts.sounds}
 </section>
 <section id="slots">
 <h2>Internal slots</h2>
 <p>In which internal slot of the fabric each channel of a line is carried, event by event, by the rule of the exchange:
 the octets that come from the line, and those that go to it. Where a path moves, its colour changes its row.</p>
-{parts["slots"]}
+{parts.slots}
 </section>
 </main>
 <ol id="steps" hidden>{steps}</ol>

@@ -7,29 +7,43 @@ can be distinguished; a primary rate line itself has TEI 0. A message has the ti
 microseconds a frame from the first.
 """
 
-from nemzhuul.signalling.captures import CaptureWriter
+from __future__ import annotations
+
+from collections.abc import Iterable, Iterator
+from typing import NamedTuple
+
 from nemzhuul.command_line import WrongWords
-from nemzhuul.traces.reading import Arrival, LinkArrival, read_run
+from nemzhuul.signalling.captures import CaptureWriter
+from nemzhuul.traces.reading import Arrival, LinkArrival, Step, read_run
 
 USAGE = """usage: tools/pcap TRACE REPORT >CAPTURE
 writes the messages of the run as a capture file for Wireshark, Q.931 over LAPD"""
 
 
-def main(*words):
+class Passage(NamedTuple):
+    """A message of a run, or a frame of a data link."""
+
+    frames: int  # of the exchange, before it
+    line: int
+    is_sent: bool
+    octets: bytes
+
+
+def main(*words: str) -> bytes:
     if len(words) != 2:
         raise WrongWords
-    trace, steps = read_run(*words, is_followed=True)
+    trace_path, report_path = words
+    trace, steps = read_run(trace_path, report_path, is_followed=True)
     writer = CaptureWriter(trace.linked)
-    return writer.HEADER + b"".join(writer.packet(*message) for message in messages(steps))
+    return writer.HEADER + b"".join(writer.packet(*passage) for passage in passages(steps))
 
 
-def messages(steps):
-    """Each message of a run, or frame of a data link: the frames before it, its line, whether it was sent, its octets."""
+def passages(steps: Iterable[Step]) -> Iterator[Passage]:
     frames = 0
     for event, reply in steps:
         if reply.frame is not None:
             frames = reply.frame + 1
         if isinstance(event, (Arrival, LinkArrival)):
-            yield frames, event.line, False, event.octets
+            yield Passage(frames, event.line, False, event.octets)
         for line, octets in reply.sent:
-            yield frames, line, True, octets
+            yield Passage(frames, line, True, octets)

@@ -1,20 +1,18 @@
 """Writes a trace from plain lines: who calls whom, who answers, who speaks what, and how many frames pass."""
 
+from __future__ import annotations
+
+from collections.abc import Iterable, Sequence
 from pathlib import Path
+from typing import NamedTuple
 
 from nemzhuul.command_line import Refused, WrongWords, watched
-from nemzhuul.signalling.endpoints import Endpoints
-from nemzhuul.traces.phrases import Phrases, Values
 from nemzhuul.programs.program import TEXT, Trace
-from nemzhuul.signalling.q931 import message_text
-from nemzhuul.traces.reading import (
-    IDLE,
-    MOST_NUMBERS,
-    MOST_TONE_DIGITS,
-    PLACES,
-    place_of_channel,
-)
+from nemzhuul.signalling.endpoints import Endpoints, Where, place_of
+from nemzhuul.signalling.q931 import CALL_REJECTED, NORMAL_CALL_CLEARING, message_text
 from nemzhuul.sound.wave import read_sound
+from nemzhuul.traces.phrases import Act, Phrases, Values
+from nemzhuul.traces.reading import IDLE, MAX_NUMBERS, MAX_TONE_DIGITS, PLACES, Slot, place_of_channel
 
 USAGE = """usage: tools/script [--program PROGRAM] FILE >TRACE
 writes the trace that the lines of FILE tell of; a line that begins with # is a comment. SLOT is `line L
@@ -41,11 +39,9 @@ A WAV file has 8,000 samples a second of A-law or 16 bits, and is looked for bes
 messages, PROGRAM is run on the trace so far (the one that tools/run runs, where no other is named)."""
 
 BLANKS = " \t\r"
-NORMAL_CLEARING = 16
-REJECTED = 21
 
 
-def main(*words):
+def main(*words: str) -> bytes:
     program = None
     if words[:1] == ("--program",) and len(words) > 1:
         program, words = words[1], words[2:]
@@ -68,105 +64,119 @@ def main(*words):
     return script.trace.text()
 
 
+class Signal(NamedTuple):
+    """A message that the endpoint of a line sends."""
+
+    line: int
+    octets: bytes
+
+
+class Block(NamedTuple):
+    """A line `at once:`: how far in it is, and the number of events before it."""
+
+    indentation: int
+    events: int
+
+
 class Script:
     """Takes the lines of a script one by one, and adds to the trace what they tell of."""
 
-    def __init__(self, folder, program):
+    def __init__(self, folder: Path, program: str | None) -> None:
         self.folder = folder
         self.trace = Trace(program)
-        self.values = None  # once the sizes are known
-        self.numbers = []
-        self.tones = set()
-        self.timers = set()
+        self.values: Values | None = None  # once the sizes are known
+        self.numbers: list[str] = []
+        self.tones: set[str] = set()
+        self.timers: set[str] = set()
         self.endpoints = Endpoints()
-        self.sounds = {}  # by slot, what is still to be said
+        self.sounds: dict[Slot, bytes] = {}  # by slot, what is still to be said
         self.bridges = 0
         self.indentation = 0  # how far in the line is
-        self.block = None  # within `at once:`, how far in that is, and the number of events before it
+        self.block: Block | None = None  # within `at once:`
         self.phrases = Phrases(ACTS)
 
-    def take(self, line):
+    def take(self, line: str) -> None:
         text = line.strip(BLANKS)
         if text.startswith("#"):
             self.trace.add(text)
         elif text:
             self.indentation = len(line) - len(line.lstrip(BLANKS))
-            if self.block is not None and self.indentation <= self.block[0]:
+            if self.block is not None and self.indentation <= self.block.indentation:
                 self.end()
             self.phrase(text.split())
 
-    def end(self):
+    def end(self) -> None:
         """Ends what is done at once, if anything is: the endpoints answer what the exchange has sent for it."""
         if self.block is None:
             return
-        if self.block[1] == self.trace.events:
+        if self.block.events == self.trace.events:
             raise Refused("nothing happens in the lines below `at once:`, which are further in than it")
         self.block = None
         answers = self.heard() if self.trace.has_messages else []
         self.trace.segment()
         self.talk(answers)
 
-    def at_once(self):
+    def at_once(self) -> None:
         if self.block is not None:
             raise Refused("`at once:` is within another one")
-        self.block = self.indentation, self.trace.events
+        self.block = Block(self.indentation, self.trace.events)
 
-    def phrase(self, words):
-        act, pairs = self.phrases.read(words)
+    def phrase(self, words: Sequence[str]) -> None:
+        act, names = self.phrases.read(words)
         if (act in (Script.sizes, Script.processors)) != (self.values is None):
             raise Refused("the sizes of the exchange stand once, in the first line: exchange 2 lines")
         if act in SETTINGS and self.trace.events:
             raise Refused("numbers, tones and timers stand before anything happens")
-        values = (self.values or Values(0)).read(pairs)
+        values = (self.values or Values(0)).read(names)
         self.trace.note(" ".join(words))
         act(self, *values)
 
     # ---- the header
 
-    def sizes(self, lines, bridges=0, processors=1):
+    def sizes(self, lines: int, bridges: int = 0, processors: int = 1) -> None:
         if not (1 <= lines <= 32 and bridges <= 2 and 1 <= processors <= 8):
             raise Refused("an exchange has 1 to 32 lines, at most 2 bridges, and 1 to 8 processors")
         self.values = Values(lines)
         self.bridges = bridges
         self.trace.header(f"exchange 1 {lines} {bridges} {processors}")
 
-    def processors(self, lines, processors):
+    def processors(self, lines: int, processors: int) -> None:
         self.sizes(lines, 0, processors)
 
-    def number_to_line(self, digits, line):
+    def number_to_line(self, digits: str, line: int) -> None:
         self.number(digits, f"line {line}")
 
-    def number_to_lines(self, digits, lines):
+    def number_to_lines(self, digits: str, lines: Iterable[int]) -> None:
         self.number(digits, "lines " + " ".join(map(str, lines)))
 
-    def number_to_room(self, digits, room):
+    def number_to_room(self, digits: str, room: int) -> None:
         self.number(digits, f"room {room}")
 
-    def number(self, digits, target):
+    def number(self, digits: str, target: str) -> None:
         for other in self.numbers:
             if digits.startswith(other) or other.startswith(digits):
                 raise Refused(f"number {digits} equals, begins or continues number {other}")
-        if len(self.numbers) == MOST_NUMBERS:
-            raise Refused(f"the exchange has more than {MOST_NUMBERS} numbers")
+        if len(self.numbers) == MAX_NUMBERS:
+            raise Refused(f"the exchange has more than {MAX_NUMBERS} numbers")
         self.numbers.append(digits)
         self.trace.header(f"number {digits} {target}")
 
-    def ringing(self, file):
+    def ringing(self, file: str) -> None:
         self.tone("ringback", file)
 
-    def busy(self, file):
+    def busy(self, file: str) -> None:
         self.tone("busy", file)
 
-    def tone(self, kind, file):
+    def tone(self, kind: str, file: str) -> None:
         if kind in self.tones:
             raise Refused("this tone is given already")
         octets = read_sound(self.folder / file)
-        if not 1 <= len(octets) <= MOST_TONE_DIGITS // 2:
-            raise Refused(f"{file} has {len(octets)} octets, and a tone has 1 to {MOST_TONE_DIGITS // 2}")
+        if not 1 <= len(octets) <= MAX_TONE_DIGITS // 2:
+            raise Refused(f"{file} has {len(octets)} octets, and a tone has 1 to {MAX_TONE_DIGITS // 2}")
         self.tones.add(kind)
         self.trace.header(f"tone {kind} {octets.hex().upper()}")
 
-    def timer(self, name, frames):
+    def timer(self, name: str, frames: int) -> None:
         if name in self.timers:
             raise Refused("this timer is given already")
         if frames == 0:
@@ -176,60 +186,60 @@ class Script:
 
     # ---- calls
 
-    def calls(self, who, digits, caller=None):
+    def calls(self, who: Where, digits: str, caller: str | None = None) -> None:
         self.message(who, self.endpoints.call(who, digits, caller))
 
-    def prefers(self, slot, digits):
-        self.message(slot, self.endpoints.call(slot, digits, exclusive=False))
+    def prefers(self, slot: Slot, digits: str) -> None:
+        self.message(slot, self.endpoints.call(slot, digits, is_exclusive=False))
 
-    def begins_to_dial(self, who):
+    def begins_to_dial(self, who: Where) -> None:
         self.message(who, self.endpoints.call(who))
 
-    def dials(self, who, digits, to_the_end=False):
+    def dials(self, who: Where, digits: str, to_the_end: bool = False) -> None:
         self.message(who, self.endpoints.dial(who, digits, to_the_end))
 
-    def dials_to_the_end(self, who, digits):
+    def dials_to_the_end(self, who: Where, digits: str) -> None:
         self.dials(who, digits, to_the_end=True)
 
-    def proceeds(self, who):
+    def proceeds(self, who: Where) -> None:
         self.message(who, self.endpoints.proceed(who))
 
-    def alerts(self, who):
+    def alerts(self, who: Where) -> None:
         self.message(who, self.endpoints.alert(who))
 
-    def answers(self, who):
+    def answers(self, who: Where) -> None:
         self.message(who, self.endpoints.answer(who))
 
-    def hangs_up(self, who, cause=NORMAL_CLEARING):
+    def hangs_up(self, who: Where, cause: int = NORMAL_CALL_CLEARING) -> None:
         self.message(who, self.endpoints.hang_up(who, cause))
 
-    def rejects(self, who, cause=REJECTED):
+    def rejects(self, who: Where, cause: int = CALL_REJECTED) -> None:
         self.message(who, self.endpoints.reject(who, cause))
 
-    def asks(self, who):
+    def asks(self, who: Where) -> None:
         self.message(who, self.endpoints.ask(who))
 
-    def restarts(self, who):
+    def restarts(self, who: Where) -> None:
         self.message(who, self.endpoints.restart(who))
 
-    def sends(self, line, octets):
+    def sends(self, line: int, octets: bytes) -> None:
         self.message(line, octets)
 
-    def falls_silent(self, line):
+    def falls_silent(self, line: int) -> None:
         self.endpoints.fall_silent(line)
 
-    def recovers(self, line):
+    def recovers(self, line: int) -> None:
         self.endpoints.recover(line)
 
-    def link_fails(self, line):
+    def link_fails(self, line: int) -> None:
         self.endpoints.link_fails(line)
         self.changes(f"down {line}")
 
-    def link_is_up(self, line):
+    def link_is_up(self, line: int) -> None:
         self.endpoints.link_is_up(line)
         self.changes(f"up {line}")
 
-    def changes(self, text):
+    def changes(self, text: str) -> None:
         """A change of a data link, and, unless more happens at once, what comes of it."""
         self.trace.event(text)
         if self.block is None:
@@ -237,69 +247,70 @@ class Script:
             self.trace.segment()
             self.talk(answers)
 
-    def message(self, who, octets):
+    def message(self, who: Where, octets: bytes) -> None:
         """A message from a line, and, unless more happens at once, what comes of it."""
-        signal = (who[0] if isinstance(who, tuple) else who, octets)
+        signal = Signal(place_of(who).line, octets)
         if self.block is None:
             self.talk([signal])
         else:
-            self.send(*signal)
+            self.send(signal)
 
-    def send(self, line, octets):
+    def send(self, signal: Signal) -> None:
+        line, octets = signal
         self.trace.note(f"  line {line} sends {message_text(octets)}")
         self.trace.event(f"M {line} {octets.hex().upper()}".rstrip())
 
-    def talk(self, waiting):
+    def talk(self, waiting: list[Signal]) -> None:
         """Messages, what the exchange sends for them, and what the endpoints answer to that."""
         while waiting:
-            self.send(*waiting.pop(0))
+            self.send(waiting.pop(0))
             waiting += self.heard()
             self.trace.segment()
 
-    def heard(self):
+    def heard(self) -> list[Signal]:
         """What the endpoints answer to what the exchange has sent last."""
-        answers = []
+        answers: list[Signal] = []
         for to, sent in self.trace.sent():
             self.trace.note(f"  line {to} gets {message_text(sent)}")
             answer = self.endpoints.receive(to, sent)
             if answer is not None:
-                answers.append((to, answer))
+                answers.append(Signal(to, answer))
         return answers
 
     # ---- commands
 
-    def joins(self, slot, room):
+    def joins(self, slot: Slot, room: int) -> None:
         if self.bridges == 0:
             raise Refused("the exchange has no bridge, and so no room: exchange 2 lines 1 bridge")
-        self.command(f"seat {slot_text(slot)} {room}")
+        self.command(f"seat {slot} {room}")
 
-    def is_nailed(self, first, second):
+    def is_nailed(self, first: Slot, second: Slot) -> None:
         if first == second:
-            raise Refused(f"{slot_text(first)} cannot be nailed to itself")
-        self.command(f"nail {slot_text(first)} {slot_text(second)}")
+            raise Refused(f"{first} cannot be nailed to itself")
+        self.command(f"nail {first} {second}")
 
-    def is_freed(self, slot):
-        self.command(f"free {slot_text(slot)}")
+    def is_freed(self, slot: Slot) -> None:
+        self.command(f"free {slot}")
 
-    def command(self, text):
+    def command(self, text: str) -> None:
         self.trace.event(text)
         if self.block is None:
             self.trace.segment()
 
-    def meter_is_changed(self):
+    def meter_is_changed(self) -> None:
         if self.block is not None:
             raise Refused("a meter is changed between two segments, and what happens at once is one segment")
         self.trace.header("change")
 
     # ---- frames
 
-    def speaks(self, slot, file):
+    def speaks(self, slot: Slot, file: str) -> None:
         self.sounds[slot] = read_sound(self.folder / file)
 
-    def is_silent(self, slot):
+    def is_silent(self, slot: Slot) -> None:
         self.sounds.pop(slot, None)
 
-    def frames_pass(self, count):
+    def frames_pass(self, count: int) -> None:
         """Frames. Where the exchange sends something in one of them, the endpoints answer before the next."""
         self.trace.check_room(count)
         if self.block is not None:
@@ -313,34 +324,30 @@ class Script:
             self.talk(answers)
             count -= passing
 
-    def frames(self, count):
+    def frames(self, count: int) -> None:
         for at in range(count):
             parts = [f" {line}:{octets.hex().upper()}" for line, octets in sorted(self.frame(at).items())]
             self.trace.event("F" + "".join(parts), asked="F")
         self.sounds = {slot: sound[count:] for slot, sound in self.sounds.items() if len(sound) > count}
 
-    def frame(self, at):
+    def frame(self, at: int) -> dict[int, bytearray]:
         """The octets of each line on which something is said, n frames from here."""
-        lines = {}
-        for (line, channel), sound in self.sounds.items():
-            if at < len(sound):
-                octets = lines.setdefault(line, bytearray([IDLE] * PLACES))
-                octets[place_of_channel(channel)] = sound[at]
+        lines: dict[int, bytearray] = {}
+        for slot, sound in self.sounds.items():
+            place = place_of_channel(slot.channel)
+            if at < len(sound) and place is not None:
+                lines.setdefault(slot.line, bytearray([IDLE] * PLACES))[place] = sound[at]
         return lines
 
-    def sounds_end(self):
+    def sounds_end(self) -> None:
         if not self.sounds:
             raise Refused("nobody speaks")
         self.frames_pass(max(map(len, self.sounds.values())))
 
 
-def slot_text(slot):
-    return "{}/{}".format(*slot)
-
-
 SETTINGS = (Script.number_to_line, Script.number_to_lines, Script.number_to_room, Script.ringing, Script.busy, Script.timer)
 
-ACTS = {
+ACTS: dict[str, Act] = {
     "exchange COUNT line|lines": Script.sizes,
     "exchange COUNT line|lines COUNT bridge|bridges": Script.sizes,
     "exchange COUNT line|lines COUNT processor|processors": Script.processors,

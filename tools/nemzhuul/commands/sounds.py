@@ -1,12 +1,14 @@
 """Makes three sounds as WAV files of 16 bits: two notes of a bell, and one that rises."""
 
+from __future__ import annotations
+
 from math import exp, pi, sin
 from pathlib import Path
 
 from nemzhuul.command_line import WrongWords
 from nemzhuul.outputs import check_output, write_file
-from nemzhuul.traces.reading import FRAMES_PER_SECOND
 from nemzhuul.sound.wave import linear_wave
+from nemzhuul.traces.reading import FRAMES_PER_SECOND
 
 USAGE = """usage: tools/sounds [--overwrite] FOLDER [SECONDS]
 makes three sounds in a folder, of one second or of SECONDS (0.02 to 8): low.wav, a note of 262 hertz; high.wav,
@@ -20,7 +22,7 @@ DECAY = 2.5  # a second
 ATTACK, RELEASE = 0.01, 0.1  # seconds
 
 
-def main(*words):
+def main(*words: str) -> str:
     may_overwrite = words[:1] == ("--overwrite",)
     words = words[may_overwrite:]
     if len(words) not in (1, 2) or words[0].startswith("-"):
@@ -35,7 +37,7 @@ def main(*words):
     return ""
 
 
-def seconds(word="1"):
+def seconds(word: str = "1") -> float:
     try:
         length = float(word)
     except ValueError:
@@ -45,7 +47,7 @@ def seconds(word="1"):
     return length
 
 
-def samples(first, last, length):
+def samples(first: float, last: float, length: float) -> list[int]:
     """A note whose pitch goes from one to another, with a quick attack and a slow decay."""
     made = []
     for at in range(round(length * FRAMES_PER_SECOND)):

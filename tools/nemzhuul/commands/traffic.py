@@ -1,9 +1,13 @@
 """Writes a trace of calls that are drawn from a seed: the trace of `tst gen`, or calls at a rate, to load an exchange."""
 
+from __future__ import annotations
+
 import argparse
 import heapq
 import random
+from collections.abc import Callable, Iterator
 from itertools import count
+from typing import NamedTuple, NoReturn
 
 from nemzhuul.command_line import NAME, WrongWords, say
 from nemzhuul.programs.program import Trace
@@ -14,13 +18,15 @@ from nemzhuul.signalling.q931 import (
     CONNECT_ACKNOWLEDGE,
     DISCONNECT,
     INFORMATION,
+    NORMAL_CALL_CLEARING,
     RELEASE,
     RELEASE_COMPLETE,
     SETUP,
     SPEECH,
+    USER_BUSY,
     cause,
     number,
-    written,
+    write_message,
 )
 from nemzhuul.traces.reading import FRAMES_PER_SECOND, PLACES, Slot
 
@@ -38,22 +44,36 @@ trace that `tst gen SEED CALLS` runs. With it, N calls a second begin at random 
   --processors N   call processors (4), 1 to 8
 A call for which no line has a free channel is not made; standard error says how many. No octets are sent."""
 
-NORMAL_CLEARING, USER_BUSY = 16, 17
 ANSWERED, BUSY, UNANSWERED = "answered", "busy", "unanswered"
 REACTION = 0.005  # seconds, on average, before an endpoint sends the next message
+
+
+class Options(argparse.Namespace):
+    """The arguments of the command."""
+
+    seed: int
+    calls: int
+    rate: float | None
+    holding: float
+    ringing: float
+    lines: int
+    processors: int
+    busy: float
+    unanswered: float
+    overlap: float
 
 
 class Parser(argparse.ArgumentParser):
     """A parser that refuses wrong arguments as the other tools do."""
 
-    def error(self, message):
+    def error(self, message: str) -> NoReturn:
         raise WrongWords
 
 
-def between(kind, least, most):
+def between(kind: Callable[[str], float], least: float, most: float) -> Callable[[str], float]:
     """A reader of a number between two others."""
 
-    def read(word):
+    def read(word: str) -> float:
         value = kind(word)
         if not least <= value <= most:
             raise ValueError
@@ -62,7 +82,7 @@ def between(kind, least, most):
     return read
 
 
-def main(*words):
+def main(*words: str) -> bytes:
     parser = Parser(add_help=False, allow_abbrev=False)
     parser.add_argument("seed", type=between(int, 0, 2**32 - 1))
     parser.add_argument("calls", type=between(int, 1, 2000))
@@ -73,10 +93,10 @@ def main(*words):
     parser.add_argument("--processors", type=between(int, 1, 8), default=4)
     for share in ("--busy", "--unanswered", "--overlap"):
         parser.add_argument(share, type=between(float, 0, 100), default=0)
-    options = parser.parse_args(words)
+    options = parser.parse_args(words, Options())
     if options.busy + options.unanswered > 100 or options.rate is None and len(words) > 2:
         raise WrongWords
-    return generated(options.seed, options.calls) if options.rate is None else Load(options).text()
+    return generate(options.seed, options.calls) if options.rate is None else Load(options, options.rate).text()
 
 
 # ---- the trace of `tst gen`
@@ -85,18 +105,18 @@ def main(*words):
 class Draws:
     """Pseudo-random numbers as docs/FORMATS.md defines them."""
 
-    def __init__(self, seed):
+    def __init__(self, seed: int) -> None:
         self.x = seed
 
-    def below(self, n):
+    def below(self, n: int) -> int:
         self.x = (self.x * 6364136223846793005 + 1442695040888963407) % 2**64
         return (self.x >> 33) % n
 
-    def octets(self):
+    def octets(self) -> str:
         return "".join(f"{self.below(256):02X}" for _ in range(PLACES))
 
 
-def generated(seed, calls):
+def generate(seed: int, calls: int) -> bytes:
     """The trace of a seed that `tst gen` runs (docs/FORMATS.md, "Generated traces")."""
     draws, trace = Draws(seed), Trace()
     trace.header("exchange 1 8 1 4")
@@ -113,23 +133,23 @@ def generated(seed, calls):
     return trace.text()
 
 
-def generate_call(draws, trace):
+def generate_call(draws: Draws, trace: Trace) -> None:
     a, b, frames = draws.below(8), draws.below(9), 1 + draws.below(3)
     is_line = b < 8
-    send(trace, a, written(0, 1, SETUP, SPEECH, number(CALLED_PARTY_NUMBER, f"2{b}" if is_line else "30")))
+    send(trace, a, write_message(0, 1, SETUP, SPEECH, number(CALLED_PARTY_NUMBER, f"2{b}" if is_line else "30")))
     if is_line:
-        send(trace, b, written(1, 1, CONNECT))
+        send(trace, b, write_message(1, 1, CONNECT))
     for _ in range(frames):
         parts = [f" {line}:{draws.octets()}" for line in ([a, b] if is_line and a != b else [a])]
         trace.event("F" + "".join(parts))
     trace.segment()
-    send(trace, a, written(0, 1, DISCONNECT, cause(NORMAL_CLEARING)))
-    send(trace, a, written(0, 1, RELEASE_COMPLETE))
+    send(trace, a, write_message(0, 1, DISCONNECT, cause(NORMAL_CALL_CLEARING)))
+    send(trace, a, write_message(0, 1, RELEASE_COMPLETE))
     if is_line:
-        send(trace, b, written(1, 1, RELEASE))
+        send(trace, b, write_message(1, 1, RELEASE))
 
 
-def send(trace, line, octets):
+def send(trace: Trace, line: int, octets: bytes) -> None:
     """A message in a segment of its own."""
     trace.event(f"M {line} {octets.hex().upper()}")
     trace.segment()
@@ -138,21 +158,30 @@ def send(trace, line, octets):
 # ---- calls at a rate
 
 
-class References(set):
+class References(set[int]):
     """A line's call references in use: those that its endpoint chooses, or those that the exchange does."""
 
-    def take(self):
+    def take(self) -> int:
         """The lowest reference that is free, as both sides choose it."""
         reference = next(at for at in count(1) if at not in self)
         self.add(reference)
         return reference
 
 
+class Waiting(NamedTuple):
+    """A call that waits until its next message: until when, in seconds, its place among those of one time, and its rest."""
+
+    time: float
+    order: int
+    call: Iterator[float]
+
+
 class Load:
     """Calls that begin at random times. Each is a generator of the seconds until its next message."""
 
-    def __init__(self, options):
+    def __init__(self, options: Options, rate: float) -> None:
         self.options = options
+        self.rate = rate  # of calls a second
         self.random = random.Random(options.seed)
         self.trace = Trace()
         self.own = [References() for _ in range(options.lines)]  # by line
@@ -161,25 +190,26 @@ class Load:
         self.frames = 0
         self.lost = 0
 
-    def text(self):
+    def text(self) -> bytes:
         self.trace.header(f"exchange 1 {self.options.lines} 0 {self.options.processors}")
         for line in range(self.options.lines):
             self.trace.header(f"number {self.number(line)} line {line}")
-        order, time, waiting = count(), 0, []
+        order, time = count(), 0.0
+        waiting: list[Waiting] = []
         for _ in range(self.options.calls):
-            time += self.random.expovariate(self.options.rate)
-            waiting.append((time, next(order), self.call()))
+            time += self.random.expovariate(self.rate)
+            waiting.append(Waiting(time, next(order), self.call()))
         while waiting:
             time, _, call = heapq.heappop(waiting)
             self.pass_frames(int(time * FRAMES_PER_SECOND) - self.frames)
             pause = next(call, None)
             if pause is not None:
-                heapq.heappush(waiting, (time + pause, next(order), call))
+                heapq.heappush(waiting, Waiting(time + pause, next(order), call))
         if self.lost:
             say(f"{NAME}: {self.lost} of {self.options.calls} calls are not made, since no line has a free channel")
         return self.trace.text()
 
-    def pass_frames(self, number_of_frames):
+    def pass_frames(self, number_of_frames: int) -> None:
         for _ in range(number_of_frames):
             self.trace.event("F")
         if number_of_frames:
@@ -187,20 +217,20 @@ class Load:
         self.frames += number_of_frames
 
     @staticmethod
-    def number(line):
+    def number(line: int) -> str:
         return f"2{line:02}"
 
-    def outcome(self):
+    def outcome(self) -> str:
         drawn = self.random.uniform(0, 100)
         if drawn < self.options.busy:
             return BUSY
         return UNANSWERED if drawn < self.options.busy + self.options.unanswered else ANSWERED
 
-    def drawn(self, mean):
+    def drawn(self, mean: float) -> float:
         """A time with this average, from an exponential distribution."""
         return self.random.expovariate(1 / mean) if mean else 0
 
-    def call(self):
+    def call(self) -> Iterator[float]:
         """One call from its SETUP to its end."""
         outcome, is_overlap = self.outcome(), self.random.uniform(0, 100) < self.options.overlap
         free = [line for line, channels in enumerate(self.channels) if channels]
@@ -215,44 +245,44 @@ class Load:
         given = self.given[b].take()
         yield self.drawn(REACTION)
         if outcome == BUSY:
-            self.send(b, written(1, given, RELEASE_COMPLETE, cause(USER_BUSY)))
+            self.send(b, write_message(1, given, RELEASE_COMPLETE, cause(USER_BUSY)))
             self.leave(b, self.given, given)
             yield self.drawn(REACTION)
-            self.send(a, written(0, own, RELEASE))
+            self.send(a, write_message(0, own, RELEASE))
             self.leave(a, self.own, own)
             return
-        self.send(b, written(1, given, ALERTING))
+        self.send(b, write_message(1, given, ALERTING))
         yield self.drawn(self.options.ringing)
         if outcome == ANSWERED:
-            self.send(b, written(1, given, CONNECT))
-            self.send(a, written(0, own, CONNECT_ACKNOWLEDGE))
+            self.send(b, write_message(1, given, CONNECT))
+            self.send(a, write_message(0, own, CONNECT_ACKNOWLEDGE))
             yield self.drawn(self.options.holding)
         yield from self.clear(a, own, b, given)
 
-    def leave(self, line, references, reference):
+    def leave(self, line: int, references: list[References], reference: int) -> None:
         """A leg is gone, with its reference and its channel."""
         references[line].remove(reference)
         self.channels[line] += 1
 
-    def dial(self, line, reference, digits, is_overlap):
+    def dial(self, line: int, reference: int, digits: str, is_overlap: bool) -> Iterator[float]:
         """SETUP with the number, or without it and then the number in parts."""
         if not is_overlap:
-            self.send(line, written(0, reference, SETUP, SPEECH, number(CALLED_PARTY_NUMBER, digits)))
+            self.send(line, write_message(0, reference, SETUP, SPEECH, number(CALLED_PARTY_NUMBER, digits)))
             return
-        self.send(line, written(0, reference, SETUP, SPEECH))
+        self.send(line, write_message(0, reference, SETUP, SPEECH))
         for part in (digits[:1], digits[1:]):
             yield self.drawn(REACTION)
-            self.send(line, written(0, reference, INFORMATION, number(CALLED_PARTY_NUMBER, part)))
+            self.send(line, write_message(0, reference, INFORMATION, number(CALLED_PARTY_NUMBER, part)))
 
-    def clear(self, a, own, b, given):
+    def clear(self, a: int, own: int, b: int, given: int) -> Iterator[float]:
         """The caller hangs up; each side releases its leg."""
-        self.send(a, written(0, own, DISCONNECT, cause(NORMAL_CLEARING)))
+        self.send(a, write_message(0, own, DISCONNECT, cause(NORMAL_CALL_CLEARING)))
         yield self.drawn(REACTION)
-        self.send(a, written(0, own, RELEASE_COMPLETE))
+        self.send(a, write_message(0, own, RELEASE_COMPLETE))
         self.leave(a, self.own, own)
         yield self.drawn(REACTION)
-        self.send(b, written(1, given, RELEASE))
+        self.send(b, write_message(1, given, RELEASE))
         self.leave(b, self.given, given)
 
-    def send(self, line, octets):
+    def send(self, line: int, octets: bytes) -> None:
         send(self.trace, line, octets)

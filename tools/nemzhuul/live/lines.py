@@ -11,9 +11,9 @@ import socket
 from collections import deque
 
 from nemzhuul.command_line import NAME, Refused, say
-from nemzhuul.signalling.lapd import FCS, MOST_FRAME, check_sequence
+from nemzhuul.signalling.lapd import FCS, MAX_FRAME, check_sequence
 from nemzhuul.live.wire import FRAMES, IDLE_ROW, LONGEST_LINE, MESSAGE, NO_FRAMES, PIECE, without_delay
-from nemzhuul.signalling.q931 import RESTART, restart_indicator, written
+from nemzhuul.signalling.q931 import RESTART, restart_indicator, write_message
 
 AHEAD = 8_000  # frames and messages in a queue from which on its endpoint is not read
 MAX_MESSAGES = 64  # of a line in a period, so that no endpoint delays the others; the rest waits
@@ -23,7 +23,7 @@ MOST_LINK_FRAMES = 256  # in the queue of a D channel, from which on its endpoin
 DATAGRAM = 4096  # octets that are read of a datagram, of which fewer are used
 
 SILENCE, GONE = "silence", "gone"  # marks in a queue: no octets from there on; no endpoint from there on
-SHUT_DOWN = written(0, 0, RESTART, restart_indicator(whole_line=True)).hex().upper().encode()
+SHUT_DOWN = write_message(0, 0, RESTART, restart_indicator(is_whole_line=True)).hex().upper().encode()
 
 
 class Port:
@@ -319,8 +319,8 @@ class DChannel(Port):
             return
         octets = datagram[:-FCS]
         self.frames += 1
-        self.cut += len(octets) > MOST_FRAME
-        self.queue.append(octets[:MOST_FRAME])
+        self.cut += len(octets) > MAX_FRAME
+        self.queue.append(octets[:MAX_FRAME])
         self.watch()
 
     def leave(self):

@@ -18,13 +18,13 @@ from dataclasses import dataclass
 
 from nemzhuul.command_line import Refused
 from nemzhuul.outputs import identity
-from nemzhuul.traces.reading import FRAME_DIGITS, IDLE, MOST_MESSAGE_DIGITS, PLACES
+from nemzhuul.traces.reading import FRAME_DIGITS, IDLE, MAX_MESSAGE_DIGITS, PLACES
 
 IDLE_ROW = b"%02X" % IDLE * PLACES
 FRAMES = re.compile(rb"(?:F [0-9A-Fa-f]{%d}\n)+" % FRAME_DIGITS)
-MESSAGE = re.compile(rb"M ((?:[0-9A-Fa-f]{2}){1,%d})" % (MOST_MESSAGE_DIGITS // 2))
+MESSAGE = re.compile(rb"M ((?:[0-9A-Fa-f]{2}){1,%d})" % (MAX_MESSAGE_DIGITS // 2))
 NO_FRAMES = b"F none"
-LONGEST_LINE = len("M ") + MOST_MESSAGE_DIGITS
+LONGEST_LINE = len("M ") + MAX_MESSAGE_DIGITS
 PIECE = 1 << 18  # octets of a read
 CONNECT_SECONDS = 3
 LOCK_SECONDS = 3

@@ -1,9 +1,12 @@
 """What a ladder of a call says: its title, its ends, and each message in words."""
 
+from __future__ import annotations
+
 from nemzhuul.signalling.q931 import cause_text, contents_text, printable
+from nemzhuul.traces.following import Call, Leg, Row, Run
 
 
-def title(call, run):
+def title(call: Call, run: Run) -> str:
     """Who calls whom, and how it ends."""
     digits = "no number" if call.digits is None else printable(call.digits)
     if call.caller is None:
@@ -17,7 +20,7 @@ def title(call, run):
     return "; ".join(said)
 
 
-def reached(call, run):
+def reached(call: Call, run: Run) -> str:
     if call.called:
         return f"reaches {call.called.slot}"
     if call.answered is None:
@@ -25,21 +28,21 @@ def reached(call, run):
     return f"reaches room {run.room(call)}"
 
 
-def place(leg, line=None):
+def place(leg: Leg | None, line: int | None = None) -> str:
     return f"line {line}" if leg is None else f"line {leg.slot.line}, channel {leg.slot.channel}"
 
 
-def frames_text(first, last):
+def frames_text(first: int, last: int) -> str:
     return f"frame {first}" if first == last else f"frames {first} to {last}"
 
 
-def name(row):
+def name(row: Row) -> str:
     """The type of a message, and its call reference."""
     message = row.message
     return "ignored octets" if message is None else f"{message.name} {message.reference_digits}"
 
 
-def note(row, with_line):
+def note(row: Row, with_line: bool) -> str:
     """What a message says beside its name, and which paths were moved for it."""
     said = [f"line {row.line}"] if with_line else []
     contents = "" if row.message is None else contents_text(row.message)

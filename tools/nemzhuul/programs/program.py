@@ -15,7 +15,7 @@ from typing import Optional
 
 from nemzhuul.command_line import NAME, Refused, say
 from nemzhuul.programs.built import PROVED_PARTS, TOP, UNPROVED_PARTS, Sources, program_in, sources_of
-from nemzhuul.traces.reading import METER, MOST_BYTES, MOST_EVENTS, reply
+from nemzhuul.traces.reading import MAX_BYTES, MAX_EVENTS, METER, Reply, Sent, reply
 
 BUILT = program_in(TOP / "crates" / "tst" / "out")  # proved
 BUILT_UNPROVED = program_in(TOP / "tools" / "out")
@@ -105,7 +105,7 @@ def build_unproved(why: str) -> None:
     BUILT_UNPROVED.record(sources)
 
 
-def keep_program(folder):
+def keep_program(folder: str) -> None:
     """Links the program that a build left in a folder. Meanwhile `rt` may remove any file or folder in it."""
     for place, _, files in os.walk(folder):  # a folder that is gone has no files
         if "program" in files:
@@ -113,70 +113,74 @@ def keep_program(folder):
                 os.link(Path(place) / "program", UNPROVED)
 
 
-def replies_of(program, trace, first):
+def replies_of(program: Path, trace: bytes, first: int) -> list[Reply]:
     """What the program answers to the events of a trace from one on, counted from 0, in the order of its report."""
     done = subprocess.run([program, "run"], input=trace, stdout=subprocess.PIPE, check=False)
     lines = done.stdout.decode("latin-1").splitlines()
     if done.returncode != 0:
         said = f": {lines[0][:80]}" if lines else ""
         raise Refused(f"{program} ended with status {done.returncode}{said}")
-    replies = [reply(line) for line in lines if not METER.fullmatch(line)]
-    if None in replies:
-        raise Refused(f"{program} printed what is no report")
+    replies = []
+    for line in lines:
+        if not METER.fullmatch(line):
+            answer = reply(line)
+            if answer is None:
+                raise Refused(f"{program} printed what is no report")
+            replies.append(answer)
     return replies[first:]
 
 
 class Trace:
     """The lines of a trace so far, and what of them decides which messages are sent."""
 
-    def __init__(self, program=None):
+    def __init__(self, program: str | None = None) -> None:
         self.program = program
-        self.lines = []
+        self.lines: list[str] = []
         self.bytes = 0
-        self.asked = []  # the lines without comments, and without the octets of frames
+        self.asked: list[str] = []  # the lines without comments, and without the octets of frames
         self.events = 0
         self.answered = 0  # the events whose replies were looked at
         self.has_messages = False
 
-    def note(self, text):
+    def note(self, text: str) -> None:
         self.add(f"# {text}")
 
-    def header(self, text):
+    def header(self, text: str) -> None:
         self.add(text)
         self.asked.append(text)
 
-    def event(self, text, asked=None):
+    def event(self, text: str, asked: str | None = None) -> None:
         self.check_room(1)
         self.events += 1
         self.has_messages |= text.startswith("M")
         self.add(text)
         self.asked.append(text if asked is None else asked)
 
-    def check_room(self, count):
+    def check_room(self, count: int) -> None:
         """Refuses as many more events where the trace would have too many."""
-        if self.events + count > MOST_EVENTS:
-            raise Refused(f"the trace has more than {MOST_EVENTS} events")
+        if self.events + count > MAX_EVENTS:
+            raise Refused(f"the trace has more than {MAX_EVENTS} events")
 
-    def segment(self):
+    def segment(self) -> None:
         self.header("sync")
 
-    def add(self, line):
+    def add(self, line: str) -> None:
         self.bytes += len(line.encode(*TEXT)) + 1
-        if self.bytes > MOST_BYTES:
-            raise Refused(f"the trace has more than {MOST_BYTES} bytes")
+        if self.bytes > MAX_BYTES:
+            raise Refused(f"the trace has more than {MAX_BYTES} bytes")
         self.lines.append(line)
 
-    def pass_over(self):
+    def pass_over(self) -> None:
         """Leaves out what the exchange sends for the events so far."""
         self.answered = self.events
 
-    def sent(self):
-        """What the exchange sends for the events that were added last: pairs of a line and octets."""
+    def sent(self) -> list[Sent]:
+        """What the exchange sends for the events that were added last."""
         trace = "".join(line + "\n" for line in self.asked).encode()
         first, self.answered = self.answered, self.events
-        return [pair for reply in replies_of(program_at(self.program), trace, first) for pair in reply.sent]
+        return [sent for reply in replies_of(program_at(self.program), trace, first) for sent in reply.sent]
 
-    def quiet_frames(self, count):
+    def quiet_frames(self, count: int) -> int:
         """How many of the next n frames pass before the exchange is heard: up to the first that sends something."""
         if not self.has_messages:
             return count
@@ -184,5 +188,5 @@ class Trace:
         replies = replies_of(program_at(self.program), trace, self.events)
         return next((at for at, frame in enumerate(replies, start=1) if frame.sent), count)
 
-    def text(self):
+    def text(self) -> bytes:
         return "".join(line + "\n" for line in self.lines).encode(*TEXT)

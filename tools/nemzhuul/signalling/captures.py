@@ -4,17 +4,20 @@ from __future__ import annotations
 
 import struct
 from collections import Counter
+from collections.abc import Collection, Iterator
 from dataclasses import dataclass
 from fractions import Fraction
 from pathlib import Path
+from typing import NamedTuple
 
 from nemzhuul.command_line import Refused, watched
+from nemzhuul.signalling.lapd import I_FRAME_HEADER, MODULUS, LinkFrame, write_frame
 from nemzhuul.traces.reading import FRAMES_PER_SECOND
 
 MAGIC = 0xA1B2C3D4  # of a pcap file with microseconds, in the order of octets that its writer uses
 NANOSECONDS = 0xA1B23C4D  # of one with nanoseconds
 VERSION = (2, 4)
-LONGEST_PACKET = 65_535
+MAX_PACKET = 65_535
 FILE_HEADER, PACKET_HEADER = 24, 16
 
 SECTION, INTERFACE, SIMPLE_PACKET, PACKET = 0x0A0D0D0A, 1, 3, 6  # the blocks of a pcapng file
@@ -32,7 +35,6 @@ LAPD_PROTOCOL = 0x0030  # ETH_P_LAPD
 NETWORK_SIDE = 1  # first octet of the address: the capture was taken at the network side
 
 MICROSECONDS_PER_FRAME = 1_000_000 // FRAMES_PER_SECOND
-I_FRAME_HEADER = 4  # two octets of address and two of control (ITU-T Q.921, 3.2 to 3.4)
 
 
 @dataclass(frozen=True)
@@ -55,7 +57,21 @@ class Signal:
     octets: bytes
 
 
-def read_capture(path):
+class Interface(NamedTuple):
+    """An interface of a pcapng file: its link type, and how many ticks a second has."""
+
+    link: int
+    ticks: int
+
+
+class Block(NamedTuple):
+    """A block of a pcapng file: its kind, and what is between its two lengths."""
+
+    kind: int
+    body: bytes
+
+
+def read_capture(path: str) -> list[Signal]:
     """The messages of signalling in a capture: the information of each I frame of SAPI 0, in order."""
     content = Path(path).read_bytes()
     for order in "<>":
@@ -76,7 +92,7 @@ def read_capture(path):
     return signals
 
 
-def link_type(path, link):
+def link_type(path: str, link: int) -> int:
     """The link type of a capture, which has to be one of LAPD."""
     link &= 0xFFFF  # the upper bits tell of check sequences
     if link not in (LINUX_LAPD, LAPD):
@@ -84,7 +100,7 @@ def link_type(path, link):
     return link
 
 
-def whole_packet(path, number, octets, whole):
+def whole_packet(path: str, number: int, octets: bytes, whole: int) -> bytes:
     """The octets of a packet, none of which the capture left out."""
     if len(octets) < whole:
         raise Refused(f"{path} has {len(octets)} of the {whole} octets of packet {number}")
@@ -94,7 +110,7 @@ def whole_packet(path, number, octets, whole):
 # ---- pcap
 
 
-def read_packets(path, content, order, ticks):
+def read_packets(path: str, content: bytes, order: str, ticks: int) -> Iterator[Packet]:
     """The packets of a pcap file, whose times count this number of ticks a second."""
     if len(content) < FILE_HEADER:
         raise Refused(f"{path} is no capture: its header is cut short")
@@ -117,24 +133,24 @@ def read_packets(path, content, order, ticks):
 # ---- pcapng
 
 
-def read_blocks(path, content):
+def read_blocks(path: str, content: bytes) -> Iterator[Packet]:
     """The packets of a pcapng file, in enhanced and in simple packet blocks of every section."""
     at, number, order = 0, 0, "<"
-    interfaces = []  # of the section: the link type of each, and the ticks of a second
+    interfaces: list[Interface] = []  # of the section
     while at < len(content):
         if content[at : at + 4] == struct.pack(">I", SECTION):  # reads the same in either order
             order = section_order(path, content, at)
             interfaces = []
-        kind, body = read_block(path, content, at, order)
-        if kind == INTERFACE:
-            interfaces.append(read_interface(path, body, order))
-        elif kind in (PACKET, SIMPLE_PACKET):
+        block = read_block(path, content, at, order)
+        if block.kind == INTERFACE:
+            interfaces.append(read_interface(path, block.body, order))
+        elif block.kind in (PACKET, SIMPLE_PACKET):
             number += 1
-            yield read_block_packet(path, number, kind, body, order, interfaces)
-        at += len(body) + 12
+            yield read_block_packet(path, number, block, order, interfaces)
+        at += len(block.body) + 12
 
 
-def section_order(path, content, at):
+def section_order(path: str, content: bytes, at: int) -> str:
     """The order of octets of the section that begins here."""
     for order in "<>":
         if content[at + 8 : at + 12] == struct.pack(order + "I", SECTION_MAGIC):
@@ -142,16 +158,16 @@ def section_order(path, content, at):
     raise Refused(f"{path} is no capture: a section has no order of octets")
 
 
-def read_block(path, content, at, order):
-    """The kind of the block that begins here, and what is between its two lengths."""
+def read_block(path: str, content: bytes, at: int, order: str) -> Block:
+    """The block that begins here."""
     kind, length = struct.unpack_from(order + "II", content, at) if at + 8 <= len(content) else (0, 0)
     if length < 12 or length % 4 or at + length > len(content):
         raise Refused(f"{path} is cut short or damaged at octet {at}")
-    return kind, content[at + 8 : at + length - 4]
+    return Block(kind, content[at + 8 : at + length - 4])
 
 
-def read_interface(path, body, order):
-    """The link type of an interface, and how many ticks a second has: microseconds, if no option says otherwise."""
+def read_interface(path: str, body: bytes, order: str) -> Interface:
+    """The interface of a block. Its ticks are microseconds, if no option says otherwise."""
     link = struct.unpack_from(order + "H", body.ljust(8, b"\0"))[0]
     at, ticks = 8, 10**6
     while at + 4 <= len(body):
@@ -160,16 +176,17 @@ def read_interface(path, body, order):
             exponent = body[at + 4] & 0x7F
             ticks = 2**exponent if body[at + 4] & 0x80 else 10**exponent
         at += 4 + length + -length % 4
-    return link_type(path, link), ticks
+    return Interface(link_type(path, link), ticks)
 
 
-def read_block_packet(path, number, kind, body, order, interfaces):
+def read_block_packet(path: str, number: int, block: Block, order: str, interfaces: list[Interface]) -> Packet:
     """The packet of a block; a simple one is of the first interface, and has no time."""
-    interface, time, start, length = 0, None, 4, 0
-    if kind == PACKET and len(body) >= 20:
+    body = block.body
+    interface, time, start, length, whole = 0, None, 4, 0, 0
+    if block.kind == PACKET and len(body) >= 20:
         interface, high, low, length, whole = struct.unpack_from(order + "IIIII", body)
         time, start = high << 32 | low, 20
-    elif kind == SIMPLE_PACKET and len(body) >= 4:
+    elif block.kind == SIMPLE_PACKET and len(body) >= 4:
         (whole,) = struct.unpack_from(order + "I", body)
         length = min(whole, len(body) - start)
     if start + length > len(body) or interface >= len(interfaces):
@@ -182,7 +199,7 @@ def read_block_packet(path, number, kind, body, order, interfaces):
 # ---- LAPD
 
 
-def read_signal(path, number, packet):
+def read_signal(path: str, number: int, packet: Packet) -> Signal | None:
     """The message in a packet; None where it is no I frame of signalling."""
     header = PSEUDO_HEADER if packet.link == LINUX_LAPD else 0
     frame = packet.octets[header:]
@@ -203,37 +220,30 @@ class CaptureWriter:
     """Writes a capture of LINUX_LAPD. The frames of a line with a data link are in it as they are. On another line each
     message is an I frame of SAPI 0, whose numbers count it on its line."""
 
-    HEADER = struct.pack(">IHHiIII", MAGIC, *VERSION, 0, 0, LONGEST_PACKET, LINUX_LAPD)
+    HEADER = struct.pack(">IHHiIII", MAGIC, *VERSION, 0, 0, MAX_PACKET, LINUX_LAPD)
 
-    def __init__(self, linked=()):
+    def __init__(self, linked: Collection[int] = ()) -> None:
         self.linked = linked  # the lines with a data link
-        self.count = Counter()  # of the messages by line and direction
+        self.count: Counter[tuple[int, bool]] = Counter()  # of the messages by line and direction
 
-    def packet(self, frames, line, is_sent, octets):
+    def packet(self, frames: int, line: int, is_sent: bool, octets: bytes) -> bytes:
         """A message or a frame with the frames of the exchange before it, its line, and whether the exchange sent it."""
         if line not in self.linked:
             own, other = self.count[line, is_sent], self.count[line, not is_sent]
             self.count[line, is_sent] += 1
-            octets = lapd_header(line, is_sent, own, other) + octets
+            frame = LinkFrame("I", True, nr=other % MODULUS, ns=own % MODULUS, information=octets)
+            octets = write_frame(frame, is_from_user=not is_sent, tei=line)
         packet = pseudo_header(line, is_sent) + octets
         return record_header(frames, len(packet)) + packet
 
 
-def record_header(frames, length):
+def record_header(frames: int, length: int) -> bytes:
     seconds, rest = divmod(frames, FRAMES_PER_SECOND)
     return struct.pack(">IIII", seconds, rest * MICROSECONDS_PER_FRAME, length, length)
 
 
-def pseudo_header(line, is_sent):
+def pseudo_header(line: int, is_sent: bool) -> bytes:
     """The header of a Linux capture: type of packet, hardware, an address of 8 octets, protocol. The number of the line
     in the address is an addition, because each line with a data link has TEI 0."""
     kind = FROM_US if is_sent else TO_US
     return struct.pack(">HHHBB6xH", kind, LAPD_HARDWARE, 2, NETWORK_SIDE, line, LAPD_PROTOCOL)
-
-
-def lapd_header(line, is_sent, own, other):
-    """Address and control of an I frame (ITU-T Q.921, 3.2 to 3.4): a command has C/R 1 from the network."""
-    sapi = 0
-    first = sapi << 2 | is_sent << 1
-    second = line << 1 | 1
-    return bytes([first, second, own % 128 << 1, other % 128 << 1])

@@ -7,7 +7,9 @@ fallen silent gets all messages and sends none.
 
 from __future__ import annotations
 
+from collections.abc import Collection
 from dataclasses import dataclass
+from typing import NamedTuple, Union
 
 from nemzhuul.command_line import Refused
 from nemzhuul.signalling.q931 import (
@@ -27,14 +29,31 @@ from nemzhuul.signalling.q931 import (
     SETUP_ACKNOWLEDGE,
     SPEECH,
     STATUS_ENQUIRY,
+    Element,
+    Message,
     cause,
     channel_identification,
     number,
     read_message,
     restart_indicator,
     sending_complete,
-    written,
+    write_message,
 )
+from nemzhuul.traces.reading import Slot
+
+Where = Union[int, Slot]  # a line, or a channel of one
+
+
+class Place(NamedTuple):
+    """A line, and one of its channels or None for any."""
+
+    line: int
+    channel: int | None
+
+
+def place_of(where: Where) -> Place:
+    return Place(where.line, where.channel) if isinstance(where, Slot) else Place(where, None)
+
 
 # The states of a leg, as its user sees it.
 CALLS = "calls"  # the caller, before CONNECT
@@ -61,46 +80,46 @@ class Leg:
     state: str
     channel: int | None = None
 
-    def message(self, kind, *elements):
-        return written(0 if self.is_own else 1, self.reference, kind, *elements)
+    def message(self, kind: int, *elements: Element) -> bytes:
+        return write_message(0 if self.is_own else 1, self.reference, kind, *elements)
 
 
 class Endpoints:
     """The legs on all lines. What an endpoint sends is returned as octets of a message."""
 
-    def __init__(self):
-        self.legs = []
-        self.silent = set()  # the lines whose endpoints send nothing
-        self.down = set()  # the lines whose data links are down
+    def __init__(self) -> None:
+        self.legs: list[Leg] = []
+        self.silent: set[int] = set()  # the lines whose endpoints send nothing
+        self.down: set[int] = set()  # the lines whose data links are down
 
-    def fall_silent(self, line):
+    def fall_silent(self, line: int) -> None:
         if line in self.silent:
             raise Refused(f"line {line} is silent already")
         self.silent.add(line)
 
-    def recover(self, line):
+    def recover(self, line: int) -> None:
         if line not in self.silent:
             raise Refused(f"line {line} has not fallen silent")
         self.silent.remove(line)
 
-    def link_fails(self, line):
+    def link_fails(self, line: int) -> None:
         """Calls that are not active are gone, and nothing reaches the endpoint or comes from it."""
         self.down.add(line)
         self.legs = [leg for leg in self.legs if leg.line != line or leg.state == TALKS]
 
-    def link_is_up(self, line):
+    def link_is_up(self, line: int) -> None:
         self.down.discard(line)
 
-    def place(self, where):
-        """The line and the channel, or None, that send something."""
-        line, channel = where if isinstance(where, tuple) else (where, None)
+    def place(self, where: Where) -> Place:
+        """The place that sends something."""
+        line, channel = place_of(where)
         if line in self.silent:
             raise Refused(f"line {line} has fallen silent: line {line} recovers")
         if line in self.down:
             raise Refused(f"the data link of line {line} is down: the link of line {line} is up")
-        return line, channel
+        return Place(line, channel)
 
-    def find(self, where, states, what):
+    def find(self, where: Where, states: Collection[str], what: str) -> Leg:
         """The leg on a line, or on a slot, that is in one of these states."""
         line, channel = self.place(where)
         at_hand = [
@@ -118,35 +137,35 @@ class Endpoints:
 
     # ---- what a user asks for
 
-    def call(self, where, digits=None, caller=None, exclusive=True):
+    def call(self, where: Where, digits: str | None = None, caller: str | None = None, is_exclusive: bool = True) -> bytes:
         line, channel = self.place(where)
         used = {leg.reference for leg in self.legs if leg.line == line and leg.is_own}
         leg = Leg(line, min(set(range(1, len(used) + 2)) - used), True, CALLS, channel)
         self.legs.append(leg)
         elements = [SPEECH]
         if channel is not None:
-            elements.append(channel_identification(channel, exclusive))
+            elements.append(channel_identification(channel, is_exclusive))
         if caller is not None:
             elements.append(number(CALLING_PARTY_NUMBER, caller))
         if digits is not None:
             elements.append(number(CALLED_PARTY_NUMBER, digits))
         return leg.message(SETUP, *elements)
 
-    def dial(self, where, digits, to_the_end):
+    def dial(self, where: Where, digits: str, to_the_end: bool) -> bytes:
         leg = self.find(where, (DIALS,), "to dial on in")
         end = [sending_complete()] if to_the_end else []
         return leg.message(INFORMATION, *end, number(CALLED_PARTY_NUMBER, digits))
 
-    def proceed(self, where):
+    def proceed(self, where: Where) -> bytes:
         return self._advance(where, (IS_CALLED,), PROCEEDS, CALL_PROCEEDING, "to proceed with")
 
-    def alert(self, where):
+    def alert(self, where: Where) -> bytes:
         return self._advance(where, (IS_CALLED, PROCEEDS), ALERTS, ALERTING, "to alert for")
 
-    def answer(self, where):
+    def answer(self, where: Where) -> bytes:
         return self._advance(where, UNANSWERED, TALKS, CONNECT, "to answer")
 
-    def hang_up(self, where, value):
+    def hang_up(self, where: Where, value: int) -> bytes:
         leg = self.find(where, (*STANDING, HEARS_TONE), "to hang up")
         if leg.state == HEARS_TONE:
             leg.state = RELEASES
@@ -154,38 +173,40 @@ class Endpoints:
         leg.state = CLEARS
         return leg.message(DISCONNECT, cause(value))
 
-    def reject(self, where, value):
+    def reject(self, where: Where, value: int) -> bytes:
         leg = self.find(where, (IS_CALLED,), "to reject")
         self.legs.remove(leg)
         return leg.message(RELEASE_COMPLETE, cause(value))
 
-    def ask(self, where):
+    def ask(self, where: Where) -> bytes:
         leg = self.find(where, (*STANDING, HEARS_TONE, CLEARS, RELEASES), "to ask for")
         return leg.message(STATUS_ENQUIRY)
 
-    def restart(self, where):
+    def restart(self, where: Where) -> bytes:
         line, channel = self.place(where)
         self.legs = [leg for leg in self.legs if leg.line != line or channel not in (None, leg.channel)]
         elements = [] if channel is None else [channel_identification(channel)]
-        return written(0, 0, RESTART, *elements, restart_indicator(whole_line=channel is None))
+        return write_message(0, 0, RESTART, *elements, restart_indicator(is_whole_line=channel is None))
 
-    def _advance(self, where, states, state, kind, what):
+    def _advance(self, where: Where, states: Collection[str], state: str, kind: int, what: str) -> bytes:
         leg = self.find(where, states, what)
         leg.state = state
         return leg.message(kind)
 
     # ---- what the exchange sends
 
-    def receive(self, line, octets):
+    def receive(self, line: int, octets: bytes) -> bytes | None:
         """What the endpoint on a line answers to a message of the exchange; None where it is nothing."""
         if line in self.down:
             return None
         message = read_message(octets)
-        leg = self._named(line, message)
+        if message is None:
+            return None
+        leg = self._leg(line, message)
         if message.kind == SETUP and (leg is None or leg.state != IS_CALLED):
             if leg is not None:  # the exchange has given it up, and uses its reference again
                 self.legs.remove(leg)
-            self.legs.append(Leg(line, message.reference, False, IS_CALLED, message.channel[0]))
+            self.legs.append(Leg(line, message.reference, False, IS_CALLED, message.channel and message.channel.number))
             return None
         if leg is not None and line in self.silent:
             if message.kind == RELEASE_COMPLETE:
@@ -193,16 +214,16 @@ class Endpoints:
             return None
         return None if leg is None else self._take(leg, message)
 
-    def _named(self, line, message):
+    def _leg(self, line: int, message: Message) -> Leg | None:
         for leg in self.legs:
             if (leg.line, leg.reference, leg.is_own) == (line, message.reference, message.flag == 1):
                 return leg
         return None
 
-    def _take(self, leg, message):
+    def _take(self, leg: Leg, message: Message) -> bytes | None:
         if message.kind in (CALL_PROCEEDING, SETUP_ACKNOWLEDGE):
             leg.state = DIALS if message.kind == SETUP_ACKNOWLEDGE else CALLS
-            leg.channel = message.channel[0] if message.channel else leg.channel
+            leg.channel = message.channel.number if message.channel else leg.channel
         elif message.kind == CONNECT:
             leg.state = TALKS
             return leg.message(CONNECT_ACKNOWLEDGE)

@@ -6,15 +6,20 @@ network, and a response the other value.
 
 from __future__ import annotations
 
+from collections.abc import Iterator
 from dataclasses import dataclass
 
 from nemzhuul.signalling.q931 import message_text
 
-MOST_INFORMATION = 260  # N201: octets of the information field of an I frame
-MOST_FRAME = 4 + MOST_INFORMATION + 1  # octets of a frame that a trace takes: one more than an I frame has
+MAX_INFORMATION = 260  # N201: octets of the information field of an I frame
+I_FRAME_HEADER = 4  # two octets of address and two of control
+MAX_FRAME = I_FRAME_HEADER + MAX_INFORMATION + 1  # octets of a frame that a trace takes: one more than an I frame has
 FCS = 2  # octets of the check sequence
 MODULUS = 128
 TEI = 0x01  # the second octet of the address: TEI 0, EA 1
+
+# The timers of a data link, and how many frames of the exchange each runs if a trace does not set it.
+USUAL_TIMERS = {"T200": 8_000, "T203": 80_000}
 
 SUPERVISORY = {0x01: "RR", 0x05: "RNR", 0x09: "REJ"}
 COMMANDS = {0x6F: "SABME", 0x43: "DISC"}
@@ -42,7 +47,7 @@ class LinkFrame:
 # ---- octets
 
 
-def read_frame(octets, is_from_user):
+def read_frame(octets: bytes, is_from_user: bool) -> LinkFrame | None:
     """The frame of these octets; None where they are discarded: another address, or less than a control field."""
     if len(octets) < 3 or octets[0] not in (0, 2) or octets[1] != TEI:
         return None
@@ -53,14 +58,14 @@ def read_frame(octets, is_from_user):
     if not rest:
         return None
     pf, nr = bool(rest[0] & 1), rest[0] >> 1
-    if control % 2 == 0 and is_command and len(rest) <= 1 + MOST_INFORMATION:
+    if control % 2 == 0 and is_command and len(rest) <= 1 + MAX_INFORMATION:
         return LinkFrame("I", True, pf, nr, control >> 1, rest[1:])
     if control in SUPERVISORY and len(rest) == 1:
         return LinkFrame(SUPERVISORY[control], is_command, pf, nr)
     return LinkFrame(INVALID, is_command)
 
 
-def _unnumbered(is_command, control, rest):
+def _unnumbered(is_command: bool, control: int, rest: bytes) -> LinkFrame:
     pf, code = bool(control & POLL_FINAL), control & ~POLL_FINAL
     if code in WITH_INFORMATION:
         return LinkFrame(WITH_INFORMATION[code], is_command, pf)
@@ -70,9 +75,9 @@ def _unnumbered(is_command, control, rest):
     return LinkFrame(INVALID, is_command) if kind is None or rest else LinkFrame(kind, is_command, pf)
 
 
-def written_frame(frame, is_from_user):
+def write_frame(frame: LinkFrame, is_from_user: bool, tei: int = 0) -> bytes:
     """The octets of a frame that a link sends: I, RR, RNR, REJ, SABME, DISC, UA or DM."""
-    address = bytes([0 if frame.is_command == is_from_user else 2, TEI])
+    address = bytes([0 if frame.is_command == is_from_user else 2, tei << 1 | 1])
     if frame.kind == "I":
         return address + bytes([frame.ns << 1, frame.nr << 1 | frame.pf]) + frame.information
     code = CODES[frame.kind]
@@ -84,7 +89,7 @@ def written_frame(frame, is_from_user):
 # ---- names
 
 
-def frame_text(octets, is_from_user):
+def frame_text(octets: bytes, is_from_user: bool) -> str:
     """A frame in words."""
     frame = read_frame(octets, is_from_user)
     if frame is None:
@@ -100,7 +105,7 @@ def frame_text(octets, is_from_user):
 # ---- the check sequence (Q.921, 2)
 
 
-def _remainders():
+def _remainders() -> Iterator[int]:
     """The remainder of each octet by the polynomial x^16 + x^12 + x^5 + 1, the lowest bit first."""
     for value in range(256):
         for _ in range(8):
@@ -111,7 +116,7 @@ def _remainders():
 REMAINDERS = tuple(_remainders())
 
 
-def check_sequence(octets):
+def check_sequence(octets: bytes) -> bytes:
     """The two octets of the check sequence that are sent after these octets."""
     value = 0xFFFF
     for octet in octets:

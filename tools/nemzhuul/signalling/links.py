@@ -6,69 +6,89 @@ caller gives. The messages that it gets, the frames that it sends and what it in
 
 from __future__ import annotations
 
-from nemzhuul.signalling.lapd import INVALID, MODULUS, SUPERVISORY, LinkFrame, read_frame, written_frame
+from collections.abc import Callable, Mapping
+from typing import NamedTuple, Optional
+
+from nemzhuul.signalling.lapd import INVALID, MODULUS, SUPERVISORY, USUAL_TIMERS, LinkFrame, read_frame, write_frame
 
 WINDOW = 7  # k: sent I frames that are not acknowledged
-MOST_RETRIES = 3  # N200
-MOST_WAITING = 64  # messages that are not acknowledged
-USUAL_TIMES = {"T200": 8_000, "T203": 80_000}  # in frames of the exchange
+MAX_RETRIES = 3  # N200
+MAX_WAITING = 64  # messages that are not acknowledged
 
 ASSIGNED, ESTABLISHING, ESTABLISHED, RECOVERY = 4, 5, 7, 8  # the states of Q.921
 TOOK, UP, DOWN = "took", "up", "down"  # what is indicated to layer 3
 
 
-class Link:
-    """A link in state 4, whose T200 starts at a time. An indication is a pair: TOOK and a message, or UP or DOWN and None."""
+class Indication(NamedTuple):
+    """What is indicated to layer 3. Only TOOK has a message."""
 
-    def __init__(self, is_user, now=0, times=None):
+    what: str
+    message: bytes | None = None
+
+
+Act = Callable[[LinkFrame, float], Optional[Indication]]  # what is done for a frame, at a time
+
+
+class Timer(NamedTuple):
+    """The timer that runs, and since when."""
+
+    name: str
+    since: float
+
+
+class Link:
+    """A link in state 4, whose T200 starts at a time."""
+
+    def __init__(self, is_user: bool, now: float = 0, times: Mapping[str, float] | None = None) -> None:
         self.is_user = is_user
-        self.times = times or USUAL_TIMES
+        self.times = times or USUAL_TIMERS
         self.state = ASSIGNED
         self.asked = True  # layer 3 initiated
-        self.waiting = []  # messages that are not acknowledged
+        self.waiting: list[bytes] = []  # messages that are not acknowledged
         self.sent = 0  # how many of them were sent
         self.acked = self.received = 0  # V(A), V(R)
         self.busy = self.rejecting = self.pending = self.owed = False
         self.retries = 0
-        self.timer = ("T200", now)
-        self.out = []  # the octets of the frames that are sent
+        self.timer = Timer("T200", now)
+        self.out: list[bytes] = []  # the octets of the frames that are sent
 
     @property
-    def is_multiple_frame(self):
+    def is_multiple_frame(self) -> bool:
         return self.state in (ESTABLISHED, RECOVERY)
 
     @property
-    def is_up(self):
+    def is_up(self) -> bool:
         return self.is_multiple_frame or (self.state == ESTABLISHING and not self.asked)
 
     # ---- what happens to it
 
-    def establish(self, now):
+    def establish(self, now: float) -> None:
         """Layer 3 requests the link."""
         self._establish(now, asked=True)
 
-    def release(self, now):
+    def release(self, now: float) -> None:
         """Layer 3 releases the link, and does not wait for the peer's response."""
         self._send("DISC", True, True)
         self._lose()
         self._assign(now)
 
-    def receive(self, octets, now):
+    def receive(self, octets: bytes, now: float) -> Indication | None:
         """Takes a frame of the peer. Returns the indication, or None. `finish` comes after it."""
         frame = read_frame(octets, not self.is_user)
         if frame is None:
             return None
         if frame.kind in SUPERVISORY.values():
-            return self._supervisory(frame, now)
-        acts = {"SABME": self._sabme, "DISC": self._disc, "UA": self._ua, "DM": self._dm, "I": self._information}
+            self._supervisory(frame, now)
+            return None
+        acts: dict[str, Act] = {"SABME": self._sabme, "DISC": self._disc, "UA": self._ua, "DM": self._dm, "I": self._information}
         acts |= dict.fromkeys(("FRMR", INVALID), self._rejection)
         return acts[frame.kind](frame, now) if frame.kind in acts else None
 
-    def submit(self, message, now):
+    def submit(self, message: bytes, now: float) -> None:
         """Takes a message of layer 3. It is lost if the link is not up."""
         if not self.is_up:
             return
-        if len(self.waiting) < MOST_WAITING:
+        if len(self.waiting) < MAX_WAITING:
             self.waiting.append(message)
             self._flush(now)
             return
@@ -78,56 +98,55 @@ class Link:
         else:
             self._establish(now, asked=True)
 
-    def finish(self, now):
+    def finish(self, now: float) -> None:
         """The end of a step: what may be sent is sent, and what was received is acknowledged."""
         self._flush(now)
         if self.pending and self.is_multiple_frame:
             self._numbered("RR", False, False)
         self.pending = False
 
-    def turn(self, now):
+    def turn(self, now: float) -> Indication | None:
         """Looks at the timer. Returns the indication, or None."""
         if self.owed:
             self.owed = False
-            return DOWN, None
+            return Indication(DOWN)
         name, since = self.timer
         return self._expired(name, now) if since + self.times[name] <= now else None
 
     # ---- frames (annex B of Q.921)
 
-    def _sabme(self, frame, now):
+    def _sabme(self, frame: LinkFrame, now: float) -> Indication | None:
         self._send("UA", False, frame.pf)
         if self.state == ESTABLISHING:
             return None
         return self._begin(now, self.state == ASSIGNED or self.sent > 0)
 
-    def _disc(self, frame, now):
+    def _disc(self, frame: LinkFrame, now: float) -> Indication | None:
         if not self.is_multiple_frame:
             self._send("DM", False, frame.pf)
             return None
         self._send("UA", False, frame.pf)
         return self._end(now)
 
-    def _ua(self, frame, now):
+    def _ua(self, frame: LinkFrame, now: float) -> Indication | None:
         if self.state != ESTABLISHING or not frame.pf:
             return None
         return self._begin(now, self.asked or self.sent > 0)
 
-    def _dm(self, frame, now):
+    def _dm(self, frame: LinkFrame, now: float) -> Indication | None:
         if self.state == ESTABLISHING and frame.pf:
             return self._end(now)
         if self.state == RECOVERY or (self.state == ESTABLISHED and not frame.pf):
             self._establish(now, asked=False)
         return None
 
-    def _rejection(self, _, now):
+    def _rejection(self, _: LinkFrame, now: float) -> None:
         if self.is_multiple_frame:
             self._establish(now, asked=False)
-        return None
 
-    def _supervisory(self, frame, now):
+    def _supervisory(self, frame: LinkFrame, now: float) -> None:
         if not self.is_multiple_frame:
-            return None
+            return
         self.busy = frame.kind == "RNR"
         if frame.is_command and frame.pf:
             self._numbered("RR", False, True)
@@ -138,23 +157,22 @@ class Link:
             if not frame.is_command and frame.pf:
                 self.sent = 0
                 self.state = ESTABLISHED
-                self.timer = ("T200" if self.busy else "T203", now)
+                self.timer = Timer("T200" if self.busy else "T203", now)
         else:
             self._supervised(frame, now)
-        return None
 
-    def _supervised(self, frame, now):
+    def _supervised(self, frame: LinkFrame, now: float) -> None:
         """RR, RNR or REJ in state 7."""
         has_moved = self._acknowledge(frame.nr)
         if frame.kind == "RNR":
-            self.timer = ("T200", now)
+            self.timer = Timer("T200", now)
         elif frame.kind == "REJ":
             self.sent = 0
-            self.timer = ("T203", now)
+            self.timer = Timer("T203", now)
         else:
             self._restart_timer(has_moved, now)
 
-    def _information(self, frame, now):
+    def _information(self, frame: LinkFrame, now: float) -> Indication | None:
         if not self.is_multiple_frame:
             return None
         is_next = frame.ns == self.received
@@ -174,49 +192,49 @@ class Link:
             has_moved = self._acknowledge(frame.nr)
             if self.state == ESTABLISHED and not self.busy:
                 self._restart_timer(has_moved, now)
-        return (TOOK, frame.information) if is_next else None
+        return Indication(TOOK, frame.information) if is_next else None
 
-    def _expired(self, name, now):
+    def _expired(self, name: str, now: float) -> Indication | None:
         if self.state == ASSIGNED:
             self._establish(now, asked=True)
-        elif self.state == ESTABLISHING and self.retries == MOST_RETRIES:
+        elif self.state == ESTABLISHING and self.retries == MAX_RETRIES:
             return self._end(now)
         elif self.state == ESTABLISHING:
             self.retries += 1
             self._send("SABME", True, True)
-            self.timer = ("T200", now)
-        elif self.state == RECOVERY and self.retries == MOST_RETRIES:
+            self.timer = Timer("T200", now)
+        elif self.state == RECOVERY and self.retries == MAX_RETRIES:
             self._establish(now, asked=False)
         else:
             self.retries = self.retries + 1 if self.state == RECOVERY else int(name == "T200")
             self.state = RECOVERY
             self._numbered("RR", True, True)
-            self.timer = ("T200", now)
+            self.timer = Timer("T200", now)
         return None
 
     # ---- what it does
 
-    def _send(self, kind, is_command, pf, **fields):
-        self.out.append(written_frame(LinkFrame(kind, is_command, pf, **fields), self.is_user))
+    def _send(self, kind: str, is_command: bool, pf: bool, nr: int = 0, ns: int = 0, information: bytes = b"") -> None:
+        self.out.append(write_frame(LinkFrame(kind, is_command, pf, nr, ns, information), self.is_user))
 
-    def _numbered(self, kind, is_command, pf):
+    def _numbered(self, kind: str, is_command: bool, pf: bool) -> None:
         """RR or REJ, which acknowledges what was received."""
         self._send(kind, is_command, pf, nr=self.received)
         self.pending = False
 
-    def _flush(self, now):
+    def _flush(self, now: float) -> None:
         while self.state == ESTABLISHED and not self.busy and self.sent < min(WINDOW, len(self.waiting)):
             number = (self.acked + self.sent) % MODULUS
             self._send("I", True, False, nr=self.received, ns=number, information=self.waiting[self.sent])
             self.sent += 1
             self.pending = False
-            if self.timer[0] != "T200":
-                self.timer = ("T200", now)
+            if self.timer.name != "T200":
+                self.timer = Timer("T200", now)
 
-    def _is_valid(self, nr):
+    def _is_valid(self, nr: int) -> bool:
         return (nr - self.acked) % MODULUS <= self.sent
 
-    def _acknowledge(self, nr):
+    def _acknowledge(self, nr: int) -> bool:
         """V(A) becomes a valid N(R). Returns whether it moved."""
         count = (nr - self.acked) % MODULUS
         del self.waiting[:count]
@@ -224,36 +242,36 @@ class Link:
         self.acked = nr
         return count > 0
 
-    def _restart_timer(self, has_moved, now):
+    def _restart_timer(self, has_moved: bool, now: float) -> None:
         if self.sent == 0:
-            self.timer = ("T203", now)
+            self.timer = Timer("T203", now)
         elif has_moved:
-            self.timer = ("T200", now)
+            self.timer = Timer("T200", now)
 
-    def _establish(self, now, asked):
+    def _establish(self, now: float, asked: bool) -> None:
         self.state, self.asked, self.retries = ESTABLISHING, asked, 0
         self.busy = self.rejecting = self.pending = False
         self._send("SABME", True, True)
-        self.timer = ("T200", now)
+        self.timer = Timer("T200", now)
 
-    def _begin(self, now, is_new):
+    def _begin(self, now: float, is_new: bool) -> Indication | None:
         """Multiple frame operation begins. If it is new for layer 3, the messages before it are lost."""
         if is_new:
             self._lose()
         self.state, self.asked = ESTABLISHED, False
         self.sent = self.acked = self.received = 0
         self.busy = self.rejecting = self.pending = False
-        self.timer = ("T203", now)
-        return (UP, None) if is_new else None
+        self.timer = Timer("T203", now)
+        return Indication(UP) if is_new else None
 
-    def _end(self, now):
+    def _end(self, now: float) -> Indication:
         self._lose()
         self._assign(now)
-        return DOWN, None
+        return Indication(DOWN)
 
-    def _lose(self):
+    def _lose(self) -> None:
         self.waiting, self.sent, self.owed = [], 0, False
 
-    def _assign(self, now):
+    def _assign(self, now: float) -> None:
         self.state, self.asked = ASSIGNED, True
-        self.timer = ("T200", now)
+        self.timer = Timer("T200", now)

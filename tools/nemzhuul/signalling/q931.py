@@ -5,8 +5,11 @@ Only codeset 0 is read, elements may come in any order, and the first of a kind 
 
 from __future__ import annotations
 
+from collections.abc import Mapping
 from dataclasses import dataclass
+from typing import NamedTuple
 
+# The codes of information elements.
 BEARER_CAPABILITY = 0x04
 CAUSE = 0x08
 CALL_STATE = 0x14
@@ -17,42 +20,58 @@ CALLED_PARTY_NUMBER = 0x70
 RESTART_INDICATOR = 0x79
 SENDING_COMPLETE = 0xA1
 
+# The types of messages.
 ALERTING = 0x01
 CALL_PROCEEDING = 0x02
-SETUP_ACKNOWLEDGE = 0x0D
+PROGRESS = 0x03
 SETUP = 0x05
 CONNECT = 0x07
+SETUP_ACKNOWLEDGE = 0x0D
 CONNECT_ACKNOWLEDGE = 0x0F
+USER_INFORMATION = 0x20
 DISCONNECT = 0x45
 RESTART = 0x46
 RELEASE = 0x4D
+RESTART_ACKNOWLEDGE = 0x4E
 RELEASE_COMPLETE = 0x5A
+FACILITY = 0x62
+NOTIFY = 0x6E
 STATUS_ENQUIRY = 0x75
 INFORMATION = 0x7B
 STATUS = 0x7D
 
 TYPES = {
-    0x01: "ALERTING",
-    0x02: "CALL PROCEEDING",
-    0x03: "PROGRESS",
-    0x05: "SETUP",
-    0x07: "CONNECT",
-    0x0D: "SETUP ACKNOWLEDGE",
-    0x0F: "CONNECT ACKNOWLEDGE",
-    0x20: "USER INFORMATION",
-    0x45: "DISCONNECT",
-    0x46: "RESTART",
-    0x4D: "RELEASE",
-    0x4E: "RESTART ACKNOWLEDGE",
-    0x5A: "RELEASE COMPLETE",
-    0x62: "FACILITY",
-    0x6E: "NOTIFY",
-    0x75: "STATUS ENQUIRY",
-    0x7B: "INFORMATION",
-    0x7D: "STATUS",
+    ALERTING: "ALERTING",
+    CALL_PROCEEDING: "CALL PROCEEDING",
+    PROGRESS: "PROGRESS",
+    SETUP: "SETUP",
+    CONNECT: "CONNECT",
+    SETUP_ACKNOWLEDGE: "SETUP ACKNOWLEDGE",
+    CONNECT_ACKNOWLEDGE: "CONNECT ACKNOWLEDGE",
+    USER_INFORMATION: "USER INFORMATION",
+    DISCONNECT: "DISCONNECT",
+    RESTART: "RESTART",
+    RELEASE: "RELEASE",
+    RESTART_ACKNOWLEDGE: "RESTART ACKNOWLEDGE",
+    RELEASE_COMPLETE: "RELEASE COMPLETE",
+    FACILITY: "FACILITY",
+    NOTIFY: "NOTIFY",
+    STATUS_ENQUIRY: "STATUS ENQUIRY",
+    INFORMATION: "INFORMATION",
+    STATUS: "STATUS",
 }
 
-# The names of ITU-T Q.850.
+# Causes that the exchange or an endpoint sends.
+NORMAL_CALL_CLEARING = 16
+USER_BUSY = 17
+NO_USER_RESPONDING = 18
+NO_ANSWER_FROM_USER = 19
+CALL_REJECTED = 21
+DESTINATION_OUT_OF_ORDER = 27
+ADDRESS_INCOMPLETE = 28
+TEMPORARY_FAILURE = 41
+
+# The names of all causes, by ITU-T Q.850.
 CAUSES = {
     1: "unallocated (unassigned) number",
     2: "no route to specified transit network",
@@ -124,8 +143,9 @@ CAUSES = {
 }
 
 # The call states of the network side that the exchange keeps a leg in, and the null state.
+NULL = 0
 STATES = {
-    0: "null",
+    NULL: "null",
     2: "overlap sending",
     3: "outgoing call proceeding",
     4: "call delivered",
@@ -137,56 +157,73 @@ STATES = {
     19: "release request",
 }
 
+# The timers of calls, and how many frames of the exchange each runs if a trace does not set it.
+USUAL_TIMERS = {"T301": 1_440_000, "T302": 120_000, "T303": 32_000, "T305": 240_000, "T308": 32_000, "T309": 48_000, "T310": 80_000}
+
+
+class Channel(NamedTuple):
+    """The channel that a message names."""
+
+    number: int
+    is_exclusive: bool  # whether no other one will do
+
+
+class Element(NamedTuple):
+    """An information element; one of a single octet has no contents."""
+
+    code: int
+    contents: bytes | None
+
 
 @dataclass(frozen=True)
 class Message:
     flag: int  # 0 from the side that chose the call reference, 1 towards it
     reference: int
     kind: int
-    elements: dict  # code to contents, the first of each code
+    elements: Mapping[int, bytes]  # the contents by code, of the first of each code
     octets: bytes = b""
 
     @property
-    def name(self):
+    def name(self) -> str:
         return TYPES.get(self.kind, f"type {self.kind:02X}")
 
     @property
-    def reference_digits(self):
+    def reference_digits(self) -> str:
         """The two octets of the call reference, flag and all."""
         return f"{self.flag << 15 | self.reference:04X}"
 
     @property
-    def cause(self):
+    def cause(self) -> int | None:
         contents = self.elements.get(CAUSE, b"")
         at = 1 if contents and contents[0] & 0x80 else 2
         return contents[at] & 0x7F if len(contents) > at else None
 
     @property
-    def call_state(self):
+    def call_state(self) -> int | None:
         contents = self.elements.get(CALL_STATE)
         return contents[0] & 0x3F if contents else None
 
     @property
-    def digits(self):
+    def digits(self) -> str | None:
         contents = self.elements.get(CALLED_PARTY_NUMBER)
         return "".join(chr(octet & 0x7F) for octet in contents[1:]) if contents else None
 
     @property
-    def channel(self):
-        """The channel that is named, with `True` where no other will do; None where none is."""
+    def channel(self) -> Channel | None:
+        """The channel that is named; None if there is none."""
         contents = self.elements.get(CHANNEL_IDENTIFICATION, b"")
         if len(contents) == 3 and contents[0] in (0xA9, 0xA1) and contents[1] == 0x83:
-            return contents[2] & 0x7F, contents[0] == 0xA9
+            return Channel(contents[2] & 0x7F, contents[0] == 0xA9)
         return None
 
     @property
-    def restarts_line(self):
+    def restarts_line(self) -> bool | None:
         """Whether the restart indicator asks for the whole line; None where it is unknown."""
         indicator = self.elements.get(RESTART_INDICATOR, b"")[:1]
         return {b"\x80": False, b"\x86": True, b"\x87": True}.get(indicator)
 
 
-def read_message(octets):
+def read_message(octets: bytes) -> Message | None:
     """The message that these octets are; None where the exchange ignores them."""
     if len(octets) < 5 or octets[0] != 0x08 or octets[1] != 0x02:
         return None
@@ -194,9 +231,9 @@ def read_message(octets):
     return Message(reference >> 15, reference & 0x7FFF, octets[4], read_elements(octets[5:]), octets)
 
 
-def read_elements(octets):
+def read_elements(octets: bytes) -> dict[int, bytes]:
     """The first element of each code; of one octet (top bit set), or with a length and contents."""
-    elements = {}
+    elements: dict[int, bytes] = {}
     at = 0
     hidden = False
     while at < len(octets):
@@ -223,65 +260,70 @@ def read_elements(octets):
 
 # ---- what an endpoint writes
 
-SPEECH = (BEARER_CAPABILITY, b"\x80\x90\xa3")  # 64 kbit/s in circuit mode, coded by A-law
+SPEECH = Element(BEARER_CAPABILITY, b"\x80\x90\xa3")  # 64 kbit/s in circuit mode, coded by A-law
 USER = 0x80  # the location of a cause
 
 
-def written(flag, reference, kind, *elements):
-    """The octets of a message; its elements are pairs of a code and contents, or None for one of one octet."""
+def write_message(flag: int, reference: int, kind: int, *elements: Element) -> bytes:
+    """The octets of a message."""
     octets = [bytes([0x08, 0x02, flag << 7 | reference >> 8, reference & 0xFF, kind])]
     for code, contents in elements:
         octets.append(bytes([code]) if contents is None else bytes([code, len(contents)]) + contents)
     return b"".join(octets)
 
 
-def channel_identification(channel, exclusive=True):
-    return CHANNEL_IDENTIFICATION, bytes([0xA9 if exclusive else 0xA1, 0x83, 0x80 | channel])
+def channel_identification(channel: int, is_exclusive: bool = True) -> Element:
+    return Element(CHANNEL_IDENTIFICATION, bytes([0xA9 if is_exclusive else 0xA1, 0x83, 0x80 | channel]))
 
 
-def number(code, digits):
+def number(code: int, digits: str) -> Element:
     """A calling or called party number, whose type and plan are unknown."""
-    return code, b"\x80" + digits.encode("ascii")
+    return Element(code, b"\x80" + digits.encode("ascii"))
 
 
-def sending_complete():
-    return SENDING_COMPLETE, None
+def sending_complete() -> Element:
+    return Element(SENDING_COMPLETE, None)
 
 
-def cause(value):
-    return CAUSE, bytes([USER, 0x80 | value])
+def cause(value: int) -> Element:
+    return Element(CAUSE, bytes([USER, 0x80 | value]))
 
 
-def restart_indicator(whole_line):
-    return RESTART_INDICATOR, b"\x86" if whole_line else b"\x80"
+def restart_indicator(is_whole_line: bool) -> Element:
+    return Element(RESTART_INDICATOR, b"\x86" if is_whole_line else b"\x80")
 
 
 # ---- in words
 
 
-def cause_text(cause):
-    name = CAUSES.get(cause)
+def cause_name(cause: int | None) -> str | None:
+    """The name of a cause; None if it has none."""
+    return None if cause is None else CAUSES.get(cause)
+
+
+def cause_text(cause: int | None) -> str:
+    name = cause_name(cause)
     return f"cause {cause}" if name is None else f"cause {cause}, {name}"
 
 
-def state_text(state):
+def state_text(state: int) -> str:
     name = STATES.get(state)
     return f"state {state}" if name is None else f"state {state}, {name}"
 
 
-def printable(digits):
+def printable(digits: str) -> str:
     """Digits as they are where each is printable, and else quoted."""
     return digits if digits.isprintable() and " " not in digits else repr(digits)
 
 
-def contents_text(message):
+def contents_text(message: Message) -> str:
     """What a message says beside its type and reference, in a line."""
     said = []
     if message.digits is not None:
         said.append(f"number {printable(message.digits)}")
     if message.channel is not None:
-        channel, exclusive = message.channel
-        said.append(f"channel {channel}" + ("" if exclusive else " preferred"))
+        number, is_exclusive = message.channel
+        said.append(f"channel {number}" + ("" if is_exclusive else " preferred"))
     if message.cause is not None:
         said.append(cause_text(message.cause))
     if message.call_state is not None:
@@ -295,7 +337,7 @@ def contents_text(message):
     return "; ".join(said)
 
 
-def message_text(octets):
+def message_text(octets: bytes) -> str:
     """The name of a message, its call reference, and what it says."""
     message = read_message(octets)
     if message is None:

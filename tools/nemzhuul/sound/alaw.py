@@ -1,5 +1,7 @@
 """A-law of ITU-T G.711 (11/88), table 1a: the octet of a sample, and the value of an octet, by the decision values."""
 
+from __future__ import annotations
+
 from bisect import bisect_right
 from itertools import accumulate
 
@@ -15,13 +17,13 @@ STEPS = 8  # of a sample of 16 bits to a unit of the table
 INTERVALS = bytes(bisect_right(DECISION_VALUES, magnitude) - 1 for magnitude in range(DECISION_VALUES[-1]))
 
 
-def octet_of(sample):
+def octet_of(sample: int) -> int:
     """The octet on the line of a sample of 16 bits: its sign, 0 being positive, and its magnitude's interval."""
     interval = INTERVALS[min(abs(sample) // STEPS, len(INTERVALS) - 1)]
     return (interval | (POSITIVE if sample >= 0 else 0)) ^ EVEN_BITS
 
 
-def value_of(octet):
+def value_of(octet: int) -> int:
     """The value of an octet, from -4032 to 4032: the middle of its interval, with its sign."""
     character = octet ^ EVEN_BITS
     interval = character & ~POSITIVE

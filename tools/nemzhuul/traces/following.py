@@ -11,25 +11,49 @@ its clearing begins.
 
 from __future__ import annotations
 
+from collections.abc import Iterable
 from dataclasses import dataclass, field, replace
+from typing import NamedTuple
 
 from nemzhuul.command_line import Refused
 from nemzhuul.signalling.q931 import (
+    ADDRESS_INCOMPLETE,
     ALERTING,
     CALL_PROCEEDING,
     CONNECT,
+    DESTINATION_OUT_OF_ORDER,
     DISCONNECT,
     INFORMATION,
+    NO_ANSWER_FROM_USER,
+    NO_USER_RESPONDING,
+    NORMAL_CALL_CLEARING,
+    NULL,
     RELEASE,
     RELEASE_COMPLETE,
     RESTART,
     SETUP,
     SETUP_ACKNOWLEDGE,
     STATUS,
+    TEMPORARY_FAILURE,
     Message,
     read_message,
 )
-from nemzhuul.traces.reading import PLACES, Arrival, Frame, Free, Link, Nail, Seat, Slot, place_of_channel
+from nemzhuul.traces.reading import (
+    PLACES,
+    Arrival,
+    Event,
+    Frame,
+    Free,
+    Link,
+    Moved,
+    Nail,
+    Reply,
+    Seat,
+    Slot,
+    Step,
+    Trace,
+    place_of_channel,
+)
 
 
 @dataclass(frozen=True)
@@ -40,7 +64,7 @@ class Use:
     partner: Slot | None = None
     room: int | None = None
 
-    def __str__(self):
+    def __str__(self) -> str:
         if self.partner is not None:
             return f"with {self.partner}"
         return f"call {self.call}" if self.room is None else f"in room {self.room}"
@@ -56,14 +80,14 @@ class Leg:
     outage: int | None = None  # the next frame when the data link of its line failed, while T309 runs
 
     @property
-    def is_active(self):
+    def is_active(self) -> bool:
         return self.call.answered is not None and self.call.cleared is None
 
-    def note(self, row):
-        """Counts what is sent to it."""
-        if row.message.kind == RELEASE:
+    def note(self, message: Message, frame: int) -> None:
+        """Counts a message that is sent to it in a frame."""
+        if message.kind == RELEASE:
             self.releases += 1
-            self.since = row.frame
+            self.since = frame
 
 
 @dataclass(frozen=True)
@@ -76,7 +100,36 @@ class Row:
     is_sent: bool
     message: Message | None
     leg: Leg | None = None
-    moved: tuple | None = None
+    moved: Moved | None = None
+
+
+class LegName(NamedTuple):
+    """How messages name a leg."""
+
+    line: int
+    chooser: int  # 0 if the user chose the call reference, and 1 if the exchange did
+    reference: int
+
+
+class SentMessage(NamedTuple):
+    """A message that is sent on a line."""
+
+    line: int
+    message: Message
+
+
+class Clearing(NamedTuple):
+    """The frame in which the clearing of a call begins, and its cause."""
+
+    frame: int
+    cause: int | None
+
+
+class Join(NamedTuple):
+    """A slot that is connected, the first of its connection, and with what."""
+
+    slot: Slot
+    use: Use
 
 
 @dataclass(eq=False)
@@ -84,12 +137,12 @@ class Call:
     number: int
     line: int
     digits: str | None
-    rows: list = field(default_factory=list)
+    rows: list[Row] = field(default_factory=list)
     caller: Leg | None = None
     called: Leg | None = None
     alerted: int | None = None  # the frame
     answered: int | None = None  # the frame
-    cleared: tuple | None = None  # the frame and the cause
+    cleared: Clearing | None = None
     released: int | None = None  # the frame, once no leg is left
     refused: int | None = None  # the cause
 
@@ -97,21 +150,21 @@ class Call:
 class Run:
     """The calls of a run so far, and the slots that are taken."""
 
-    def __init__(self, trace):
+    def __init__(self, trace: Trace) -> None:
         self.timers = trace.timers
         self.numbers = trace.numbers
-        self.calls = []
-        self.on_no_call = []
+        self.calls: list[Call] = []
+        self.on_no_call: list[Row] = []
         self.frames = 0
-        self.uses = {}  # by slot, if it is taken
-        self.joined = []  # in the last event: pairs of a slot, the first of a connection, and its use
-        self.left = []  # in the last event: the slots that lost their connection
-        self._legs = {}  # by line, who chose the reference, and its value
+        self.uses: dict[Slot, Use] = {}  # by slot, if it is taken
+        self.joined: list[Join] = []  # in the last event
+        self.left: list[Slot] = []  # in the last event: the slots that lost their connection
+        self._legs: dict[LegName, Leg] = {}
 
-    def take(self, event, reply):
+    def take(self, event: Event, reply: Reply) -> None:
         self.joined, self.left = [], []
-        if isinstance(event, Frame):
-            self._frame(reply)
+        if isinstance(event, Frame) and reply.frame is not None:
+            self._frame(reply.frame, reply)
         elif isinstance(event, Arrival):
             self._message(event, reply)
         elif isinstance(event, Link):
@@ -121,96 +174,99 @@ class Run:
         elif isinstance(event, Seat) and reply.word == "seated":
             self._join(event.slot, Use(room=event.room))
         elif isinstance(event, Free) and reply.word == "freed":
-            for slot in (event.slot, self.uses[event.slot].partner):
+            for slot in filter(None, (event.slot, self.uses[event.slot].partner)):
                 self._leave(slot)
                 self.uses.pop(slot, None)
 
-    def room(self, call):
+    def room(self, call: Call) -> int | None:
         """The room of a call that reached none of the lines; None where its digits lead to none."""
-        for digits, (kind, number) in self.numbers.items():
-            if call.digits is not None and call.digits.startswith(digits) and kind == "room":
-                return number
+        for digits, target in self.numbers.items():
+            if call.digits is not None and call.digits.startswith(digits) and target.room is not None:
+                return target.room
         return None
 
-    def _join(self, slot, use):
+    def _join(self, slot: Slot, use: Use) -> None:
         """A slot is connected with its partner, or sits in its room."""
-        self.joined.append((slot, use))
+        self.joined.append(Join(slot, use))
         self.uses[slot] = use
         if use.partner is not None:
             self.uses[use.partner] = replace(use, partner=slot)
 
-    def _leave(self, slot):
+    def _leave(self, slot: Slot) -> None:
         """A slot that is connected with a slot or a room is so no more, and its call, if it has one, still has it."""
         use = self.uses.get(slot)
         if use is not None and (use.partner, use.room) != (None, None):
             self.left.append(slot)
             self.uses[slot] = Use(call=use.call)
 
-    def _answer(self, call, frame):
-        call.answered = frame
+    def _answer(self, call: Call, row: Row) -> None:
+        if call.caller is None:
+            raise never_sent(row.event)
+        call.answered = row.frame
         if call.called is not None:
             self._join(call.caller.slot, Use(call.number, partner=call.called.slot))
         else:
             self._join(call.caller.slot, Use(call.number, room=self.room(call)))
 
-    def _clear(self, call, frame, cause):
+    def _clear(self, call: Call, frame: int, cause: int | None) -> None:
         """The clearing of a call begins, and its connection ends."""
         if call.cleared is None:
-            call.cleared = frame, cause
+            call.cleared = Clearing(frame, cause)
             for leg in filter(None, (call.caller, call.called)):
                 self._leave(leg.slot)
 
-    def _frame(self, reply):
+    def _frame(self, frame: int, reply: Reply) -> None:
         """A frame ends the legs whose users were sent RELEASE twice and have waited, and those whose data link was down
         too long, and sends what is due of others."""
-        self.frames = reply.frame + 1
+        self.frames = frame + 1
         for name, leg in list(self._legs.items()):
-            if place_of_channel(leg.slot.channel) != reply.frame % PLACES:
+            if place_of_channel(leg.slot.channel) != frame % PLACES:
                 continue
-            if leg.is_active and leg.outage is not None and leg.outage + self.timers["T309"] <= reply.frame:
-                self._clear(leg.call, self.frames, 27)
+            if leg.is_active and leg.outage is not None and leg.outage + self.timers["T309"] <= frame:
+                self._clear(leg.call, self.frames, DESTINATION_OUT_OF_ORDER)
                 self._end(name)
-            elif leg.releases == 2 and leg.since + self.timers["T308"] <= reply.frame:
+            elif leg.releases == 2 and leg.since + self.timers["T308"] <= frame:
                 self._end(name)
         for line, octets in reply.sent:
             message = sent_message(octets, reply.event)
             row = Row(reply.event, self.frames, line, True, message)
             name = key(line, message, 1)
             if name in self._legs:
-                self._sent_in_frame(name, row)
+                self._sent_in_frame(name, row, message)
             else:
                 self.on_no_call.append(row)
 
-    def _sent_in_frame(self, name, row):
-        leg, message = self._legs[name], row.message
+    def _sent_in_frame(self, name: LegName, row: Row, message: Message) -> None:
+        leg = self._legs[name]
         call = leg.call
         call.rows.append(replace(row, leg=leg))
-        leg.note(row)
+        leg.note(message, row.frame)
         if message.kind in (DISCONNECT, RELEASE_COMPLETE):
-            self._clear(call, row.frame, 28 if leg.dials else 18 if call.alerted is None else 19)
+            unanswered = NO_USER_RESPONDING if call.alerted is None else NO_ANSWER_FROM_USER
+            self._clear(call, row.frame, ADDRESS_INCOMPLETE if leg.dials else unanswered)
         if message.kind == DISCONNECT:
             leg.dials = False
         elif message.kind == RELEASE_COMPLETE:
             self._end(name)
 
-    def _message(self, event, reply):
+    def _message(self, event: Arrival, reply: Reply) -> None:
         message = read_message(event.octets)
-        sent = [(line, sent_message(octets, reply.event)) for line, octets in reply.sent]
+        sent = [SentMessage(line, sent_message(octets, reply.event)) for line, octets in reply.sent]
         row = Row(reply.event, self.frames, event.line, False, message, moved=reply.moved)
         leg = None if message is None else self._legs.get(key(event.line, message, 0))
         if message is None or not (leg or sent):
             self._on_none(row, sent)
         elif leg:
-            self._on_call(leg, row, sent)
+            self._on_call(leg, row, message, sent)
         elif message.kind == SETUP and message.flag == 0:
-            self._setup(row, sent)
+            self._setup(row, message, sent)
         elif message.kind == RESTART and message.reference == 0:
-            self._restart(row, sent)
+            self._restart(row, message, sent)
         else:
             self._on_none(row, sent)
 
-    def _setup(self, row, sent):
-        call = Call(len(self.calls) + 1, row.line, row.message.digits)
+    def _setup(self, row: Row, setup: Message, sent: Iterable[SentMessage]) -> None:
+        call = Call(len(self.calls) + 1, row.line, setup.digits)
         self.calls.append(call)
         for line, message in sent:
             if message.kind in (CALL_PROCEEDING, SETUP_ACKNOWLEDGE):
@@ -220,60 +276,55 @@ class Run:
             elif message.kind == RELEASE_COMPLETE:
                 call.refused = message.cause
             elif message.kind == CONNECT:
-                self._answer(call, row.frame)
+                self._answer(call, row)
         self._note(call, row, call.caller, sent)
 
-    def _on_call(self, leg, row, sent):
+    def _on_call(self, leg: Leg, row: Row, message: Message, sent: list[SentMessage]) -> None:
         call = leg.call
-        if leg.dials and row.message.kind == INFORMATION:
-            self._information(leg, row, sent)
+        if leg.dials and message.kind == INFORMATION:
+            self._information(leg, row, message, sent)
         self._note(call, row, leg, sent)
-        if any(message.kind == ALERTING for _, message in sent):
+        if any(out.kind == ALERTING for _, out in sent):
             call.alerted = row.frame
-        if any(message.kind == CONNECT for _, message in sent):
-            self._answer(call, row.frame)
-        if ends_leg(row.message) or row.message.kind == DISCONNECT:
-            self._clear(call, row.frame, clearing_cause(row.message))
-        if ends_leg(row.message):
-            self._end(key(row.line, row.message, 0))
+        if any(out.kind == CONNECT for _, out in sent):
+            self._answer(call, row)
+        if ends_leg(message) or message.kind == DISCONNECT:
+            self._clear(call, row.frame, clearing_cause(message))
+        if ends_leg(message):
+            self._end(key(row.line, message, 0))
 
-    def _information(self, leg, row, sent):
+    def _information(self, leg: Leg, row: Row, message: Message, sent: list[SentMessage]) -> None:
         """More of the number: the call goes on as after a SETUP, or is cleared, or still more is awaited."""
         call = leg.call
-        if row.message.digits is not None:
-            call.digits = (call.digits or "") + row.message.digits
-        for line, message in sent:
-            if message.kind == SETUP:
-                call.called = self._begin(call, row, line, message)
-            elif message.kind == DISCONNECT:
-                self._clear(call, row.frame, message.cause)
+        if message.digits is not None:
+            call.digits = (call.digits or "") + message.digits
+        for line, out in sent:
+            if out.kind == SETUP:
+                call.called = self._begin(call, row, line, out)
+            elif out.kind == DISCONNECT:
+                self._clear(call, row.frame, out.cause)
         leg.dials = not sent
 
-    def _restart(self, row, sent):
+    def _restart(self, row: Row, message: Message, sent: list[SentMessage]) -> None:
         """A RESTART is in the ladder of each call that it ends, with what was sent for it."""
-        message = row.message
-        channel = message.channel[0] if message.channel else None
+        channel = message.channel.number if message.channel else None
         ended = [
             (name, leg)
             for name, leg in self._legs.items()
-            if name[0] == row.line and (message.restarts_line or leg.slot.channel == channel)
+            if name.line == row.line and (message.restarts_line or leg.slot.channel == channel)
         ]
         calls = list(dict.fromkeys(leg.call for _, leg in ended))
         for call in calls:
-            own = [
-                (line, out)
-                for line, out in sent
-                if out.reference == 0 or self._call_at(line, out) is call
-            ]
+            own = [out for out in sent if out.message.reference == 0 or self._call_at(*out) is call]
             leg = next(leg for _, leg in ended if leg.call is call)
             self._note(call, row, leg, own)
-            self._clear(call, row.frame, 41)
+            self._clear(call, row.frame, TEMPORARY_FAILURE)
         for name, _ in ended:
             self._end(name)
         if not calls:
             self._on_none(row, sent)
 
-    def _link(self, event, reply):
+    def _link(self, event: Link, reply: Reply) -> None:
         """A data link that fails ends the legs of its line, and those that are active wait. One that is up ends the wait,
         and clears the callers that still dial."""
         for line, octets in reply.sent:
@@ -284,54 +335,62 @@ class Run:
                 self.on_no_call.append(row)
                 continue
             leg.call.rows.append(row)
-            leg.note(row)
+            leg.note(message, row.frame)
             if message.kind == DISCONNECT:
                 self._clear(leg.call, self.frames, message.cause)
                 leg.dials = False
-        for name, leg in [item for item in self._legs.items() if item[0][0] == event.line]:
+        for name, leg in [item for item in self._legs.items() if item[0].line == event.line]:
             if event.is_up:
                 leg.outage = None
             elif not leg.is_active:
-                self._clear(leg.call, self.frames, 27)
+                self._clear(leg.call, self.frames, DESTINATION_OUT_OF_ORDER)
                 self._end(name)
             elif leg.outage is None:
                 leg.outage = self.frames
 
-    def _call_at(self, line, message):
+    def _call_at(self, line: int, message: Message) -> Call | None:
         leg = self._legs.get(key(line, message, 1))
         return None if leg is None else leg.call
 
-    def _begin(self, call, row, line, message):
+    def _begin(self, call: Call, row: Row, line: int, message: Message) -> Leg:
         if message.channel is None:
             raise never_sent(row.event)
-        leg = Leg(call, Slot(line, message.channel[0]), message.kind == SETUP_ACKNOWLEDGE)
+        leg = Leg(call, Slot(line, message.channel.number), message.kind == SETUP_ACKNOWLEDGE)
         self._legs[key(line, message, 1)] = leg
         self.uses[leg.slot] = Use(call.number)
         return leg
 
-    def _end(self, name):
+    def _end(self, name: LegName) -> None:
         leg = self._legs.pop(name)
         self._leave(leg.slot)
         self.uses.pop(leg.slot, None)
         if all(other.call is not leg.call for other in self._legs.values()):
             leg.call.released = self.frames
 
-    def _note(self, call, row, leg, sent):
+    def _note(self, call: Call, row: Row, leg: Leg | None, sent: Iterable[SentMessage]) -> None:
         call.rows.append(replace(row, leg=leg))
         for line, message in sent:
             to = self._legs.get(key(line, message, 1), leg)
             out = Row(row.event, row.frame, line, True, message, to)
             call.rows.append(out)
             if to is not None:
-                to.note(out)
+                to.note(message, row.frame)
 
-    def _on_none(self, row, sent):
+    def _on_none(self, row: Row, sent: Iterable[SentMessage]) -> None:
         self.on_no_call.append(row)
         for line, message in sent:
             self.on_no_call.append(Row(row.event, row.frame, line, True, message))
 
 
-def sent_message(octets, event):
+def follow(trace: Trace, steps: Iterable[Step]) -> Run:
+    """The whole run of a trace."""
+    run = Run(trace)
+    for event, reply in steps:
+        run.take(event, reply)
+    return run
+
+
+def sent_message(octets: bytes, event: int) -> Message:
     """A message of a report, which has a header."""
     message = read_message(octets)
     if message is None:
@@ -339,24 +398,24 @@ def sent_message(octets, event):
     return message
 
 
-def never_sent(event):
+def never_sent(event: int) -> Refused:
     return Refused(f"event {event} of the report has a message that the exchange never sends")
 
 
-def key(line, message, is_sent):
+def key(line: int, message: Message, is_sent: int) -> LegName:
     """The leg that a message names: who chose its reference follows from the flag and the direction."""
-    return line, message.flag ^ is_sent, message.reference
+    return LegName(line, message.flag ^ is_sent, message.reference)
 
 
-def ends_leg(message):
+def ends_leg(message: Message) -> bool:
     """Whether a message from the user of a leg ends that leg."""
     if message.kind == STATUS:
-        return message.call_state == 0
+        return message.call_state == NULL
     return message.kind in (RELEASE, RELEASE_COMPLETE)
 
 
-def clearing_cause(message):
-    """The cause that the other user gets; 16 where the message has no readable one."""
+def clearing_cause(message: Message) -> int:
+    """The cause that the other user gets: normal call clearing, if the message has no readable one."""
     if message.kind == STATUS:
-        return 41
-    return 16 if message.cause is None else message.cause
+        return TEMPORARY_FAILURE
+    return NORMAL_CALL_CLEARING if message.cause is None else message.cause
