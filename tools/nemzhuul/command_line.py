@@ -1,7 +1,7 @@
 """The frame of each tool: its arguments, what it writes, and how it ends.
 
 `command` runs a tool. It prints the usage for `--help`, the usage and status 2 for wrong arguments, and one line
-and status 1 for a file that cannot be read, an output that cannot be written, or an interrupt. `watched` shows
+and status 1 for a file that cannot be read, an output that cannot be written, or an interrupt. `watch` shows
 on standard error how far a tool is, each second.
 """
 
@@ -74,7 +74,7 @@ def write_output(output: str | bytes) -> None:
         raise Refused(f"standard output cannot be written: {error.strerror}") from None
 
 
-def watched(items: Sequence[Item], what: object) -> Iterator[Item]:
+def watch(items: Sequence[Item], what: object) -> Iterator[Item]:
     """Yields the items. Where they take long, a line on standard error each second says how many were taken."""
     said = time.monotonic()
     for number, item in enumerate(items):

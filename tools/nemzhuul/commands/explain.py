@@ -109,7 +109,7 @@ def word_text(number: int, line: str, error: LineError) -> str:
     words = line.split()
     at = starts[error.word] if error.word < len(starts) else len(line)
     word = words[error.word] if error.word < len(words) else ""
-    return place(number, line, at, error.said) + likely(word_cause(error, word, words))
+    return place(number, line, at, error.said) + likely_text(word_cause(error, word, words))
 
 
 def word_cause(error: LineError, word: str, words: Sequence[str]) -> str:
@@ -182,19 +182,19 @@ def report_text(number: int, line: str) -> str:
 # ---- the text
 
 
-def likely(cause: str) -> str:
+def likely_text(cause: str) -> str:
     return f"likely cause: {cause}\n" if cause else ""
 
 
 def place(number: int, line: str, at: int, said: str) -> str:
     """A line with a mark under the column, which counts from 1; of a long line the part around it."""
     first = max(0, at - WINDOW // 2)
-    before, rest = printed(line[first:at]), printed(line[at : first + WINDOW])
+    before, rest = escape(line[first:at]), escape(line[at : first + WINDOW])
     dots = "..." if first else ""
     text = f"{dots}{before}{rest}" + ("..." if len(line) > first + WINDOW else "")
     return f"line {number}, column {at + 1}: {said}\n    {text}\n    {' ' * len(dots + before)}^\n"
 
 
-def printed(text: str) -> str:
+def escape(text: str) -> str:
     """The text with each octet that is not printable as an escape."""
     return "".join(c if " " <= c <= "~" else c.encode("unicode_escape").decode() for c in text)

@@ -39,13 +39,13 @@ def plain_lines(lines: Iterable[str], trace: Trace, replies: Iterable[Reply]) ->
         event, reply = next(events)
         yield from starts
         starts = []
-        yield from received(event, reply) if isinstance(event, LinkArrival) else [line]
+        yield from lines_of_frame(event, reply) if isinstance(event, LinkArrival) else [line]
         yield from [f"{reply.told} {reply.turned}"] if reply.turned is not None else []
         yield "sync"
     yield from starts
 
 
-def received(event: LinkArrival, reply: Reply) -> Iterator[str]:
+def lines_of_frame(event: LinkArrival, reply: Reply) -> Iterator[str]:
     """The line for a frame that a data link received, if the link indicates something."""
     if reply.told == "took":
         frame = read_frame(event.octets, is_from_user=True)

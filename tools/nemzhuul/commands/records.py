@@ -62,10 +62,10 @@ def record(call: Call, run: Run) -> Record:
     number = None if call.digits is None else printable(call.digits)
     talk = seconds(call.answered, clearing)
     times = (setup, call.alerted, call.answered, clearing, release)
-    return Record(caller, called(call, run), number, *times, talk, cause, cause_name(cause))
+    return Record(caller, called_party(call, run), number, *times, talk, cause, cause_name(cause))
 
 
-def called(call: Call, run: Run) -> Slot | str | None:
+def called_party(call: Call, run: Run) -> Slot | str | None:
     """The slot or the room that a call reached."""
     if call.called is not None:
         return call.called.slot
@@ -81,10 +81,10 @@ def seconds(first: int | None, end: int | None) -> str | None:
 
 
 def csv_line(fields: Iterable[object]) -> str:
-    return ",".join("" if field is None else quoted(str(field)) for field in fields) + "\n"
+    return ",".join("" if field is None else quote(str(field)) for field in fields) + "\n"
 
 
-def quoted(field: str) -> str:
+def quote(field: str) -> str:
     """A field as RFC 4180 has it: in quotes if it has a quote, a comma or a line end, with each quote twice."""
     doubled = field.replace('"', '""')
     return f'"{doubled}"' if any(mark in field for mark in '",\r\n') else field

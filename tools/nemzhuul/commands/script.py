@@ -6,7 +6,7 @@ from collections.abc import Iterable, Sequence
 from pathlib import Path
 from typing import NamedTuple
 
-from nemzhuul.command_line import Refused, WrongWords, watched
+from nemzhuul.command_line import Refused, WrongWords, watch
 from nemzhuul.programs.program import TEXT, Trace
 from nemzhuul.signalling.endpoints import Endpoints, Where, place_of
 from nemzhuul.signalling.q931 import CALL_REJECTED, NORMAL_CALL_CLEARING, message_text
@@ -50,7 +50,7 @@ def main(*words: str) -> bytes:
     path = words[0]
     lines = Path(path).read_bytes().decode(*TEXT).removesuffix("\n").split("\n")
     script = Script(Path(path).parent, program)
-    for number, line in enumerate(watched(lines, path), start=1):
+    for number, line in enumerate(watch(lines, path), start=1):
         try:
             script.take(line)
             if number == len(lines):

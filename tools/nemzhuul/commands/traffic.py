@@ -226,7 +226,7 @@ class Load:
             return BUSY
         return UNANSWERED if drawn < self.options.busy + self.options.unanswered else ANSWERED
 
-    def drawn(self, mean: float) -> float:
+    def draw_time(self, mean: float) -> float:
         """A time with this average, from an exponential distribution."""
         return self.random.expovariate(1 / mean) if mean else 0
 
@@ -243,20 +243,20 @@ class Load:
         own = self.own[a].take()
         yield from self.dial(a, own, self.number(b), is_overlap)
         given = self.given[b].take()
-        yield self.drawn(REACTION)
+        yield self.draw_time(REACTION)
         if outcome == BUSY:
             self.send(b, write_message(1, given, RELEASE_COMPLETE, cause(USER_BUSY)))
             self.leave(b, self.given, given)
-            yield self.drawn(REACTION)
+            yield self.draw_time(REACTION)
             self.send(a, write_message(0, own, RELEASE))
             self.leave(a, self.own, own)
             return
         self.send(b, write_message(1, given, ALERTING))
-        yield self.drawn(self.options.ringing)
+        yield self.draw_time(self.options.ringing)
         if outcome == ANSWERED:
             self.send(b, write_message(1, given, CONNECT))
             self.send(a, write_message(0, own, CONNECT_ACKNOWLEDGE))
-            yield self.drawn(self.options.holding)
+            yield self.draw_time(self.options.holding)
         yield from self.clear(a, own, b, given)
 
     def leave(self, line: int, references: list[References], reference: int) -> None:
@@ -271,16 +271,16 @@ class Load:
             return
         self.send(line, write_message(0, reference, SETUP, SPEECH))
         for part in (digits[:1], digits[1:]):
-            yield self.drawn(REACTION)
+            yield self.draw_time(REACTION)
             self.send(line, write_message(0, reference, INFORMATION, number(CALLED_PARTY_NUMBER, part)))
 
     def clear(self, a: int, own: int, b: int, given: int) -> Iterator[float]:
         """The caller hangs up; each side releases its leg."""
         self.send(a, write_message(0, own, DISCONNECT, cause(NORMAL_CALL_CLEARING)))
-        yield self.drawn(REACTION)
+        yield self.draw_time(REACTION)
         self.send(a, write_message(0, own, RELEASE_COMPLETE))
         self.leave(a, self.own, own)
-        yield self.drawn(REACTION)
+        yield self.draw_time(REACTION)
         self.send(b, write_message(1, given, RELEASE))
         self.leave(b, self.given, given)
 

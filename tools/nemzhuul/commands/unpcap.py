@@ -5,7 +5,7 @@ from __future__ import annotations
 from collections.abc import Mapping, Sequence, Set
 from typing import NamedTuple
 
-from nemzhuul.command_line import NAME, Refused, WrongWords, say, watched
+from nemzhuul.command_line import NAME, Refused, WrongWords, say, watch
 from nemzhuul.programs.program import Trace
 from nemzhuul.signalling.captures import Signal, read_capture
 from nemzhuul.signalling.q931 import INFORMATION, SETUP, message_text, printable, read_message
@@ -59,7 +59,7 @@ def main(*words: str) -> bytes:
         trace.header(f"number {digits} line {line}")
     references: dict[Chosen, int] | None = {} if option == "--replay" else None
     pauses = frames_between(path, signals) if option == "--replay" else [0] * len(signals)
-    for signal, pause in zip(watched(signals, path), pauses):
+    for signal, pause in zip(watch(signals, path), pauses):
         if pause:
             pass_frames(trace, pause)
         if signal.is_from_user or not users_only:
@@ -118,7 +118,7 @@ def lines_of(path: str, terminals: Set[int], users_only: bool) -> dict[int, int]
 def numbers(signals: Sequence[Signal], first_line: Mapping[int, int], users_only: bool) -> dict[str, int]:
     """The line that each number leads to; of those that begin one another, the first that is dialled."""
     leads_to: dict[str, int] = {}
-    for signal, digits in dialled(signals):
+    for signal, digits in dialled_calls(signals):
         if users_only and signal.is_from_user or len(leads_to) == MAX_NUMBERS or not DIGITS.fullmatch(digits):
             continue
         if not any(digits.startswith(held) or held.startswith(digits) for held in leads_to):
@@ -126,7 +126,7 @@ def numbers(signals: Sequence[Signal], first_line: Mapping[int, int], users_only
     return leads_to
 
 
-def dialled(signals: Sequence[Signal]) -> list[Dialled]:
+def dialled_calls(signals: Sequence[Signal]) -> list[Dialled]:
     """Each SETUP with the digits that its caller dials, there and in INFORMATION of the same call."""
     begun: dict[Chosen, int] = {}  # where the last SETUP is among all
     calls: list[Dialled] = []
@@ -149,7 +149,7 @@ def message(path: str, trace: Trace, signal: Signal, line: int, references: dict
     length, most = len(signal.octets), MAX_MESSAGE_DIGITS // 2
     if length > most:
         raise Refused(f"{path} has a message of {length} octets in packet {signal.packet}, and a trace takes {most}")
-    octets = signal.octets if references is None else renamed(signal, references)
+    octets = signal.octets if references is None else rename(signal, references)
     way = "from" if signal.is_from_user else "to"
     trace.pass_over()
     trace.note(f"packet {signal.packet}, {way} TEI {signal.terminal}: {message_text(octets)}")
@@ -163,7 +163,7 @@ def message(path: str, trace: Trace, signal: Signal, line: int, references: dict
     trace.segment()
 
 
-def renamed(signal: Signal, references: Mapping[Chosen, int]) -> bytes:
+def rename(signal: Signal, references: Mapping[Chosen, int]) -> bytes:
     """The octets of a message from the side that did not choose its reference, with the exchange's own."""
     found = read_message(signal.octets)
     if found is None or found.flag == 0:

@@ -301,13 +301,13 @@ def waveform(octets: bytes) -> str:
     for at, (first, end) in enumerate(zip(bounds, bounds[1:])):
         values = [value_of(octet) for octet in set(octets[first:end])]
         for side, value in ((upper, max(values)), (lower, min(values))):
-            side += [f"{at * step:g},{middle - scaled(value):.1f}", f"{(at + 1) * step:g},{middle - scaled(value):.1f}"]
+            side += [f"{at * step:g},{middle - scale(value):.1f}", f"{(at + 1) * step:g},{middle - scale(value):.1f}"]
     points = " ".join(upper + lower[::-1])
     return (f'<svg class="wave" viewBox="0 0 {WAVE_WIDTH} {WAVE_HEIGHT}" preserveAspectRatio="none" aria-hidden="true">'
             f'<path class="zero" d="M0 {middle}H{WAVE_WIDTH}"/><polygon points="{points}"/></svg>')  # fmt: skip
 
 
-def scaled(value: int) -> float:
+def scale(value: int) -> float:
     """The height of a sample, which grows more slowly for loud ones, as the octets of A-law do; at least half a dot."""
     height: float = (abs(value) / 4096) ** 0.5 * (WAVE_HEIGHT / 2 - 2)
     return max(height, 0.5) if value > 0 else -max(height, 0.5)

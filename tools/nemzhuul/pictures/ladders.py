@@ -11,7 +11,7 @@ def title(call: Call, run: Run) -> str:
     digits = "no number" if call.digits is None else printable(call.digits)
     if call.caller is None:
         return f"line {call.line} dials {digits}; refused with {cause_text(call.refused)}"
-    said = [f"{call.caller.slot} dials {digits} and {reached(call, run)}"]
+    said = [f"{call.caller.slot} dials {digits} and {target_text(call, run)}"]
     if call.answered is not None:
         said.append(f"answered before frame {call.answered}")
     if call.cleared is not None:
@@ -20,7 +20,7 @@ def title(call: Call, run: Run) -> str:
     return "; ".join(said)
 
 
-def reached(call: Call, run: Run) -> str:
+def target_text(call: Call, run: Run) -> str:
     if call.called:
         return f"reaches {call.called.slot}"
     if call.answered is None:

@@ -10,7 +10,7 @@ from fractions import Fraction
 from pathlib import Path
 from typing import NamedTuple
 
-from nemzhuul.command_line import Refused, watched
+from nemzhuul.command_line import Refused, watch
 from nemzhuul.signalling.lapd import I_FRAME_HEADER, MODULUS, LinkFrame, write_frame
 from nemzhuul.traces.reading import FRAMES_PER_SECOND
 
@@ -85,7 +85,7 @@ def read_capture(path: str) -> list[Signal]:
     else:
         raise Refused(f"{path} is no capture")
     signals = []
-    for number, packet in enumerate(watched(packets, path), start=1):
+    for number, packet in enumerate(watch(packets, path), start=1):
         signal = read_signal(path, number, packet)
         if signal is not None:
             signals.append(signal)

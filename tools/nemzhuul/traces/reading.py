@@ -11,7 +11,7 @@ from dataclasses import dataclass
 from pathlib import Path
 from typing import NamedTuple, Optional, Union
 
-from nemzhuul.command_line import Refused, say, watched
+from nemzhuul.command_line import Refused, say, watch
 from nemzhuul.signalling import lapd, q931
 
 IDLE = 0xD5
@@ -436,7 +436,7 @@ def read_trace(path: str, is_followed: bool = False) -> Trace:
     """The trace in a file."""
     reader = TraceReader(is_followed)
     lines = lines_of(path)
-    wrong = take_lines(reader, watched(lines, path))
+    wrong = take_lines(reader, watch(lines, path))
     if wrong and not is_followed and has_links(lines):
         raise Refused(f"{path} has data links: tools/plain writes a trace without them")
     if wrong:
@@ -465,13 +465,13 @@ TURN = f"(?: (up|down) ([0-9]{{1,2}}){SENDS})?"  # of a data link
 FRAME = re.compile(f"{COUNT} frame {COUNT}{SENDS}{TURN}((?: [0-9]{{1,2}}:[0-9A-F]{{{FRAME_DIGITS}}})*)")
 
 
-def parts(text: str) -> tuple[Sent, ...]:
+def read_parts(text: str) -> tuple[Sent, ...]:
     """What is sent by ` L:HEX ..`."""
     words = (word.split(":") for word in text.split())
     return tuple(Sent(int(line), bytes.fromhex(digits)) for line, digits in words)
 
 
-def moved(there: str | None, back: str | None) -> Moved | None:
+def read_moved(there: str | None, back: str | None) -> Moved | None:
     """The moved paths of a line of a report, if it has them."""
     return None if there is None or back is None else Moved(int(there), int(back))
 
@@ -483,18 +483,18 @@ def reply(line: str) -> Reply | None:
         return Reply(int(event), word)
     if match := JOINED.fullmatch(line):
         event, word, there, back = match.groups()
-        return Reply(int(event), word, moved(there, back))
+        return Reply(int(event), word, read_moved(there, back))
     if match := MESSAGE.fullmatch(line):
         event, there, back, sent = match.groups()
-        return Reply(int(event), "message", moved(there, back), parts(sent))
+        return Reply(int(event), "message", read_moved(there, back), read_parts(sent))
     if match := LINK.fullmatch(line):
         event, told, there, back, sent = match.groups()
-        return Reply(int(event), "link", moved(there, back), parts(sent), told=told)
+        return Reply(int(event), "link", read_moved(there, back), read_parts(sent), told=told)
     if match := FRAME.fullmatch(line):
         event, frame, sent, told, turned, more, octets = match.groups(default="")
-        sent = parts((sent + more).replace(" send ", " "))
+        sent = read_parts((sent + more).replace(" send ", " "))
         turn = (told, int(turned)) if told else (None, None)
-        return Reply(int(event), "frame", None, sent, int(frame), dict(parts(octets)), *turn)
+        return Reply(int(event), "frame", None, sent, int(frame), dict(read_parts(octets)), *turn)
     return None
 
 
@@ -508,7 +508,7 @@ def read_report(path: str, changed: bool = False) -> tuple[Reply, ...]:
     replies = []
     frames = 0
     passed = 0
-    for number, line in enumerate(watched(lines, path), start=1):
+    for number, line in enumerate(watch(lines, path), start=1):
         if changed and METER.fullmatch(line):
             passed += 1
             continue
