@@ -7,10 +7,19 @@ import fcntl
 import os
 import stat
 from pathlib import Path
+from typing import NamedTuple
 
 from nemzhuul.command_line import Refused
 
 NO_FILES = {stat.S_IFSOCK: "a socket", stat.S_IFDIR: "a folder", stat.S_IFBLK: "a block device"}
+
+
+class Identity(NamedTuple):
+    """What distinguishes a file: its device, its number and its kind."""
+
+    device: int
+    number: int
+    kind: int
 
 
 def is_same_file(one: str | Path, other: str | Path) -> bool:
@@ -23,13 +32,13 @@ def is_same_file(one: str | Path, other: str | Path) -> bool:
         return False
 
 
-def identity(path: str | Path) -> tuple[int, int, int] | None:
-    """The device, the number and the kind of a file, not of the target of a symbolic link; None if there is no file."""
+def identity(path: str | Path) -> Identity | None:
+    """The identity of a file, not of the target of a symbolic link; None if there is no file."""
     try:
         state = os.lstat(path)
     except OSError:
         return None
-    return state.st_dev, state.st_ino, stat.S_IFMT(state.st_mode)
+    return Identity(state.st_dev, state.st_ino, stat.S_IFMT(state.st_mode))
 
 
 def refused(path: str | Path, error: OSError) -> Refused:

@@ -10,19 +10,32 @@ import contextlib
 import signal
 import socket
 from collections import deque
+from collections.abc import Sequence
 from pathlib import Path
+from typing import NamedTuple
 
-from nemzhuul.signalling.captures import CaptureWriter
 from nemzhuul.command_line import NAME, Refused, WrongWords, say
-from nemzhuul.signalling.lapd import frame_text
-from nemzhuul.live.lines import SHUT_DOWN, DChannel, Line
-from nemzhuul.live.wire import read_address
+from nemzhuul.live.lines import SHUT_DOWN, DChannel, Line, Port
 from nemzhuul.live.periods import Use
 from nemzhuul.live.processes import Exchange, Loop
+from nemzhuul.live.wire import Address, read_address
 from nemzhuul.outputs import Output, check_output, is_same_file
 from nemzhuul.programs.program import NAMED, PROGRAM, REMEDY, UNPROVED, misfit, program_at
+from nemzhuul.signalling.captures import CaptureWriter
+from nemzhuul.signalling.lapd import frame_text
 from nemzhuul.signalling.q931 import SETUP, message_text
-from nemzhuul.traces.reading import FRAMES_PER_SECOND, NUMERAL, Arrival, Frame, Link, LinkArrival, TraceReader, is_said, lines_of, take_lines
+from nemzhuul.traces.reading import (
+    FRAMES_PER_SECOND,
+    NUMERAL,
+    Arrival,
+    Frame,
+    Link,
+    LinkArrival,
+    TraceReader,
+    is_said,
+    lines_of,
+    take_lines,
+)
 
 USAGE = """usage: tools/attach [OPTION ..] [--line L ADDRESS ..] [--link L ADDRESS ..] SETTINGS
 runs the exchange that the file SETTINGS begins (a trace without messages and frames), 8000 frames a second. One
@@ -46,32 +59,39 @@ Signal USR1 prints how much of its time the exchange has used so far."""
 OUTPUTS = {"log": "the log", "report": "the report", "pcap": "the capture"}
 
 
+class Asked(NamedTuple):
+    """A message or a frame of a data link, of which the exchange has not said yet what comes of it."""
+
+    line: int
+    digits: bytes
+
+
 class Options:
     """The options of the command, and the settings with which its trace begins."""
 
-    def __init__(self, words):
-        self.addresses = {}  # of the endpoints, by line
-        self.links = {}  # of the data links
+    def __init__(self, words: Sequence[str]) -> None:
+        self.addresses: dict[int, Address] = {}  # of the endpoints, by line
+        self.links: dict[int, Address] = {}  # of the data links
         self.frames = FRAMES_PER_SECOND // 50  # of a burst
-        self.seconds = None
-        self.files = {"log": None, "report": None, "pcap": None, "program": None}
-        self.flags = []
+        self.seconds: int | None = None
+        self.files: dict[str, str | None] = {"log": None, "report": None, "pcap": None, "program": None}
+        self.flags: list[str] = []
         self.may_overwrite = self.may_be_unproved = False
-        words = list(words)
-        while words and words[0].startswith("--"):
-            self.option(words.pop(0)[2:], words)
-        if len(words) != 1 or not (self.addresses or self.links):
+        left = list(words)
+        while left and left[0].startswith("--"):
+            self.option(left.pop(0)[2:], left)
+        if len(left) != 1 or not (self.addresses or self.links):
             raise WrongWords
-        self.settings = self.read_settings(words[0])
-        self.check_files(words[0])
+        self.settings = self.read_settings(left[0])
+        self.check_files(left[0])
 
-    def option(self, name, words):
+    def option(self, name: str, words: list[str]) -> None:
         values = {"line": 2, "link": 2, "strict": 0, "overwrite": 0, "unproved": 0}.get(name, 1)
         if len(words) <= values:
             raise WrongWords
         given = [words.pop(0) for _ in range(values)]
         if name in ("line", "link"):
-            self.address(*given, self.addresses if name == "line" else self.links)
+            self.address(self.addresses if name == "line" else self.links, *given)
         elif name == "strict":
             self.flags = ["--strict"]
         elif name == "overwrite":
@@ -79,33 +99,33 @@ class Options:
         elif name == "unproved":
             self.may_be_unproved = True
         elif name == "burst":
-            self.frames = int_of(*given, 1, 1000) * FRAMES_PER_SECOND // 1000
+            self.frames = int_of(given[0], 1, 1000) * FRAMES_PER_SECOND // 1000
         elif name == "seconds":
-            self.seconds = int_of(*given, 1, 999_999_999)
+            self.seconds = int_of(given[0], 1, 999_999_999)
         elif name in self.files:
             (self.files[name],) = given
         else:
             raise WrongWords
 
-    def address(self, line, word, addresses):
+    def address(self, addresses: dict[int, Address], line: str, word: str) -> None:
         if int_of(line, 0, 31) in addresses:
             raise Refused(f"line {line} has two addresses")
         address = addresses[int(line)] = read_address(word)
         if addresses is self.links and address.path is None:
             raise Refused(f"{word} is no address of a data link: it is unix:PATH")
 
-    def read_settings(self, path):
+    def read_settings(self, path: str) -> bytes:
         """The lines of a trace in which no message and no frame arrives."""
         reader = TraceReader(is_followed=True)
         lines = lines_of(path)
-        refusal = take_lines(reader, lines)
-        if refusal:
-            raise Refused("{} is no trace: line {}, {}".format(path, *refusal))
+        wrong = take_lines(reader, lines)
+        if wrong:
+            raise Refused(f"{path} is no trace: {wrong}")
         if any(isinstance(event, (Arrival, LinkArrival, Frame)) for event in reader.events) or reader.changes:
             raise Refused(f"{path} has messages, frames or changes of meters: endpoints send them")
         for line in (*self.addresses, *self.links):
-            if line >= reader.sizes[0]:
-                raise Refused(f"{path} has no line {line}: it has lines 0 to {reader.sizes[0] - 1}")
+            if line >= reader.sizes.external:
+                raise Refused(f"{path} has no line {line}: it has lines 0 to {reader.sizes.external - 1}")
         for event in reader.events:
             if isinstance(event, Link) and event.line in self.links:
                 raise Refused(f"{path} has a line `up` or `down` for line {event.line}, whose data link is attached")
@@ -147,7 +167,7 @@ def exchange_program(named: str | None, may_be_unproved: bool) -> Path:
     return program
 
 
-def int_of(word, least, most):
+def int_of(word: str, least: int, most: int) -> int:
     if not NUMERAL.fullmatch(word) or not least <= int(word) <= most:
         raise WrongWords
     return int(word)
@@ -166,13 +186,13 @@ class Live:
         self.packets = CaptureWriter(options.linked)
         self.given = self.replied = 0  # events
         self.frame = 0  # the number of the next frame in the report
-        self.asked = deque()  # messages and frames of data links without replies so far: their lines and digits
+        self.asked: deque[Asked] = deque()  # without replies so far
         self.refusal = ""
         self.use = Use(options.frames)
         self.loop = Loop()
         self.interrupts = self.catch_interrupts()
-        self.lines = {}
-        self.channels = {}  # the D channels of data links
+        self.lines: dict[int, Line] = {}
+        self.channels: dict[int, DChannel] = {}  # the D channels of data links
         for number, address in options.addresses.items():
             self.lines[number] = Line(number, address, self.loop, number in options.linked)
             ends.callback(self.lines[number].close)
@@ -184,14 +204,17 @@ class Live:
         self.exchange = Exchange([program, "follow", *options.flags], self.loop, self.take, report)
         ends.callback(self.exchange.kill)
 
-    def start(self):
+    def ports(self) -> list[Port]:
+        return [*self.lines.values(), *self.channels.values()]
+
+    def start(self) -> None:
         """Gives the exchange its settings, and opens its lines."""
         self.capture.write(self.packets.HEADER)
         self.give(self.options.settings, self.options.events)
-        for port in (*self.lines.values(), *self.channels.values()):
+        for port in self.ports():
             port.open()
 
-    def run(self):
+    def run(self) -> None:
         """Makes frames by the clock until an interrupt, the end of the exchange, or the end of its time."""
         self.use.begin(self.exchange.process.pid)
         while not (self.interrupts or self.exchange.has_ended or self.use.has_passed(self.options.seconds)):
@@ -202,9 +225,9 @@ class Live:
             else:
                 self.burst()
 
-    def catch_interrupts(self):
+    def catch_interrupts(self) -> list[socket.socket]:
         """A list to which each interrupt is appended; it also ends a wait."""
-        came = []
+        came: list[socket.socket] = []
         reader, writer = socket.socketpair()
         writer.setblocking(False)
         signal.set_wakeup_fd(writer.fileno())
@@ -214,7 +237,7 @@ class Live:
         signal.signal(signal.SIGUSR1, lambda *_: say(self.use.text()))
         return came
 
-    def end(self):
+    def end(self) -> None:
         """Ends the exchange, and says what was used and taken."""
         ended = self.exchange.has_ended
         status = self.exchange.finish()
@@ -231,15 +254,16 @@ class Live:
 
     # ---- to the exchange
 
-    def burst(self):
+    def burst(self) -> None:
         """Gives the exchange the frames of a period, with the messages between them."""
         self.use.burst()
-        text, left = [], self.use.frames
+        text: list[bytes] = []
+        left = self.use.frames
         messages = self.link_frames(text)
         for line in self.lines.values():
             line.begin_period()
         while True:
-            due = [(number, digits) for number, line in self.lines.items() for digits in line.messages_due()]
+            due = [Asked(number, digits) for number, line in self.lines.items() for digits in line.messages_due()]
             text += [b"M %d %s\n" % message for message in due]
             self.asked += due
             messages += len(due)
@@ -250,10 +274,10 @@ class Live:
             text.append(b"F" + b"\nF".join(map(b"".join, zip(*columns))) + b"\n")
             left -= count
         self.give(b"".join(text), self.use.frames + messages)
-        for port in (*self.lines.values(), *self.channels.values()):
+        for port in self.ports():
             port.watch()
 
-    def link_frames(self, text):
+    def link_frames(self, text: list[bytes]) -> int:
         """Appends the frames of data links that have come, each below a comment. Returns how many they are."""
         before = len(self.asked)
         for number, channel in self.channels.items():
@@ -261,17 +285,17 @@ class Live:
                 digits = octets.hex().upper().encode()
                 line = b"L %d %s" % (number, digits)
                 text.append(comment(number, octets, is_sent=False) + b"\n" + line.rstrip() + b"\n")
-                self.asked.append((number, digits))
+                self.asked.append(Asked(number, digits))
         return len(self.asked) - before
 
-    def give(self, text, events):
+    def give(self, text: bytes, events: int) -> None:
         self.log.write(text)
         self.given += events
         self.exchange.send(text)
 
     # ---- from the exchange
 
-    def take(self, text):
+    def take(self, text: bytes) -> None:
         """Takes whole lines of the report."""
         listeners = [line for line in self.lines.values() if line.is_listening]
         for reply in text.replace(b":", b" ").split(b"\n"):
@@ -296,25 +320,25 @@ class Live:
         if self.replied == self.given:
             self.use.replied()
 
-    def take_sends(self, words):
+    def take_sends(self, words: Sequence[bytes]) -> int:
         """Takes what is sent at the start of a frame of the exchange. Returns where the octets begin."""
         at = 3
         while words[at : at + 1] and words[at] in (b"send", b"up", b"down"):
             if words[at] == b"send":
-                self.deliver(*words[at + 1 : at + 3])
+                self.deliver(words[at + 1], words[at + 2])
             at += 3 if words[at] == b"send" else 2
         return at
 
-    def take_message(self, sent):
+    def take_message(self, sent: Sequence[bytes]) -> None:
         """Takes the reply to a message, or to a frame of a data link: the lines and the digits of what is sent."""
         number, digits = self.asked.popleft()
         self.capture.write(self.packets.packet(self.frame, number, False, bytes.fromhex(digits.decode())))
         for at in range(3 if sent[:1] == [b"moved"] else 0, len(sent), 2):
-            self.deliver(*sent[at : at + 2])
+            self.deliver(sent[at], sent[at + 1])
         if digits is SHUT_DOWN:
             self.lines[number].open()
 
-    def deliver(self, key, digits):
+    def deliver(self, key: bytes, digits: bytes) -> None:
         octets = bytes.fromhex(digits.decode())
         number = int(key)
         self.capture.write(self.packets.packet(self.frame, number, True, octets))
@@ -326,19 +350,19 @@ class Live:
         elif octets[4] == SETUP:
             say(f"{NAME}: line {number}: no endpoint gets {message_text(octets)}")
 
-    def deliver_frame(self, number, octets):
+    def deliver_frame(self, number: int, octets: bytes) -> None:
         """Sends a frame of a data link, which is lost if nothing is attached."""
         self.log.write(comment(number, octets, is_sent=True) + b"\n")
         if number in self.channels:
             self.channels[number].send(octets)
 
 
-def comment(number, octets, is_sent):
+def comment(number: int, octets: bytes, is_sent: bool) -> bytes:
     """A comment of the log on a frame of a data link."""
     return f"# line {number} {'gets' if is_sent else 'sends'} {frame_text(octets, not is_sent)}".encode("ascii", "backslashreplace")
 
 
-def main(*words):
+def main(*words: str) -> str:
     options = Options(words)
     with contextlib.ExitStack() as ends:
         live = Live(options, ends)

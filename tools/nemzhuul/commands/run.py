@@ -1,8 +1,11 @@
 """Runs the exchange: the proved program if it fits the sources, and otherwise an unproved one, which is built once."""
 
+from __future__ import annotations
+
 import subprocess
 import sys
 import time
+from typing import NoReturn
 
 from nemzhuul.command_line import NAME, WrongWords, say
 from nemzhuul.programs.program import UNPROVED, program_at
@@ -13,7 +16,7 @@ program, crates/tst/out/tst, if that was built from the sources that lie there (
 unproved one, which `rt try` builds once, in about two minutes. Standard error says which was run, and how long it took."""
 
 
-def main(*words):
+def main(*words: str) -> NoReturn:
     if not words:
         raise WrongWords
     program = program_at()

@@ -6,56 +6,80 @@ sequence at its end, in both directions, as a driver of a D channel has it.
 
 from __future__ import annotations
 
+import enum
 import select
 import socket
 from collections import deque
+from collections.abc import Iterator
+from typing import Union
 
 from nemzhuul.command_line import NAME, Refused, say
+from nemzhuul.live.processes import Loop
+from nemzhuul.live.wire import FRAMES, IDLE_ROW, MAX_LINE, MESSAGE, NO_FRAMES, Address, receive, without_delay
 from nemzhuul.signalling.lapd import FCS, MAX_FRAME, check_sequence
-from nemzhuul.live.wire import FRAMES, IDLE_ROW, LONGEST_LINE, MESSAGE, NO_FRAMES, PIECE, without_delay
 from nemzhuul.signalling.q931 import RESTART, restart_indicator, write_message
 
 AHEAD = 8_000  # frames and messages in a queue from which on its endpoint is not read
 MAX_MESSAGES = 64  # of a line in a period, so that no endpoint delays the others; the rest waits
 MAX_WAITING = 8_000  # messages in a queue, after which its endpoint is treated as one that does not read
-MOST_UNREAD = 1 << 23  # octets that an endpoint may leave unread: 16 seconds of frames
-MOST_LINK_FRAMES = 256  # in the queue of a D channel, from which on its endpoint is not read
+MAX_UNREAD = 1 << 23  # octets that an endpoint may leave unread: 16 seconds of frames
+MAX_LINK_FRAMES = 256  # in the queue of a D channel, from which on its endpoint is not read
 DATAGRAM = 4096  # octets that are read of a datagram, of which fewer are used
 
-SILENCE, GONE = "silence", "gone"  # marks in a queue: no octets from there on; no endpoint from there on
 SHUT_DOWN = write_message(0, 0, RESTART, restart_indicator(is_whole_line=True)).hex().upper().encode()
+
+
+class Mark(enum.Enum):
+    """A mark in a queue."""
+
+    SILENCE = "no octets from there on"
+    GONE = "no endpoint from there on"
+
+
+Item = Union[list[bytes], bytes, Mark]  # of a queue: frames, a message, or a mark
 
 
 class Port:
     """A socket on which a line listens for one endpoint at a time. `loop.watch` waits until a socket can be read or written."""
 
-    def __init__(self, number, address, loop, kind=socket.SOCK_STREAM):
+    def __init__(self, number: int, address: Address, loop: Loop, kind: int = socket.SOCK_STREAM) -> None:
         self.number = number
         self.loop = loop
-        self.listener = address.listening(kind)
+        self.listener = address.listen(kind)
         self.listener.sock.setblocking(False)
-        self.endpoint = None
-        self.queue = deque()  # what the endpoint sent
+        self.endpoint: socket.socket | None = None
 
-    def open(self):
+    def open(self) -> None:
         """Accepts an endpoint."""
         self.loop.watch(self.listener.sock, self.accept)
 
-    def close(self):
+    def accept(self) -> None:
+        """Takes an endpoint that has come. While it is there, no other one is taken."""
+        try:
+            connection, _ = self.listener.sock.accept()
+        except OSError:  # it has gone again
+            return
+        connection.setblocking(False)
+        if self.endpoint is None:
+            self.attach(connection)
+        else:
+            self.turn_away(connection)
+
+    def attach(self, connection: socket.socket) -> None:
+        raise NotImplementedError
+
+    def turn_away(self, connection: socket.socket) -> None:
+        raise NotImplementedError
+
+    def watch(self) -> None:
+        raise NotImplementedError
+
+    def close(self) -> None:
         if self.endpoint is not None:
             self.endpoint.close()
         self.listener.close()
 
-    def accepted(self):
-        """The socket of an endpoint that has come; None if it has gone again."""
-        try:
-            connection, _ = self.listener.sock.accept()
-        except OSError:
-            return None
-        connection.setblocking(False)
-        return connection
-
-    def say(self, text):
+    def say(self, text: str) -> None:
         say(f"{NAME}: line {self.number}: {text}")
 
 
@@ -66,16 +90,17 @@ class Line(Port):
     the part of a trace line, ` L:HEX`. If the line has a data link, its messages come over that.
     """
 
-    def __init__(self, number, address, loop, has_link=False):
+    def __init__(self, number: int, address: Address, loop: Loop, has_link: bool = False) -> None:
         super().__init__(number, address, loop)
         self.key = b"%d" % number
         self.has_link = has_link
+        self.queue: deque[Item] = deque()  # what the endpoint sent
         self.queued = 0  # frames and messages
         self.waiting = 0  # the messages among them
         self.left = 0  # messages that may still be taken in this period
         self.begun = b""  # the line that the endpoint has sent a part of
         self.unsent = bytearray()  # what the endpoint's socket did not take yet
-        self.due = []  # lines for the endpoint, without their ends
+        self.due: list[bytes] = []  # lines for the endpoint, without their ends
         self.is_speaking = False  # it sends octets
         self.has_lead = False  # it sent octets before this period: a frame that is not there is late, and not delayed
         self.is_listening = False  # it gets octets
@@ -85,87 +110,80 @@ class Line(Port):
 
     # ---- its endpoint
 
-    def accept(self):
-        connection = self.accepted()
-        if connection is None:
-            return
-        if self.endpoint is not None:
-            self.refuse(connection, f"line {self.number} has an endpoint already")
-            return
+    def attach(self, connection: socket.socket) -> None:
         self.endpoint = without_delay(connection)
         self.say("an endpoint is attached")
         self.due.append(b"line %d" % self.number)
         self.send()
 
-    def watch(self):
+    def turn_away(self, connection: socket.socket) -> None:
+        self.refuse(connection, f"line {self.number} has an endpoint already")
+
+    def watch(self) -> None:
         """Waits for the endpoint; if its queue is long, it is not read."""
         if self.endpoint is not None:
             can_read = self.queued < AHEAD
             self.loop.watch(self.endpoint, self.receive if can_read else None, self.write if self.unsent else None)
 
-    def receive(self):
-        try:
-            text = self.endpoint.recv(PIECE)
-        except BlockingIOError:
+    def receive(self) -> None:
+        text = None if self.endpoint is None else receive(self.endpoint)
+        if text is None:
             return
-        except OSError:
-            text = b""
         if not text:
             self.leave("has gone")
             return
         whole, end, self.begun = (self.begun + text).rpartition(b"\n")
         try:
             self.take(whole + end)
-            if len(self.begun) > LONGEST_LINE:
-                raise Refused(f"a line has at most {LONGEST_LINE} octets")
+            if len(self.begun) > MAX_LINE:
+                raise Refused(f"a line has at most {MAX_LINE} octets")
         except Refused as refusal:
             self.leave(f"is refused: {refusal}", refusal)
         if self.waiting > MAX_WAITING and self.endpoint is not None:
             self.leave(f"has sent more than {MAX_WAITING} messages that wait")
         self.watch()
 
-    def send(self):
+    def send(self) -> None:
         """Sends the lines that are due."""
         if self.due and self.endpoint is not None:
             self.unsent += b"\n".join(self.due) + b"\n"
             self.write()
         self.due.clear()
 
-    def write(self):
+    def write(self) -> None:
         try:
-            del self.unsent[: self.endpoint.send(self.unsent)]
+            if self.endpoint is not None:
+                del self.unsent[: self.endpoint.send(self.unsent)]
         except BlockingIOError:
             pass
         except OSError:
             self.leave("has gone")
-        if len(self.unsent) > MOST_UNREAD:
+        if len(self.unsent) > MAX_UNREAD:
             self.leave("does not read")
         self.watch()
 
-    def leave(self, why, refusal=None):
+    def leave(self, why: str, refusal: Refused | None = None) -> None:
         """The endpoint goes. The next one is accepted when what it sent has taken effect, and the restart of the line."""
-        self.say(f"its endpoint {why}")
         gone, self.endpoint = self.endpoint, None
+        if gone is None:
+            return
+        self.say(f"its endpoint {why}")
         self.loop.watch(gone)
         self.loop.watch(self.listener.sock)
         if refusal is None:
             gone.close()
         else:
             self.refuse(gone, refusal)
-        self.queue.append(GONE)
+        self.queue.append(Mark.GONE)
         self.is_listening = False
         self.begun = b""
         self.unsent.clear()
 
-    def refuse(self, connection, why):
+    def refuse(self, connection: socket.socket, why: object) -> None:
         """Says why an endpoint is refused, and reads until it has gone: else what it sent could undo the line."""
 
-        def drain():
-            try:
-                rest = connection.recv(PIECE)
-            except OSError:
-                rest = b""
-            if not rest:
+        def drain() -> None:
+            if not receive(connection):
                 self.loop.watch(connection)
                 connection.close()
 
@@ -178,7 +196,7 @@ class Line(Port):
 
     # ---- what its endpoint sends
 
-    def take(self, text):
+    def take(self, text: bytes) -> None:
         """Appends whole lines to the queue."""
         at = 0
         while at < len(text):
@@ -191,7 +209,7 @@ class Line(Port):
                 self.take_line(text[at:end].rstrip(b" \r"))
                 at = end + 1
 
-    def take_frames(self, text):
+    def take_frames(self, text: bytes) -> None:
         rows = text.replace(b"F ", b" %d:" % self.number).split(b"\n")
         rows.pop()
         self.is_listening = True
@@ -199,12 +217,14 @@ class Line(Port):
         self.owed -= left_out
         if left_out == len(rows):
             return
-        if not (self.queue and isinstance(self.queue[-1], list)):
-            self.queue.append([])
-        self.queue[-1] += rows[left_out:]
+        last = self.queue[-1] if self.queue else None
+        if isinstance(last, list):
+            last += rows[left_out:]
+        else:
+            self.queue.append(rows[left_out:])
         self.queued += len(rows) - left_out
 
-    def take_line(self, text):
+    def take_line(self, text: bytes) -> None:
         message = MESSAGE.fullmatch(text)
         if message and self.has_link:
             raise Refused(f"line {self.number} has a data link, over which its messages come")
@@ -214,7 +234,7 @@ class Line(Port):
             self.waiting += 1
         elif text == NO_FRAMES:
             self.owed = 0
-            self.queue.append(SILENCE)
+            self.queue.append(Mark.SILENCE)
             self.is_listening = True
         elif FRAMES.fullmatch(text + b"\n"):
             self.take_frames(text + b"\n")
@@ -229,7 +249,7 @@ class Line(Port):
         self.left = MAX_MESSAGES
         self.has_lead = self.is_speaking
 
-    def messages_due(self):
+    def messages_due(self) -> Iterator[bytes]:
         """Takes what comes before the next frame. A shutdown of the line is a message too, if it has no data link."""
         while self.queue and not isinstance(self.queue[0], list):
             if isinstance(self.queue[0], bytes) and not self.left:
@@ -244,20 +264,22 @@ class Line(Port):
             else:
                 self.is_speaking = self.has_lead = False
                 self.owed = 0
-                if item is GONE and self.has_link:
+                if item is Mark.GONE and self.has_link:
                     self.open()
-                elif item is GONE:
+                elif item is Mark.GONE:
                     yield SHUT_DOWN
 
     def frames_before_message(self) -> int | None:
         """How many frames come before the next message or mark; None if none is there."""
-        return len(self.queue[0]) if len(self.queue) > 1 and isinstance(self.queue[0], list) else None
+        first = self.queue[0] if len(self.queue) > 1 else None
+        return len(first) if isinstance(first, list) else None
 
-    def column(self, count):
+    def column(self, count: int) -> list[bytes]:
         """Takes the parts of the next frames; an idle frame has none, nor has one behind messages that wait."""
-        rows = []
-        if self.queue and isinstance(self.queue[0], list):
-            rows, rest = self.queue[0][:count], self.queue[0][count:]
+        rows: list[bytes] = []
+        first = self.queue[0] if self.queue else None
+        if isinstance(first, list):
+            rows, rest = first[:count], first[count:]
             if rest:
                 self.queue[0] = rest
             else:
@@ -274,46 +296,43 @@ class Line(Port):
 
     # ---- what the exchange sends
 
-    def hear(self, octets):
+    def hear(self, octets: bytes | None) -> None:
         """Its octets of the next frame, None if they are idle."""
         self.due.append(b"F " + (octets or IDLE_ROW))
 
 
 class DChannel(Port):
-    """The D channel of a line with a data link. Its queue has the digits of the frames that the endpoint sent.
+    """The D channel of a line with a data link.
 
     While no endpoint is there, or none that reads, the frames of the exchange are lost. The data link finds that out.
     """
 
-    def __init__(self, number, address, loop):
+    def __init__(self, number: int, address: Address, loop: Loop) -> None:
         super().__init__(number, address, loop, socket.SOCK_SEQPACKET)
+        self.queue: deque[bytes] = deque()  # frames that the endpoint sent
         self.frames = self.cut = self.lost = 0  # how many were taken, and cut, and how many of the exchange were lost
         self.say(f"its data link listens on {self.listener.place}")
 
-    def accept(self):
-        connection = self.accepted()
-        if connection is None:
-            return
-        if self.endpoint is not None:
-            self.say("its data link has an endpoint already, and another one is not accepted")
-            connection.close()
-            return
+    def attach(self, connection: socket.socket) -> None:
         self.endpoint = connection
         self.say("an endpoint is attached to its data link")
         self.watch()
 
-    def watch(self):
+    def turn_away(self, connection: socket.socket) -> None:
+        self.say("its data link has an endpoint already, and another one is not accepted")
+        connection.close()
+
+    def watch(self) -> None:
         """Waits for the endpoint; if its queue is long, it is not read."""
         if self.endpoint is not None:
-            self.loop.watch(self.endpoint, self.receive if len(self.queue) < MOST_LINK_FRAMES else None)
+            self.loop.watch(self.endpoint, self.receive if len(self.queue) < MAX_LINK_FRAMES else None)
 
-    def receive(self):
-        try:
-            datagram = self.endpoint.recv(DATAGRAM)
-        except BlockingIOError:
+    def receive(self) -> None:
+        if self.endpoint is None:
             return
-        except OSError:
-            datagram = b""
+        datagram = receive(self.endpoint, DATAGRAM)
+        if datagram is None:
+            return
         if not datagram and is_closed(self.endpoint):
             self.leave()
             return
@@ -323,18 +342,20 @@ class DChannel(Port):
         self.queue.append(octets[:MAX_FRAME])
         self.watch()
 
-    def leave(self):
+    def leave(self) -> None:
+        gone, self.endpoint = self.endpoint, None
+        if gone is None:
+            return
         self.say("the endpoint of its data link has gone")
-        self.loop.watch(self.endpoint)
-        self.endpoint.close()
-        self.endpoint = None
+        self.loop.watch(gone)
+        gone.close()
 
-    def frames_due(self):
+    def frames_due(self) -> Iterator[bytes]:
         """Takes the frames that have come, at most as many as a line has messages in a period."""
         for _ in range(min(len(self.queue), MAX_MESSAGES)):
             yield self.queue.popleft()
 
-    def send(self, octets):
+    def send(self, octets: bytes) -> None:
         """Sends a frame with its check sequence, if the endpoint's socket takes it."""
         is_sent = False
         try:
@@ -346,7 +367,7 @@ class DChannel(Port):
         self.lost += not is_sent
 
 
-def is_closed(connection):
+def is_closed(connection: socket.socket) -> bool:
     """Whether the other side has closed its socket, and has not just sent an empty datagram."""
     poll = select.poll()
     poll.register(connection, select.POLLRDHUP)

@@ -1,5 +1,7 @@
 """The clock of a running exchange, and how much of each period is used."""
 
+from __future__ import annotations
+
 import os
 import time
 from pathlib import Path
@@ -14,31 +16,31 @@ SAID = 1  # seconds between two times
 class Use:
     """The periods so far. In each the tool gives frames to the exchange, which replies to them."""
 
-    def __init__(self, frames):
+    def __init__(self, frames: int) -> None:
         self.frames = frames  # of a period
         self.period = frames / FRAMES_PER_SECOND
         self.count = 0
-        self.replies = self.slowest = self.latest = 0  # seconds, all together and the most
-        self.said = 0
-        self.process = None  # of the exchange
-        self.own = self.children = 0  # the processor time at the start
+        self.replies = self.slowest = self.latest = 0.0  # seconds, all together and the most
+        self.start = self.given = self.said = 0.0  # when the first period and the last one began, and when that was said
+        self.process: int | None = None  # of the exchange
+        self.own = self.children = 0.0  # the processor time at the start
 
-    def begin(self, process):
+    def begin(self, process: int) -> None:
         """Starts the clock."""
         self.process = process
         self.own = time.process_time()
         self.children = children_seconds()
         self.start = time.monotonic()
 
-    def left(self):
+    def left(self) -> float:
         """The seconds until the next period begins."""
         return self.start + self.count * self.period - time.monotonic()
 
-    def has_passed(self, seconds):
+    def has_passed(self, seconds: float | None) -> bool:
         """Whether this time has passed by the clock, which frames that are late do not change."""
         return seconds is not None and time.monotonic() >= self.start + seconds
 
-    def burst(self):
+    def burst(self) -> None:
         """A period begins. It is said if that is late."""
         late = -self.left()
         self.latest = max(self.latest, late)
@@ -48,7 +50,7 @@ class Use:
             self.said = self.given
             say(f"{NAME}: the frames are {late:.2f} s late, and none is lost")
 
-    def replied(self):
+    def replied(self) -> None:
         """The exchange has replied to all that it got; before the first period these are settings."""
         if self.count == 0:
             return
@@ -56,7 +58,7 @@ class Use:
         self.replies += seconds
         self.slowest = max(self.slowest, seconds)
 
-    def text(self):
+    def text(self) -> str:
         """What was used so far, in two lines."""
         count = max(1, self.count)
         period = self.period * 1000
@@ -71,7 +73,7 @@ class Use:
         )
 
 
-def process_seconds(number):
+def process_seconds(number: int | None) -> float:
     """The processor time of a running process, on Linux; 0 if it has ended."""
     try:
         fields = Path(f"/proc/{number}/stat").read_text().rpartition(")")[2].split()
@@ -80,7 +82,7 @@ def process_seconds(number):
     return (int(fields[11]) + int(fields[12])) / os.sysconf("SC_CLK_TCK")
 
 
-def children_seconds():
+def children_seconds() -> float:
     """The processor time of the processes that have ended."""
     times = os.times()
     return times.children_user + times.children_system

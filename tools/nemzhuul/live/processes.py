@@ -1,44 +1,66 @@
 """The running exchange, as a process that reads lines of a trace, and the sockets and pipes that are waited for."""
 
+from __future__ import annotations
+
 import contextlib
 import os
 import selectors
 import subprocess
 import time
+from collections.abc import Callable, Sequence
+from pathlib import Path
+from typing import NamedTuple, Optional, Protocol
 
 from nemzhuul.live.wire import PIECE
+from nemzhuul.outputs import Output
 
 FINISH_SECONDS = 30  # that the exchange has for its last replies
+
+
+Act = Callable[[], object]
+
+
+class Waitable(Protocol):
+    """A socket or a pipe."""
+
+    def fileno(self) -> int: ...
+
+
+class Acts(NamedTuple):
+    """What is called when an end can be read, and when it can be written."""
+
+    reads: Optional[Act] = None
+    writes: Optional[Act] = None
 
 
 class Loop:
     """Waits for sockets and pipes."""
 
-    def __init__(self):
+    def __init__(self) -> None:
         self.selector = selectors.DefaultSelector()
-        self.watched = {}  # by descriptor: what is called when it can be read, and when it can be written
+        self.acts: dict[int, Acts] = {}  # by descriptor
 
-    def watch(self, end, reads=None, writes=None):
+    def watch(self, end: Waitable, reads: Act | None = None, writes: Act | None = None) -> None:
         """Has these called when an end can be read or written; None for neither."""
         number = end.fileno()
         events = (reads and selectors.EVENT_READ or 0) | (writes and selectors.EVENT_WRITE or 0)
-        if self.watched.get(number, (None, None)) == (reads, writes):
+        if self.acts.get(number, Acts()) == Acts(reads, writes):
             return
-        if number not in self.watched:
+        if number not in self.acts:
             self.selector.register(end, events)
         elif events:
             self.selector.modify(end, events)
         else:
             self.selector.unregister(end)
-        self.watched[number] = reads, writes
+        self.acts[number] = Acts(reads, writes)
         if not events:
-            del self.watched[number]
+            del self.acts[number]
 
-    def wait(self, seconds):
+    def wait(self, seconds: float | None) -> None:
         """Waits for at most this time; None for any time."""
         for key, events in self.selector.select(seconds):
-            for event, at in ((selectors.EVENT_READ, 0), (selectors.EVENT_WRITE, 1)):
-                act = self.watched.get(key.fd, (None, None))[at]  # another one may have ended it
+            for at, event in enumerate((selectors.EVENT_READ, selectors.EVENT_WRITE)):
+                act = self.acts.get(key.fd, Acts())[at]  # another one may have ended it
                 if events & event and act:
                     act()
 
@@ -46,7 +68,7 @@ class Loop:
 class Exchange:
     """The running exchange. It gets lines of a trace, and its replies are taken whole."""
 
-    def __init__(self, words, loop, replies, report):
+    def __init__(self, words: Sequence[str | Path], loop: Loop, replies: Callable[[bytes], None], report: Output) -> None:
         self.loop = loop
         self.replies = replies  # is called with the text of whole lines
         self.report = report
@@ -55,50 +77,52 @@ class Exchange:
         self.has_ended = False
         # An interrupt of the terminal ends the tool, and the tool ends the exchange.
         self.process = subprocess.Popen(words, stdin=subprocess.PIPE, stdout=subprocess.PIPE, start_new_session=True)
-        os.set_blocking(self.process.stdin.fileno(), False)
-        os.set_blocking(self.process.stdout.fileno(), False)
-        loop.watch(self.process.stdout, self.read)
+        assert self.process.stdin and self.process.stdout
+        self.input, self.output = self.process.stdin, self.process.stdout
+        os.set_blocking(self.input.fileno(), False)
+        os.set_blocking(self.output.fileno(), False)
+        loop.watch(self.output, self.read)
 
-    def send(self, text):
+    def send(self, text: bytes) -> None:
         self.unsent += text
         self.write()
 
-    def write(self):
+    def write(self) -> None:
         try:
-            del self.unsent[: os.write(self.process.stdin.fileno(), self.unsent)]
+            del self.unsent[: os.write(self.input.fileno(), self.unsent)]
         except BlockingIOError:
             pass
         except BrokenPipeError:  # its output says why it has ended
             self.unsent.clear()
-        self.loop.watch(self.process.stdin, None, self.write if self.unsent else None)
+        self.loop.watch(self.input, None, self.write if self.unsent else None)
 
-    def read(self):
+    def read(self) -> None:
         try:
-            text = os.read(self.process.stdout.fileno(), PIECE)
+            text = os.read(self.output.fileno(), PIECE)
         except BlockingIOError:
             return
         if not text:
             self.has_ended = True
-            self.loop.watch(self.process.stdout)
+            self.loop.watch(self.output)
             return
         self.report.write(text)
         whole, end, self.begun = (self.begun + text).rpartition(b"\n")
         if end:
             self.replies(whole)
 
-    def finish(self):
+    def finish(self) -> int | None:
         """Ends the input, takes what the exchange still replies, and returns its status; None if it does not end."""
         last = time.monotonic() + FINISH_SECONDS
         while self.unsent and not self.has_ended and time.monotonic() < last:
             self.loop.wait(1)
-        self.loop.watch(self.process.stdin)
+        self.loop.watch(self.input)
         with contextlib.suppress(BrokenPipeError):
-            self.process.stdin.close()
+            self.input.close()
         while not self.has_ended and time.monotonic() < last:
             self.loop.wait(1)
         return self.process.wait() if self.has_ended else None
 
-    def kill(self):
+    def kill(self) -> None:
         """Ends the process, if it has not ended."""
         if self.process.poll() is None:
             self.process.kill()

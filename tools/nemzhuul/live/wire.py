@@ -17,25 +17,25 @@ from collections.abc import Iterator
 from dataclasses import dataclass
 
 from nemzhuul.command_line import Refused
-from nemzhuul.outputs import identity
+from nemzhuul.outputs import Identity, identity
 from nemzhuul.traces.reading import FRAME_DIGITS, IDLE, MAX_MESSAGE_DIGITS, PLACES
 
 IDLE_ROW = b"%02X" % IDLE * PLACES
 FRAMES = re.compile(rb"(?:F [0-9A-Fa-f]{%d}\n)+" % FRAME_DIGITS)
 MESSAGE = re.compile(rb"M ((?:[0-9A-Fa-f]{2}){1,%d})" % (MAX_MESSAGE_DIGITS // 2))
 NO_FRAMES = b"F none"
-LONGEST_LINE = len("M ") + MAX_MESSAGE_DIGITS
+MAX_LINE = len("M ") + MAX_MESSAGE_DIGITS
 PIECE = 1 << 18  # octets of a read
 CONNECT_SECONDS = 3
 LOCK_SECONDS = 3
 
 
-def frames_text(octets):
+def frames_text(octets: bytes | bytearray) -> bytes:
     """The lines of frames whose octets are these, 30 of each frame."""
     return b"F " + octets.hex("\n", PLACES).upper().replace("\n", "\nF ").encode() + b"\n"
 
 
-def octets_of(text):
+def octets_of(text: bytes) -> bytes:
     """The octets of lines of frames, 30 of each frame."""
     return bytes.fromhex(text.replace(b"F ", b"").decode())
 
@@ -49,21 +49,21 @@ class Address:
 
     word: str
     path: str | None = None
-    host: str | None = None
+    host: str = ""
     port: int = 0
 
-    def connected(self):
+    def connect(self) -> socket.socket:
         """A socket that is connected to this address. It is tried for some seconds: the exchange may just be starting."""
         last = time.monotonic() + CONNECT_SECONDS
         while True:
             try:
-                return self._connected()
+                return self._connect()
             except OSError as error:
                 if time.monotonic() > last:
                     raise Refused(f"{self.word} cannot be reached: {error.strerror or error}") from None
             time.sleep(0.1)
 
-    def _connected(self):
+    def _connect(self) -> socket.socket:
         if self.path is None:
             return without_delay(socket.create_connection((self.host, self.port)))
         connection = socket.socket(socket.AF_UNIX)
@@ -74,7 +74,7 @@ class Address:
             raise
         return connection
 
-    def listening(self, kind: int = socket.SOCK_STREAM) -> Listener:
+    def listen(self, kind: int = socket.SOCK_STREAM) -> Listener:
         """A socket that listens at this address. Only a Unix socket can be of another kind."""
         try:
             if self.path is None:
@@ -101,7 +101,7 @@ class Address:
         found = identity(path)
         if found is None:
             return
-        if found[2] != stat.S_IFSOCK:
+        if found.kind != stat.S_IFSOCK:
             raise self._refused(f"{path} is there, and it is not a socket")
         # A datagram socket is refused by a file without a process, and never connects to a socket of another kind.
         with socket.socket(socket.AF_UNIX, socket.SOCK_DGRAM) as probe:
@@ -120,7 +120,7 @@ class Listener:
     sock: socket.socket
     place: str
     path: str | None = None
-    file: tuple[int, int, int] | None = None
+    file: Identity | None = None
 
     def close(self) -> None:
         """Closes the socket, and removes its file, but no other one that has come to its place."""
@@ -156,7 +156,7 @@ def is_locked(handle: int) -> bool:
     return True
 
 
-def read_address(word):
+def read_address(word: str) -> Address:
     kind, _, rest = word.partition(":")
     if kind == "unix" and rest:
         return Address(word, path=rest)
@@ -166,7 +166,17 @@ def read_address(word):
     raise Refused(f"{word} is no address: it is unix:PATH or tcp:HOST:PORT")
 
 
-def without_delay(connection):
+def receive(connection: socket.socket, most: int = PIECE) -> bytes | None:
+    """What has come over a connection: no octets if its other side is closed, and None if nothing has come yet."""
+    try:
+        return connection.recv(most)
+    except BlockingIOError:
+        return None
+    except OSError:
+        return b""
+
+
+def without_delay(connection: socket.socket) -> socket.socket:
     """A connection of TCP that sends a line at once."""
     if connection.family != socket.AF_UNIX:
         connection.setsockopt(socket.IPPROTO_TCP, socket.TCP_NODELAY, 1)

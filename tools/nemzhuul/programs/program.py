@@ -88,9 +88,10 @@ def build_unproved(why: str) -> None:
     UNPROVED.unlink(missing_ok=True)
     with tempfile.TemporaryDirectory(dir=UNPROVED.parent) as folder:
         words = ["rt", "try", "--seconds", "600", "--", "gen", "1", "200"]  # long enough for the program to be found
-        streams = dict.fromkeys(("stdin", "stdout", "stderr"), subprocess.DEVNULL)
+        none = subprocess.DEVNULL
+        environment = {**os.environ, "TMPDIR": folder}
         begun = said = time.monotonic()
-        build = subprocess.Popen(words, cwd=PROGRAM.parent.parent, env={**os.environ, "TMPDIR": folder}, **streams)
+        build = subprocess.Popen(words, cwd=PROGRAM.parent.parent, env=environment, stdin=none, stdout=none, stderr=none)
         while build.poll() is None:
             if time.monotonic() - said >= BUILD_SECONDS:
                 said = time.monotonic()
