@@ -16,6 +16,7 @@ from nemzhuul.signalling import lapd, q931
 
 IDLE = 0xD5
 PLACES = 30
+CHANNELS = (*range(1, 16), *range(17, 32))  # of a line, by their places
 FRAMES_PER_SECOND = 8000
 
 ROOMS = 64
