@@ -1,6 +1,6 @@
 """What the tests of the tools share: a tool that runs, the examples, captures, sounds, and A-law by its formulas.
 
-A test imports this module first: it finds the package of tools/. `main` runs the tests of one file.
+A test imports this module first: it finds the package of tools/ and the modules of .ci/. `main` runs the tests of one file.
 """
 
 from __future__ import annotations
@@ -20,7 +20,7 @@ from typing import IO, AnyStr, NamedTuple, TypeVar
 from unittest import mock
 
 TOP = Path(__file__).resolve().parents[2]
-sys.path.insert(0, str(TOP / "tools"))
+sys.path[:0] = [str(TOP / "tools"), str(TOP / ".ci")]
 sys.dont_write_bytecode = True
 from nemzhuul.programs.program import NAMED, PROGRAM, misfit  # noqa: E402
 

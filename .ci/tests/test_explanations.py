@@ -3,12 +3,12 @@
 from __future__ import annotations
 
 import re
-import runpy
 import shutil
 
 import support
+import example_tables
 from nemzhuul.traces import reading
-from support import EXAMPLES, TOP, InFolder, slow, tool
+from support import EXAMPLES, InFolder, slow, tool
 
 
 class Explanations(InFolder):
@@ -52,12 +52,11 @@ class Explanations(InFolder):
     @slow
     def test_every_refusal_of_the_tables(self) -> None:
         """Each input that the program refuses is refused here at the same line with the same word."""
-        tables = runpy.run_path(str(TOP / ".ci" / "tables"))
-        rows = [(*row, name == "follows") for name in ("inputs", "follows") for row in tables["rows"](name)]
+        rows = [(*row, name == "follows") for name in ("inputs", "follows") for row in example_tables.rows(name)]
         count = 0
         for wanted, text, is_followed in rows:
-            content = tables["written_out"](text)
-            refusal = re.search(rb"^refused .*\n\Z", tables["written_out"](wanted), re.MULTILINE)
+            content = example_tables.written_out(text)
+            refusal = re.search(rb"^refused .*\n\Z", example_tables.written_out(wanted), re.MULTILINE)
             if refusal is None and not is_followed or len(content) > reading.MAX_BYTES:
                 continue
             count += 1
