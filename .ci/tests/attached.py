@@ -9,7 +9,8 @@ import subprocess
 from collections.abc import Sequence
 from pathlib import Path
 
-from support import IDLE, PATIENCE, PROGRAM, InFolder, command, environment, packets, report_of, signals, stream
+from support import IDLE, PATIENCE, InFolder, command, environment, packets, report_of, signals, stream
+from nemzhuul.programs.program import PROGRAM
 
 
 class Raw:

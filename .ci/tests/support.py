@@ -22,7 +22,7 @@ from unittest import mock
 TOP = Path(__file__).resolve().parents[2]
 sys.path[:0] = [str(TOP / "tools"), str(TOP / ".ci")]
 sys.dont_write_bytecode = True
-from nemzhuul.programs.program import NAMED, PROGRAM, misfit  # noqa: E402
+from nemzhuul.programs.program import misfit  # noqa: E402
 
 signal.signal(signal.SIGINT, signal.default_int_handler)  # a shell has its background commands ignore it, and so their tools
 

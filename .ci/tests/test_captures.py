@@ -7,7 +7,8 @@ import struct
 import subprocess
 
 import support
-from support import EXAMPLES, PROGRAM, TRACES, InFolder, Ran, is_refused, needs_program, of_blocks, of_packets, packets, report_of, signals, slow, tool
+from nemzhuul.programs.program import PROGRAM
+from support import EXAMPLES, TRACES, InFolder, Ran, is_refused, needs_program, of_blocks, of_packets, packets, report_of, signals, slow, tool
 
 
 class Captures(InFolder):

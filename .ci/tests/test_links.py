@@ -7,8 +7,9 @@ import re
 import subprocess
 
 import support
+from nemzhuul.programs.program import PROGRAM
 from nemzhuul.signalling import lapd, links
-from support import LINKED, PROGRAM, InFolder, needs_program, packets, report_of, sequence_of, signals, slow, tool
+from support import LINKED, InFolder, needs_program, packets, report_of, sequence_of, signals, slow, tool
 
 
 SETUP = bytes.fromhex("080200010504038090A31803A98381700480313031")

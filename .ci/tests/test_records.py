@@ -11,7 +11,8 @@ from pathlib import Path
 from typing import Dict
 
 import support
-from support import EXAMPLES, PROGRAM, TRACES, InFolder, is_refused, needs_program, report_of, slow, tool
+from nemzhuul.programs.program import PROGRAM
+from support import EXAMPLES, TRACES, InFolder, is_refused, needs_program, report_of, slow, tool
 
 Row = Dict[str, str]  # a record, by the names of its columns
 

@@ -8,8 +8,9 @@ import unittest
 from pathlib import Path
 
 import support
+from nemzhuul.programs.program import PROGRAM
 from nemzhuul.traces import following, reading
-from support import PROGRAM, needs_program, silence, tool
+from support import needs_program, silence, tool
 
 
 class Traffic(unittest.TestCase):
