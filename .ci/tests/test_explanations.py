@@ -7,7 +7,7 @@ import shutil
 
 import support
 import example_tables
-from nemzhuul.traces import reading
+from nemzhuul.traces import events, reading
 from support import EXAMPLES, InFolder, slow, tool
 
 
@@ -57,7 +57,7 @@ class Explanations(InFolder):
         for wanted, text, is_followed in rows:
             content = example_tables.written_out(text)
             refusal = re.search(rb"^refused .*\n\Z", example_tables.written_out(wanted), re.MULTILINE)
-            if refusal is None and not is_followed or len(content) > reading.MAX_BYTES:
+            if refusal is None and not is_followed or len(content) > events.MAX_BYTES:
                 continue
             count += 1
             (self.folder / "some.trace").write_bytes(content)

@@ -16,7 +16,7 @@ from pathlib import Path
 import support
 from nemzhuul.pictures import fabric
 from nemzhuul.signalling import q931
-from nemzhuul.traces import following, reading
+from nemzhuul.traces import events, following, reading
 from support import EXAMPLES, IDLE, TRACES, is_refused, report_of, signals, silence, slow, tool
 
 
@@ -64,10 +64,10 @@ class Elements(HTMLParser):
         return [element for element in self.all if element.tag == tag]
 
 
-def octet_at(octets: Mapping[int, bytes], slot: reading.Slot) -> int:
+def octet_at(octets: Mapping[int, bytes], slot: events.Slot) -> int:
     """The octet of a slot in a frame."""
     row = octets.get(slot.line)
-    return IDLE if row is None else row[reading.place_of_channel(slot.channel)]
+    return IDLE if row is None else row[events.place_of_channel(slot.channel)]
 
 
 class Pages(unittest.TestCase):

@@ -24,18 +24,8 @@ from nemzhuul.programs.program import NAMED, PROGRAM, REMEDY, UNPROVED, misfit, 
 from nemzhuul.signalling.captures import CaptureWriter
 from nemzhuul.signalling.lapd import frame_text
 from nemzhuul.signalling.q931 import SETUP, message_text
-from nemzhuul.traces.reading import (
-    FRAMES_PER_SECOND,
-    NUMERAL,
-    Arrival,
-    Frame,
-    Link,
-    LinkArrival,
-    TraceReader,
-    is_said,
-    lines_of,
-    take_lines,
-)
+from nemzhuul.traces.events import FRAMES_PER_SECOND, Arrival, Frame, Link, LinkArrival
+from nemzhuul.traces.reading import NUMERAL, TraceReader, is_said, lines_of, take_lines
 
 USAGE = """usage: tools/attach [OPTION ..] [--line L ADDRESS ..] [--link L ADDRESS ..] SETTINGS
 runs the exchange that the file SETTINGS begins (a trace without messages and frames), 8000 frames a second. One

@@ -7,7 +7,8 @@ from typing import NamedTuple
 
 from nemzhuul.command_line import NAME, Refused, WrongWords, say
 from nemzhuul.sound.wave import a_law_wave
-from nemzhuul.traces.reading import IDLE, numeral, place_of_channel, read_report
+from nemzhuul.traces.events import IDLE, place_of_channel
+from nemzhuul.traces.reading import numeral, read_report
 
 USAGE = """usage: tools/audio REPORT LINE CHANNEL [LINE CHANNEL ..] >SOUND
 writes what a channel (1 to 15, 17 to 31) of a line (0 to 31) was sent, as a WAV file of G.711 A-law;

@@ -30,8 +30,8 @@ from nemzhuul.signalling.endpoints import (
 )
 from nemzhuul.signalling.q931 import CALL_REJECTED, NORMAL_CALL_CLEARING, cause_text, message_text, read_message
 from nemzhuul.sound.wave import a_law_wave, read_sound
+from nemzhuul.traces.events import FRAMES_PER_SECOND, IDLE, PLACES, place_of_channel
 from nemzhuul.traces.phrases import Act, Phrases, Values
-from nemzhuul.traces.reading import FRAMES_PER_SECOND, IDLE, PLACES, place_of_channel
 
 USAGE = """usage: tools/endpoint [--overwrite] ADDRESS [SCRIPT]
 attaches to the line of tools/attach at ADDRESS, unix:PATH or tcp:HOST:PORT, and does in turn what each line of the file

@@ -8,7 +8,8 @@ from collections.abc import Sequence
 
 from nemzhuul.command_line import Refused, WrongWords
 from nemzhuul.signalling.lapd import USUAL_TIMERS
-from nemzhuul.traces.reading import METER, Frame, LineError, TraceReader, lines_of, read_run, reply, take_lines
+from nemzhuul.traces.events import Frame
+from nemzhuul.traces.reading import METER, LineError, TraceReader, lines_of, read_run, reply, take_lines
 
 USAGE = """usage: tools/explain TRACE [REPORT]
        tools/explain --status [N]

@@ -11,8 +11,9 @@ from collections.abc import Callable, Iterable, Iterator, Sequence
 from typing import NamedTuple
 
 from nemzhuul.command_line import WrongWords
+from nemzhuul.traces.events import PLACES, Step, Trace
 from nemzhuul.traces.following import Run
-from nemzhuul.traces.reading import PLACES, Step, Trace, read_run
+from nemzhuul.traces.reading import read_run
 
 USAGE = """usage: tools/moves [--svg] TRACE REPORT
 plots the taken slots and the moved paths of the run, event by event, as text or as SVG"""

@@ -12,8 +12,9 @@ from nemzhuul.command_line import WrongWords
 from nemzhuul.pictures.drawing import Pictures, waveform
 from nemzhuul.pictures.fabric import STRICT_SLOTS, Fabric
 from nemzhuul.pictures.ladders import frames_text, name, note, place, title
+from nemzhuul.traces.events import FRAMES_PER_SECOND, IDLE, PLACES, Slot, Step, Trace, place_of_channel
 from nemzhuul.traces.following import Call, Row, Run
-from nemzhuul.traces.reading import FRAMES_PER_SECOND, IDLE, PLACES, Slot, Step, Trace, place_of_channel, read_run
+from nemzhuul.traces.reading import read_run
 
 USAGE = """usage: tools/page TRACE REPORT >PAGE
 writes one HTML file: each call as a ladder, what has each channel, the internal slots of each line, and a player

@@ -14,7 +14,8 @@ from typing import NamedTuple
 
 from nemzhuul.command_line import WrongWords
 from nemzhuul.signalling.captures import CaptureWriter
-from nemzhuul.traces.reading import Arrival, LinkArrival, Step, read_run
+from nemzhuul.traces.events import Arrival, LinkArrival, Step
+from nemzhuul.traces.reading import read_run
 
 USAGE = """usage: tools/pcap TRACE REPORT >CAPTURE
 writes the messages of the run as a capture file for Wireshark, Q.931 over LAPD"""

@@ -10,7 +10,8 @@ from collections.abc import Iterable, Iterator
 
 from nemzhuul.command_line import Refused, WrongWords
 from nemzhuul.signalling.lapd import USUAL_TIMERS, read_frame
-from nemzhuul.traces.reading import LinkArrival, Reply, Trace, is_said, lines_of, read_run
+from nemzhuul.traces.events import LinkArrival, Reply, Trace
+from nemzhuul.traces.reading import is_said, lines_of, read_run
 
 USAGE = """usage: tools/plain TRACE REPORT >TRACE
 writes the trace without data links, for `tst run` and the other tools. A frame that arrives becomes a line `M`, `up` or

@@ -7,8 +7,9 @@ from typing import NamedTuple
 
 from nemzhuul.command_line import WrongWords
 from nemzhuul.signalling.q931 import cause_name, printable
+from nemzhuul.traces.events import FRAMES_PER_SECOND, Slot
 from nemzhuul.traces.following import Call, Run, follow
-from nemzhuul.traces.reading import FRAMES_PER_SECOND, Slot, read_run
+from nemzhuul.traces.reading import read_run
 
 USAGE = """usage: tools/records TRACE REPORT >CSV
 writes a call detail record for each call of the run, in the order of their SETUPs, as CSV with a header line. It

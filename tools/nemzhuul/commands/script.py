@@ -11,8 +11,8 @@ from nemzhuul.programs.program import TEXT, Trace
 from nemzhuul.signalling.endpoints import Endpoints, Where, place_of
 from nemzhuul.signalling.q931 import CALL_REJECTED, NORMAL_CALL_CLEARING, message_text
 from nemzhuul.sound.wave import read_sound
+from nemzhuul.traces.events import IDLE, MAX_NUMBERS, MAX_TONE_DIGITS, PLACES, Slot, place_of_channel
 from nemzhuul.traces.phrases import Act, Phrases, Values
-from nemzhuul.traces.reading import IDLE, MAX_NUMBERS, MAX_TONE_DIGITS, PLACES, Slot, place_of_channel
 
 USAGE = """usage: tools/script [--program PROGRAM] FILE >TRACE
 writes the trace that the lines of FILE tell of; a line that begins with # is a comment. SLOT is `line L

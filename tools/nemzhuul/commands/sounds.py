@@ -8,7 +8,7 @@ from pathlib import Path
 from nemzhuul.command_line import WrongWords
 from nemzhuul.outputs import check_output, write_file
 from nemzhuul.sound.wave import linear_wave
-from nemzhuul.traces.reading import FRAMES_PER_SECOND
+from nemzhuul.traces.events import FRAMES_PER_SECOND
 
 USAGE = """usage: tools/sounds [--overwrite] FOLDER [SECONDS]
 makes three sounds in a folder, of one second or of SECONDS (0.02 to 8): low.wav, a note of 262 hertz; high.wav,

@@ -28,7 +28,7 @@ from nemzhuul.signalling.q931 import (
     number,
     write_message,
 )
-from nemzhuul.traces.reading import FRAMES_PER_SECOND, PLACES, Slot
+from nemzhuul.traces.events import FRAMES_PER_SECOND, PLACES, Slot
 
 USAGE = """usage: tools/traffic SEED CALLS >TRACE
        tools/traffic SEED CALLS --rate N [--holding S] [--ringing S] [--busy P] [--unanswered P] [--overlap P]

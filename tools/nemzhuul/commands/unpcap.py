@@ -9,7 +9,8 @@ from nemzhuul.command_line import NAME, Refused, WrongWords, say, watch
 from nemzhuul.programs.program import Trace
 from nemzhuul.signalling.captures import Signal, read_capture
 from nemzhuul.signalling.q931 import INFORMATION, SETUP, message_text, printable, read_message
-from nemzhuul.traces.reading import DIGITS, FRAMES_PER_SECOND, MAX_EVENTS, MAX_MESSAGE_DIGITS, MAX_NUMBERS
+from nemzhuul.traces.events import FRAMES_PER_SECOND, MAX_EVENTS, MAX_MESSAGE_DIGITS, MAX_NUMBERS
+from nemzhuul.traces.reading import DIGITS
 
 USAGE = """usage: tools/unpcap [--users | --replay] CAPTURE >TRACE
 writes the Q.931 messages of a capture (pcap or pcapng, link type LINUX_LAPD or LAPD) as a trace.

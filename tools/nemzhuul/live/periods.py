@@ -7,7 +7,7 @@ import time
 from pathlib import Path
 
 from nemzhuul.command_line import NAME, say
-from nemzhuul.traces.reading import FRAMES_PER_SECOND
+from nemzhuul.traces.events import FRAMES_PER_SECOND
 
 LATE = 0.1  # seconds from which on it is said
 SAID = 1  # seconds between two times

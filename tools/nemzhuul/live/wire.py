@@ -18,7 +18,7 @@ from dataclasses import dataclass
 
 from nemzhuul.command_line import Refused
 from nemzhuul.outputs import Identity, identity
-from nemzhuul.traces.reading import FRAME_DIGITS, IDLE, MAX_MESSAGE_DIGITS, PLACES
+from nemzhuul.traces.events import FRAME_DIGITS, IDLE, MAX_MESSAGE_DIGITS, PLACES
 
 IDLE_ROW = b"%02X" % IDLE * PLACES
 FRAMES = re.compile(rb"(?:F [0-9A-Fa-f]{%d}\n)+" % FRAME_DIGITS)

@@ -16,8 +16,8 @@ from nemzhuul.pictures.fabric import End, Fabric, Path
 from nemzhuul.pictures.ladders import frames_text
 from nemzhuul.signalling.q931 import message_text
 from nemzhuul.sound.alaw import value_of
+from nemzhuul.traces.events import PLACES, Arrival, Event, Frame, Free, Link, Moved, Nail, Reply, Seat, Slot
 from nemzhuul.traces.following import Run, Use
-from nemzhuul.traces.reading import PLACES, Arrival, Event, Frame, Free, Link, Moved, Nail, Reply, Seat, Slot
 
 COLUMN, WIDER = 18, 9  # the width of a column, and how much wider it is with twice the frames
 MAX_COLUMNS = 2000

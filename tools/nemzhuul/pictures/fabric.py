@@ -11,8 +11,8 @@ from dataclasses import dataclass
 from typing import NamedTuple
 
 from nemzhuul.command_line import Refused
+from nemzhuul.traces.events import PLACES, Moved, Slot, Trace, place_of_channel
 from nemzhuul.traces.following import Run
-from nemzhuul.traces.reading import PLACES, Moved, Slot, Trace, place_of_channel
 
 SLOTS, STRICT_SLOTS = 30, 59  # internal slots of a line
 

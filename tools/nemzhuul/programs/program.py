@@ -15,7 +15,8 @@ from typing import Optional
 
 from nemzhuul.command_line import NAME, Refused, say
 from nemzhuul.programs.built import PROVED_PARTS, TOP, UNPROVED_PARTS, Sources, program_in, sources_of
-from nemzhuul.traces.reading import MAX_BYTES, MAX_EVENTS, METER, Reply, Sent, reply
+from nemzhuul.traces.events import MAX_BYTES, MAX_EVENTS, Reply, Sent
+from nemzhuul.traces.reading import METER, reply
 
 BUILT = program_in(TOP / "crates" / "tst" / "out")  # proved
 BUILT_UNPROVED = program_in(TOP / "tools" / "out")

@@ -12,7 +12,7 @@ from typing import NamedTuple
 
 from nemzhuul.command_line import Refused, watch
 from nemzhuul.signalling.lapd import I_FRAME_HEADER, MODULUS, LinkFrame, write_frame
-from nemzhuul.traces.reading import FRAMES_PER_SECOND
+from nemzhuul.traces.events import FRAMES_PER_SECOND
 
 MAGIC = 0xA1B2C3D4  # of a pcap file with microseconds, in the order of octets that its writer uses
 NANOSECONDS = 0xA1B23C4D  # of one with nanoseconds

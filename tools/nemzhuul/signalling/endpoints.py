@@ -14,9 +14,9 @@ from typing import NamedTuple, Union
 from nemzhuul.command_line import Refused
 from nemzhuul.signalling.q931 import (
     ALERTING,
-    CALL_PROCEEDING,
     CALLED_PARTY_NUMBER,
     CALLING_PARTY_NUMBER,
+    CALL_PROCEEDING,
     CONNECT,
     CONNECT_ACKNOWLEDGE,
     DISCONNECT,
@@ -39,7 +39,7 @@ from nemzhuul.signalling.q931 import (
     sending_complete,
     write_message,
 )
-from nemzhuul.traces.reading import Slot
+from nemzhuul.traces.events import Slot
 
 Where = Union[int, Slot]  # a line, or a channel of one
 

@@ -11,7 +11,7 @@ from typing import NamedTuple
 
 from nemzhuul.command_line import Refused
 from nemzhuul.sound.alaw import octet_of
-from nemzhuul.traces.reading import FRAMES_PER_SECOND
+from nemzhuul.traces.events import FRAMES_PER_SECOND
 
 LINEAR = 1  # the format tags
 A_LAW = 6

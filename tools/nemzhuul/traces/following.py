@@ -24,9 +24,9 @@ from nemzhuul.signalling.q931 import (
     DESTINATION_OUT_OF_ORDER,
     DISCONNECT,
     INFORMATION,
+    NORMAL_CALL_CLEARING,
     NO_ANSWER_FROM_USER,
     NO_USER_RESPONDING,
-    NORMAL_CALL_CLEARING,
     NULL,
     RELEASE,
     RELEASE_COMPLETE,
@@ -38,7 +38,7 @@ from nemzhuul.signalling.q931 import (
     Message,
     read_message,
 )
-from nemzhuul.traces.reading import (
+from nemzhuul.traces.events import (
     PLACES,
     Arrival,
     Event,

@@ -12,7 +12,8 @@ from typing import NamedTuple, Union
 
 from nemzhuul.command_line import Refused
 from nemzhuul.signalling.q931 import USUAL_TIMERS
-from nemzhuul.traces.reading import DIGITS, MAX_MESSAGE_DIGITS, NUMERAL, ROOMS, Slot, place_of_channel
+from nemzhuul.traces.events import MAX_MESSAGE_DIGITS, ROOMS, Slot, place_of_channel
+from nemzhuul.traces.reading import DIGITS, NUMERAL
 
 MAX_OCTETS = MAX_MESSAGE_DIGITS // 2  # of a message
 MAX_CAUSE = 127
