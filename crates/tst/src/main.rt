@@ -12,6 +12,7 @@
 //! no contract. Nothing is proved about standard input and output, so the tests here run whole traces over in-memory
 //! streams.
 #![tactic(auto)]
+
 ghost use Rattle.std.specs.Prelude.{[]};
 
 #[cfg(test)]
