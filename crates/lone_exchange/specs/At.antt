@@ -1,8 +1,8 @@
 -- An exchange that one caller drives, and its exchange state. Source: this project.
-use Rattle.std.specs.Prelude.{◌≡◌, ℕ, ◌≤◌, ◌++◌, List, [], length, All}
+use Rattle.std.specs.Prelude.{◌≡◌, ℕ, ◌≤◌, ◌++◌, List, [], length, replicate, All}
 use Rattle.circuit_model.specs.declared.circuit.Circuit.{Circuit}
 use Rattle.circuit_model.specs.Dimensions.{Dimensions}
-use Rattle.circuit_model.specs.FrameInput.{Input}
+use Rattle.circuit_model.specs.FrameInput.{Input, idle_octet}
 use Rattle.circuit_model.specs.Hears.{Plays}
 use Rattle.circuit_model.specs.Ports.{Ports}
 use Rattle.circuit_map.specs.Connections.{Connections}
@@ -68,6 +68,10 @@ pub record AreUnused {E : Type 0} (carries : Carrying E) (frames : E → ℕ) (s
   pub number : frames engine ≡ 0
   pub sized : sizes engine ≡ d
   pub image : IsFrameTool d tool
+
+-- the octets of each of the external lines are idle
+unfoldable pub idle_lines : ℕ → List (List ℕ)
+idle_lines external = replicate external (replicate 30 idle_octet)
 
 -- the exchange is in the initial state of each setting of this size
 abbrev pub StartsAt : {P E : Type 0} → Carrying E → (E → ℕ) → (E → Dimensions) → ℕ → ℕ → ℕ → LoneExchange P E → Type 0

@@ -13,7 +13,7 @@ ghost use Rattle.exchange_events.specs.Sound.{Fits};
 ghost use Rattle.call_profile.specs.CallsTold.{calls_kept};
 ghost use Rattle.call_profile.specs.Step.{MovesAtMost};
 ghost use Rattle.call_profile.specs.World.{World};
-ghost use Rattle.lone_exchange.specs.At.{Appends, HasReplied, HasPlayed, IsSomewhere, Passes, PlaysDue, Replies, StartsAt};
+ghost use Rattle.lone_exchange.specs.At.{Appends, HasReplied, HasPlayed, IsSomewhere, Passes, PlaysDue, Replies, StartsAt, idle_lines};
 
 use crate::opening::{frame_parts, lines_of};
 use call_control::{CallControl, Received};
@@ -46,7 +46,7 @@ pub struct LoneExchange<P: PathMap, C: Carrier> {
 
 impl<P: PathMap + Drop, C: Carrier> LoneExchange<P, C> {
     /// Returns an exchange before its first event, with these numbers of external and bridge lines, over an empty path
-    /// map.
+    /// map. The octets of each line are idle.
     ///
     /// # Errors
     ///
@@ -63,6 +63,7 @@ impl<P: PathMap + Drop, C: Carrier> LoneExchange<P, C> {
         requires paths { IsUnused (external + bridges) (P.width paths) (P.depth paths) (P.layout paths) }
         ensures start { IfOk result (StartsAt C.carries C.next C.sizes external bridges (P.depth paths)) }
         ensures bound { IfOk result (λ x. x.control.map.bound ≡ P.bound paths) }
+        ensures idle { IfOk result (λ x. x.octets.items ≡ idle_lines external) }
     {
         let slots = paths.slots();
         let control = lines_of(alloc, external, bridges, timers, paths)?;
@@ -121,6 +122,7 @@ impl<P: PathMap, C: Carrier> LoneExchange<P, C> {
             (Message line octets.now) self.old Sent self.new }
         ensures few { MovesAtMost self.old.control.map.bound (reply_of Sent self.new.context.out) }
         ensures bound { self.new.control.map.bound ≡ self.old.control.map.bound }
+        ensures octets { self.new.octets ≡ self.old.octets }
     {
         self.context.out.clear();
         self.context.ahead = None;

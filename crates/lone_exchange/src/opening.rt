@@ -6,7 +6,7 @@ ghost use Rattle.circuit_model.specs.Ports.{free_ports};
 ghost use Rattle.circuit_map.specs.Connections.{Represents};
 ghost use Rattle.call_profile.specs.Legs.{no_legs};
 ghost use Rattle.exchange_core.specs.Beginnings.{IsUnused};
-ghost use Rattle.lone_exchange.specs.At.{AreUnused, HoldsNothing, IsFrameTool, size};
+ghost use Rattle.lone_exchange.specs.At.{AreUnused, HoldsNothing, IsFrameTool, idle_lines, size};
 
 use call_control::CallControl;
 use call_timers::Timers;
@@ -50,12 +50,14 @@ pub(crate) fn frame_parts<C: Carrier>(
     requires slots { 1 ≤ slots × (slots ≤ 59) }
     ensures ready { IfOk result (λ r. AreUnused C.carries C.next C.sizes (size external bridges slots) r.0 r.1) }
     ensures lines { IfOk result (λ r. length r.2.items ≡ external) }
+    ensures idle { IfOk result (λ r. r.2.items ≡ idle_lines external) }
 {
     let (tool, octets) = frame_buffers(alloc, external, bridges, slots)?;
     Ok((C::new(alloc, external, bridges, slots)?, tool, octets))
 }
 
 // Returns the control memory of the first frame, and the buffer for its octets.
+#[tactic(auto, unfolding(crate::specs::At::idle_lines))]
 fn frame_buffers(
     alloc: Global,
     external: u8,
@@ -67,6 +69,7 @@ fn frame_buffers(
     requires slots { 1 ≤ slots × (slots ≤ 59) }
     ensures tool { IfOk result (λ r. IsFrameTool (size external bridges slots) r.0) }
     ensures lines { IfOk result (λ r. length r.1.items ≡ external) }
+    ensures idle { IfOk result (λ r. r.1.items ≡ idle_lines external) }
 {
     let octets = vec![in alloc; [IDLE; 30]; usize::from(external)]?;
     let image = Image::new(alloc, external, bridges, slots)?;
