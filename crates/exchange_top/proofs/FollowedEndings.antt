@@ -1,26 +1,19 @@
 -- The endings of lines that are followed, by other words for what is due.
-use Rattle.std.proofs.Common.{◌≡◌, ◌+◌, ℕ, List, [], ◌∷◌, length, Option, Some, None, refl, sym, ap, ◌∙◌, subst, arith}
-use Rattle.std.proofs.lemmas.List.Elements.{All-nil}
+use Rattle.std.proofs.Common.{ℕ, List, Option, refl, sym, subst}
 use Rattle.circuit_model.specs.Dimensions.{Dimensions}
 use Rattle.circuit_model.specs.Hears.{Plays}
 use Rattle.exchange_events.specs.declared.record.CallRecord.{CallRecord}
 use Rattle.std.specs.Option.{option_map}
 use Rattle.meters.specs.Changing.{handed_in, steps_text}
 use Rattle.linked_exchange.specs.declared.exchange.LinkedExchange.{LinkedExchange}
-use Rattle.linked_text.specs.LinkEffects.{linked_in, plain_told}
-use Rattle.linked_text.specs.LinkLines.{Content, LinkSoFar}
-use Rattle.trace_text.specs.declared.said.Sizes.{Sizes}
-use Rattle.trace_text.specs.TraceGrammar.{events_in, sizes_in}
-use Rattle.call_profile.specs.Step.{MovesAtMost}
-use Rattle.followed_events.specs.Told.{MovesFewIn, MovesFewSaid}
-use Rattle.followed_events.specs.InTurn.{MovesFewInTurn, events_by, events_in_turn, setting_in_turn, world_in_turn}
-use Rattle.followed_events.proofs.LinkedSteppingLemmas.{early_few}
-use Rattle.followed_events.proofs.TurnSteps.{no_inputs}
+use Rattle.linked_text.specs.LinkLines.{LinkSoFar}
+use Rattle.followed_events.specs.InTurn.{setting_in_turn, world_in_turn}
 use Rattle.lone_exchange.specs.declared.exchange.LoneExchange.{LoneExchange}
 use Rattle.lone_exchange.specs.At.{Carrying}
-use Rattle.exchange_top.specs.Following.{AreAnswered, FollowsTo, HasReturned, IsAnswered, IsEngineOf, course, dues_of, follow_parties}
-use Rattle.exchange_top.specs.Handling.{HasHandled, IsDriven, IsDrivenBy, IsEngineAfter, IsLinkedDriven, engine_returned, exchange_of, handler_dues}
+use Rattle.exchange_top.specs.Following.{AreAnswered, FollowsTo, HasReturned, HaveMovedFew, IsAnswered, IsEngineOf, course, dues_of, follow_parties}
+use Rattle.exchange_top.specs.Handling.{HasHandled, IsEngineAfter, engine_returned, exchange_of, handler_dues}
 use Rattle.exchange_top.specs.Outcomes.{HandsOut}
+use Rattle.exchange_top.proofs.Handled.{few_handled}
 use Rattle.line_follower.specs.Following.{Dues, HasFollowed, IsSettled}
 use Rattle.line_follower.specs.declared.following.Following.{Following}
 use Rattle.line_follower.specs.declared.following.Following.TheVariants as ended
@@ -33,37 +26,25 @@ module _ {M P E : Type 0} (stands : M → List CallRecord → Type 0) (text : M 
   abbrev mine : Dues
   mine = handler_dues stands text carries frames sizes plays slots moves old old_spare on spare heading count exchange linked
 
+  -- each new path of these lines moved few live paths
+  few : (ls : List (List ℕ)) (said : List ℕ) (h : HasHandled carries frames sizes (course plays slots moves stands text old old_spare on spare) heading count exchange linked ls said)
+      → HaveMovedFew slots moves h.told
+  few ls said h = few_handled stands text carries frames sizes plays slots moves old old_spare on spare heading count exchange linked ls said h
+
   handler_too : IsToo mine (dues_of (course plays slots moves stands text old old_spare on spare))
   handler_too = record {
-    answers = λ ls said h. record { told = h.told; meets = h.meets; text = h.text; meters = h.meters };
+    answers = λ ls said h. record { told = h.told; meets = h.meets; few = few ls said h; text = h.text; meters = h.meters };
     refuses = λ ls said due. due;
     strands = λ ls said due. due;
     ends = λ ls said f. f.whole;
     refuses_end = λ ls said due. due;
   }
 
-  -- each new path of these lines moved few live paths
-  few_driven : (told : List Content) (ls : List ℕ) → linked_in told ≡ ls → IsDrivenBy carries frames sizes slots moves ls told exchange linked
-      → (z : Sizes) → sizes_in (plain_told told) ≡ Some z → MovesFewInTurn slots moves z told
-  few_driven told [] is driven z known = subst (MovesFewIn moves (setting_in_turn slots z told)) (sym events) (plain exchange driven.0)
-    where
-      events : events_in_turn slots z told ≡ events_in (plain_told told)
-      events = ap (λ (l : List ℕ). events_by l slots z told) is
-
-      plain : (x : Option (LoneExchange P E)) → IsDriven carries frames sizes slots moves (plain_told told) x → MovesFewSaid slots moves z (plain_told told)
-      plain None none = subst (MovesFewIn moves (setting_in_turn slots z told)) (sym none) (All-nil (MovesAtMost (moves (z.external + z.bridges))))
-      plain (Some x) (some, at) = let both : Some at.header ≡ Some z = sym at.given ∙ known in let same : at.header ≡ z = grind (arith, both) in subst (λ (v : Sizes). MovesFewSaid slots moves v (plain_told told)) same at.few
-  few_driven told (line ∷ lines) is driven z known = by linked driven.1
-    where
-      by : (y : Option (LinkedExchange P E)) → IsLinkedDriven carries frames sizes slots moves told y → MovesFewInTurn slots moves z told
-      by None none = early_few slots moves told z (let long = ap length is in omega (arith, long)) (no_inputs told none)
-      by (Some y) (some, at) = let both : Some at.header ≡ Some z = sym at.given ∙ known in let same : at.header ≡ z = grind (arith, both) in subst (λ (v : Sizes). MovesFewInTurn slots moves v told) same at.few
-
   pub answered : (heard said : List ℕ) → IsSettled (HasHandled carries frames sizes (course plays slots moves stands text old old_spare on spare) heading count exchange linked) heard said
       → IsAnswered plays slots moves (λ steps. steps_text text steps (handed_in old old_spare)) heard said
   answered heard said settled =
       settled_too (HasHandled carries frames sizes (course plays slots moves stands text old old_spare on spare) heading count exchange linked) (AreAnswered plays slots moves (λ steps. steps_text text steps (handed_in old old_spare)))
-      (λ ls s h. record { told = h.told; meets = h.meets; few = few_driven h.told (linked_in h.told) refl h.driven; text = h.text }) heard said settled
+      (λ ls s h. record { told = h.told; meets = h.meets; few = few ls s h; text = h.text }) heard said settled
 
   engine_after : (ls : List (List ℕ)) → IsEngineAfter carries frames sizes slots moves ls exchange linked
       → IsEngineOf (follow_parties plays slots moves sizes carries (option_map (λ (x : LoneExchange P E). x.engine) (exchange_of exchange linked)) stands text old old_spare on spare) ls

@@ -1,11 +1,12 @@
 -- A handler after one more line.
 use Rattle.std.proofs.Common.{◌≡◌, ℕ, ◌+◌, ◌<◌, ◌≤◌, List, [], ◌∷◌, ◌++◌, length, Option, Some, None, Ok, Err, ◌⊎◌, inl, inr, refl, sym, ap, ◌∙◌, subst, arith, append-nil, length-append}
+use Rattle.std.proofs.lemmas.List.Elements.{All-nil}
 use Rattle.circuit_model.specs.Dimensions.{Dimensions}
 use Rattle.circuit_model.specs.Hears.{Plays}
 use Rattle.exchange_events.specs.declared.record.CallRecord.{CallRecord}
 use Rattle.exchange_events.specs.declared.trace.Event.{Event}
 use Rattle.exchange_events.specs.Sizes.{Setting}
-use Rattle.call_profile.specs.Step.{next, world_after_all}
+use Rattle.call_profile.specs.Step.{MovesAtMost, next, world_after_all}
 use Rattle.call_profile.specs.World.{World, start}
 use Rattle.meters.specs.Changing.{AreMetered, Metering, Step, after_steps, handed_in, records_of, steps_text}
 use Rattle.meters.proofs.Changes.{after-append, metered-first, text-append}
@@ -20,18 +21,19 @@ use Rattle.trace_text.specs.TraceLines.{SoFar, line_limits}
 use Rattle.trace_text.proofs.TraceHolds.{events_more, push, step}
 use Rattle.lone_exchange.specs.declared.exchange.LoneExchange.{LoneExchange}
 use Rattle.lone_exchange.specs.At.{Carrying, IsAt}
-use Rattle.followed_events.specs.Told.{MovesFewIn, setting_said, world_said}
-use Rattle.followed_events.specs.InTurn.{follows_in_turn, story_in_turn}
-use Rattle.exchange_top.specs.Following.{IsInterrupted, IsLineRefused, No_line, Read, Unread, course}
+use Rattle.followed_events.specs.Told.{MovesFewIn, MovesFewSaid, setting_said, world_said}
+use Rattle.followed_events.specs.InTurn.{MovesFewInTurn, events_by, events_in_turn, follows_in_turn, setting_in_turn, story_in_turn}
+use Rattle.exchange_top.specs.Following.{HaveMovedFew, IsInterrupted, IsLineRefused, No_line, Read, Unread, course}
 use Rattle.exchange_top.specs.Handling.{AreDriven, HasHandled, IsDriven, IsDrivenBy, IsLinkedDriven, IsSaid}
 use Rattle.report_check.specs.Refusals.{refusal}
 use Rattle.exchange_top.specs.Telling.{AreToldFront}
 use Rattle.followed_events.proofs.FollowedSteps.{setting_by}
+use Rattle.followed_events.proofs.LinkedSteppingLemmas.{early_few}
 use Rattle.followed_events.proofs.LinkedRuns.{IsAtKnown, after_known, known_after}
 use Rattle.followed_events.proofs.PlacedLines.{IsKnown, IsPlaced}
 use Rattle.followed_events.proofs.SaidLines.{quiet_before, said_event, said_more, said_none}
 use Rattle.followed_events.proofs.TurnLines.{IsTurnFine, IsTurnLine, each_length, each_push, follows_as, follows_long, follows_many, turn_line}
-use Rattle.followed_events.proofs.TurnSteps.{IsTurnPlaced, due_in_turn, inputs_at, inputs_more, linked_more, no_events, plain_known, plain_more, turn_more}
+use Rattle.followed_events.proofs.TurnSteps.{IsTurnPlaced, due_in_turn, inputs_at, inputs_more, linked_more, no_events, no_inputs, plain_known, plain_more, turn_more}
 use Rattle.linked_exchange.specs.declared.exchange.LinkedExchange.{LinkedExchange}
 use Rattle.linked_exchange.specs.Steps.{LinkedInput}
 use Rattle.linked_lines.specs.LinkedStory.{inputs_in}
@@ -155,6 +157,32 @@ module _ {P E : Type 0} (carries : Carrying E) (frames : E → ℕ) (sizes : E �
   none_driven early None driven = refl
   none_driven early (Some x) driven = let long : length (events_in (plain_told told)) ≡ 0 = ap length early in let some = driven.0 in absurd (omega (arith, long, some))
 
+  -- each new path of these lines moved few live paths
+  few_plain : (z : Sizes) → sizes_in (plain_told told) ≡ Some z → (x : Option (LoneExchange P E)) → IsDriven carries frames sizes slots moves (plain_told told) x
+      → MovesFewSaid slots moves z (plain_told told)
+  few_plain z known None none = subst (MovesFewIn moves (setting_in_turn slots z told)) (sym none) (All-nil (MovesAtMost (moves (z.external + z.bridges))))
+  few_plain z known (Some x) (some, at) =
+      let both : Some at.header ≡ Some z = sym at.given ∙ known in
+      let same : at.header ≡ z = grind (arith, both) in
+      subst (λ (v : Sizes). MovesFewSaid slots moves v (plain_told told)) same at.few
+
+  few_linked : 1 ≤ length (linked_in told) → (z : Sizes) → sizes_in (plain_told told) ≡ Some z → (y : Option (LinkedExchange P E)) → IsLinkedDriven carries frames sizes slots moves told y
+      → MovesFewInTurn slots moves z told
+  few_linked some z known None none = early_few slots moves told z some (no_inputs told none)
+  few_linked some z known (Some y) (one, at) =
+      let both : Some at.header ≡ Some z = sym at.given ∙ known in
+      let same : at.header ≡ z = grind (arith, both) in
+      subst (λ (v : Sizes). MovesFewInTurn slots moves v told) same at.few
+
+  pub few_driven : (ls : List ℕ) → linked_in told ≡ ls → (x : Option (LoneExchange P E)) (y : Option (LinkedExchange P E)) → IsDrivenBy carries frames sizes slots moves ls told x y
+      → (z : Sizes) → sizes_in (plain_told told) ≡ Some z → MovesFewInTurn slots moves z told
+  few_driven [] is x y driven z known =
+      let events : events_in_turn slots z told ≡ events_in (plain_told told) = ap (λ (l : List ℕ). events_by l slots z told) is in
+      subst (MovesFewIn moves (setting_in_turn slots z told)) (sym events) (few_plain z known x driven.0)
+  few_driven (line ∷ lines) is x y driven z known =
+      let some : 1 ≤ length (linked_in told) = let long = ap length is in omega (arith, long) in
+      few_linked some z known y driven.1
+
   after_line : 1 ≤ length (linked_in told) → (c : Content) → with_content (in_turn told) c ≡ in_turn (told ++ c ∷ []) → IsTurnPlaced (in_turn told) c → event_said (plain_of c) ≡ None
       → (1 ≤ length (linked_in told) → IsKnown (so_far (plain_told told))) → (y : Option (LinkedExchange P E)) → IsLinkedDriven carries frames sizes slots moves told y → IsLinkedDriven carries frames sizes slots moves (told ++ c ∷ []) y
   after_line some (Plain Nothing) more placed none first = linked_stays carries frames sizes slots moves told (Plain Nothing) more some none refl (λ x a. a)
@@ -226,6 +254,11 @@ module _ {M P E : Type 0} (stands : M → List CallRecord → Type 0) (text : M 
   pub handled_none : Handled old old_spare (in_turn []) 0 None None [] []
   handled_none = record { told = []; meets = tt; text = refl; meters = metered-first stands text old old_spare; known = refl; sound = said_none; counted = refl; first = λ some. absurd (omega (arith, some)); driven = (refl, refl) }
 
+  -- each new path of lines that were processed moved few live paths
+  pub few_handled : (on spare : List M) (heading : LinkSoFar) (count : ℕ) (exchange : Option (LoneExchange P E)) (linked : Option (LinkedExchange P E)) (ls : List (List ℕ)) (said : List ℕ)
+      (h : Handled on spare heading count exchange linked ls said) → HaveMovedFew slots moves h.told
+  few_handled on spare heading count exchange linked ls said h = few_driven carries frames sizes slots moves h.told (linked_in h.told) refl exchange linked h.driven
+
   refused_here : (on spare : List M) (before : LinkSoFar) (count : ℕ) (exchange : Option (LoneExchange P E)) (linked : Option (LinkedExchange P E)) (ls : List (List ℕ)) (said line : List ℕ) (h : Handled on spare before count exchange linked ls said)
       (why : Reason) (all : List ℕ) → follows_in_turn h.told line ≡ Err why → all ≡ said ++ refusal (count + 1) why
       → IsLineRefused (course plays slots moves stands text old old_spare on spare) (ls ++ line ∷ []) all
@@ -236,6 +269,7 @@ module _ {M P E : Type 0} (stands : M → List CallRecord → Type 0) (text : M 
     why = why;
     parts = refl;
     meets = h.meets;
+    few = few_handled on spare before count exchange linked ls said h;
     fails = fails;
     text =
         let long : count + 1 ≡ length (ls ++ line ∷ []) = let same = h.counted in omega (arith, same, length-append ls (line ∷ [])) in
@@ -301,6 +335,7 @@ module _ {M P E : Type 0} (stands : M → List CallRecord → Type 0) (text : M 
         others = dues;
         parts = refl;
         meets = h.meets;
+        few = few_handled on spare before count exchange linked ls said h;
         next = Read line r.content dues follows_said story_is;
         text = h.text;
         meters = both_beyond stands text (after_steps (story_in_turn plays slots h.told) (handed_in old old_spare)) on on' spare (records_of dues) h.meters front;
@@ -330,6 +365,7 @@ module _ {M P E : Type 0} (stands : M → List CallRecord → Type 0) (text : M 
       others = [];
       parts = refl;
       meets = h.meets;
+      few = few_handled on spare before count exchange linked ls said h;
       next = Unread line;
       text = h.text;
       meters = beyond_none stands text (after_steps (story_in_turn plays slots h.told) (handed_in old old_spare)) on spare h.meters;
@@ -344,6 +380,7 @@ module _ {M P E : Type 0} (stands : M → List CallRecord → Type 0) (text : M 
       others = [];
       parts = sym (append-nil ls);
       meets = h.meets;
+      few = few_handled on spare before count exchange linked ls said h;
       next = No_line;
       text = h.text;
       meters = beyond_none stands text (after_steps (story_in_turn plays slots h.told) (handed_in old old_spare)) on spare h.meters;

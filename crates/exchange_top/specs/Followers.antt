@@ -21,16 +21,25 @@ use Rattle.exchange_top.specs.Handling.{HasRead, handler_dues}
 
 -- ---- the call
 
+-- the members of a boxed meter
+module _ {V : Type 0} {F : V → Type 0} (m : (v : V) → MeterKind (F v)) where
+  abbrev pub meter_stands : DynBox V Global F → List CallRecord → Type 0
+  meter_stands b = (m b.vtable).stands b.value
+
+  abbrev pub meter_text : DynBox V Global F → List CallRecord → List ℕ
+  meter_text b = (m b.vtable).text b.value
+
 module _ {V : Type 0} {F : V → Type 0} {E : Type 0} (m : (v : V) → MeterKind (F v)) (c : CarrierKind E) where
   -- the other side relies only on this: exactly the text of all whole lines was written, from these meters on
   abbrev pub ReliesBy : ℕ → (ℕ → ℕ) → (on spare : List (DynBox V Global F)) → (relies : List ℕ → List ℕ → Type 0) → Type 0
   ReliesBy slots moves on spare relies =
-      (heard said : List ℕ) → IsAnswered c.plays slots moves (λ steps. steps_text (λ (b : DynBox V Global F). (m b.vtable).text b.value) steps (handed_in on spare)) heard said → relies heard said
+      (heard said : List ℕ) → IsAnswered c.plays slots moves (λ steps. steps_text (meter_text m) steps (handed_in on spare)) heard said
+      → relies heard said
 
   -- the parties of a call
   abbrev pub parties_by : ℕ → (ℕ → ℕ) → Option E → (old old_spare new new_spare : List (DynBox V Global F)) → FollowParties
   parties_by slots moves engine =
-      follow_parties c.plays slots moves c.sizes c.carries engine (λ (b : DynBox V Global F). (m b.vtable).stands b.value) (λ (b : DynBox V Global F). (m b.vtable).text b.value)
+      follow_parties c.plays slots moves c.sizes c.carries engine (meter_stands m) (meter_text m)
 
 -- The call ended with this status, with the facts for its ending. Statuses 3 and 4 occur only after an error was counted,
 -- and no other status hides one.
@@ -40,13 +49,6 @@ FollowEnds k before after x status = (ending : Following) × (status ≡ status_
     × CountsReads ending (k.read_faults before) (k.read_faults after) × CountsWrites ending (k.write_faults before) (k.write_faults after)
 
 -- ---- the lines of a call
-
-module _ {V : Type 0} {F : V → Type 0} (m : (v : V) → MeterKind (F v)) where
-  abbrev pub meter_stands : DynBox V Global F → List CallRecord → Type 0
-  meter_stands b = (m b.vtable).stands b.value
-
-  abbrev pub meter_text : DynBox V Global F → List CallRecord → List ℕ
-  meter_text b = (m b.vtable).text b.value
 
 module _ {V : Type 0} {F : V → Type 0} {P E R : Type 0} (m : (v : V) → MeterKind (F v)) (c : CarrierKind E) (f : FabricKind P) where
   -- the parameters of the story of the lines that this follower processed, if these were the meters before the first

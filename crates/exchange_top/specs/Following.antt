@@ -49,21 +49,28 @@ pub record Course : Type 1 where
 abbrev pub course : {M : Type 0} → Plays → ℕ → (ℕ → ℕ) → (M → List CallRecord → Type 0) → (M → List CallRecord → List ℕ) → (old spare new new_spare : List M) → Course
 course plays slots moves stands text old spare new new_spare = record { plays = plays; slots = slots; moves = moves; meters = meter_story stands text old spare new new_spare }
 
+-- each new path of these lines moved few live paths; before the header there is no path
+abbrev pub HaveMovedFew : ℕ → (ℕ → ℕ) → List Content → Type 0
+HaveMovedFew slots moves told =
+    (sizes : Sizes) → sizes_in (plain_told told) ≡ Some sizes → MovesFewInTurn slots moves sizes told
+
 -- the octets that are due for these lines are the text of their story, in which each new path moved few live paths
 pub record AreAnswered (plays : Plays) (slots : ℕ) (moves : ℕ → ℕ) (written : List Step → List ℕ) (ls : List (List ℕ)) (said : List ℕ) : Type 0 where
   pub told : List Content
   pub meets : EachInTurn [] ls told
-  pub few : (sizes : Sizes) → sizes_in (plain_told told) ≡ Some sizes → MovesFewInTurn slots moves sizes told
+  pub few : HaveMovedFew slots moves told
   pub text : said ≡ written (story_in_turn plays slots told)
 
 -- all whole lines of an input were processed, and exactly the text of their story was written
 abbrev pub IsAnswered : Plays → ℕ → (ℕ → ℕ) → (List Step → List ℕ) → (heard said : List ℕ) → Type 0
 IsAnswered plays slots moves written heard said = IsSettled (AreAnswered plays slots moves written) heard said
 
--- these lines were processed: the text of their story is due, and the meters are its result
+-- these lines were processed: the text of their story is due, each new path moved few live paths, and the meters are
+-- the result of the story
 pub record AreProcessed (x : Course) (ls : List (List ℕ)) (said : List ℕ) : Type 0 where
   pub told : List Content
   pub meets : EachInTurn [] ls told
+  pub few : HaveMovedFew x.slots x.moves told
   pub text : said ≡ x.meters.written (story_in_turn x.plays x.slots told)
   pub meters : x.meters.left (story_in_turn x.plays x.slots told)
 
@@ -77,7 +84,8 @@ pub record IsWhole (x : Course) (ls : List (List ℕ)) (said : List ℕ) : Type 
   pub text : said ≡ x.meters.written (story_in_turn x.plays x.slots told)
   pub meters : x.meters.left (story_in_turn x.plays x.slots told)
 
--- the last of these lines is the first that is refused: its refusal is due after the text of the lines before it
+-- the last of these lines is the first that is refused: its refusal is due after the text of the lines before it, and
+-- each new path of these moved few live paths
 pub record IsLineRefused (x : Course) (ls : List (List ℕ)) (said : List ℕ) : Type 0 where
   pub before : List (List ℕ)
   pub line : List ℕ
@@ -85,6 +93,7 @@ pub record IsLineRefused (x : Course) (ls : List (List ℕ)) (said : List ℕ) :
   pub why : Reason
   pub parts : ls ≡ before ++ line ∷ []
   pub meets : EachInTurn [] before told
+  pub few : HaveMovedFew x.slots x.moves told
   pub fails : follows_in_turn told line ≡ Err why
   pub text : said ≡ x.meters.written (story_in_turn x.plays x.slots told) ++ refusal (length ls) why
   pub meters : x.meters.left (story_in_turn x.plays x.slots told)
@@ -105,8 +114,9 @@ pub data IsNext (x : Course) (told : List Content) : List (List ℕ) → List St
   Read : (line : List ℕ) (content : Content) (others : List Step) → follows_in_turn told line ≡ Ok content
       → story_in_turn x.plays x.slots (told ++ content ∷ []) ≡ story_in_turn x.plays x.slots told ++ others → IsNext x told (line ∷ []) others
 
--- An allocation failed after these lines, or in the last of them. The text of the lines before it is due. The meters
--- are the result of their story, and may have recorded a prefix of the calls that ended in the last line.
+-- An allocation failed after these lines, or in the last of them. The text of the lines before it is due, and each new
+-- path of these moved few live paths. The meters are the result of their story, and may have recorded a prefix of the
+-- calls that ended in the last line.
 pub record IsInterrupted (x : Course) (ls : List (List ℕ)) (said : List ℕ) : Type 0 where
   pub before : List (List ℕ)
   pub rest : List (List ℕ)
@@ -114,6 +124,7 @@ pub record IsInterrupted (x : Course) (ls : List (List ℕ)) (said : List ℕ) :
   pub others : List Step
   pub parts : ls ≡ before ++ rest
   pub meets : EachInTurn [] before told
+  pub few : HaveMovedFew x.slots x.moves told
   pub next : IsNext x told rest others
   pub text : said ≡ x.meters.written (story_in_turn x.plays x.slots told)
   pub meters : x.meters.left_beyond (story_in_turn x.plays x.slots told) (records_of others)
@@ -161,8 +172,9 @@ HasReturned x followed.ReadFailed heard = x.no_engine
 HasReturned x followed.WriteFailed heard = x.no_engine
 HasReturned x followed.OutOfMemory heard = x.no_engine
 
--- The octets that were read and written, by the ending. The definition `HasFollowed` has a case for each ending. The end
--- of the input, and a line without its line feed, were processed only if the input has ended.
+-- The octets that were read and written, by the ending. The definition `HasFollowed` has a case for each ending. The
+-- end of the input was processed only if the input has ended. A line without its line feed was processed only then, or
+-- if it is too long.
 pub record FollowsTo (x : FollowParties) (stands : List ℕ → List ℕ → Type 0) (ended : Type 0) (ending : Following) : Type 0 where
   pub heard : List ℕ
   pub said : List ℕ
