@@ -13,3 +13,4 @@ pub mod Sums
 pub mod Handled
 pub mod HandledSteps
 pub mod FollowedEndings
+pub mod Pieces

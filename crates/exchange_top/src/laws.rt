@@ -1,5 +1,5 @@
-//! Theorems: a strict fabric moves no path, a run without changes has one report, and a trace that is followed has the
-//! report of a run in file order.
+//! Theorems: a strict fabric moves no path, a run without changes has one report, a trace that is followed has the
+//! report of a run in file order, and its text does not depend on the pieces that are read.
 ghost use Rattle.std.specs.Prelude.{◌≡◌, ℕ, List, [], All, length, true};
 ghost use Rattle.exchange_events.specs.declared.trace.Trace.{Trace};
 ghost use Rattle.exchange_events.specs.Orders.{IsEvent, IsLawful, file_order};
@@ -15,8 +15,10 @@ ghost use Rattle.trace_text.specs.TraceWords.{lines};
 ghost use Rattle.exchange_top.specs.Following.{EachFollows, HasValidStories, story_said};
 ghost use Rattle.exchange_top.specs.Commands.{fabric_of};
 ghost use Rattle.exchange_top.specs.Outcomes.{MovesFew, MovesNone, NotesAll};
+ghost use Rattle.exchange_top.specs.Pieces.{EndedCall, HaveFollowed, StartedCall};
 ghost use Rattle.followed_events.specs.Story.{story};
 
+use frame_engine::Carrier;
 use meters::Meter;
 
 /// On a strict fabric no new path moves another: each number of moved paths that an answer reports is 0.
@@ -40,4 +42,14 @@ pub fn followed_traces_are_runs<M: Meter>()
         → story_said plays slots told ≡ story plays Report slots t (file_order (length t.events)) }
     ensures lawful { (t : Trace) → IsLawful t (file_order (length t.events)) }
     ensures valid { HasValidStories M.text }
+{}
+
+/// Two calls of [`follow`](crate::follow) over the same octets have the same ending and write the same octets, in
+/// whatever pieces they read, if no read, no write and no allocation fails. Both start with the same meters, on the
+/// same kind of fabric.
+pub fn law_of_pieces<M: Meter, C: Carrier>()
+    ensures endings { (start : StartedCall M) (first second : EndedCall M C)
+        → HaveFollowed C.Carrier M.Meter start first second → first.ending ≡ second.ending }
+    ensures texts { (start : StartedCall M) (first second : EndedCall M C)
+        → HaveFollowed C.Carrier M.Meter start first second → first.said ≡ second.said }
 {}

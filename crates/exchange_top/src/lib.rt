@@ -25,7 +25,8 @@
 //! lines read so far (`promise`), and its clause `ends` has a case for each ending (`FollowsTo`). It processes the end
 //! of the input only if the wire has ended (`IsDue`). A followed trace has the report of a run in file order
 //! ([`followed_traces_are_runs`]), and each trace with short lines is followed ([`traces_are_followed`],
-//! [`plain_lines_are_followed`]). The lines that are followed may have data links (`EachInTurn`, `story_in_turn`).
+//! [`plain_lines_are_followed`]). The octets written do not depend on the pieces that are read ([`law_of_pieces`]). The
+//! lines that are followed may have data links (`EachInTurn`, `story_in_turn`).
 //!
 //! Statuses 3 and 4 occur only after an error was counted (`HasReadFailed`, `HasWriteFailed`), and no other status
 //! hides one (`reads`, `writes`). With status 4 a prefix of the text was written. With status 5 it is a prefix that
@@ -49,5 +50,7 @@ mod telling;
 pub use call::{Outcome, exchange};
 pub use followed_events::{plain_lines_are_followed, traces_are_followed};
 pub use following::{FollowOutcome, follow};
-pub use laws::{followed_traces_are_runs, law_of_unchanged_meters, strict_runs_move_nothing};
+pub use laws::{
+    followed_traces_are_runs, law_of_pieces, law_of_unchanged_meters, strict_runs_move_nothing,
+};
 pub use report_check::{Ending, law_of_divisions};
