@@ -1,12 +1,13 @@
-// Traces that are followed over an in-memory wire: each line with the octets that are due for it.
+// Traces that are followed over an in-memory wire, or over a source and a sink in memory: each line with the octets that
+// are due for it.
 ghost use Rattle.std.specs.Prelude.{◌≤◌, [], IfOk};
 ghost use Rattle.line_wire.specs.Memory.{IsTaped};
 
 use crate::tests::{ACCEPTED, Kind, add_meters, said_by, spelled};
-use ex_io::MemSink;
+use ex_io::{MemSink, MemSource, Source};
 use exchange_top::{FollowOutcome, follow};
 use frame_engine::Engine;
-use line_wire::MemWire;
+use line_wire::{MemWire, StdWire};
 use meters::Meter;
 use std::alloc::{AllocError, Global};
 use std::collections::VecDeque;
@@ -288,6 +289,50 @@ fn each_line_is_answered_before_the_next_read(rt: HostRuntime) -> Result<(), Fai
         assert!(rt; is_followed(&rt, alloc, dialogue, 2)?);
         assert!(rt; is_followed(&rt, alloc, dialogue, 7)?);
         assert!(rt; is_followed(&rt, alloc, dialogue, 4096)?);
+    }
+    Ok(())
+}
+
+// Returns whether a call over a source and a sink, in such pieces, ends with the status and the octets of the dialogue,
+// and leaves the source without an octet if the status is 0.
+fn is_passed_on(
+    rt: &(impl Threads + Sync),
+    alloc: Global,
+    dialogue: &Dialogue,
+    piece: usize,
+) -> Result<bool, AllocError>
+    requires { 1 ≤ piece }
+{
+    let input = joined(alloc, dialogue, false)?;
+    let source = MemSource::new(input, piece, Vec::new(alloc));
+    let sink = MemSink::new(alloc, 4096, piece, Vec::new(alloc))?;
+    let mut wire = StdWire::new(source, sink);
+    let mut on: Vec<Box<dyn Meter>> = Vec::new(alloc);
+    add_meters(alloc, dialogue.on, &mut on)?;
+    let mut spare: Vec<Box<dyn Meter>> = Vec::new(alloc);
+    add_meters(alloc, dialogue.spare, &mut spare)?;
+    let ended: FollowOutcome<Engine> = follow(
+        rt,
+        alloc,
+        dialogue.strict,
+        &mut wire,
+        &mut on,
+        &mut VecDeque::from_vec(spare),
+    );
+    let left = wire.source.read(&mut [0u8; 1]);
+    Ok(
+        ended.status == dialogue.status
+            && wire.sink.bytes() == joined(alloc, dialogue, true)?.as_slice()
+            && (dialogue.status != 0 || left == Ok(0)),
+    )
+}
+
+#[test]
+fn a_source_and_a_sink_are_a_wire(rt: HostRuntime) -> Result<(), Fail> {
+    let alloc = rt.alloc();
+    for dialogue in &DIALOGUES {
+        assert!(rt; is_passed_on(&rt, alloc, dialogue, 3)?);
+        assert!(rt; is_passed_on(&rt, alloc, dialogue, 4096)?);
     }
     Ok(())
 }
