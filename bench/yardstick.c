@@ -3,7 +3,9 @@
 // of the proved program; nothing is proved of it. It is written to be fast: rows are worked through
 // whole, without a test for each octet, a frame costs what is connected and not what could be, and each leg
 // of a call, slot and number is found in a table. It is one program in parts, compiled as one. With the word
-// `--strict` its lines have 59 internal slots in place of 30, and no path is ever moved.
+// `--strict` its lines have 59 internal slots in place of 30, and no path is ever moved. With `--meters ON SPARE`, up to
+// nine of each, it has these numbers of meters in place of three and three, and at the end a line `left` and what the
+// meters say that are left.
 #include <stdint.h>
 #include <stdio.h>
 #include <stdlib.h>
@@ -38,9 +40,28 @@ static void start(void) {
     for (int v = -MOST; v <= MOST; v++) codes[v + MOST] = compress(v);
 }
 
+// The arguments; 2 where they are others.
+static int read_arguments(int count, char **words, int *says_left) {
+    unsigned on = 3, spare = 3;
+    for (int k = 1; k < count; k++) {
+        if (!strcmp(words[k], "--strict")) {
+            slots = STRICT_SLOTS;
+        } else if (!strcmp(words[k], "--meters") && k + 2 < count) {
+            on = atoi(words[++k]);
+            spare = atoi(words[++k]);
+            *says_left = 1;
+        } else {
+            return 2;
+        }
+    }
+    if (on > MOST_METERS / 2 || spare > MOST_METERS / 2) return 2;
+    start_meters(on, spare);
+    return 0;
+}
+
 int main(int count, char **words) {
-    if (count == 2 && !strcmp(words[1], "--strict")) slots = STRICT_SLOTS;
-    else if (count != 1) return 2;
+    int says_left = 0;
+    if (read_arguments(count, words, &says_left)) return 2;
     read_trace();
     start();
     change_at(0);
@@ -60,6 +81,7 @@ int main(int count, char **words) {
         change_at(i + 1);
         if (out_len >= PIECE) flush();
     }
+    if (says_left) say_left();
     flush();
     return 0;
 }

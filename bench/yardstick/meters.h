@@ -8,7 +8,7 @@ typedef struct {
 
 typedef enum { CALL_DETAIL, PEG_COUNT, HOLDING_TIME } MeterKind;
 
-enum { METERS = 6, DETAILS = 10 }; // the most calls that details are kept of
+enum { MOST_METERS = 18, DETAILS = 10 }; // the most calls that details are kept of
 
 // Of call details the ring of the last calls, and how many came; of a peg count the calls and the answered
 // ones; of the holding time the sum and the longest, which stay below 2 to the 32nd, since so few events come.
@@ -20,10 +20,15 @@ typedef struct {
 
 // They are on and spare in this order: a change takes out the first one that is on, and puts in the one behind
 // the last. So those that are on are always next to each other.
-static Meter meters[METERS] = {
-    { CALL_DETAIL }, { PEG_COUNT }, { HOLDING_TIME }, { CALL_DETAIL }, { PEG_COUNT }, { HOLDING_TIME },
-};
-static unsigned first_on, first_spare = METERS / 2;
+static Meter meters[MOST_METERS];
+static unsigned meter_count, first_on, first_spare;
+
+// So many are on, and so many spare; of each the kinds are call details, a peg count, the holding time, and so on in turn.
+static void start_meters(unsigned on, unsigned spare) {
+    for (unsigned k = 0; k < on + spare; k++) meters[k].kind = (k < on ? k : k - on) % 3;
+    meter_count = on + spare;
+    first_spare = on;
+}
 
 static void note_on(Meter *m, const Call *call) {
     uint32_t held = call->to - call->from;
@@ -93,7 +98,7 @@ static void say(const Meter *m) {
 // Not a part of the loop over the events, most of which have no change behind them.
 static __attribute__((noinline)) void change(void) {
     if (first_on < first_spare) say(&meters[first_on++]);
-    if (first_spare < METERS) first_spare++;
+    if (first_spare < meter_count) first_spare++;
     if (out_len >= PIECE) flush();
 }
 
@@ -104,4 +109,10 @@ static inline void change_at(uint32_t events_done) {
         made++;
         change();
     }
+}
+
+// What the meters say that are left, first those that are on.
+static void say_left(void) {
+    put("left\n");
+    for (unsigned k = first_on; k < meter_count; k++) say(&meters[k]);
 }
