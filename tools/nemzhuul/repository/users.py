@@ -1,0 +1,297 @@
+"""Simulated users, who write random traces of calls: they send events to `tst follow` and act on its replies.
+
+Timers are short, so that they expire. Numbers lead to lists of lines, and commands fill lines, so hunts pass full lines
+and find none. On crowded lines new paths move others. In some traces data links go down and come up.
+"""
+
+from __future__ import annotations
+
+import random
+import subprocess
+from collections import Counter
+from collections.abc import Callable, Iterator, Sequence
+from pathlib import Path
+from typing import NamedTuple
+
+from nemzhuul.command_line import Refused
+from nemzhuul.traces.reading import CHANNELS
+
+BEARERS = ("04038090A3", "04039090A3", "04028890")
+OTHER_BEARERS = ("", "", "04028990", "040180")  # none, one that is not carried, and one that is too short
+ALERTING, PROCEEDING, SETUP, CONNECT, ACKNOWLEDGE = 0x01, 0x02, 0x05, 0x07, 0x0F
+SETUP_ACKNOWLEDGE, DISCONNECT, RESTART, RELEASE, COMPLETE = 0x0D, 0x45, 0x46, 0x4D, 0x5A
+ENQUIRY, INFORMATION, STATUS = 0x75, 0x7B, 0x7D
+KINDS = (ALERTING, PROCEEDING, CONNECT, ACKNOWLEDGE, DISCONNECT, RELEASE, COMPLETE, ENQUIRY, INFORMATION, STATUS, 0x03, 0x62)
+TIMERS = ("T301", "T302", "T303", "T305", "T308", "T309", "T310")
+RUNG, NOT_RUNG = "T301 expired under ringing tone", "T301 expired without a tone"
+HUNTED, NOT_FOUND = "calls offered after full lines", "hunts that found no line"
+LINK_LOST, LINK_DOWN = "T309 expired", "calls refused while data links were down"
+CASES = (RUNG, NOT_RUNG, HUNTED, NOT_FOUND, LINK_LOST, LINK_DOWN)
+NO_ANSWER, OUT_OF_ORDER, FULL_LINE = "08028293", "0802829B", "080282A2"  # the elements of causes 19, 27 and 34
+# The likely replies of a user to each kind of message; None is no reply.
+REPLIES: dict[int | None, tuple[int | None, ...]] = {
+    SETUP: (ALERTING, ALERTING, ALERTING, PROCEEDING, CONNECT, DISCONNECT, COMPLETE, None),
+    SETUP_ACKNOWLEDGE: (INFORMATION, INFORMATION, INFORMATION, None),
+    CONNECT: (ACKNOWLEDGE, DISCONNECT, RELEASE, None),
+    DISCONNECT: (RELEASE, RELEASE, COMPLETE, None),
+    RELEASE: (COMPLETE, COMPLETE, None),
+    ALERTING: (CONNECT, None, None, None),
+    PROCEEDING: (ALERTING, ALERTING, CONNECT, None),
+}
+
+
+class Leg(NamedTuple):
+    """The call of a user: its line, its call reference, and the flag of the messages that the user sends."""
+
+    line: int
+    reference: int
+    flag: int
+
+
+class Sent(NamedTuple):
+    """A message that the exchange sends: its line, and the digits of its octets."""
+
+    line: int
+    octets: str
+
+    @property
+    def kind(self) -> int:
+        return int(self.octets[8:10], 16)
+
+
+class Setting:
+    """The header, numbers, tones and timers of a trace."""
+
+    def __init__(self, draw: random.Random) -> None:
+        self.external = draw.choice((1, 2, 3, 4, 4, 8))
+        self.header = f"exchange 1 {self.external} {draw.randrange(3)} {1 + draw.randrange(8)}"
+        self.lists = {f"4{at}": self.hunt(draw) for at in range(2)}
+        plan = [f"number 1{line:02} line {line}" for line in range(self.external)] + ["number 30 room 0", "number 31 room 1"]
+        plan += [f"number {digits} lines {' '.join(map(str, lines))}" for digits, lines in self.lists.items()]
+        tones = {name: draw.choice((0, 0, 1, 80)) for name in ("ringback", "busy")}
+        plan += [f"tone {name} {draw.randbytes(size).hex()}" for name, size in tones.items() if size]
+        self.rings = tones["ringback"] > 0
+        if draw.random() < 0.8:
+            lengths = [draw.choice((0, 1, 2, 3, 29, 59, 999_999_999)) for _ in TIMERS]
+            plan += [f"timer {name} {length}" for name, length in zip(TIMERS, lengths) if length]
+        self.lines = [self.header, *plan]
+
+    def hunt(self, draw: random.Random) -> list[int]:
+        """A list of lines, mostly by rising number or of few lines."""
+        lines = draw.sample(range(self.external), draw.randint(1, self.external))
+        return draw.choice((lines, sorted(lines), sorted(lines), [*range(draw.randint(1, self.external))][:2]))
+
+    def digits(self, draw: random.Random) -> str:
+        """Digits of a number, mostly of a list, and seldom of none."""
+        line = draw.randrange(self.external)
+        return draw.choice((*self.lists, *self.lists, *self.lists, f"1{line:02}", f"1{line:02}", "30", "31", "9", "1", ""))
+
+
+class Users:
+    """The users of all lines. They know what the exchange sent last on each call reference, and send the next event."""
+
+    def __init__(self, setting: Setting, draw: random.Random) -> None:
+        self.setting, self.draw = setting, draw
+        self.legs: dict[Leg, int | None] = {}  # the kind of the last message
+        self.answers = draw.random()  # how likely a user with an alert answers
+        self.pauses = draw.choice((0, 0.02, 0.05))
+        self.frames = 0  # frames of a run that are left
+        self.outages = draw.choice((0, 0, 0.02, 0.05))
+        self.down: set[int] = set()  # the lines whose data links are down
+        self.is_crowded = draw.random() < 0.15
+        self.waiting = self.crowd() if self.is_crowded else self.full_lines()
+
+    def full_lines(self) -> list[str]:
+        """Commands that take nearly all channels of the first lines, of none in many traces."""
+        full = min(self.draw.choice((0, 0, 1, 1, 2)), self.setting.external)
+        some = [pair for line in range(full) for pair in zip([f"{line}/{c}" for c in CHANNELS[::2]], [f"{line}/{c}" for c in CHANNELS[1::2]])]
+        return [f"nail {first} {second}" for first, second in some if self.draw.random() < 0.98]
+
+    def crowd(self) -> list[str]:
+        """Commands that take most channels of a few lines by nails between them, so that new paths move others."""
+        slots = [f"{line}/{channel}" for line in range(self.crowded_lines()) for channel in CHANNELS]
+        self.draw.shuffle(slots)
+        return [f"nail {first} {second}" for first, second in zip(slots[::2], slots[1::2]) if self.draw.random() < 0.95]
+
+    def crowded_lines(self) -> int:
+        return min(self.setting.external, 3)
+
+    def crowded_command(self) -> str:
+        """A command on one of the lines that are crowded."""
+        draw = self.draw
+        first, second = (f"{draw.randrange(self.crowded_lines())}/{draw.choice(CHANNELS)}" for _ in range(2))
+        return f"nail {first} {second}" if first != second and draw.random() < 0.6 else f"free {first}"
+
+    def event(self) -> str:
+        draw = self.draw
+        if self.waiting:
+            return self.waiting.pop(0)
+        if draw.random() < self.outages:
+            return self.link()
+        if self.frames == 0 and draw.random() < self.pauses:
+            self.frames = draw.randint(30, 90)
+        if self.frames:
+            self.frames -= 1
+            return self.frame(0.1)
+        if self.is_crowded and draw.random() < 0.7:
+            return self.crowded_command()
+        acts: Sequence[Callable[[], str | None]] = (
+            self.reply,
+            self.setup,
+            self.any_message,
+            self.command,
+            lambda: self.frame(0.7),
+        )
+        return draw.choices(acts, (9, 5, 2, 2, 4))[0]() or self.setup()
+
+    def link(self) -> str:
+        """A data link goes down, or mostly up if it is down."""
+        line = self.draw.randrange(self.setting.external)
+        if (line in self.down) != (self.draw.random() < 0.2):
+            self.down.discard(line)
+            return f"up {line}"
+        self.down.add(line)
+        return f"down {line}"
+
+    def slot(self) -> str:
+        return f"{self.draw.randrange(self.setting.external)}/{self.draw.choice(CHANNELS)}"
+
+    def frame(self, likely: float) -> str:
+        lines = [line for line in range(self.setting.external) if self.draw.random() < likely]
+        return "F" + "".join(f" {line}:{self.draw.randbytes(30).hex()}" for line in lines)
+
+    def command(self) -> str:
+        first, second = self.slot(), self.slot()
+        if first == second:
+            return f"free {first}"
+        return self.draw.choice((f"nail {first} {second}", f"seat {first} {self.draw.randrange(3)}", f"free {first}", f"free {first}"))
+
+    def number(self, digits: str) -> str:
+        return f"70{1 + len(digits):02X}80{digits.encode().hex()}" if digits else ""
+
+    def setup(self) -> str:
+        draw = self.draw
+        leg = Leg(draw.randrange(self.setting.external), draw.randint(1, 40), 0)
+        self.legs.setdefault(leg, None)
+        channel = 0x80 + draw.choice(CHANNELS)
+        channels = (f"1803A983{channel:02X}", f"1803A983{channel:02X}", f"1803A183{channel:02X}", "1801A3", "", "1803A98390")
+        elements = draw.choice(("", "A1")) + draw.choice((*BEARERS, *BEARERS, *BEARERS, draw.choice(OTHER_BEARERS))) + draw.choice(channels)
+        return self.message(leg, SETUP, elements + self.number(self.setting.digits(draw)))
+
+    def reply(self) -> str | None:
+        """What a user sends by the last message of its call."""
+        if not self.legs:
+            return None
+        leg = self.draw.choice([*self.legs])
+        kind = self.draw.choice(REPLIES.get(self.legs[leg], (None,)))
+        if kind is None or kind == CONNECT and self.draw.random() > self.answers:
+            return None
+        if kind in (ALERTING, PROCEEDING):
+            self.legs[leg] = kind
+        elif kind == COMPLETE:
+            del self.legs[leg]
+        cause = self.draw.choice(("", "08028090", "08028091")) if kind in (DISCONNECT, RELEASE, COMPLETE) else ""
+        return self.message(leg, kind, cause or (self.digits() if kind == INFORMATION else ""))
+
+    def digits(self) -> str:
+        """Further digits, at times the last ones, and at times of a form that is refused."""
+        last, number = self.draw.choice(("", "", "", "A1")), self.number(self.setting.digits(self.draw))
+        return last + self.draw.choice((number, number, number, number, "70028023", "7000"))
+
+    def any_message(self) -> str:
+        """A message of any kind, on a call or none, or octets of any kind."""
+        draw, line = self.draw, self.draw.randrange(self.setting.external)
+        if draw.random() < 0.3:
+            return f"M {line} {draw.choice(('', '0802', '08020001'))}{draw.randbytes(draw.randrange(12)).hex()}"
+        if draw.random() < 0.1:
+            return f"M {line} 0802000046" + draw.choice(("79018" + draw.choice("0267"), f"1803A983{0x80 + draw.choice(CHANNELS):02X}790180"))
+        leg = draw.choice([*self.legs, Leg(line, draw.randrange(45), draw.randrange(2))])
+        return self.message(leg, draw.choice(KINDS), draw.choice(("", "", "08028090", "14010A", "140100", self.number("0"))))
+
+    def message(self, leg: Leg, kind: int, elements: str) -> str:
+        return f"M {leg.line} 0802{leg.flag << 15 | leg.reference:04X}{kind:02X}{elements}"
+
+    def learn(self, messages: Sequence[Sent]) -> None:
+        """Takes the messages that the exchange sent."""
+        for sent in messages:
+            word = int(sent.octets[4:8], 16)
+            leg = Leg(sent.line, word & 0x7FFF, 1 - (word >> 15))
+            if sent.kind == COMPLETE:
+                self.legs.pop(leg, None)
+            elif sent.kind != STATUS and leg.reference:
+                self.legs[leg] = sent.kind
+
+
+def sent_in(reply: str) -> Iterator[Sent]:
+    """The messages of a report line, each with its line."""
+    _, what, *words = reply.split()
+    places = range(len(words)) if what == "message" else [at for at, _ in enumerate(words) if words[at - 1] == "send"]
+    for line, octets in (words[at].split(":") for at in places if ":" in words[at]):
+        yield Sent(int(line), octets)
+
+
+def called(octets: str) -> str:
+    """The digits of the called party number of a SETUP, if it has one."""
+    elements = bytes.fromhex(octets[10:])
+    while elements:
+        size = 1 if elements[0] & 0x80 else 2 + elements[1]
+        if elements[0] == 0x70:
+            return elements[3:size].decode()
+        elements = elements[size:]
+    return ""
+
+
+def count_cases(cases: Counter[str], setting: Setting, event: str, messages: Sequence[Sent]) -> None:
+    """Counts the cases of one event."""
+    for sent in messages:
+        cause, arrived = sent.octets[10:18], event.split(" ")[-1]
+        if event.startswith("F"):
+            cases[RUNG if setting.rings else NOT_RUNG] += sent.kind == DISCONNECT and cause == NO_ANSWER
+            cases[LINK_LOST] += cause == OUT_OF_ORDER
+        elif cause == OUT_OF_ORDER:
+            cases[LINK_DOWN] += event.startswith("M")
+        elif sent.kind == SETUP:
+            lines = setting.lists.get(called(sent.octets)[:2])
+            cases[HUNTED] += lines is not None and lines.index(sent.line) > 0
+        elif cause == FULL_LINE:
+            # The caller's line has an idle channel: the exclusive one, or the one that it has in overlap sending.
+            is_hunt = "1803A983" in arrived and called(arrived)[:2] in setting.lists
+            cases[NOT_FOUND] += sent.kind == DISCONNECT or is_hunt
+
+
+class Written(NamedTuple):
+    """The lines of a trace, and those of its report."""
+
+    trace: list[str]
+    report: list[str]
+
+
+def write(draw: random.Random, program: Path, events: int, cases: Counter[str]) -> Written:
+    """A trace that simulated users write, and the report of the exchange that they talk to. It counts the cases."""
+    setting = Setting(draw)
+    users, pace = Users(setting, draw), draw.choice((1, 1 / 2, 1 / 4, 1 / 12, 1 / 60, 0))
+    lines = [*setting.lines]
+    replies: list[str] = []
+    with subprocess.Popen([program, "follow"], stdin=subprocess.PIPE, stdout=subprocess.PIPE, text=True) as exchange:
+        given, said = exchange.stdin, exchange.stdout
+        assert given is not None and said is not None
+        given.write("".join(f"{line}\n" for line in lines))
+        for number in range(1, events + 1):
+            event = users.event()
+            lines.append(event)
+            given.write(f"{event}\n")
+            given.flush()
+            replies.append(said.readline())
+            while not replies[-1].startswith(f"{number} "):  # a meter's summary
+                if not replies[-1]:
+                    raise Refused(f"tst follow ended after {event}")
+                replies.append(said.readline())
+            sent = [*sent_in(replies[-1])]
+            users.learn(sent)
+            count_cases(cases, setting, event, sent)
+            if draw.random() < pace:
+                lines.append(draw.choice(("sync", "sync", "sync", "change")))
+                given.write(f"{lines[-1]}\n")
+        given.close()
+        replies += said
+    return Written(lines, [reply.rstrip("\n") for reply in replies])
