@@ -1,4 +1,4 @@
-"""The tables of examples/: `inputs`, `follows`, `checks` and `commands`, as .ci/tables describes them."""
+"""The tables of examples/: `inputs`, `worked`, `follows`, `checks` and `commands`, as .ci/tables describes them."""
 
 from __future__ import annotations
 

@@ -44,7 +44,9 @@ static void start(void) {
 static int read_arguments(int count, char **words, int *says_left) {
     unsigned on = 3, spare = 3;
     for (int k = 1; k < count; k++) {
-        if (!strcmp(words[k], "--strict")) {
+        if (k == 1 && !strcmp(words[k], "run")) {
+            continue;
+        } else if (!strcmp(words[k], "--strict")) {
             slots = STRICT_SLOTS;
         } else if (!strcmp(words[k], "--meters") && k + 2 < count) {
             on = atoi(words[++k]);
