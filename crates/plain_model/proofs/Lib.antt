@@ -1,4 +1,0 @@
-mod Intervals
-mod Arrivals
-mod Totals
-mod Membership

@@ -1,3 +1,0 @@
-pub mod Tones
-pub mod Mixing
-pub mod Story
