@@ -7,7 +7,7 @@
 //! the command the program writes a line `left` and the summaries of the remaining meters, first of the active and then
 //! of the spare ones. It ends with the status of the command, or with 2 if TURNS, ON or SPARE has another form.
 //!
-//! The order of the threads is not reproducible. `.ci/random` compares the report with a reference program that
+//! The order of the threads is not reproducible. `.ci/random_traces` compares the report with a reference program that
 //! processes the events in the order of its lines. The program is proved safe. No contract specifies its output.
 #![tactic(auto)]
 
