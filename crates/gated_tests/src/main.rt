@@ -18,11 +18,10 @@ use gate::Gate;
 use meters::{CallDetail, HoldingTime, Meter, PegCount, append_summaries};
 use std::alloc::{AllocError, Global};
 use std::collections::VecDeque;
-use std::env;
-use std::io;
 use std::process::ExitCode;
 use std::sync::Wait;
 use std::thread::Threads;
+use std::{env, io};
 
 /// The number of calls in the summary of a call detail meter.
 const DETAILS: u32 = 10;

@@ -14,7 +14,7 @@ from pathlib import Path
 from typing import NamedTuple
 
 from nemzhuul.command_line import Refused
-from nemzhuul.traces.reading import CHANNELS
+from nemzhuul.traces.events import CHANNELS
 
 BEARERS = ("04038090A3", "04039090A3", "04028890")
 OTHER_BEARERS = ("", "", "04028990", "040180")  # none, one that is not carried, and one that is too short
@@ -260,7 +260,7 @@ def count_cases(cases: Counter[str], setting: Setting, event: str, messages: Seq
 
 
 class Written(NamedTuple):
-    """The lines of a trace, and those of its report."""
+    """The lines of a trace, and the lines of its report."""
 
     trace: list[str]
     report: list[str]
