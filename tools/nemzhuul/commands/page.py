@@ -23,6 +23,7 @@ with a waveform for what each channel was sent. It needs no other file, and work
 PARTS = Path(__file__).resolve().parent.parent / "pictures"  # the style and the script of a page
 MAX_CALLS = 200  # that are drawn
 MAX_OCTETS = 4_000_000  # of sounds
+POLICY = "default-src 'none'; style-src 'unsafe-inline'; script-src 'unsafe-inline'; media-src blob:"
 SHORT = 0.25  # seconds that are too short to hear
 CHANNELS = [*range(1, 16), *range(17, 32)]
 
@@ -201,7 +202,8 @@ def sounds_part(heard: Mapping[Slot, bytes], frames: int) -> str:
     most = max(1, MAX_OCTETS // frames)
     parts = [sound_part(slot, octets) for slot, octets in list(heard.items())[:most]]
     if frames < SHORT * FRAMES_PER_SECOND:
-        parts.insert(0, f"<p>{count(frames, 'frame')} last {span(frames)}, which is a click at most: <em>repeat</em> plays them over and over.</p>")
+        last = f"{count(frames, 'frame')} last {span(frames)}, which is a click at most"
+        parts.insert(0, f"<p>{last}: <em>repeat</em> plays them over and over.</p>")
     if len(heard) > most:
         parts.append(f"<p>The first {most} of {len(heard)} channels have a player.</p>")
     return "".join(parts)
@@ -229,12 +231,13 @@ def document(file: str, parts: Parts, pictures: Pictures) -> str:
         for column in pictures.columns
     )
     run = pictures.run
+    hidden = "" if run.calls or run.on_no_call else " hidden"
     return f"""<!DOCTYPE html>
 <html lang="en">
 <head>
 <meta charset="utf-8">
 <meta name="viewport" content="width=device-width, initial-scale=1">
-<meta http-equiv="Content-Security-Policy" content="default-src 'none'; style-src 'unsafe-inline'; script-src 'unsafe-inline'; media-src blob:">
+<meta http-equiv="Content-Security-Policy" content="{POLICY}">
 <title>{escape(file)}</title>
 <style>
 {style}</style>
@@ -249,7 +252,7 @@ def document(file: str, parts: Parts, pictures: Pictures) -> str:
 <main>
 <section id="calls">
 <h2>Calls</h2>
-<p class="control"{"" if run.calls or run.on_no_call else " hidden"}><label><input type="checkbox" id="octets"> show the octets of each message</label></p>
+<p class="control"{hidden}><label><input type="checkbox" id="octets"> show the octets of each message</label></p>
 <div class="calls">{parts.calls}</div>
 </section>
 <section id="channels">

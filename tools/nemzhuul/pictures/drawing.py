@@ -239,7 +239,8 @@ class Pictures:
         free = {12: 0.0, 24: 0.0}  # by the height of a number, where the next has room
         for column in self.columns:
             kind = "frames" if column.frames else "event"
-            yield f'<rect class="column {kind}" x="{column.x:.1f}" y="0" width="{column.width:.1f}" height="{height}"><title>{escape(column.title)}</title></rect>'
+            place = f'x="{column.x:.1f}" y="0" width="{column.width:.1f}" height="{height}"'
+            yield f'<rect class="column {kind}" {place}><title>{escape(column.title)}</title></rect>'
             text, y = str(column.events.first), 12
             if column.frames is not None:
                 first, last = column.frames
@@ -261,9 +262,9 @@ class Pictures:
         return f'<g class="{kind}"{style}><title>{escape(title)}</title>{shape}{text}</g>'
 
     def svg(self, label: str, height: float, parts: Sequence[str]) -> str:
-        inside = "".join(parts)
+        cursor = f'<rect class="cursor" y="0" width="{COLUMN}" height="{height}"/>'
         return (f'<svg class="steps" role="img" aria-label="{label}" viewBox="0 0 {self.width:.0f} {height}" '
-                f'width="{self.width:.0f}" height="{height}">{inside}<rect class="cursor" y="0" width="{COLUMN}" height="{height}"/></svg>')  # fmt: skip
+                f'width="{self.width:.0f}" height="{height}">{"".join(parts)}{cursor}</svg>')  # fmt: skip
 
 
 def slot_of(end: End) -> Slot:

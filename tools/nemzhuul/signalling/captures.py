@@ -11,7 +11,7 @@ from pathlib import Path
 from typing import NamedTuple
 
 from nemzhuul.command_line import Refused, watch
-from nemzhuul.signalling.lapd import I_FRAME_HEADER, MODULUS, LinkFrame, write_frame
+from nemzhuul.signalling.lapd import I_FRAME_HEADER, MODULUS, LinkFrame, read_address, write_frame
 from nemzhuul.traces.events import FRAMES_PER_SECOND
 
 MAGIC = 0xA1B2C3D4  # of a pcap file with microseconds, in the order of octets that its writer uses
@@ -205,12 +205,13 @@ def read_signal(path: str, number: int, packet: Packet) -> Signal | None:
     frame = packet.octets[header:]
     if len(frame) < 3:
         raise Refused(f"{path} has a packet {number} that is too short for a frame of LAPD")
-    sapi, is_from_network = frame[0] >> 2, bool(frame[0] & 2)  # C/R of a command is 1 from the network
-    if sapi != 0 or frame[2] & 1:
+    address = read_address(frame)
+    if address.sapi != 0 or frame[2] & 1:
         return None
     if len(frame) < I_FRAME_HEADER:
         raise Refused(f"{path} has a packet {number} that is too short for an I frame")
-    return Signal(number, packet.time, frame[1] >> 1, not is_from_network, frame[I_FRAME_HEADER:])
+    is_from_user = address.cr == 0  # C/R of a command is 1 from the network
+    return Signal(number, packet.time, address.tei, is_from_user, frame[I_FRAME_HEADER:])
 
 
 # ---- a capture that is written

@@ -8,6 +8,7 @@ from __future__ import annotations
 
 from collections.abc import Iterator
 from dataclasses import dataclass
+from typing import NamedTuple
 
 from nemzhuul.signalling.q931 import message_text
 
@@ -44,7 +45,19 @@ class LinkFrame:
     information: bytes = b""
 
 
+class Address(NamedTuple):
+    """The address of a frame."""
+
+    sapi: int
+    cr: int
+    tei: int
+
+
 # ---- octets
+
+
+def read_address(octets: bytes) -> Address:
+    return Address(octets[0] >> 2, octets[0] >> 1 & 1, octets[1] >> 1)
 
 
 def read_frame(octets: bytes, is_from_user: bool) -> LinkFrame | None:
