@@ -12,7 +12,7 @@ from nemzhuul.command_line import WrongWords
 from nemzhuul.pictures.drawing import Pictures, waveform
 from nemzhuul.pictures.fabric import STRICT_SLOTS, Fabric
 from nemzhuul.pictures.ladders import frames_text, name, note, place, title
-from nemzhuul.traces.events import FRAMES_PER_SECOND, IDLE, PLACES, Slot, Step, Trace, place_of_channel
+from nemzhuul.traces.events import CHANNELS, FRAMES_PER_SECOND, IDLE, PLACES, Slot, Step, Trace, place_of_channel
 from nemzhuul.traces.following import Call, Row, Run
 from nemzhuul.traces.reading import read_run
 
@@ -25,7 +25,6 @@ MAX_CALLS = 200  # that are drawn
 MAX_OCTETS = 4_000_000  # of sounds
 POLICY = "default-src 'none'; style-src 'unsafe-inline'; script-src 'unsafe-inline'; media-src blob:"
 SHORT = 0.25  # seconds that are too short to hear
-CHANNELS = [*range(1, 16), *range(17, 32)]
 
 
 @dataclass(frozen=True)
