@@ -169,7 +169,7 @@ class References(set[int]):
 
 
 class Waiting(NamedTuple):
-    """A call that waits until its next message: until when, in seconds, its place among those of one time, and its rest."""
+    """A call until its next message: the time in seconds, the order of calls with one time, and the rest of the call."""
 
     time: float
     order: int

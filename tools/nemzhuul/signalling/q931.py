@@ -169,7 +169,7 @@ class Channel(NamedTuple):
 
 
 class Element(NamedTuple):
-    """An information element; one of a single octet has no contents."""
+    """An information element. It has no contents if it is a single octet."""
 
     code: int
     contents: bytes | None
