@@ -73,7 +73,7 @@ class InFolder(unittest.TestCase):
         return True
 
     def tool(self, name: str, *words: object, tools: Path = TOOLS) -> Ran:
-        command = [tools / name, *map(str, words)]
+        command = [str(tools / name), *map(str, words)]
         done = subprocess.run(command, cwd=self.folder, env=ENV, text=True, timeout=PATIENCE, check=False, capture_output=True)
         return Ran(done.returncode, done.stderr)
 

@@ -32,7 +32,7 @@ class LinkUser:
         """Sends a frame; libpri leaves the two octets at its end as they are, and the driver overwrites them."""
         self.connection.send(octets + b"\xAA\xBB")
 
-    def act(self, what: Callable[[links.Link, float], None]) -> None:
+    def act(self, what: Callable[[links.Link, float], object]) -> None:
         """Has the link do something, and sends what it has to."""
         what(self.link, time.monotonic())
         for octets in self.link.out:
@@ -43,7 +43,7 @@ class LinkUser:
         assert sequence == sequence_of(octets), octets.hex()
         self.gotten.append(octets)
         told = self.link.receive(octets, time.monotonic())
-        if told and told[0] == links.TOOK:
+        if told and told[1] is not None:
             self.messages.append(told[1])
         self.act(lambda link, now: link.finish(now))
 

@@ -128,9 +128,9 @@ class Links(InFolder):
                         if draw.random() > 0.1 * (seed % 4):
                             told.append(link.receive(octets, now))
                             link.finish(now)
-                    for what, message in filter(None, told):
-                        if what == links.TOOK:
-                            taken[side].append(message)
+                    for what, information in filter(None, told):
+                        if what == links.TOOK and information is not None:
+                            taken[side].append(information)
                         else:
                             epochs[side].append([])
                     wires[side] += link.out

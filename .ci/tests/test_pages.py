@@ -66,8 +66,8 @@ class Elements(HTMLParser):
 
 def octet_at(octets: Mapping[int, bytes], slot: events.Slot) -> int:
     """The octet of a slot in a frame."""
-    row = octets.get(slot.line)
-    return IDLE if row is None else row[events.place_of_channel(slot.channel)]
+    row, place = octets.get(slot.line), events.place_of_channel(slot.channel)
+    return IDLE if row is None or place is None else row[place]
 
 
 class Pages(unittest.TestCase):
@@ -136,16 +136,18 @@ class Pages(unittest.TestCase):
         was sent its partner's octet of two frames before."""
         for trace_path in filter(lambda trace: not is_refused(trace), TRACES):
             with silence():
-                trace, steps = reading.read_run(trace_path, report_of(trace_path))
+                trace, steps = reading.read_run(str(trace_path), str(report_of(trace_path)))
             slots = fabric.STRICT_SLOTS if trace_path.stem.startswith("strict") else fabric.SLOTS
-            run, paths, arrived, since = following.Run(trace), fabric.Fabric(trace, slots), [], {}
+            run, paths = following.Run(trace), fabric.Fabric(trace, slots)
+            arrived: list[Mapping[int, bytes]] = []
+            since: dict[events.Slot, int] = {}
             for event, reply in steps:
                 run.take(event, reply)
                 with self.subTest(trace=trace_path.name, event=reply.event):
                     self.assertEqual(paths.take(run), reply.moved)
                 for slot, use in run.joined:
                     since[slot] = since[use.partner] = run.frames
-                if reply.frame is None:
+                if reply.frame is None or reply.octets is None or not isinstance(event, events.Frame):
                     continue
                 arrived.append(event.octets)
                 for slot, use in run.uses.items():

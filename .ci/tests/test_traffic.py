@@ -13,6 +13,12 @@ from nemzhuul.traces import following, reading
 from support import needs_program, silence, tool
 
 
+def cause_of(call: following.Call) -> int | None:
+    """The cause with which a call was cleared."""
+    assert call.cleared is not None
+    return call.cleared[1]
+
+
 class Traffic(unittest.TestCase):
     """Traces of calls that are drawn."""
 
@@ -45,7 +51,7 @@ class Traffic(unittest.TestCase):
             for path, content in zip(paths, (trace, self.ran(trace=trace))):
                 path.write_bytes(content)
             with silence():
-                read, steps = reading.read_run(*paths)
+                read, steps = reading.read_run(*map(str, paths))
         run = following.Run(read)
         for event, reply in steps:
             run.take(event, reply)
@@ -58,12 +64,13 @@ class Traffic(unittest.TestCase):
         """Each call ends as it is drawn to."""
         self.assertTrue(all(call.answered is not None for call in self.followed().calls))
         busy = self.followed("--busy", 100, "--overlap", 100)
-        self.assertEqual({call.cleared[1] for call in busy.calls}, {17})
-        self.assertEqual({row.message.digits for call in busy.calls for row in call.rows if row.message.name == "SETUP" and not row.is_sent}, {None})
+        self.assertEqual(set(map(cause_of, busy.calls)), {17})
+        messages = [row.message for call in busy.calls for row in call.rows if row.message and not row.is_sent]
+        self.assertEqual({message.digits for message in messages if message.name == "SETUP"}, {None})
         unanswered = self.followed("--unanswered", 100)
-        self.assertEqual({(call.answered, call.cleared[1]) for call in unanswered.calls}, {(None, 16)})
+        self.assertEqual({(call.answered, cause_of(call)) for call in unanswered.calls}, {(None, 16)})
         mixed = self.followed("--unanswered", 30, "--busy", 30, "--overlap", 50)
-        self.assertEqual(len({(call.answered is None, call.cleared[1]) for call in mixed.calls}), 3)
+        self.assertEqual(len({(call.answered is None, cause_of(call)) for call in mixed.calls}), 3)
         self.assertGreater(mixed.frames, 40 * 8000 // 200)
 
     def test_full_lines(self) -> None:

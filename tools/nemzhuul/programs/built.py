@@ -13,7 +13,8 @@ from dataclasses import asdict, dataclass
 from pathlib import Path
 from typing import Callable, Optional
 
-TOP = Path(__file__).resolve().parents[3]
+from nemzhuul.repository.crates import TOP, read_crates
+
 PROVED_PARTS = ("src", "specs", "proofs")  # the folders of a crate that a proved program is built from
 UNPROVED_PARTS = ("src",)
 
@@ -44,8 +45,7 @@ class Sources:
 
 def listed_crates() -> dict[str, str]:
     """The line of each crate in crates.txt, without its comment."""
-    lines = (line.partition("#")[0].strip() for line in (TOP / "crates.txt").read_text(encoding="utf-8").splitlines())
-    return {line.partition(":")[0].split()[0]: line for line in lines if line}
+    return {crate.name: crate.line for crate in read_crates()}
 
 
 def crates_below(name: str, lines: dict[str, str]) -> set[str]:

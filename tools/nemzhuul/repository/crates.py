@@ -10,9 +10,10 @@ TOP = Path(__file__).resolve().parents[3]
 
 @dataclass(frozen=True)
 class Crate:
-    """A crate with the heading above it and the libraries that its line states."""
+    """A crate with its line, the heading above it, and the libraries that its line states."""
 
     name: str
+    line: str
     layer: str
     libraries: tuple[str, ...]
 
@@ -33,7 +34,8 @@ def read_crates() -> list[Crate]:
     for line in (TOP / "crates.txt").read_text(encoding="utf-8").splitlines():
         if line.startswith("## "):
             layer = line[3:].strip()
-        name, colon, libraries = line.partition("#")[0].partition(":")
+        text = line.partition("#")[0].strip()
+        name, colon, libraries = text.partition(":")
         if colon:
-            crates.append(Crate(name.split()[0], layer, tuple(libraries.split())))
+            crates.append(Crate(name.split()[0], text, layer, tuple(libraries.split())))
     return crates
