@@ -146,7 +146,7 @@ class Pages(unittest.TestCase):
                 with self.subTest(trace=trace_path.name, event=reply.event):
                     self.assertEqual(paths.take(run), reply.moved)
                 for slot, use in run.joined:
-                    since[slot] = since[use.partner] = run.frames
+                    since.update(dict.fromkeys((slot, use.partner or slot), run.frames))
                 if reply.frame is None or reply.octets is None or not isinstance(event, events.Frame):
                     continue
                 arrived.append(event.octets)

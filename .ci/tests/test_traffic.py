@@ -47,11 +47,11 @@ class Traffic(unittest.TestCase):
         status, trace, said = tool("traffic", *self.LOAD, *more)
         self.assertEqual((status, said), (0, ""))
         with tempfile.TemporaryDirectory() as folder:
-            paths = Path(folder) / "some.trace", Path(folder) / "some.report"
-            for path, content in zip(paths, (trace, self.ran(trace=trace))):
-                path.write_bytes(content)
+            path, report = Path(folder) / "some.trace", Path(folder) / "some.report"
+            path.write_bytes(trace)
+            report.write_bytes(self.ran(trace=trace))
             with silence():
-                read, steps = reading.read_run(*map(str, paths))
+                read, steps = reading.read_run(str(path), str(report))
         run = following.Run(read)
         for event, reply in steps:
             run.take(event, reply)

@@ -7,8 +7,9 @@ import subprocess
 import sys
 
 from nemzhuul.command_line import Refused, WrongWords
-from nemzhuul.programs.built import TOP, sources_of
+from nemzhuul.programs.built import sources_of
 from nemzhuul.programs.program import BUILT, NAMED, PROGRAM, misfit
+from nemzhuul.repository.crates import TOP
 
 USAGE = """usage: tools/build [--jobs N]
 proves and builds the exchange, crates/tst/out/tst, and records beside it the sources that it was built from. The tools

@@ -14,7 +14,8 @@ from pathlib import Path
 from typing import Optional
 
 from nemzhuul.command_line import NAME, Refused, say
-from nemzhuul.programs.built import PROVED_PARTS, TOP, UNPROVED_PARTS, Sources, program_in, sources_of
+from nemzhuul.programs.built import PROVED_PARTS, UNPROVED_PARTS, Sources, program_in, sources_of
+from nemzhuul.repository.crates import TOP
 from nemzhuul.traces.events import MAX_BYTES, MAX_EVENTS, Reply, Sent
 from nemzhuul.traces.reading import METER, reply
 
