@@ -16,6 +16,7 @@ from typing import NamedTuple
 
 from nemzhuul.command_line import NAME, Refused, WrongWords, say
 from nemzhuul.live.lines import SHUT_DOWN, DChannel, Line, Port
+from nemzhuul.live.log import Writer
 from nemzhuul.live.periods import Use
 from nemzhuul.live.processes import Exchange, Loop
 from nemzhuul.live.wire import Address, read_address
@@ -37,6 +38,7 @@ endpoint at a time attaches to each line with an ADDRESS: unix:PATH or tcp:HOST:
     --report FILE    writes the report
     --pcap FILE      writes a capture of the messages, for Wireshark
     --overwrite      replaces these files; without it, one that has content is refused
+    --needs-log      ends the exchange if the log cannot be written; without it, calls go on without a log
     --seconds N      ends after N seconds by the clock, also if frames are late
     --strict         runs the fabric on which no path moves
     --program FILE   runs this exchange, and not the proved one (crates/tst/out/tst)
@@ -66,7 +68,7 @@ class Options:
         self.seconds: int | None = None
         self.files: dict[str, str | None] = {"log": None, "report": None, "pcap": None, "program": None}
         self.flags: list[str] = []
-        self.may_overwrite = self.may_be_unproved = False
+        self.may_overwrite = self.may_be_unproved = self.needs_log = False
         left = list(words)
         while left and left[0].startswith("--"):
             self.option(left.pop(0)[2:], left)
@@ -76,7 +78,7 @@ class Options:
         self.check_files(left[0])
 
     def option(self, name: str, words: list[str]) -> None:
-        values = {"line": 2, "link": 2, "strict": 0, "overwrite": 0, "unproved": 0}.get(name, 1)
+        values = {"line": 2, "link": 2, "strict": 0, "overwrite": 0, "unproved": 0, "needs-log": 0}.get(name, 1)
         if len(words) <= values:
             raise WrongWords
         given = [words.pop(0) for _ in range(values)]
@@ -88,6 +90,8 @@ class Options:
             self.may_overwrite = True
         elif name == "unproved":
             self.may_be_unproved = True
+        elif name == "needs-log":
+            self.needs_log = True
         elif name == "burst":
             self.frames = int_of(given[0], 1, 1000) * FRAMES_PER_SECOND // 1000
         elif name == "seconds":
@@ -169,10 +173,11 @@ class Live:
     def __init__(self, options: Options, ends: contextlib.ExitStack) -> None:
         self.options = options
         program = exchange_program(options.files["program"], options.may_be_unproved)
-        outputs = [Output(options.files[name], options.may_overwrite) for name in OUTPUTS]
-        for output in outputs:
-            ends.callback(output.close)
-        self.log, report, self.capture = outputs
+        writers = []
+        for name, what in OUTPUTS.items():
+            writers.append(Writer(Output(options.files[name], options.may_overwrite), what))
+            ends.callback(writers[-1].close)
+        self.log, report, self.capture = writers
         self.packets = CaptureWriter(options.linked)
         self.given = self.replied = 0  # events
         self.frame = 0  # the number of the next frame in the report
@@ -189,8 +194,8 @@ class Live:
         for number, address in options.links.items():
             self.channels[number] = DChannel(number, address, self.loop)
             ends.callback(self.channels[number].close)
-        for output in outputs:
-            output.begin()
+        for writer in writers:
+            writer.begin()
         self.exchange = Exchange([program, "follow", *options.flags], self.loop, self.take, report)
         ends.callback(self.exchange.kill)
 
@@ -207,13 +212,17 @@ class Live:
     def run(self) -> None:
         """Makes frames by the clock until an interrupt, the end of the exchange, or the end of its time."""
         self.use.begin(self.exchange.process.pid)
-        while not (self.interrupts or self.exchange.has_ended or self.use.has_passed(self.options.seconds)):
+        while not (self.interrupts or self.exchange.has_ended or self.lacks_log() or self.use.has_passed(self.options.seconds)):
             waits = self.replied < self.given
             left = self.use.left()
             if waits or left > 0:
                 self.loop.wait(1 if waits else left)
             else:
                 self.burst()
+
+    def lacks_log(self) -> bool:
+        """Whether the exchange ends because its log is given up."""
+        return self.options.needs_log and self.log.is_given_up
 
     def catch_interrupts(self) -> list[socket.socket]:
         """A list to which each interrupt is appended; it also ends a wait."""
@@ -230,7 +239,7 @@ class Live:
     def end(self) -> None:
         """Ends the exchange, and says what was used and taken."""
         ended = self.exchange.has_ended
-        status = self.exchange.finish()
+        status = self.exchange.finish(lambda: len(self.interrupts) > 1)
         say(self.use.text())
         for line in self.lines.values():
             late = f"; the octets of {line.late} frames came late" if line.late else ""
@@ -241,6 +250,8 @@ class Live:
             raise Refused("the exchange does not end")
         if ended or status:
             raise Refused(f"the exchange ended with status {status}: {self.refusal}")
+        if self.lacks_log():
+            raise Refused("the exchange needs its log, and has ended without it")
 
     # ---- to the exchange
 
@@ -280,6 +291,7 @@ class Live:
 
     def give(self, text: bytes, events: int) -> None:
         self.log.write(text)
+        self.log.settle()
         self.given += events
         self.exchange.send(text)
 

@@ -11,8 +11,8 @@ from collections.abc import Callable, Sequence
 from pathlib import Path
 from typing import NamedTuple, Optional, Protocol
 
+from nemzhuul.live.log import Writer
 from nemzhuul.live.wire import PIECE
-from nemzhuul.outputs import Output
 
 FINISH_SECONDS = 30  # that the exchange has for its last replies
 
@@ -68,7 +68,7 @@ class Loop:
 class Exchange:
     """The running exchange. It gets lines of a trace, and its replies are taken whole."""
 
-    def __init__(self, words: Sequence[str | Path], loop: Loop, replies: Callable[[bytes], None], report: Output) -> None:
+    def __init__(self, words: Sequence[str | Path], loop: Loop, replies: Callable[[bytes], None], report: Writer) -> None:
         self.loop = loop
         self.replies = replies  # is called with the text of whole lines
         self.report = report
@@ -110,15 +110,15 @@ class Exchange:
         if end:
             self.replies(whole)
 
-    def finish(self) -> int | None:
-        """Ends the input, takes what the exchange still replies, and returns its status; None if it does not end."""
+    def finish(self, is_hurried: Callable[[], bool]) -> int | None:
+        """Ends the input, takes what the exchange still replies, and returns its status; None if it does not end in time."""
         last = time.monotonic() + FINISH_SECONDS
-        while self.unsent and not self.has_ended and time.monotonic() < last:
+        while self.unsent and not self.has_ended and time.monotonic() < last and not is_hurried():
             self.loop.wait(1)
         self.loop.watch(self.input)
         with contextlib.suppress(BrokenPipeError):
             self.input.close()
-        while not self.has_ended and time.monotonic() < last:
+        while not self.has_ended and time.monotonic() < last and not is_hurried():
             self.loop.wait(1)
         return self.process.wait() if self.has_ended else None
 
