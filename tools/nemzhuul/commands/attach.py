@@ -9,16 +9,20 @@ from __future__ import annotations
 import contextlib
 import signal
 import socket
+import time
 from collections import deque
 from collections.abc import Sequence
 from pathlib import Path
 from typing import NamedTuple
 
 from nemzhuul.command_line import NAME, Refused, WrongWords, say
+from nemzhuul.live.clock import WallClock
 from nemzhuul.live.lines import SHUT_DOWN, DChannel, Line, Port
 from nemzhuul.live.log import Writer
 from nemzhuul.live.periods import Use
 from nemzhuul.live.processes import Exchange, Loop
+from nemzhuul.live.realtime import ask_for_realtime
+from nemzhuul.live.states import DISC
 from nemzhuul.live.wire import Address, read_address
 from nemzhuul.outputs import Output, check_output, is_same_file
 from nemzhuul.programs.program import NAMED, PROGRAM, REMEDY, UNPROVED, misfit, program_at
@@ -30,7 +34,7 @@ from nemzhuul.traces.reading import NUMERAL, TraceReader, is_said, lines_of, tak
 
 USAGE = """usage: tools/attach [OPTION ..] [--line L ADDRESS ..] [--link L ADDRESS ..] SETTINGS
 runs the exchange that the file SETTINGS begins (a trace without messages and frames), 8000 frames a second. One
-endpoint at a time attaches to each line with an ADDRESS: unix:PATH or tcp:HOST:PORT. It ends at an interrupt.
+endpoint at a time attaches to each line with an ADDRESS: unix:PATH or tcp:HOST:PORT. It ends at signal INT, TERM or HUP.
     --link L unix:PATH  gives line L a data link (LAPD), whose frames are datagrams of a SOCK_SEQPACKET socket, each
                      with two octets of check sequence at its end
     --burst MS       makes the frames of this time at once, 1 to 1000 ms (20)
@@ -42,11 +46,14 @@ endpoint at a time attaches to each line with an ADDRESS: unix:PATH or tcp:HOST:
     --seconds N      ends after N seconds by the clock, also if frames are late
     --strict         runs the fabric on which no path moves
     --program FILE   runs this exchange, and not the proved one (crates/tst/out/tst)
+    --realtime       asks for SCHED_RR and locked memory, and goes on if they are refused
     --unproved       runs an unproved one if the proved one is not built; it is too slow for real time
 A socket that no process has any more is removed before a line listens at its PATH, and no other file there.
 An endpoint sends and gets lines: `M HEX`, a message, and `F HEX`, the octets of a frame. It gets frames from its first
 `F HEX` or `F none` on. With --line and --link, a line has its frames at the one socket and its messages at the other.
 Signal USR1 prints how much of its time the exchange has used so far."""
+
+PART_SECONDS = 1  # that endpoints have at the end for their last line
 
 OUTPUTS = {"log": "the log", "report": "the report", "pcap": "the capture"}
 
@@ -68,7 +75,7 @@ class Options:
         self.seconds: int | None = None
         self.files: dict[str, str | None] = {"log": None, "report": None, "pcap": None, "program": None}
         self.flags: list[str] = []
-        self.may_overwrite = self.may_be_unproved = self.needs_log = False
+        self.may_overwrite = self.may_be_unproved = self.needs_log = self.is_realtime = False
         left = list(words)
         while left and left[0].startswith("--"):
             self.option(left.pop(0)[2:], left)
@@ -78,7 +85,7 @@ class Options:
         self.check_files(left[0])
 
     def option(self, name: str, words: list[str]) -> None:
-        values = {"line": 2, "link": 2, "strict": 0, "overwrite": 0, "unproved": 0, "needs-log": 0}.get(name, 1)
+        values = {"line": 2, "link": 2, "strict": 0, "overwrite": 0, "unproved": 0, "needs-log": 0, "realtime": 0}.get(name, 1)
         if len(words) <= values:
             raise WrongWords
         given = [words.pop(0) for _ in range(values)]
@@ -92,6 +99,8 @@ class Options:
             self.may_be_unproved = True
         elif name == "needs-log":
             self.needs_log = True
+        elif name == "realtime":
+            self.is_realtime = True
         elif name == "burst":
             self.frames = int_of(given[0], 1, 1000) * FRAMES_PER_SECOND // 1000
         elif name == "seconds":
@@ -194,6 +203,8 @@ class Live:
         for number, address in options.links.items():
             self.channels[number] = DChannel(number, address, self.loop)
             ends.callback(self.channels[number].close)
+        if options.is_realtime:
+            ask_for_realtime()
         for writer in writers:
             writer.begin()
         self.exchange = Exchange([program, "follow", *options.flags], self.loop, self.take, report)
@@ -212,6 +223,9 @@ class Live:
     def run(self) -> None:
         """Makes frames by the clock until an interrupt, the end of the exchange, or the end of its time."""
         self.use.begin(self.exchange.process.pid)
+        clock = WallClock.at_once(self.frame)
+        self.packets.start = clock.microseconds(0)
+        self.log.write(clock.comment())
         while not (self.interrupts or self.exchange.has_ended or self.lacks_log() or self.use.has_passed(self.options.seconds)):
             waits = self.replied < self.given
             left = self.use.left()
@@ -231,8 +245,9 @@ class Live:
         writer.setblocking(False)
         signal.set_wakeup_fd(writer.fileno())
         self.loop.watch(reader, lambda: reader.recv(64))
-        for number in (signal.SIGINT, signal.SIGTERM):
-            signal.signal(number, lambda *_: came.append(writer))
+        for number in (signal.SIGINT, signal.SIGTERM, signal.SIGHUP):
+            if number != signal.SIGHUP or signal.getsignal(number) != signal.SIG_IGN:  # as `nohup` has it
+                signal.signal(number, lambda *_: came.append(writer))
         signal.signal(signal.SIGUSR1, lambda *_: say(self.use.text()))
         return came
 
@@ -240,6 +255,7 @@ class Live:
         """Ends the exchange, and says what was used and taken."""
         ended = self.exchange.has_ended
         status = self.exchange.finish(lambda: len(self.interrupts) > 1)
+        self.part()
         say(self.use.text())
         for line in self.lines.values():
             late = f"; the octets of {line.late} frames came late" if line.late else ""
@@ -252,6 +268,17 @@ class Live:
             raise Refused(f"the exchange ended with status {status}: {self.refusal}")
         if self.lacks_log():
             raise Refused("the exchange needs its log, and has ended without it")
+
+    def part(self) -> None:
+        """Releases each data link, and says to each endpoint that the exchange ends."""
+        for channel in self.channels.values():
+            if channel.endpoint is not None:
+                self.deliver_frame(channel.number, DISC)
+        for line in self.lines.values():
+            line.part()
+        last = time.monotonic() + PART_SECONDS
+        while any(line.unsent for line in self.lines.values()) and time.monotonic() < last:
+            self.loop.wait(0.1)
 
     # ---- to the exchange
 
@@ -314,6 +341,8 @@ class Live:
                 self.take_message(words[2:])
             elif word == [b"link"]:
                 told = words[2:3] and words[2] in (b"took", b"up", b"down")
+                if told and words[2] != b"took":
+                    self.set_link(self.asked[0].line, words[2])
                 self.take_message(words[3:] if told else words[2:])
             elif words[0] == b"refused":
                 self.refusal = reply.decode("latin-1")
@@ -328,8 +357,15 @@ class Live:
         while words[at : at + 1] and words[at] in (b"send", b"up", b"down"):
             if words[at] == b"send":
                 self.deliver(words[at + 1], words[at + 2])
+            else:
+                self.set_link(int(words[at + 1]), words[at])
             at += 3 if words[at] == b"send" else 2
         return at
+
+    def set_link(self, number: int, word: bytes) -> None:
+        """The data link of a line is up or down."""
+        if number in self.channels:
+            self.channels[number].state.set(word == b"up")
 
     def take_message(self, sent: Sequence[bytes]) -> None:
         """Takes the reply to a message, or to a frame of a data link: the lines and the digits of what is sent."""

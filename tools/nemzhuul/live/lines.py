@@ -15,6 +15,7 @@ from typing import Union
 
 from nemzhuul.command_line import NAME, Refused, say
 from nemzhuul.live.processes import Loop
+from nemzhuul.live.states import LinkState
 from nemzhuul.live.wire import FRAMES, IDLE_ROW, MAX_LINE, MESSAGE, NO_FRAMES, Address, receive, without_delay
 from nemzhuul.signalling.lapd import FCS, MAX_FRAME, check_sequence
 from nemzhuul.signalling.q931 import RESTART, restart_indicator, write_message
@@ -24,6 +25,7 @@ MAX_MESSAGES = 64  # of a line in a period, so that no endpoint delays the other
 MAX_WAITING = 8_000  # messages in a queue, after which its endpoint is treated as one that does not read
 MAX_UNREAD = 1 << 23  # octets that an endpoint may leave unread: 16 seconds of frames
 MAX_LINK_FRAMES = 256  # in the queue of a D channel, from which on its endpoint is not read
+ENDS = b"the exchange ends"  # the last line that an endpoint gets
 DATAGRAM = 4096  # octets that are read of a datagram, of which fewer are used
 
 SHUT_DOWN = write_message(0, 0, RESTART, restart_indicator(is_whole_line=True)).hex().upper().encode()
@@ -161,6 +163,12 @@ class Line(Port):
         if len(self.unsent) > MAX_UNREAD:
             self.leave("does not read")
         self.watch()
+
+    def part(self) -> None:
+        """Says to the endpoint that the exchange ends."""
+        if self.endpoint is not None:
+            self.due.append(b"refused " + ENDS)
+            self.send()
 
     def leave(self, why: str, refusal: Refused | None = None) -> None:
         """The endpoint goes. The next one is accepted when what it sent has taken effect, and the restart of the line."""
@@ -311,11 +319,13 @@ class DChannel(Port):
         super().__init__(number, address, loop, socket.SOCK_SEQPACKET)
         self.queue: deque[bytes] = deque()  # frames that the endpoint sent
         self.frames = self.cut = self.lost = 0  # how many were taken, and cut, and how many of the exchange were lost
+        self.state = LinkState(self.say)
         self.say(f"its data link listens on {self.listener.place}")
 
     def attach(self, connection: socket.socket) -> None:
         self.endpoint = connection
         self.say("an endpoint is attached to its data link")
+        self.state.begin()
         self.watch()
 
     def turn_away(self, connection: socket.socket) -> None:
@@ -339,6 +349,7 @@ class DChannel(Port):
         octets = datagram[:-FCS]
         self.frames += 1
         self.cut += len(octets) > MAX_FRAME
+        self.state.check(octets)
         self.queue.append(octets[:MAX_FRAME])
         self.watch()
 

@@ -34,7 +34,8 @@ LAPD_HARDWARE = 8445  # ARPHRD_LAPD
 LAPD_PROTOCOL = 0x0030  # ETH_P_LAPD
 NETWORK_SIDE = 1  # first octet of the address: the capture was taken at the network side
 
-MICROSECONDS_PER_FRAME = 1_000_000 // FRAMES_PER_SECOND
+MICROSECONDS = 1_000_000
+MICROSECONDS_PER_FRAME = MICROSECONDS // FRAMES_PER_SECOND
 
 
 @dataclass(frozen=True)
@@ -226,6 +227,7 @@ class CaptureWriter:
     def __init__(self, linked: Collection[int] = ()) -> None:
         self.linked = linked  # the lines with a data link
         self.count: Counter[tuple[int, bool]] = Counter()  # of the messages by line and direction
+        self.start = 0  # when frame 0 begins, in microseconds
 
     def packet(self, frames: int, line: int, is_sent: bool, octets: bytes) -> bytes:
         """A message or a frame with the frames of the exchange before it, its line, and whether the exchange sent it."""
@@ -235,12 +237,12 @@ class CaptureWriter:
             frame = LinkFrame("I", True, nr=other % MODULUS, ns=own % MODULUS, information=octets)
             octets = write_frame(frame, is_from_user=not is_sent, tei=line)
         packet = pseudo_header(line, is_sent) + octets
-        return record_header(frames, len(packet)) + packet
+        return record_header(self.start + frames * MICROSECONDS_PER_FRAME, len(packet)) + packet
 
 
-def record_header(frames: int, length: int) -> bytes:
-    seconds, rest = divmod(frames, FRAMES_PER_SECOND)
-    return struct.pack(">IIII", seconds, rest * MICROSECONDS_PER_FRAME, length, length)
+def record_header(time: int, length: int) -> bytes:
+    """The header of a packet at a time in microseconds."""
+    return struct.pack(">IIII", *divmod(time, MICROSECONDS), length, length)
 
 
 def pseudo_header(line: int, is_sent: bool) -> bytes:
