@@ -22,6 +22,7 @@ from nemzhuul.live.log import Writer
 from nemzhuul.live.periods import Use
 from nemzhuul.live.processes import Exchange, Loop
 from nemzhuul.live.realtime import ask_for_realtime
+from nemzhuul.live.resume import Appended, History, Replay, Returns
 from nemzhuul.live.states import DISC
 from nemzhuul.live.wire import Address, read_address
 from nemzhuul.outputs import Output, check_output, is_same_file
@@ -39,7 +40,9 @@ endpoint at a time attaches to each line with an ADDRESS: unix:PATH or tcp:HOST:
                      with two octets of check sequence at its end
     --burst MS       makes the frames of this time at once, 1 to 1000 ms (20)
     --log FILE       writes the trace of all that happens, which `tst follow <FILE` runs again
-    --report FILE    writes the report
+    --resume LOG     goes on where the exchange with this log ended in any way, and appends to it. Calls go on, and so do
+                     data links. SETTINGS and --strict are as they were
+    --report FILE    writes the report; with --resume, from there on
     --pcap FILE      writes a capture of the messages, for Wireshark
     --overwrite      replaces these files; without it, one that has content is refused
     --needs-log      ends the exchange if the log cannot be written; without it, calls go on without a log
@@ -75,7 +78,7 @@ class Options:
         self.seconds: int | None = None
         self.files: dict[str, str | None] = {"log": None, "report": None, "pcap": None, "program": None}
         self.flags: list[str] = []
-        self.may_overwrite = self.may_be_unproved = self.needs_log = self.is_realtime = False
+        self.may_overwrite = self.may_be_unproved = self.needs_log = self.is_realtime = self.is_resumed = False
         left = list(words)
         while left and left[0].startswith("--"):
             self.option(left.pop(0)[2:], left)
@@ -105,7 +108,10 @@ class Options:
             self.frames = int_of(given[0], 1, 1000) * FRAMES_PER_SECOND // 1000
         elif name == "seconds":
             self.seconds = int_of(given[0], 1, 999_999_999)
-        elif name in self.files:
+        elif name == "resume" and self.files["log"] is None:
+            (self.files["log"],) = given
+            self.is_resumed = True
+        elif name in self.files and not (name == "log" and self.is_resumed):
             (self.files[name],) = given
         else:
             raise WrongWords
@@ -116,6 +122,11 @@ class Options:
         address = addresses[int(line)] = read_address(word)
         if addresses is self.links and address.path is None:
             raise Refused(f"{word} is no address of a data link: it is unix:PATH")
+
+    def output(self, name: str) -> Output:
+        """A file that is written."""
+        path = self.files[name]
+        return Appended(path) if path is not None and name == "log" and self.is_resumed else Output(path, self.may_overwrite)
 
     def read_settings(self, path: str) -> bytes:
         """The lines of a trace in which no message and no frame arrives."""
@@ -151,7 +162,7 @@ class Options:
             for other, place in taken:
                 if is_same_file(path, place):
                     raise Refused(f"{path} cannot be both {other} and {what}")
-            check_output(path, self.may_overwrite)
+            check_output(path, self.may_overwrite or name == "log" and self.is_resumed)
             taken.append((what, path))
 
 
@@ -184,15 +195,17 @@ class Live:
         program = exchange_program(options.files["program"], options.may_be_unproved)
         writers = []
         for name, what in OUTPUTS.items():
-            writers.append(Writer(Output(options.files[name], options.may_overwrite), what))
+            writers.append(Writer(options.output(name), what))
             ends.callback(writers[-1].close)
         self.log, report, self.capture = writers
+        self.history = self.read_history(self.log.output)
         self.packets = CaptureWriter(options.linked)
         self.given = self.replied = 0  # events
         self.frame = 0  # the number of the next frame in the report
         self.asked: deque[Asked] = deque()  # without replies so far
         self.refusal = ""
         self.use = Use(options.frames)
+        self.returns = Returns()
         self.loop = Loop()
         self.interrupts = self.catch_interrupts()
         self.lines: dict[int, Line] = {}
@@ -216,12 +229,16 @@ class Live:
     def start(self) -> None:
         """Gives the exchange its settings, and opens its lines."""
         self.capture.write(self.packets.HEADER)
-        self.give(self.options.settings, self.options.events)
+        if self.history is None:
+            self.give(self.options.settings, self.options.events)
+        else:
+            self.resume(self.history)
         for port in self.ports():
             port.open()
 
     def run(self) -> None:
         """Makes frames by the clock until an interrupt, the end of the exchange, or the end of its time."""
+        self.returns.begin()
         self.use.begin(self.exchange.process.pid)
         clock = WallClock.at_once(self.frame)
         self.packets.start = clock.microseconds(0)
@@ -232,7 +249,28 @@ class Live:
             if waits or left > 0:
                 self.loop.wait(1 if waits else left)
             else:
+                self.returns.check()
                 self.burst()
+
+    def read_history(self, output: Output) -> History | None:
+        """What the log has, if the exchange goes on."""
+        if not isinstance(output, Appended):
+            return None
+        history = History(output.path or "", self.options.settings)
+        output.end = history.end
+        return history
+
+    def resume(self, history: History) -> None:
+        """Brings the exchange to the state that the log leaves, and the log to the end of its settings if it has less."""
+        replay = Replay(self.exchange, self.loop, lambda: self.interrupts)
+        replay.run(history, self.options.settings, self.options.events)
+        self.log.write(self.options.settings[history.end :])
+        self.given = self.replied = replay.events
+        self.frame = replay.frames
+        self.returns.lines = [line for line in self.lines.values() if not line.has_link]
+        for channel in self.channels.values():
+            channel.state.is_up = None
+        say(f"{NAME}: goes on with {history.path} at frame {self.frame}")
 
     def lacks_log(self) -> bool:
         """Whether the exchange ends because its log is given up."""

@@ -29,7 +29,7 @@ class Use:
         """Starts the clock."""
         self.process = process
         self.own = time.process_time()
-        self.children = children_seconds()
+        self.children = children_seconds() + process_seconds(process)
         self.start = time.monotonic()
 
     def left(self) -> float:

@@ -15,7 +15,7 @@ class LinkState:
 
     def __init__(self, say: Callable[[str], None]) -> None:
         self.say = say
-        self.is_up = False
+        self.is_up: bool | None = False  # None if it is not known
         self.is_warned = False
 
     def begin(self) -> None:

@@ -1,0 +1,169 @@
+"""Goes on with an exchange that has ended in any way: a new process gets the log, and has the state of the old one.
+
+Of the octets of slots, only those of the last frames are still in the exchange. The frames before them are given without
+octets, which takes seconds for an hour.
+"""
+
+from __future__ import annotations
+
+import os
+import re
+import time
+from collections.abc import Iterator
+from pathlib import Path
+from typing import Callable
+
+from nemzhuul.command_line import NAME, Refused, say
+from nemzhuul.live.lines import Line, Mark
+from nemzhuul.live.log import Writer
+from nemzhuul.live.processes import Exchange, Loop
+from nemzhuul.outputs import Output
+
+KEPT_FRAMES = 4  # a room's mix is of four frames before, and every other octet is younger
+RETURN_SECONDS = 60  # that endpoints have to come back
+BLOCK = 1 << 20  # octets of a read
+SAID_SECONDS = 1  # between two lines on how far it is
+FRAME = re.compile(rb"^F [^\n]*", re.MULTILINE)
+OTHER_EVENT = re.compile(rb"\n(?:nail|seat|free|up|down|M|L) ")
+
+
+class History:
+    """The log of an exchange: the settings, and the whole lines below them. A last line without an end is left out."""
+
+    def __init__(self, path: str | Path, settings: bytes) -> None:
+        self.path = path
+        with open(path, "rb") as log:
+            log.seek(0, os.SEEK_END)
+            self.end = line_starts(log.fileno(), log.tell(), 0, 1)
+            log.seek(0)
+            begun = log.read(min(self.end, len(settings)))
+            if not settings.startswith(begun):
+                raise Refused(f"{path} is not the log of an exchange with these settings")
+            self.start = len(settings)  # of what is below them
+            self.is_begun = self.end >= self.start
+            if self.is_begun:
+                self.kept = line_starts(log.fileno(), self.end, self.start, KEPT_FRAMES, b"F")
+
+    def pieces(self) -> Iterator[bytes]:
+        """The lines below the settings, with the octets of the last frames only."""
+        if not self.is_begun:
+            return
+        with open(self.path, "rb") as log:
+            log.seek(self.start)
+            for piece in blocks(log.fileno(), self.start, self.kept):
+                yield FRAME.sub(b"F", piece)
+            yield from blocks(log.fileno(), self.kept, self.end)
+
+
+def line_starts(number: int, end: int, least: int, count: int, begin: bytes = b"") -> int:
+    """Where the last lines before an end begin, as many as the count, of those that begin so; at least this place.
+
+    Without a beginning, it is where the last line that has no end begins, or the end.
+    """
+    rest = b""  # the part of a line that is known
+    while end > least:
+        size = min(BLOCK, end - least)
+        text = os.pread(number, size, end - size) + rest
+        end -= size
+        at = len(text)
+        while (at := text.rfind(b"\n" + begin, 0, at)) >= 0:
+            count -= 1
+            if count == 0:
+                return end + at + 1
+        rest = text[: len(begin)]
+    return least
+
+
+def blocks(number: int, start: int, end: int) -> Iterator[bytes]:
+    """A part of a file that is whole lines, in pieces that are whole lines."""
+    begun = b""
+    while start < end:
+        text = os.pread(number, min(BLOCK, end - start), start)
+        start += len(text)
+        whole, line_end, begun = (begun + text).rpartition(b"\n")
+        if line_end:
+            yield whole + line_end
+
+
+class Appended(Output):
+    """The log, which is written behind its whole lines."""
+
+    def __init__(self, path: str | Path) -> None:
+        if not os.path.isfile(path):
+            raise Refused(f"{path} is no log of an exchange: it is no file")
+        super().__init__(path, may_overwrite=True)
+        self.end = 0
+
+    def begin(self) -> None:
+        """Removes the part of a line at the end."""
+        if self.number is not None:
+            os.ftruncate(self.number, self.end)
+            os.lseek(self.number, 0, os.SEEK_END)
+
+
+class Replay:
+    """Gives a new process what the old one had, and takes its replies, which nobody gets again."""
+
+    def __init__(self, exchange: Exchange, loop: Loop, is_interrupted: Callable[[], object]) -> None:
+        self.exchange = exchange
+        self.loop = loop
+        self.is_interrupted = is_interrupted
+        self.events = self.frames = self.replied = 0
+        self.last = b""  # the last line of its replies
+        self.said = time.monotonic()
+
+    def run(self, history: History, settings: bytes, events: int) -> None:
+        """Gives it the settings, in which there are some events, and the lines below them."""
+        replies, report = self.exchange.replies, self.exchange.report
+        self.exchange.replies, self.exchange.report = self.take, Writer(Output(None), "the report")
+        self.events = events
+        self.send(settings, history)
+        for piece in history.pieces():
+            text = b"\n" + piece
+            frames = text.count(b"\nF")
+            self.frames += frames
+            self.events += frames + len(OTHER_EVENT.findall(text))
+            self.send(piece, history)
+        while self.replied < self.events:
+            self.wait(history)
+        self.exchange.replies, self.exchange.report = replies, report
+
+    def send(self, text: bytes, history: History) -> None:
+        self.exchange.send(text)
+        while self.exchange.unsent:
+            self.wait(history)
+
+    def wait(self, history: History) -> None:
+        self.loop.wait(SAID_SECONDS)
+        if self.exchange.has_ended:
+            raise Refused(f"{history.path} is no log of an exchange: {self.last.decode('latin-1')}")
+        if self.is_interrupted():
+            raise KeyboardInterrupt
+        if os.isatty(2) and time.monotonic() >= self.said + SAID_SECONDS:
+            self.said = time.monotonic()
+            say(f"{NAME}: {history.path}: {self.frames} frames")
+
+    def take(self, text: bytes) -> None:
+        self.replied += text.count(b"\n") + 1
+        self.last = text[text.rfind(b"\n") + 1 :]
+
+
+class Returns:
+    """The lines whose endpoints may come back. After a time, one that has none is restarted, so that its calls end."""
+
+    def __init__(self) -> None:
+        self.lines: list[Line] = []
+        self.last = 0.0
+
+    def begin(self) -> None:
+        self.last = time.monotonic() + RETURN_SECONDS
+
+    def check(self) -> None:
+        if not self.lines or time.monotonic() < self.last:
+            return
+        for line in self.lines:
+            if line.endpoint is None:
+                line.say(f"its endpoint has not come back in {RETURN_SECONDS} s")
+                line.loop.watch(line.listener.sock)
+                line.queue.append(Mark.GONE)
+        self.lines = []
