@@ -4,9 +4,11 @@ from __future__ import annotations
 
 import re
 import shutil
+from unittest import mock
 
 import support
 import example_tables
+from nemzhuul.commands import explain
 from nemzhuul.traces import events, reading
 from support import EXAMPLES, InFolder, slow, tool
 
@@ -14,11 +16,11 @@ from support import EXAMPLES, InFolder, slow, tool
 class Explanations(InFolder):
     """Why a trace or a report is refused."""
 
-    def explained(self, content: bytes, *more: str) -> list[str]:
-        """The lines of an explanation."""
+    def explained(self, content: bytes, *more: str, ends: int = 1) -> list[str]:
+        """The lines of an explanation, which ends with the status of the exchange."""
         (self.folder / "some.trace").write_bytes(content)
         status, output, said = tool("explain", "some.trace", *more, folder=self.folder)
-        self.assertEqual((status, said), (0, ""))
+        self.assertEqual((status, said), (ends, ""))
         return output.decode().splitlines()
 
     def test_causes(self) -> None:
@@ -73,10 +75,24 @@ class Explanations(InFolder):
         self.assertEqual(text[mark.index("^") :][:3], "\\t0")
         self.assertLess(len(text), 100)
 
+    def test_limits(self) -> None:
+        """A limit is stated in words, with its number."""
+        header = b"exchange 1 2 0 1\n"
+        head, said = self.explained(header + b"#" * events.MAX_BYTES)
+        self.assertIn("the exchange writes `refused 0 limit` and ends with status 1", head)
+        self.assertEqual(said, "it has over 67,108,864 bytes, and `tst follow` alone reads so many")
+        self.assertIn(": a trace has at most 65,535 events", self.explained(header + b"F\n" * 65_536)[1])
+        (self.folder / "some.trace").write_bytes(header + b"report\n" + b"1 busy\n" * 9)
+        with mock.patch.object(explain, "MAX_BYTES", 40):  # of the trace alone
+            found = explain.explain_trace(str(self.folder / "some.trace"))
+        self.assertEqual((found.status, "is a trace: 2 lines, " in found.text), (0, True))
+        links = header + b"link 0\nL 0 00\nM 0 08\n"
+        self.assertIn("line 0 has a data link: its messages come in frames, lines `L`", self.explained(links)[1])
+
     def test_reports(self) -> None:
         shutil.copy(EXAMPLES / "whole_call.report", self.folder)
         trace = (EXAMPLES / "whole_call.trace").read_bytes()
-        said = self.explained(trace, "whole_call.report")
+        said = self.explained(trace, "whole_call.report", ends=0)
         self.assertTrue(said[0].startswith("some.trace is a trace: 2 lines, 0 bridges, 2 processors, 1 numbers, 10 events, 3 "))
         self.assertTrue(said[1].startswith("whole_call.report has a line for each event of some.trace"))
         cases = (
@@ -89,7 +105,7 @@ class Explanations(InFolder):
         )
         for line, column, wanted in cases:
             (self.folder / "some.report").write_bytes(f"{line}\n".encode())
-            said = self.explained(trace, "some.report")
+            said = self.explained(trace, "some.report", ends=6)
             self.assertEqual(said[1:3], ["some.report is no report", f"line 1, column {column}: {wanted}"])
 
     def test_statuses(self) -> None:

@@ -83,8 +83,9 @@ class Links(InFolder):
         for name in ("calls", "moves", "page", "records"):
             said = f"{name}: {LINKED.name} has data links: tools/plain writes a trace without them\n"
             self.assertEqual(tool(name, LINKED.name, report_of(LINKED).name), (1, b"", said))
-        status, output, said = tool("explain", LINKED.name)
-        self.assertEqual(output.decode().splitlines()[-1], "likely cause: only `tst follow` takes data links")
+        status, output, said = tool("explain", LINKED.name, report_of(LINKED).name)
+        self.assertEqual((status, said), (0, ""))
+        self.assertIn("is a trace of `tst follow`, whose data links `tst run` refuses: ", output.decode().splitlines()[0])
         _, output, _ = tool("pcap", LINKED, report_of(LINKED))
         read = [(packet[7], packet[1] == 4, packet[16 if packet[7] == 0 else 20 :]) for _, packet in packets(output)]
         self.assertEqual(read, list(signals(LINKED)))

@@ -48,7 +48,16 @@ class Programs(InFolder):
     def test_the_proved_program(self) -> None:
         self.make_proved('echo "$@"; exit 6')
         said = "run: the proved program ran for T s and ended with status 6\n"
+        said += "run: `tools/explain --status 6` says what this means\n"
         self.assertEqual(self.ran("check", "--strict"), (6, "check --strict\n", said))
+
+    def test_a_refusal(self) -> None:
+        """A refusal is in the report alone, so the tool that explains it is named."""
+        self.make_proved("echo refused 1 header; exit 1")
+        status, output, said = self.ran("run")
+        self.assertEqual((status, output), (1, "refused 1 header\n"))
+        wanted = "`tools/explain --status 1` says what this means, and `tools/explain TRACE` which line is wrong and why"
+        self.assertEqual(said.splitlines()[1:], [f"run: {wanted}"])
 
     def test_an_interrupt(self) -> None:
         self.make_proved("echo begun; exec sleep 60")

@@ -4,17 +4,20 @@ from __future__ import annotations
 
 import re
 import shlex
-from collections.abc import Sequence
+import sys
+from collections.abc import Iterable, Sequence
+from typing import NamedTuple
 
-from nemzhuul.command_line import Refused, WrongWords
+from nemzhuul.command_line import Refused, WrongWords, write_output
 from nemzhuul.signalling.lapd import USUAL_TIMERS
-from nemzhuul.traces.events import Frame
-from nemzhuul.traces.reading import METER, LineError, TraceReader, lines_of, read_run, reply, take_lines
+from nemzhuul.traces.events import MAX_BYTES, Frame
+from nemzhuul.traces.reading import METER, LineError, TraceReader, lines_of, read_run, reply, split_lines, take_lines
 
 USAGE = """usage: tools/explain TRACE [REPORT]
        tools/explain --status [N]
 explains why the exchange refuses TRACE, or which line of REPORT cannot be one: the line, the column and the
-likely cause. With --status it explains an exit status of the exchange, or all of them."""
+likely cause. It ends with the status of the exchange: 0 if TRACE is a trace, 1 if it is refused, and 6 if REPORT
+cannot be its report. With --status it explains an exit status of the exchange, or all of them."""
 
 STATUSES = {
     0: """the trace was run and its report was written (`run`, `follow`), the summary was written (`gen`), or the report is
@@ -33,7 +36,16 @@ which ends with a segment, or with `follow` with a line.""",
 or missing.""",
 }
 
+REFUSED, INVALID = 1, 6  # statuses
+DIVIDER = b"\nreport\n"  # between the trace and the report in an input of `check`
 WINDOW = 72  # how many characters of a line are shown
+
+
+class Explained(NamedTuple):
+    """A text, and the status with which the exchange ends."""
+
+    text: str
+    status: int = 0
 
 
 def main(*words: str) -> str:
@@ -41,10 +53,11 @@ def main(*words: str) -> str:
         return statuses(*words[1:])
     if len(words) not in (1, 2) or words[0].startswith("-"):
         raise WrongWords
-    texts = [explain_trace(words[0])]
+    found = [explain_trace(words[0])]
     if len(words) == 2:
-        texts.append(explain_report(*words))
-    return "".join(texts)
+        found.append(explain_report(*words))
+    write_output("".join(one.text for one in found))
+    sys.exit(next((one.status for one in found if one.status), 0))
 
 
 def statuses(*words: str) -> str:
@@ -62,18 +75,28 @@ def statuses(*words: str) -> str:
 # ---- traces
 
 
-def explain_trace(path: str) -> str:
-    lines = lines_of(path)
+def explain_trace(path: str) -> Explained:
+    with open(path, "rb") as file:
+        content = file.read(MAX_BYTES + len(DIVIDER))
+    if len(content) > MAX_BYTES and DIVIDER not in content:
+        limit = f"it has over {MAX_BYTES:,} bytes, and `tst follow` alone reads so many"
+        return Explained(f"{path} is no trace: the exchange writes `refused 0 limit` and ends with status 1\n{limit}\n", REFUSED)
+    lines = split_lines(content)
     if "report" in lines:  # an input of `check`
         lines = lines[: lines.index("report")]
-    reader = TraceReader()
+    reader = TraceReader(is_followed=has_link(lines))
     wrong = take_lines(reader, lines)
     if wrong is None:
-        return summary(path, reader)
+        return Explained(summary(path, reader))
     number, error = wrong
     line = lines[number - 1] if number <= len(lines) else ""
     head = f"{path} is no trace: the exchange writes `refused {number} {error}` and ends with status 1\n"
-    return head + (octet_text(path, number, line) or word_text(number, line, error))
+    return Explained(head + (octet_text(path, number, line) or word_text(number, line, error)), REFUSED)
+
+
+def has_link(lines: Iterable[str]) -> bool:
+    """Whether a line gives a data link to a line, as only `tst follow` accepts it."""
+    return any(line.startswith("link ") for line in lines)
 
 
 def summary(path: str, reader: TraceReader) -> str:
@@ -81,7 +104,8 @@ def summary(path: str, reader: TraceReader) -> str:
     frames = sum(isinstance(event, Frame) for event in reader.events)
     said = [f"{lines} lines", f"{bridges} bridges", f"{processors} processors", f"{len(reader.numbers)} numbers"]
     said.append(f"{len(reader.events)} events, {frames} of them frames")
-    return f"{path} is a trace: {', '.join(said)}\n"
+    kind = "a trace of `tst follow`, whose data links `tst run` refuses" if reader.linked else "a trace"
+    return f"{path} is {kind}: {', '.join(said)}\n"
 
 
 def octet_text(path: str, number: int, line: str) -> str:
@@ -154,16 +178,16 @@ def digits_cause(digits: str) -> str:
 # ---- reports
 
 
-def explain_report(trace: str, path: str) -> str:
+def explain_report(trace: str, path: str) -> Explained:
     lines = lines_of(path)
     for number, line in enumerate(lines, start=1):
         if reply(line) is None and not METER.fullmatch(line):
-            return f"{path} is no report\n" + (octet_text(path, number, line) or report_text(number, line))
+            return Explained(f"{path} is no report\n" + (octet_text(path, number, line) or report_text(number, line)), INVALID)
     try:
-        read_run(trace, path)
+        read_run(trace, path, has_link(lines_of(trace)))
     except Refused as refusal:
-        return f"{refusal}\n"
-    return f"{path} has a line for each event of {trace}; `tst check` finds out whether it is its report\n"
+        return Explained(f"{refusal}\n", INVALID)
+    return Explained(f"{path} has a line for each event of {trace}; `tst check` finds out whether it is its report\n")
 
 
 def report_text(number: int, line: str) -> str:

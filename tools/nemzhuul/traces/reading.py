@@ -152,7 +152,7 @@ class TraceReader:
         event = act(*words)
         if event is not None:
             if len(self.events) == self.max_events:
-                raise LineError("limit", f"a trace has at most {MAX_EVENTS} events")
+                raise LineError("limit", f"a trace has at most {MAX_EVENTS:,} events")
             self.events.append(event)
 
     def line(self, word: str, at: int) -> int:
@@ -261,7 +261,7 @@ class TraceReader:
 
     def change(self) -> None:
         if len(self.changes) == self.max_changes:
-            raise LineError("limit", f"a trace has at most {MAX_CHANGES} changes")
+            raise LineError("limit", f"a trace has at most {MAX_CHANGES:,} changes")
         self.changes.append(len(self.events))
 
 
@@ -285,7 +285,11 @@ def lines_of(path: str | Path) -> list[str]:
     """The lines of a text, each octet as a character."""
     content = Path(path).read_bytes()
     if len(content) > MAX_BYTES:
-        raise Refused(f"{path} is no trace: line 0, limit")
+        raise Refused(f"{path} is no trace: line 0, limit: it has over {MAX_BYTES:,} bytes")
+    return split_lines(content)
+
+
+def split_lines(content: bytes) -> list[str]:
     lines = content.decode("latin-1").split("\n")
     if lines[-1] == "":
         lines.pop()
