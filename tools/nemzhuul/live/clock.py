@@ -7,7 +7,7 @@ import time
 from dataclasses import dataclass
 from datetime import datetime, timedelta, timezone
 
-from nemzhuul.traces.reading import FRAMES_PER_SECOND
+from nemzhuul.traces.events import FRAMES_PER_SECOND
 
 MICROSECONDS = 1_000_000
 EPOCH = datetime(1970, 1, 1, tzinfo=timezone.utc)
