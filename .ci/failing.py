@@ -16,7 +16,7 @@ MANY = 1 << 62
 @dataclass(frozen=True)
 class Refusal:
     """The calls of a kind that are refused: `memory`, `threads`, `reads` or `writes`, from one on up to the last. Reads and
-    writes take at most so many octets at once."""
+    writes take at most as many octets at once as the piece has."""
 
     what: str
     first: int

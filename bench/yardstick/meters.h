@@ -23,7 +23,7 @@ typedef struct {
 static Meter meters[MOST_METERS];
 static unsigned meter_count, first_on, first_spare;
 
-// So many are on, and so many spare; of each the kinds are call details, a peg count, the holding time, and so on in turn.
+// Numbers of meters that are on and spare. The kinds of each are call details, a peg count and the holding time, in turn.
 static void start_meters(unsigned on, unsigned spare) {
     for (unsigned k = 0; k < on + spare; k++) meters[k].kind = (k < on ? k : k - on) % 3;
     meter_count = on + spare;
