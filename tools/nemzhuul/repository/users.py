@@ -14,15 +14,31 @@ from pathlib import Path
 from typing import NamedTuple
 
 from nemzhuul.command_line import Refused
+from nemzhuul.signalling.q931 import (
+    ALERTING,
+    CALL_PROCEEDING,
+    CONNECT,
+    CONNECT_ACKNOWLEDGE,
+    DISCONNECT,
+    FACILITY,
+    INFORMATION,
+    PROGRESS,
+    RELEASE,
+    RELEASE_COMPLETE,
+    SETUP,
+    SETUP_ACKNOWLEDGE,
+    STATUS,
+    STATUS_ENQUIRY,
+    USUAL_TIMERS,
+)
 from nemzhuul.traces.events import CHANNELS
 
 BEARERS = ("04038090A3", "04039090A3", "04028890")
 OTHER_BEARERS = ("", "", "04028990", "040180")  # none, one that is not carried, and one that is too short
-ALERTING, PROCEEDING, SETUP, CONNECT, ACKNOWLEDGE = 0x01, 0x02, 0x05, 0x07, 0x0F
-SETUP_ACKNOWLEDGE, DISCONNECT, RESTART, RELEASE, COMPLETE = 0x0D, 0x45, 0x46, 0x4D, 0x5A
-ENQUIRY, INFORMATION, STATUS = 0x75, 0x7B, 0x7D
-KINDS = (ALERTING, PROCEEDING, CONNECT, ACKNOWLEDGE, DISCONNECT, RELEASE, COMPLETE, ENQUIRY, INFORMATION, STATUS, 0x03, 0x62)
-TIMERS = ("T301", "T302", "T303", "T305", "T308", "T309", "T310")
+KINDS = (
+    *(ALERTING, CALL_PROCEEDING, CONNECT, CONNECT_ACKNOWLEDGE, DISCONNECT, RELEASE, RELEASE_COMPLETE),
+    *(STATUS_ENQUIRY, INFORMATION, STATUS, PROGRESS, FACILITY),
+)
 RUNG, NOT_RUNG = "T301 expired under ringing tone", "T301 expired without a tone"
 HUNTED, NOT_FOUND = "calls offered after full lines", "hunts that found no line"
 LINK_LOST, LINK_DOWN = "T309 expired", "calls refused while data links were down"
@@ -30,13 +46,13 @@ CASES = (RUNG, NOT_RUNG, HUNTED, NOT_FOUND, LINK_LOST, LINK_DOWN)
 NO_ANSWER, OUT_OF_ORDER, FULL_LINE = "08028293", "0802829B", "080282A2"  # the elements of causes 19, 27 and 34
 # The likely replies of a user to each kind of message; None is no reply.
 REPLIES: dict[int | None, tuple[int | None, ...]] = {
-    SETUP: (ALERTING, ALERTING, ALERTING, PROCEEDING, CONNECT, DISCONNECT, COMPLETE, None),
+    SETUP: (ALERTING, ALERTING, ALERTING, CALL_PROCEEDING, CONNECT, DISCONNECT, RELEASE_COMPLETE, None),
     SETUP_ACKNOWLEDGE: (INFORMATION, INFORMATION, INFORMATION, None),
-    CONNECT: (ACKNOWLEDGE, DISCONNECT, RELEASE, None),
-    DISCONNECT: (RELEASE, RELEASE, COMPLETE, None),
-    RELEASE: (COMPLETE, COMPLETE, None),
+    CONNECT: (CONNECT_ACKNOWLEDGE, DISCONNECT, RELEASE, None),
+    DISCONNECT: (RELEASE, RELEASE, RELEASE_COMPLETE, None),
+    RELEASE: (RELEASE_COMPLETE, RELEASE_COMPLETE, None),
     ALERTING: (CONNECT, None, None, None),
-    PROCEEDING: (ALERTING, ALERTING, CONNECT, None),
+    CALL_PROCEEDING: (ALERTING, ALERTING, CONNECT, None),
 }
 
 
@@ -72,8 +88,8 @@ class Setting:
         plan += [f"tone {name} {draw.randbytes(size).hex()}" for name, size in tones.items() if size]
         self.rings = tones["ringback"] > 0
         if draw.random() < 0.8:
-            lengths = [draw.choice((0, 1, 2, 3, 29, 59, 999_999_999)) for _ in TIMERS]
-            plan += [f"timer {name} {length}" for name, length in zip(TIMERS, lengths) if length]
+            lengths = [draw.choice((0, 1, 2, 3, 29, 59, 999_999_999)) for _ in USUAL_TIMERS]
+            plan += [f"timer {name} {length}" for name, length in zip(USUAL_TIMERS, lengths) if length]
         self.lines = [self.header, *plan]
 
     def hunt(self, draw: random.Random) -> list[int]:
@@ -186,11 +202,11 @@ class Users:
         kind = self.draw.choice(REPLIES.get(self.legs[leg], (None,)))
         if kind is None or kind == CONNECT and self.draw.random() > self.answers:
             return None
-        if kind in (ALERTING, PROCEEDING):
+        if kind in (ALERTING, CALL_PROCEEDING):
             self.legs[leg] = kind
-        elif kind == COMPLETE:
+        elif kind == RELEASE_COMPLETE:
             del self.legs[leg]
-        cause = self.draw.choice(("", "08028090", "08028091")) if kind in (DISCONNECT, RELEASE, COMPLETE) else ""
+        cause = self.draw.choice(("", "08028090", "08028091")) if kind in (DISCONNECT, RELEASE, RELEASE_COMPLETE) else ""
         return self.message(leg, kind, cause or (self.digits() if kind == INFORMATION else ""))
 
     def digits(self) -> str:
@@ -216,7 +232,7 @@ class Users:
         for sent in messages:
             word = int(sent.octets[4:8], 16)
             leg = Leg(sent.line, word & 0x7FFF, 1 - (word >> 15))
-            if sent.kind == COMPLETE:
+            if sent.kind == RELEASE_COMPLETE:
                 self.legs.pop(leg, None)
             elif sent.kind != STATUS and leg.reference:
                 self.legs[leg] = sent.kind
