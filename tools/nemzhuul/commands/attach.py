@@ -22,7 +22,8 @@ from nemzhuul.live.log import Writer
 from nemzhuul.live.periods import Use
 from nemzhuul.live.processes import Exchange, Loop
 from nemzhuul.live.realtime import ask_for_realtime
-from nemzhuul.live.resume import Appended, History, Replay, Returns
+from nemzhuul.live.records import CallRecords, open_records
+from nemzhuul.live.resume import Appended, History, Replay, Returns, open_log
 from nemzhuul.live.states import DISC
 from nemzhuul.live.wire import Address, read_address
 from nemzhuul.outputs import Output, check_output, is_same_file
@@ -30,7 +31,7 @@ from nemzhuul.programs.program import NAMED, PROGRAM, REMEDY, UNPROVED, misfit, 
 from nemzhuul.signalling.captures import CaptureWriter
 from nemzhuul.signalling.lapd import frame_text
 from nemzhuul.signalling.q931 import SETUP, message_text
-from nemzhuul.traces.events import FRAMES_PER_SECOND, Arrival, Frame, Link, LinkArrival
+from nemzhuul.traces.events import FRAMES_PER_SECOND, Arrival, Frame, Link, LinkArrival, Trace
 from nemzhuul.traces.reading import NUMERAL, TraceReader, is_said, lines_of, take_lines
 
 USAGE = """usage: tools/attach [OPTION ..] [--line L ADDRESS ..] [--link L ADDRESS ..] SETTINGS
@@ -43,6 +44,7 @@ endpoint at a time attaches to each line with an ADDRESS: unix:PATH or tcp:HOST:
     --resume LOG     goes on where the exchange with this log ended in any way, and appends to it. Calls go on, and so do
                      data links. SETTINGS and --strict are as they were
     --report FILE    writes the report; with --resume, from there on
+    --records FILE   appends a line of CSV for each call when it ends, as tools/records has it, with times by the wall clock
     --pcap FILE      writes a capture of the messages, for Wireshark
     --overwrite      replaces these files; without it, one that has content is refused
     --needs-log      ends the exchange if the log cannot be written; without it, calls go on without a log
@@ -58,7 +60,8 @@ Signal USR1 prints how much of its time the exchange has used so far."""
 
 PART_SECONDS = 1  # that endpoints have at the end for their last line
 
-OUTPUTS = {"log": "the log", "report": "the report", "pcap": "the capture"}
+OUTPUTS = {"log": "the log", "report": "the report", "pcap": "the capture", "records": "the records"}
+APPENDED = ("records",)  # files that may have content
 
 
 class Asked(NamedTuple):
@@ -76,7 +79,7 @@ class Options:
         self.links: dict[int, Address] = {}  # of the data links
         self.frames = FRAMES_PER_SECOND // 50  # of a burst
         self.seconds: int | None = None
-        self.files: dict[str, str | None] = {"log": None, "report": None, "pcap": None, "program": None}
+        self.files: dict[str, str | None] = dict.fromkeys((*OUTPUTS, "program"))
         self.flags: list[str] = []
         self.may_overwrite = self.may_be_unproved = self.needs_log = self.is_realtime = self.is_resumed = False
         left = list(words)
@@ -126,7 +129,9 @@ class Options:
     def output(self, name: str) -> Output:
         """A file that is written."""
         path = self.files[name]
-        return Appended(path) if path is not None and name == "log" and self.is_resumed else Output(path, self.may_overwrite)
+        if path is not None and name == "records":
+            return open_records(path)
+        return open_log(path) if path is not None and name == "log" and self.is_resumed else Output(path, self.may_overwrite)
 
     def read_settings(self, path: str) -> bytes:
         """The lines of a trace in which no message and no frame arrives."""
@@ -145,6 +150,8 @@ class Options:
                 raise Refused(f"{path} has a line `up` or `down` for line {event.line}, whose data link is attached")
         self.linked = {*reader.linked, *self.links}
         self.events = len(reader.events)
+        timers = reader.known_timers | reader.timers
+        self.trace = Trace(reader.sizes, reader.numbers, timers, tuple(reader.events), (), tuple(sorted(self.linked)))
         header = next(at for at, line in enumerate(lines, start=1) if is_said(line))
         lines[header:header] = [f"link {line}" for line in self.links if line not in reader.linked]
         return "".join(f"{line}\n" for line in lines).encode("latin-1")
@@ -162,7 +169,7 @@ class Options:
             for other, place in taken:
                 if is_same_file(path, place):
                     raise Refused(f"{path} cannot be both {other} and {what}")
-            check_output(path, self.may_overwrite or name == "log" and self.is_resumed)
+            check_output(path, self.may_overwrite or name in APPENDED or name == "log" and self.is_resumed)
             taken.append((what, path))
 
 
@@ -197,7 +204,8 @@ class Live:
         for name, what in OUTPUTS.items():
             writers.append(Writer(options.output(name), what))
             ends.callback(writers[-1].close)
-        self.log, report, self.capture = writers
+        self.log, report, self.capture, records = writers
+        self.records = CallRecords(records, options.trace) if options.files["records"] else None
         self.history = self.read_history(self.log.output)
         self.packets = CaptureWriter(options.linked)
         self.given = self.replied = 0  # events
@@ -229,6 +237,8 @@ class Live:
     def start(self) -> None:
         """Gives the exchange its settings, and opens its lines."""
         self.capture.write(self.packets.HEADER)
+        if self.records is not None:
+            self.records.begin()
         if self.history is None:
             self.give(self.options.settings, self.options.events)
         else:
@@ -243,6 +253,8 @@ class Live:
         clock = WallClock.at_once(self.frame)
         self.packets.start = clock.microseconds(0)
         self.log.write(clock.comment())
+        if self.records is not None:
+            self.records.clocks.append(clock)
         while not (self.interrupts or self.exchange.has_ended or self.lacks_log() or self.use.has_passed(self.options.seconds)):
             waits = self.replied < self.given
             left = self.use.left()
@@ -256,14 +268,16 @@ class Live:
         """What the log has, if the exchange goes on."""
         if not isinstance(output, Appended):
             return None
-        history = History(output.path or "", self.options.settings)
-        output.end = history.end
-        return history
+        return History(output.path or "", self.options.settings)
 
     def resume(self, history: History) -> None:
         """Brings the exchange to the state that the log leaves, and the log to the end of its settings if it has less."""
-        replay = Replay(self.exchange, self.loop, lambda: self.interrupts)
+        replay = Replay(self.exchange, self.loop, lambda: self.interrupts, self.records)
+        if self.records is not None:
+            self.records.begin_again()
         replay.run(history, self.options.settings, self.options.events)
+        if self.records is not None:
+            self.records.go_on()
         self.log.write(self.options.settings[history.end :])
         self.given = self.replied = replay.events
         self.frame = replay.frames
@@ -369,6 +383,8 @@ class Live:
             words = reply.split(b" ")
             word = words[1:2]
             self.replied += 1
+            if self.records is not None:
+                self.records.take(words, self.asked[0] if self.asked and word in ([b"message"], [b"link"]) else None)
             if word == [b"frame"]:
                 self.frame += 1
                 first = self.take_sends(words)

@@ -2,13 +2,9 @@
 
 from __future__ import annotations
 
-from collections.abc import Iterable
-from typing import NamedTuple
-
 from nemzhuul.command_line import WrongWords
-from nemzhuul.signalling.q931 import cause_name, printable
-from nemzhuul.traces.events import FRAMES_PER_SECOND, Slot
-from nemzhuul.traces.following import Call, Run, follow
+from nemzhuul.traces.call_records import Record, csv_line, record
+from nemzhuul.traces.following import follow
 from nemzhuul.traces.reading import read_run
 
 USAGE = """usage: tools/records TRACE REPORT >CSV
@@ -26,24 +22,6 @@ quotes as RFC 4180 does, and ends each line with a line feed. A field is empty i
 For a call with a called party and a clearing, a meter `CallDetail` records the same. A spreadsheet must import the
 first three fields as text, since 1/2 is a date to it."""
 
-MICROSECONDS = 1_000_000
-
-
-class Record(NamedTuple):
-    """The fields of a call, of which those that never came are None. A frame is the next one when something came."""
-
-    caller: Slot | int
-    called: Slot | str | None
-    number: str | None
-    setup: int
-    alerting: int | None
-    answer: int | None
-    clearing: int | None
-    release: int | None
-    seconds: str | None
-    cause: int | None
-    cause_name: str | None
-
 
 def main(*words: str) -> str:
     if len(words) != 2 or any(word.startswith("-") for word in words):
@@ -51,41 +29,3 @@ def main(*words: str) -> str:
     trace_path, report_path = words
     run = follow(*read_run(trace_path, report_path))
     return "".join(csv_line(fields) for fields in (Record._fields, *(record(call, run) for call in run.calls)))
-
-
-def record(call: Call, run: Run) -> Record:
-    setup = call.rows[0].frame
-    clearing, cause = call.cleared or (None, None)
-    release = call.released
-    if call.refused is not None:
-        clearing, release, cause = setup, setup, call.refused
-    caller: Slot | int = call.line if call.caller is None else call.caller.slot
-    number = None if call.digits is None else printable(call.digits)
-    talk = seconds(call.answered, clearing)
-    times = (setup, call.alerted, call.answered, clearing, release)
-    return Record(caller, called_party(call, run), number, *times, talk, cause, cause_name(cause))
-
-
-def called_party(call: Call, run: Run) -> Slot | str | None:
-    """The slot or the room that a call reached."""
-    if call.called is not None:
-        return call.called.slot
-    return None if call.answered is None else f"room {run.room(call)}"
-
-
-def seconds(first: int | None, end: int | None) -> str | None:
-    """How long the frames from one to another take, to the microsecond."""
-    if first is None or end is None:
-        return None
-    whole, rest = divmod((end - first) * MICROSECONDS // FRAMES_PER_SECOND, MICROSECONDS)
-    return f"{whole}.{rest:06d}"
-
-
-def csv_line(fields: Iterable[object]) -> str:
-    return ",".join("" if field is None else quote(str(field)) for field in fields) + "\n"
-
-
-def quote(field: str) -> str:
-    """A field as RFC 4180 has it: in quotes if it has a quote, a comma or a line end, with each quote twice."""
-    doubled = field.replace('"', '""')
-    return f'"{doubled}"' if any(mark in field for mark in '",\r\n') else field

@@ -56,6 +56,12 @@ class Writer:
             if self._waiting and not self._is_behind:
                 self._is_behind = not self._changed.wait_for(lambda: not self._waiting, AHEAD_SECONDS)
 
+    def give_up(self, why: str) -> None:
+        """Writes nothing more, for a reason that is said."""
+        with self._changed:
+            if not self.is_given_up:
+                self._give_up(why)
+
     def close(self) -> None:
         """Ends the thread when it has written all. If the file takes too long for that, it is given up."""
         if self._thread is None:
@@ -89,9 +95,7 @@ class Writer:
             try:
                 self.output.write(content)
             except Refused as refusal:
-                with self._changed:
-                    if not self.is_given_up:
-                        self._give_up(str(refusal))
+                self.give_up(str(refusal))
                 return
             with self._changed:
                 if self.is_given_up:

@@ -1,7 +1,7 @@
 """Goes on with an exchange that has ended in any way: a new process gets the log, and has the state of the old one.
 
-Of the octets of slots, only those of the last frames are still in the exchange. The frames before them are given without
-octets, which takes seconds for an hour.
+The exchange still has the octets that slots received in the last frames, and no others. The frames before them are given
+without octets, which takes seconds for an hour.
 """
 
 from __future__ import annotations
@@ -9,11 +9,13 @@ from __future__ import annotations
 import os
 import re
 import time
-from collections.abc import Iterator
+from collections import deque
+from collections.abc import Iterator, Sequence
 from pathlib import Path
-from typing import Callable
+from typing import Callable, Protocol
 
 from nemzhuul.command_line import NAME, Refused, say
+from nemzhuul.live.clock import WallClock
 from nemzhuul.live.lines import Line, Mark
 from nemzhuul.live.log import Writer
 from nemzhuul.live.processes import Exchange, Loop
@@ -24,6 +26,8 @@ RETURN_SECONDS = 60  # that endpoints have to come back
 BLOCK = 1 << 20  # octets of a read
 SAID_SECONDS = 1  # between two lines on how far it is
 FRAME = re.compile(rb"^F [^\n]*", re.MULTILINE)
+SIGNAL = re.compile(rb"^[ML] ([0-9]+) ?([0-9A-Fa-f]*)$", re.MULTILINE)
+CLOCK = re.compile(rb"^# clock: .*$", re.MULTILINE)
 OTHER_EVENT = re.compile(rb"\n(?:nail|seat|free|up|down|M|L) ")
 
 
@@ -39,7 +43,7 @@ class History:
             begun = log.read(min(self.end, len(settings)))
             if not settings.startswith(begun):
                 raise Refused(f"{path} is not the log of an exchange with these settings")
-            self.start = len(settings)  # of what is below them
+            self.start = len(settings)  # where the lines below them begin
             self.is_begun = self.end >= self.start
             if self.is_begun:
                 self.kept = line_starts(log.fileno(), self.end, self.start, KEPT_FRAMES, b"F")
@@ -86,26 +90,41 @@ def blocks(number: int, start: int, end: int) -> Iterator[bytes]:
 
 
 class Appended(Output):
-    """The log, which is written behind its whole lines."""
+    """A file to which whole lines are appended."""
 
     def __init__(self, path: str | Path) -> None:
-        if not os.path.isfile(path):
-            raise Refused(f"{path} is no log of an exchange: it is no file")
         super().__init__(path, may_overwrite=True)
-        self.end = 0
 
     def begin(self) -> None:
         """Removes the part of a line at the end."""
-        if self.number is not None:
-            os.ftruncate(self.number, self.end)
+        if self.number is not None and self.path is not None and os.path.isfile(self.path):
+            with open(self.path, "rb") as file:
+                os.ftruncate(self.number, line_starts(file.fileno(), file.seek(0, os.SEEK_END), 0, 1))
             os.lseek(self.number, 0, os.SEEK_END)
+
+
+def open_log(path: str | Path) -> Appended:
+    """The log of an exchange that has ended, to which one that goes on appends."""
+    if not os.path.isfile(path):
+        raise Refused(f"{path} is no log of an exchange: it is no file")
+    return Appended(path)
+
+
+class Follower(Protocol):
+    """What follows the calls of the log."""
+
+    clocks: list[WallClock]
+
+    def take(self, words: Sequence[bytes], asked: tuple[int, bytes] | None) -> None: ...
 
 
 class Replay:
     """Gives a new process what the old one had, and takes its replies, which nobody gets again."""
 
-    def __init__(self, exchange: Exchange, loop: Loop, is_interrupted: Callable[[], object]) -> None:
+    def __init__(self, exchange: Exchange, loop: Loop, is_interrupted: Callable[[], object], follower: Follower | None) -> None:
         self.exchange = exchange
+        self.follower = follower
+        self.asked: deque[tuple[int, bytes]] = deque()  # if calls are followed
         self.loop = loop
         self.is_interrupted = is_interrupted
         self.events = self.frames = self.replied = 0
@@ -122,6 +141,9 @@ class Replay:
             text = b"\n" + piece
             frames = text.count(b"\nF")
             self.frames += frames
+            if self.follower is not None:
+                self.follower.clocks += [clock for clock in map(WallClock.from_comment, CLOCK.findall(piece)) if clock]
+                self.asked += [(int(line), digits) for line, digits in SIGNAL.findall(piece)]
             self.events += frames + len(OTHER_EVENT.findall(text))
             self.send(piece, history)
         while self.replied < self.events:
@@ -146,6 +168,12 @@ class Replay:
     def take(self, text: bytes) -> None:
         self.replied += text.count(b"\n") + 1
         self.last = text[text.rfind(b"\n") + 1 :]
+        if self.follower is None:
+            return
+        for reply in text.replace(b":", b" ").split(b"\n"):
+            words = reply.split(b" ")
+            is_signal = len(words) > 1 and words[1] in (b"message", b"link")
+            self.follower.take(words, self.asked.popleft() if is_signal and self.asked else None)
 
 
 class Returns:

@@ -159,10 +159,25 @@ class Run:
         self.uses: dict[Slot, Use] = {}  # by slot, if it is taken
         self.joined: list[Join] = []  # in the last event
         self.left: list[Slot] = []  # in the last event: the slots that lost their connection
+        self.ended: list[Call] = []  # in the last event: the calls that were refused, or have no leg any more
+        self._count = 0  # of the calls
         self._legs: dict[LegName, Leg] = {}
+        self._waiting: list[LegName] = []  # the legs that a frame may end
 
     def take(self, event: Event, reply: Reply) -> None:
-        self.joined, self.left = [], []
+        self.joined, self.left, self.ended = [], [], []
+        self._take(event, reply)
+        if reply.sent or self._waiting or not isinstance(event, Frame):
+            self._waiting = [name for name, leg in self._legs.items() if leg.releases == 2 or leg.outage is not None]
+
+    def pass_frame(self, frame: int) -> None:
+        """Takes a frame in which no message is sent, and no data link changes."""
+        if self._waiting or self.ended or self.left or self.joined:
+            self.take(Frame({}), Reply(0, "frame", frame=frame))
+        else:
+            self.frames = frame + 1
+
+    def _take(self, event: Event, reply: Reply) -> None:
         if isinstance(event, Frame) and reply.frame is not None:
             self._frame(reply.frame, reply)
         elif isinstance(event, Arrival):
@@ -219,7 +234,8 @@ class Run:
         """A frame ends the legs whose users were sent RELEASE twice and have waited, and those whose data link was down
         too long, and sends what is due of others."""
         self.frames = frame + 1
-        for name, leg in list(self._legs.items()):
+        for name in self._waiting:
+            leg = self._legs[name]
             if place_of_channel(leg.slot.channel) != frame % PLACES:
                 continue
             if leg.is_active and leg.outage is not None and leg.outage + self.timers["T309"] <= frame:
@@ -266,7 +282,8 @@ class Run:
             self._on_none(row, sent)
 
     def _setup(self, row: Row, setup: Message, sent: Iterable[SentMessage]) -> None:
-        call = Call(len(self.calls) + 1, row.line, setup.digits)
+        self._count += 1
+        call = Call(self._count, row.line, setup.digits)
         self.calls.append(call)
         for line, message in sent:
             if message.kind in (CALL_PROCEEDING, SETUP_ACKNOWLEDGE):
@@ -275,6 +292,7 @@ class Run:
                 call.called = self._begin(call, row, line, message)
             elif message.kind == RELEASE_COMPLETE:
                 call.refused = message.cause
+                self.ended.append(call)
             elif message.kind == CONNECT:
                 self._answer(call, row)
         self._note(call, row, call.caller, sent)
@@ -366,6 +384,7 @@ class Run:
         self.uses.pop(leg.slot, None)
         if all(other.call is not leg.call for other in self._legs.values()):
             leg.call.released = self.frames
+            self.ended.append(leg.call)
 
     def _note(self, call: Call, row: Row, leg: Leg | None, sent: Iterable[SentMessage]) -> None:
         call.rows.append(replace(row, leg=leg))
