@@ -10,6 +10,7 @@ from pathlib import Path
 from typing import NamedTuple
 
 from nemzhuul.command_line import Refused, WrongWords, write_output
+from nemzhuul.live import load
 from nemzhuul.live.wire import FRAMES, PIECE, Address, frames_text, octets_of, read_address, receive
 from nemzhuul.outputs import Output, is_same_file
 from nemzhuul.programs.program import TEXT
@@ -34,6 +35,8 @@ from nemzhuul.traces.events import FRAMES_PER_SECOND, IDLE, PLACES, place_of_cha
 from nemzhuul.traces.phrases import Act, Phrases, Values
 
 USAGE = """usage: tools/endpoint [--overwrite] ADDRESS [SCRIPT]
+       tools/endpoint --calls N --rate R [--holding S] [--patience S] [--answer N] ADDRESS DIGITS
+       tools/endpoint --answer N ADDRESS
 attaches to the line of tools/attach at ADDRESS, unix:PATH or tcp:HOST:PORT, and does in turn what each line of the file
 SCRIPT, or of standard input, says. `channel C` may be in front of any of them:
     calls DIGITS [as DIGITS]                  hangs up [with CAUSE]
@@ -45,7 +48,15 @@ SCRIPT, or of standard input, says. `channel C` may be in front of any of them:
     N frames pass                             frames pass until the sounds end
 It waits too if there is no call to do it with yet. It prints each message. A recording ends with its call. A sound has
 8,000 samples a second of A-law or 16 bits, and a recording is A-law; both are looked for beside SCRIPT. A recording
-does not replace a file that has content, unless --overwrite is given."""
+does not replace a file that has content, unless --overwrite is given.
+With --calls or --answer it loads the exchange, answers each call that comes, and prints at the end what came of its
+calls: how many were offered and answered, how many were refused by cause, and the least, median and most time from
+SETUP to CONNECT. The status is 3 if a call was not answered, was cut, or was not released.
+    --calls N        places N calls to DIGITS
+    --rate R         begins R calls a second
+    --holding S      clears a call S seconds after its answer (1)
+    --patience S     gives a call or its clearing up if the exchange does not go on with it for S seconds (10)
+    --answer N       ends only after N calls have come, and each of them is over"""
 
 LEAD = FRAMES_PER_SECOND // 5  # frames that are sent before their time, so that this process may be late
 
@@ -59,6 +70,8 @@ class Recording(NamedTuple):
 
 
 def main(*words: str) -> str:
+    if words and words[0] in load.LIMITS:
+        return load.main(*words)
     may_overwrite = words[:1] == ("--overwrite",)
     words = words[may_overwrite:]
     if len(words) not in (1, 2) or words[0].startswith("-"):

@@ -166,7 +166,11 @@ class Endpoints:
         return self._advance(where, UNANSWERED, TALKS, CONNECT, "to answer")
 
     def hang_up(self, where: Where, value: int) -> bytes:
-        leg = self.find(where, (*STANDING, HEARS_TONE), "to hang up")
+        return self.clear(self.find(where, (*STANDING, HEARS_TONE), "to hang up"), value)
+
+    @staticmethod
+    def clear(leg: Leg, value: int) -> bytes:
+        """What the user of a leg sends to clear its call: RELEASE if the other side has cleared already, else DISCONNECT."""
         if leg.state == HEARS_TONE:
             leg.state = RELEASES
             return leg.message(RELEASE)
