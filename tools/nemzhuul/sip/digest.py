@@ -1,0 +1,161 @@
+"""Digest authentication (RFC 2617, MD5, `auth`): who a request is from, by the password of the users file.
+
+A nonce is a sealed time, so that no state is kept for a challenge. The count of a nonce has to rise, so that nobody can
+repeat a request of another one.
+"""
+
+from __future__ import annotations
+
+import hashlib
+import hmac
+import os
+import re
+from collections.abc import Mapping
+from dataclasses import dataclass
+
+from nemzhuul.sip.messages import Field, Malformed, Message, Received, read_uri, split_outside, token
+from nemzhuul.sip.timers import Now
+
+REALM = "exchange"
+NONCE_SECONDS = 300
+MAX_FAILURES, FAILURE_SECONDS = 20, 60  # wrong replies for a user from an address, until it is not heard for this time
+MAX_NONCES = 10_000
+MAX_PAIRS = 10_000  # of an address and a user, whose failures are counted
+
+
+@dataclass(frozen=True)
+class Reply:
+    """The words of an Authorization field."""
+
+    username: str
+    realm: str
+    nonce: str
+    uri: str
+    response: str
+    count: str
+    client_nonce: str
+
+
+def read_reply(text: str) -> Reply | None:
+    """The reply to a challenge of this program; None if the field is not one."""
+    kind, _, rest = text.partition(" ")
+    if kind.lower() != "digest":
+        return None
+    words: dict[str, str] = {}
+    for part in split_outside(rest, ","):
+        name, _, value = part.partition("=")
+        words.setdefault(name.strip().lower(), value.strip().strip('"'))
+    usual = words.get("algorithm", "MD5").upper() == "MD5" and words.get("qop") == "auth"
+    names = ("username", "realm", "nonce", "uri", "response", "nc", "cnonce")
+    if not usual or not words.get("response", "").isascii():
+        return None
+    return Reply(*(words.get(name, "") for name in names))
+
+
+def digest(reply: Reply, method: str, password: str) -> str:
+    """The response that RFC 2617, 3.2.2, asks for."""
+
+    def md5(*parts: str) -> str:
+        return hashlib.md5(":".join(parts).encode("utf-8", "surrogateescape")).hexdigest()
+
+    first, second = md5(reply.username, reply.realm, password), md5(method, reply.uri)
+    return md5(first, reply.nonce, reply.count, reply.client_nonce, "auth", second)
+
+
+class Authenticator:
+    """Proves who a request is from. Without passwords, each request is from the user that it says."""
+
+    def __init__(self, passwords: Mapping[str, str] | None, now: Now) -> None:
+        self.passwords = passwords
+        self.now = now
+        self.secret = os.urandom(16)
+        self.counts: dict[str, int] = {}  # the highest of each nonce that was used
+        self.failures: dict[tuple[str, str], tuple[int, float]] = {}  # how many, and since when
+
+    def user_of(self, request: Received) -> str | None:
+        """The digits of the user that a request is from; None if it has to prove that."""
+        if self.passwords is None:
+            return read_uri(request.sender.uri).user
+        reply = read_reply(request.get("authorization"))
+        if reply is None or not self.is_fresh(reply.nonce):
+            return None
+        if self.is_right(reply, request):
+            return reply.username
+        self.fail(request.source.host, reply.username)
+        return None
+
+    def is_right(self, reply: Reply, request: Message) -> bool:
+        assert self.passwords is not None
+        password = self.passwords.get(reply.username)
+        wanted = digest(reply, request.method, token() if password is None else password)
+        if not hmac.compare_digest(wanted, reply.response.lower()) or password is None:
+            return False
+        return reply.realm == REALM and is_same_user(reply.uri, request.uri) and self.takes_count(reply.nonce, reply.count)
+
+    def challenge(self, request: Message) -> list[Field]:
+        """The field of a 401 (RFC 2617, 3.2.1)."""
+        reply = read_reply(request.get("authorization"))
+        is_stale = reply is not None and self.is_own(reply.nonce) and not self.is_fresh(reply.nonce)
+        stale = ", stale=true" if is_stale else ""
+        words = f'Digest realm="{REALM}", nonce="{self.nonce()}", algorithm=MD5, qop="auth"{stale}'
+        return [Field("www-authenticate", words)]
+
+    # ---- nonces
+
+    def nonce(self) -> str:
+        stamp = f"{int(self.now()):08x}{token(4)}"
+        return stamp + self.seal(stamp)
+
+    def seal(self, text: str) -> str:
+        return hmac.new(self.secret, text.encode("utf-8", "surrogateescape"), "sha256").hexdigest()[:24]
+
+    def is_own(self, nonce: str) -> bool:
+        return re.fullmatch("[0-9a-f]{40}", nonce) is not None and hmac.compare_digest(self.seal(nonce[:16]), nonce[16:])
+
+    def is_fresh(self, nonce: str) -> bool:
+        return self.is_own(nonce) and self.age(nonce) < NONCE_SECONDS
+
+    def age(self, nonce: str) -> float:
+        return self.now() - int(nonce[:8], 16)
+
+    def takes_count(self, nonce: str, count: str) -> bool:
+        """Whether a count of a nonce is higher than those before, so that the request is not a repetition by another."""
+        if not re.fullmatch("[0-9A-Fa-f]{8}", count) or int(count, 16) <= self.counts.get(nonce, 0):
+            return False
+        while len(self.counts) >= MAX_NONCES:
+            oldest = next(iter(self.counts))
+            if self.age(oldest) < NONCE_SECONDS:
+                return False
+            del self.counts[oldest]
+        self.counts[nonce] = int(count, 16)
+        return True
+
+    # ---- guesses
+
+    def fail(self, host: str, user: str) -> None:
+        """Counts a wrong reply."""
+        self.is_muted(host, user)  # forgets failures of long ago
+        if len(self.failures) >= MAX_PAIRS:
+            del self.failures[next(iter(self.failures))]
+        count, since = self.failures.get((host, user), (0, self.now()))
+        self.failures[host, user] = count + 1, since
+
+    def is_muted(self, host: str, user: str) -> bool:
+        count, since = self.failures.get((host, user), (0, 0.0))
+        if count and self.now() - since > FAILURE_SECONDS:
+            del self.failures[host, user]
+            return False
+        return count >= MAX_FAILURES
+
+    def is_ignored(self, request: Received) -> bool:
+        """Whether a request is for a user for whom its address has given too many wrong replies."""
+        reply = read_reply(request.get("authorization")) if self.failures else None
+        return reply is not None and self.is_muted(request.source.host, reply.username)
+
+
+def is_same_user(one: str, other: str) -> bool:
+    """Whether two URIs have one user; a proxy may have changed the rest."""
+    try:
+        return read_uri(one).user == read_uri(other).user
+    except Malformed:
+        return False

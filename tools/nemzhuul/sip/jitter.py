@@ -1,0 +1,109 @@
+"""The buffer between packets, which come when they want, and a bearer channel, whose frames are the clock.
+
+A buffer holds the octets that came and were not played. Once in some seconds its least depth is looked at: if it is low,
+single octets are repeated, and if it is high, single octets are left out, until it is neither. That is the slip of a
+plesiochronous line, at most ten a second. A sender on the same clock has none.
+"""
+
+from __future__ import annotations
+
+from dataclasses import dataclass
+
+from nemzhuul.traces.events import FRAMES_PER_SECOND, IDLE
+
+MILLISECOND = FRAMES_PER_SECOND // 1000
+FAR = FRAMES_PER_SECOND  # octets from which on a time stamp begins anew
+LOOK = 250  # periods between two looks at the least depth
+SLIP = 5  # periods between two slips
+HALF, WHOLE = 1 << 31, (1 << 32) - 1  # of the time stamps
+
+
+@dataclass(frozen=True)
+class Depths:
+    """Depths of a buffer, in octets."""
+
+    ready: int  # that are there before it plays
+    low: int  # between this and `ready` the least depth stays: a packet, and its jitter
+    most: int  # that may wait
+
+
+def depths_of(milliseconds: int) -> Depths:
+    ready = milliseconds * MILLISECOND
+    return Depths(ready, ready * 2 // 5, ready * 4)
+
+
+class Buffer:
+    def __init__(self, depths: Depths) -> None:
+        self.depths = depths
+        self.octets = bytearray()
+        self.end: int | None = None  # the time stamp after the last octet
+        self.source = -1  # of the stream that came last
+        self.is_playing = False
+        self.least = depths.most  # depth since the last look
+        self.periods = self.slips_due = 0
+        self.lost = self.late = self.dropped = self.gaps = self.slips = 0
+
+    # ---- packets
+
+    def put(self, octets: bytes, stamp: int, source: int) -> None:
+        """Takes the octets of a packet, at the place that its time stamp has."""
+        is_new = source != self.source or self.end is None
+        ahead = FAR if is_new or self.end is None else (stamp - self.end + HALF & WHOLE) - HALF
+        if abs(ahead) >= FAR or (ahead > 0 and not self.octets and not self.is_playing):
+            self.source, self.end, ahead = source, stamp, 0
+        if ahead < 0:
+            self.fill(octets, ahead)
+            return
+        if ahead:
+            self.lost += 1
+            self.octets += bytes([IDLE]) * min(ahead, self.depths.most)
+        self.octets += octets
+        self.end = stamp + len(octets) & WHOLE
+        if len(self.octets) > self.depths.most:
+            excess = len(self.octets) - self.depths.ready
+            del self.octets[:excess]
+            self.dropped += excess
+
+    def fill(self, octets: bytes, ahead: int) -> None:
+        """Puts octets where they belong, which are not the newest; octets whose time has passed are late."""
+        begin = len(self.octets) + ahead
+        if begin < 0 or begin + len(octets) > len(self.octets):
+            self.late += 1
+        else:
+            self.octets[begin : begin + len(octets)] = octets
+
+    # ---- frames
+
+    def play(self, count: int) -> bytes:
+        """The octets of the next frames; fewer if there are no more."""
+        if not self.is_playing:
+            if len(self.octets) < max(self.depths.ready, count):
+                return b""
+            self.is_playing = True
+            self.least, self.periods, self.slips_due = self.depths.most, 0, 0
+        taken = count + self.slip()
+        octets = bytes(self.octets[:taken])
+        del self.octets[:taken]
+        if taken > count:
+            octets = octets[:count]
+        elif taken < count:
+            octets += octets[-1:]
+        if len(octets) < count:
+            self.is_playing = False
+            self.gaps += 1
+        else:
+            self.least = min(self.least, len(self.octets))
+        return octets
+
+    def slip(self) -> int:
+        """1 if an octet is to be left out, because the buffer was too full at the last look, and -1 if one is repeated."""
+        self.periods += 1
+        if self.periods % SLIP:
+            return 0
+        if self.periods >= LOOK:
+            self.slips_due = max(0, self.least - self.depths.ready) or min(0, self.least - self.depths.low)
+            self.least, self.periods = self.depths.most, 0
+        slip = (self.slips_due > 0) - (self.slips_due < 0)
+        self.slips_due -= slip
+        self.slips += abs(slip)
+        return slip

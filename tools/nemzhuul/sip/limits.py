@@ -1,0 +1,65 @@
+"""Which addresses are heard and sent to, and how much one of them may ask for."""
+
+from __future__ import annotations
+
+import functools
+import ipaddress
+import socket
+from collections.abc import Sequence
+
+from nemzhuul.sip.timers import Now
+
+MAX_DATAGRAMS = 2_000  # of SIP from an address in a second; the others are dropped before they are read
+MAX_ADDRESSES = 10_000  # that are counted
+MIN_MEDIA_PORT = 1_024  # of a description: no telephone has a port of a service of the system
+
+ANYWHERE = "0.0.0.0"  # of a description: to nobody
+
+
+class Networks:
+    """The networks that are heard: this machine, and those that the user allows."""
+
+    def __init__(self, allowed: Sequence[str]) -> None:
+        self.networks = [ipaddress.IPv4Network(text) for text in ("127.0.0.0/8", *allowed)]
+        self.holds = functools.lru_cache(maxsize=4096)(self._holds)
+        self.may_send_to = functools.lru_cache(maxsize=4096)(self._may_send_to)
+
+    def _holds(self, host: str) -> bool:
+        try:
+            address = ipaddress.IPv4Address(host)
+        except ValueError:
+            return False
+        return any(address in network for network in self.networks)
+
+    def _may_send_to(self, host: str) -> bool:
+        """Whether octets may be sent to an address, so that nobody else is flooded: what is heard, or this machine."""
+        return self._holds(host) or is_own(host)
+
+
+def is_own(host: str) -> bool:
+    """Whether an address of IP is this machine's: only such an address can be bound."""
+    if host == ANYWHERE:
+        return False
+    with socket.socket(socket.AF_INET, socket.SOCK_DGRAM) as end:
+        try:
+            end.bind((host, 0))
+        except OSError:
+            return False
+    return True
+
+
+class Rates:
+    """The datagrams of each address in this second."""
+
+    def __init__(self, now: Now) -> None:
+        self.now = now
+        self.since = now()
+        self.counts: dict[str, int] = {}
+
+    def takes(self, host: str) -> bool:
+        """Counts a datagram of an address. False if it has sent too many."""
+        if self.now() - self.since >= 1 or len(self.counts) > MAX_ADDRESSES:
+            self.since = self.now()
+            self.counts.clear()
+        count = self.counts[host] = self.counts.get(host, 0) + 1
+        return count <= MAX_DATAGRAMS

@@ -1,0 +1,234 @@
+"""The gateway's end of the socket of a line: its calls by call reference, and the streams of its channels.
+
+The exchange gives the clock. For the frames of a period the line returns as many, and nothing in it waits for time.
+"""
+
+from __future__ import annotations
+
+import socket
+from collections import Counter
+from collections.abc import MutableMapping
+from dataclasses import dataclass
+
+from nemzhuul.command_line import NAME, say
+from nemzhuul.live.processes import Loop
+from nemzhuul.live.wire import FRAMES, PIECE, Address, frames_text, octets_of, receive, without_delay
+from nemzhuul.signalling.q931 import (
+    RELEASE,
+    RELEASE_COMPLETE,
+    SETUP,
+    STATUS,
+    Message,
+    cause,
+    message_text,
+    read_message,
+    write_message,
+)
+from nemzhuul.sip.calls import Call, Office, Reference
+from nemzhuul.sip.causes import INVALID_REFERENCE
+from nemzhuul.sip.rtp import Stream
+from nemzhuul.traces.events import IDLE, PLACES
+
+RETRY_SECONDS = 1  # until a line is tried again
+CONNECT_SECONDS = 0.2  # that TCP has; nothing else is done meanwhile
+MAX_UNSENT = 1 << 22  # octets
+MAX_CALLS = 64  # of a line, which has 30 channels; the others are being set up or cleared
+REFERENCES = 0x7FFF
+
+
+@dataclass
+class Totals:
+    """The counts of the streams that were closed."""
+
+    counts: Counter[str]
+    streams: int = 0
+
+
+@dataclass(frozen=True)
+class LineOptions:
+    lead: int  # frames that are sent before their time, so that the gateway may be late
+    prints_messages: bool
+
+
+class Line:
+    def __init__(self, office: Office, loop: Loop, totals: Totals, options: LineOptions, address: Address) -> None:
+        self.office, self.loop, self.totals, self.options, self.address = office, loop, totals, options, address
+        self.number: int | None = None
+        self.socket: socket.socket | None = None
+        self.calls: MutableMapping[Reference, Call] = {}
+        self.streams: list[Stream] = []
+        self.last_reference = 0
+        self.begun, self.unsent = b"", bytearray()
+        self.is_speaking = False
+        self.attach()
+
+    @property
+    def is_attached(self) -> bool:
+        return self.number is not None
+
+    @property
+    def has_room(self) -> bool:
+        return self.is_attached and len(self.calls) < MAX_CALLS
+
+    @property
+    def name(self) -> str:
+        return self.address.word if self.number is None else f"line {self.number}"
+
+    def attach(self) -> None:
+        self.begun, self.unsent = b"", bytearray()
+        self.is_speaking = False
+        try:
+            self.socket = connected(self.address)
+        except OSError:
+            self.office.timers.after(RETRY_SECONDS, self.attach)
+            return
+        self.socket.setblocking(False)
+        self.loop.watch(self.socket, self.receive)
+
+    def leave(self, why: str) -> None:
+        gone, self.socket = self.socket, None
+        if gone is None:
+            return
+        say(f"{NAME}: {self.name}: {why}; {len(self.calls)} calls end")
+        self.loop.watch(gone)
+        gone.close()
+        self.number = None
+        for call in list(self.calls.values()):
+            call.drop()
+        self.office.timers.after(RETRY_SECONDS, self.attach)
+
+    # ---- to the exchange
+
+    def send(self, text: bytes) -> None:
+        self.unsent += text
+        self.write()
+
+    def write(self) -> None:
+        if self.socket is None:
+            return
+        try:
+            del self.unsent[: self.socket.send(self.unsent)]
+        except BlockingIOError:
+            pass
+        except OSError:
+            self.leave("the exchange has closed it")
+            return
+        if len(self.unsent) > MAX_UNSENT:
+            self.leave("the exchange does not read")
+            return
+        self.loop.watch(self.socket, self.receive, self.write if self.unsent else None)
+
+    def send_message(self, octets: bytes) -> None:
+        if self.socket is None:
+            return
+        if self.options.prints_messages:
+            say(f"{self.name} sends {message_text(octets)}")
+        self.send(b"M " + octets.hex().upper().encode() + b"\n")
+
+    def new_reference(self) -> Reference:
+        """The next call reference that no call has. A line has fewer calls than references."""
+        while True:
+            self.last_reference = self.last_reference % REFERENCES + 1
+            if Reference(True, self.last_reference) not in self.calls:
+                return Reference(True, self.last_reference)
+
+    # ---- from the exchange
+
+    def receive(self) -> None:
+        text = None if self.socket is None else receive(self.socket, PIECE)
+        if text is None:
+            return
+        if not text:
+            self.leave("the exchange has closed it")
+            return
+        whole, end, self.begun = (self.begun + text).rpartition(b"\n")
+        whole, at = whole + end, 0
+        while at < len(whole) and self.socket is not None:
+            frames = FRAMES.match(whole, at)
+            if frames:
+                at = frames.end()
+                self.take_frames(octets_of(frames.group()))
+            else:
+                last = whole.index(b"\n", at)
+                self.take_line(whole[at:last])
+                at = last + 1
+
+    def take_line(self, text: bytes) -> None:
+        word, _, rest = text.partition(b" ")
+        if word == b"M":
+            octets = bytes.fromhex(rest.decode())
+            if self.options.prints_messages:
+                say(f"{self.name} gets {message_text(octets)}")
+            message = read_message(octets)
+            if message is not None:
+                self.take_message(message)
+        elif word == b"line":
+            self.number = int(rest)
+            say(f"{NAME}: {self.address.word} is line {self.number}")
+            self.send(b"F none\n")
+        else:
+            say(f"{NAME}: {self.name}: {text.decode('latin-1')}")
+
+    def take_message(self, message: Message) -> None:
+        call = self.calls.get(Reference(message.flag == 1, message.reference))
+        if call is not None:
+            call.take(message)
+        elif message.kind == SETUP and message.flag == 0 and message.channel:
+            Call(self.office, self).is_called(message)
+        elif message.kind == RELEASE and message.reference:
+            self.send_message(write_message(1 - message.flag, message.reference, RELEASE_COMPLETE))
+        elif message.reference and message.kind not in (RELEASE_COMPLETE, STATUS):
+            unknown = cause(INVALID_REFERENCE)
+            self.send_message(write_message(1 - message.flag, message.reference, RELEASE_COMPLETE, unknown))
+
+    # ---- frames
+
+    def take_frames(self, octets: bytes) -> None:
+        """The octets of some frames. As many are sent back; before the first of them, those of the lead."""
+        count = len(octets) // PLACES
+        if not self.streams:
+            if self.is_speaking:
+                self.is_speaking = False
+                self.send(b"F none\n")
+            return
+        lead = 0 if self.is_speaking else self.options.lead
+        self.is_speaking = True
+        back = bytearray([IDLE]) * (PLACES * (lead + count))
+        for stream in self.streams:
+            place = stream.channel_place
+            if place is None:
+                continue
+            stream.hear(octets[place::PLACES])
+            stream.receive()
+            played = stream.play(count)
+            first = PLACES * lead + place
+            back[first : first + PLACES * len(played) : PLACES] = played
+        self.send(frames_text(back))
+
+    def open_stream(self, stream: Stream) -> None:
+        self.streams.append(stream)
+
+    def close_stream(self, stream: Stream) -> None:
+        if stream in self.streams:
+            self.streams.remove(stream)
+        counts = stream.counts()
+        self.totals.counts.update(counts)
+        self.totals.streams += 1
+        if self.options.prints_messages:
+            said = ", ".join(f"{value} {name}" for name, value in counts.items() if value)
+            say(f"{self.name} place {stream.channel_place}: {said}")
+        stream.close()
+
+
+def connected(address: Address) -> socket.socket:
+    """A socket that is connected to an address at once, or an error."""
+    if address.path is None:
+        return without_delay(socket.create_connection((address.host, address.port), CONNECT_SECONDS))
+    connection = socket.socket(socket.AF_UNIX)
+    connection.setblocking(False)
+    try:
+        connection.connect(address.path)
+    except OSError:
+        connection.close()
+        raise
+    return connection

@@ -1,0 +1,275 @@
+"""SIP over UDP: its socket, and the transactions of RFC 3261, 17.
+
+`Transport` reads datagrams and gives each new request to its user. A request that repeats one that is kept gets the last
+response again and reaches nobody. The user keeps a request only when it knows whose it is, so that those of strangers
+cost no memory.
+"""
+
+from __future__ import annotations
+
+import socket
+from collections.abc import Callable, Iterable
+from typing import TYPE_CHECKING, Optional, Protocol, Tuple
+
+from nemzhuul.live.processes import Loop
+from nemzhuul.sip.limits import Networks, Rates
+from nemzhuul.sip.messages import (
+    MAX_DATAGRAM,
+    Field,
+    Malformed,
+    Message,
+    Place,
+    Received,
+    read_message,
+    request,
+    response,
+    token,
+)
+from nemzhuul.sip.timers import Timers
+
+if TYPE_CHECKING:
+    from nemzhuul.sip.dialogs import Incoming
+
+T1, T2, T4 = 0.5, 4.0, 5.0  # seconds (RFC 3261, table 4)
+TIMEOUT = 64 * T1
+MAX_TRANSACTIONS = 5_000  # of servers, from which on requests are not answered
+MAX_TURN = 16  # datagrams that are read before other work is done
+MAGIC = "z9hG4bK"
+METHODS = "INVITE, ACK, CANCEL, BYE, OPTIONS, REGISTER, INFO"
+
+Key = Tuple[str, str, str, str]  # the branch, the sender, the address and the method of a server
+Hear = Callable[[Optional[Received]], object]
+
+
+class TransportUser(Protocol):
+    """Is told what comes."""
+
+    def is_requested(self, server: Server) -> None:
+        """A new request has come."""
+
+    def is_acknowledged(self, message: Received) -> None:
+        """An ACK has come that belongs to no transaction."""
+
+    def notes(self, text: str) -> None:
+        """Something is to be said to the person who runs the program."""
+
+
+class Transport:
+    """The socket, with its transactions by key."""
+
+    def __init__(self, loop: Loop, timers: Timers, place: Place, user: TransportUser, networks: Networks) -> None:
+        self.timers = timers
+        self.user = user
+        self.networks = networks
+        self.rates = Rates(timers.now)
+        self.socket = socket.socket(socket.AF_INET, socket.SOCK_DGRAM)
+        self.socket.setsockopt(socket.SOL_SOCKET, socket.SO_RCVBUF, 1 << 22)
+        self.socket.bind(place)
+        self.socket.setblocking(False)
+        self.place = Place(*self.socket.getsockname())
+        self.servers: dict[Key, Server] = {}
+        self.clients: dict[tuple[str, str], Client] = {}
+        self.received = self.sent = self.repeated = self.malformed = self.refused = self.failed = 0
+        loop.watch(self.socket, self.receive)
+
+    def send(self, message: Message, place: Place) -> None:
+        self.sent += 1
+        try:
+            self.socket.sendto(message.text(), place)
+        except (OSError, UnicodeError):
+            self.failed += 1
+
+    def receive(self) -> None:
+        for _ in range(MAX_TURN):
+            try:
+                octets, source = self.socket.recvfrom(MAX_DATAGRAM + 1)
+            except BlockingIOError:
+                return
+            except OSError:  # an earlier datagram did not reach its port
+                continue
+            self.received += 1
+            place = Place(*source)
+            if not self.networks.holds(place.host) or not self.rates.takes(place.host) or len(octets) > MAX_DATAGRAM:
+                self.refused += 1
+            elif octets.strip(b"\r\n\0 "):  # else it keeps a hole in a NAT open
+                self.take_datagram(octets, place)
+
+    def take_datagram(self, octets: bytes, source: Place) -> None:
+        try:
+            message = read_message(octets, source)
+        except Malformed as fault:
+            self.malformed += 1
+            self.user.notes(f"{source.host}:{source.port} sent a datagram that is not a message: {fault}")
+            if fault.request is not None and fault.request.method != "ACK":
+                self.send(response(fault.request, 400, token()), fault.request.reply_to)
+            return
+        if message.method:
+            self.take_request(message)
+            return
+        client = self.clients.get((message.via.branch, message.sequence.method))
+        if client is not None and message.call_id == client.request.get("call-id"):
+            client.receive(message)
+
+    def take_request(self, message: Received) -> None:
+        key = key_of(message, "INVITE" if message.method == "ACK" else message.method)
+        server = self.servers.get(key)
+        if message.method == "ACK":
+            if server is None or not server.acknowledge():
+                self.user.is_acknowledged(message)
+        elif server is not None:
+            self.repeated += 1
+            server.repeat()
+        elif len(self.servers) < MAX_TRANSACTIONS:
+            self.take_new(Server(self, message, key))
+
+    def take_new(self, server: Server) -> None:
+        source = server.request.source
+        try:
+            self.user.is_requested(server)
+        except Malformed as fault:
+            self.malformed += 1
+            self.user.notes(f"{source.host}:{source.port} sent a request with a wrong field: {fault}")
+            if server.status < 200:
+                server.answer(400, token())
+
+    def invite_of(self, cancel: Received) -> Server | None:
+        """The transaction of the INVITE that a CANCEL ends (RFC 3261, 9.2); None if there is none."""
+        server = self.servers.get(key_of(cancel, "INVITE"))
+        return server if server and server.request.call_id == cancel.call_id else None
+
+    def request(
+        self, method: str, uri: str, place: Place, fields: Iterable[Field], hear: Hear, body: bytes = b""
+    ) -> Client:
+        """Sends a request; `hear` gets each response, and None if there is none in time."""
+        own = [Field("via", self.new_via()), Field("max-forwards", "70")]
+        return Client(self, request(method, uri, [*own, *fields], body), place, hear)
+
+    def new_via(self) -> str:
+        return f"SIP/2.0/UDP {self.place.host}:{self.place.port};branch={MAGIC}{token()};rport"
+
+
+def key_of(message: Received, method: str) -> Key:
+    """The key of the transaction of a request (RFC 3261, 17.2.3)."""
+    branch = message.via.branch
+    if not branch.startswith(MAGIC):
+        branch = f"{message.call_id} {message.sequence.number}"
+    return branch, message.via.sent_by, message.source.host, method
+
+
+class Server:
+    """A request that came, and its responses."""
+
+    def __init__(self, transport: Transport, request: Received, key: Key) -> None:
+        self.transport, self.request, self.key = transport, request, key
+        self.status = 0  # of the last response
+        self.message: Message | None = None
+        self.is_kept = self.is_acknowledged = False
+        self.leg: Incoming | None = None  # of an INVITE
+
+    def keep(self) -> None:
+        """Has repetitions of the request answered as it was, until some time after its last response."""
+        self.is_kept = True
+        self.transport.servers[self.key] = self
+
+    def answer(self, status: int, tag: str = "", fields: Iterable[Field] = (), body: bytes = b"") -> None:
+        self.status = status
+        self.message = response(self.request, status, tag, fields, body)
+        self.repeat()
+        if status >= 200 and self.is_kept:
+            self.transport.timers.after(TIMEOUT, lambda: self.transport.servers.pop(self.key, None))
+            if self.request.method == "INVITE" and status >= 300:
+                self.repeat_later(T1)
+
+    def repeat(self) -> None:
+        if self.message is not None:
+            self.transport.send(self.message, self.request.reply_to)
+
+    def repeat_later(self, wait: float) -> None:
+        """Repeats a refusal until its ACK comes."""
+
+        def again() -> None:
+            if not self.is_acknowledged and self.key in self.transport.servers:
+                self.transport.repeated += 1
+                self.repeat()
+                self.repeat_later(min(2 * wait, T2))
+
+        self.transport.timers.after(wait, again)
+
+    def acknowledge(self) -> bool:
+        """Takes an ACK; false if it is of a 2xx, which belongs to the dialog."""
+        self.is_acknowledged = True
+        return self.status >= 300
+
+
+class Client:
+    """A request that was sent, and is repeated until a response comes."""
+
+    def __init__(self, transport: Transport, request: Message, place: Place, hear: Hear) -> None:
+        self.transport, self.request, self.place, self.hear = transport, request, place, hear
+        self.is_invite = request.method == "INVITE"
+        branch = request.get("via").partition("branch=")[2].partition(";")[0]
+        self.key = branch, request.method
+        self.has_provisional = self.is_over = False
+        transport.clients[self.key] = self
+        transport.send(request, place)
+        self.repeats = transport.timers.after(T1, lambda: self.repeat(T1))
+        self.deadline = transport.timers.after(TIMEOUT, self.expire)
+
+    def repeat(self, wait: float) -> None:
+        self.transport.repeated += 1
+        self.transport.send(self.request, self.place)
+        wait = 2 * wait if self.is_invite else min(2 * wait, T2)
+        self.repeats = self.transport.timers.after(wait, lambda: self.repeat(wait))
+
+    def expire(self) -> None:
+        self.end(0)
+        self.hear(None)
+
+    def give_up_later(self) -> None:
+        """Expires if no final response comes in time after CANCEL (RFC 3261, 9.1)."""
+        if not self.is_over:
+            self.deadline.cancel()
+            self.deadline = self.transport.timers.after(TIMEOUT, self.expire)
+
+    def receive(self, answer: Received) -> None:
+        if answer.status < 200:
+            if not self.is_over:
+                if self.is_invite and not self.has_provisional:
+                    self.repeats.cancel()
+                    self.deadline.cancel()
+                self.has_provisional = True
+                self.hear(answer)
+            return
+        if self.is_invite and answer.status >= 300:
+            self.acknowledge(answer)
+        was_over = self.is_over
+        if not was_over:
+            self.end(TIMEOUT if self.is_invite else T4)
+        if not was_over or (self.is_invite and answer.status < 300):
+            self.hear(answer)
+
+    def acknowledge(self, answer: Received) -> None:
+        """Acknowledges a refusal (RFC 3261, 17.1.1.3)."""
+        fields = [*self.own("via", "max-forwards", "from", "call-id"), Field("to", answer.get("to"))]
+        fields.append(Field("cseq", f"{answer.sequence.number} ACK"))
+        self.transport.send(request("ACK", self.request.uri, [*fields, *self.routes()]), self.place)
+
+    def cancel(self) -> None:
+        """Sends CANCEL (RFC 3261, 9.1). The final response to the INVITE follows."""
+        number = self.request.get("cseq").partition(" ")[0]
+        fields = [*self.own("via", "max-forwards", "from", "to", "call-id"), Field("cseq", f"{number} CANCEL")]
+        message = request("CANCEL", self.request.uri, [*fields, *self.routes()])
+        Client(self.transport, message, self.place, lambda answer: None)
+        self.give_up_later()
+
+    def own(self, *names: str) -> list[Field]:
+        return [Field(name, self.request.get(name)) for name in names]
+
+    def routes(self) -> list[Field]:
+        return [Field("route", route) for route in self.request.all("route")]
+
+    def end(self, wait: float) -> None:
+        self.is_over = True
+        self.repeats.cancel()
+        self.deadline.cancel()
+        self.transport.timers.after(wait, lambda: self.transport.clients.pop(self.key, None))

@@ -1,0 +1,72 @@
+"""The users file: the passwords of telephones, and the peers, which need none.
+
+A peer is a fixed telephone, `DIGITS sip:HOST:PORT`, or a trunk to a proxy or another exchange, `DIGITS* sip:HOST:PORT`,
+to which all numbers that begin so go. It is recognised by its address and port.
+"""
+
+from __future__ import annotations
+
+import ipaddress
+import re
+from collections.abc import Iterable, Mapping
+from dataclasses import dataclass, field
+from pathlib import Path
+
+from nemzhuul.command_line import Refused
+from nemzhuul.sip.messages import Malformed, Place, read_uri
+
+
+@dataclass(frozen=True)
+class Peer:
+    digits: str
+    is_trunk: bool
+    place: Place
+
+    def takes(self, digits: str) -> bool:
+        return digits.startswith(self.digits) if self.is_trunk else digits == self.digits
+
+
+@dataclass(frozen=True)
+class UsersFile:
+    passwords: Mapping[str, str] = field(repr=False)  # by digits
+    peers: tuple[Peer, ...] = ()
+
+    def is_peer(self, place: Place) -> bool:
+        return any(peer.place == place for peer in self.peers)
+
+    def peer_of(self, digits: str) -> Peer | None:
+        """The peer to which a number goes; of some, the one with the most digits."""
+        peers = [peer for peer in self.peers if peer.takes(digits)]
+        return max(peers, key=lambda peer: (len(peer.digits), not peer.is_trunk)) if peers else None
+
+
+def read_users_file(path: str) -> UsersFile:
+    return read_users(path, Path(path).read_text(encoding="utf-8", errors="surrogateescape").splitlines())
+
+
+def read_users(path: str, lines: Iterable[str]) -> UsersFile:
+    """The users of the lines of a file. What a line says is not printed: it may be a password."""
+    passwords: dict[str, str] = {}
+    peers: list[Peer] = []
+    for number, line in enumerate(lines, start=1):
+        words = line.split()
+        if not words or line.startswith("#"):
+            continue
+        digits, value = words if len(words) == 2 else ("", "")
+        if value.startswith("sip:") and re.fullmatch(r"[0-9]{1,20}\*?", digits):
+            peers.append(Peer(digits.rstrip("*"), digits.endswith("*"), read_place(f"{path}: line {number}", value)))
+        elif re.fullmatch("[0-9]{1,20}", digits) and not value.startswith("sip:") and digits not in passwords:
+            passwords[digits] = value
+        else:
+            wanted = "is not `DIGITS PASSWORD`, `DIGITS sip:HOST:PORT` or `DIGITS* sip:HOST:PORT`, or its digits have a password"
+            raise Refused(f"{path}: line {number} {wanted}")
+    return UsersFile(passwords, tuple(peers))
+
+
+def read_place(where: str, text: str) -> Place:
+    try:
+        place = read_uri(text).place
+        ipaddress.IPv4Address(place.host)
+    except (Malformed, ValueError):
+        raise Refused(f"{where} has no address of IPv4 after sip:") from None
+    return place
