@@ -12,6 +12,7 @@ from collections.abc import Sequence
 from typing import Any
 
 import support
+from nemzhuul import __version__
 from support import EXAMPLES, PAIRED, TOP, InFolder, command, of_packets, stream, tool
 
 
@@ -32,7 +33,7 @@ OTHERS = ("attach", "build", "endpoint", "run", "sounds", "traffic")
 
 
 class Usages(unittest.TestCase):
-    """What a tool answers to wrong arguments and to `--help`."""
+    """What a tool answers to wrong arguments, and to `--help` and `--version`."""
 
     def test_wrong_words(self) -> None:
         cases: list[tuple[str, tuple[object, ...]]] = [(name, words) for name in PAIRED for words in ((), ("one",), ("one", "two", "three"))]
@@ -53,9 +54,11 @@ class Usages(unittest.TestCase):
         self.assertEqual(sorted(names), sorted([*WORKING, *OTHERS]))
         for name in names:
             with self.subTest(tool=name):
-                status, output, said = tool(name, "--help")
-                self.assertEqual((status, said), (0, ""))
-                self.assertTrue(output.decode().startswith(f"usage: tools/{name} "))
+                for words in (["--help"], ["one", "-h"]):
+                    status, output, said = tool(name, *words)
+                    self.assertEqual((status, said), (0, ""))
+                    self.assertTrue(output.decode().startswith(f"usage: tools/{name} "))
+                self.assertEqual(tool(name, "--version"), (0, f"{name} (Nemzhuul) {__version__}\n".encode(), ""))
 
 
 class Endings(InFolder):

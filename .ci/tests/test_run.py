@@ -51,6 +51,16 @@ class Programs(InFolder):
         said += "run: `tools/explain --status 6` says what this means\n"
         self.assertEqual(self.ran("check", "--strict"), (6, "check --strict\n", said))
 
+    def test_wrong_words(self) -> None:
+        """They get the usage at once: no program is built for them."""
+        self.make(self.bin / "rt", "echo started >&2; exit 1")
+        for words in ((), ("wrong",), ("run", "more"), ("check", "--help", "no"), ("gen", "1"), ("gen", "1", "2", "3"), ("follow", "--fast")):
+            status, output, said = self.ran(*words)
+            if "--help" in words:
+                status, output, said = status + 2, said, output
+            self.assertEqual((status, output), (2, ""))
+            self.assertTrue(said.startswith("usage: tools/run COMMAND"))
+
     def test_a_refusal(self) -> None:
         """A refusal is in the report alone, so the tool that explains it is named."""
         self.make_proved("echo refused 1 header; exit 1")

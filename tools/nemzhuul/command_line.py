@@ -1,7 +1,7 @@
 """The frame of each tool: its arguments, what it writes, and how it ends.
 
-`command` runs a tool. It prints the usage for `--help`, the usage and status 2 for wrong arguments, and one line
-and status 1 for a file that cannot be read, an output that cannot be written, or an interrupt. `watch` shows
+`command` runs a tool. It prints the usage for `-h` and `--help`, the version for `--version`, the usage and status 2 for
+wrong arguments, and one line and status 1 for a file that cannot be read, an output that cannot be written, or an interrupt. `watch` shows
 on standard error how far a tool is, each second.
 """
 
@@ -14,6 +14,8 @@ import time
 from collections.abc import Callable, Iterator, Sequence
 from pathlib import Path
 from typing import NoReturn, TypeVar
+
+from nemzhuul import __version__
 
 NAME = Path(sys.argv[0]).name
 
@@ -32,7 +34,7 @@ def command(usage: str, work: Callable[..., str | bytes]) -> NoReturn:
     """Runs a tool on its arguments, and ends with its status. What `work` returns is the tool's output."""
     try:
         words = sys.argv[1:]
-        write_output(f"{usage}\n" if words == ["--help"] else work(*words))
+        write_output(asked(usage, words) or work(*words))
         status = 0
     except WrongWords:
         say(usage)
@@ -46,6 +48,13 @@ def command(usage: str, work: Callable[..., str | bytes]) -> NoReturn:
     except KeyboardInterrupt:
         status = fail("interrupted")
     sys.exit(status)
+
+
+def asked(usage: str, words: Sequence[str]) -> str:
+    """The usage or the version, if an argument asks for it; otherwise nothing."""
+    if not {"-h", "--help"}.isdisjoint(words):
+        return f"{usage}\n"
+    return f"{NAME} (Nemzhuul) {__version__}\n" if "--version" in words else ""
 
 
 def fail(reason: object) -> int:

@@ -16,11 +16,12 @@ program, crates/tst/out/tst, if that was built from the sources that lie there (
 unproved one, which `rt try` builds once, in about two minutes. Standard error says which was run, how long it took, and
 how a status other than 0 is explained (`tools/explain`)."""
 
+COMMANDS = ("run", "follow", "check", "gen")
 REFUSED = 1
 
 
 def main(*words: str) -> NoReturn:
-    if not words:
+    if not is_command(*words):
         raise WrongWords
     program = program_at()
     begun = time.monotonic()
@@ -30,6 +31,12 @@ def main(*words: str) -> NoReturn:
     if status:
         say(f"{NAME}: {remedy(words[0], status)}")
     sys.exit(status)
+
+
+def is_command(command: str = "", *words: str) -> bool:
+    """Whether the arguments can be a command of the exchange. It is found before a program is built for them."""
+    flags = [word for word in words if word not in ("--", "--strict")]
+    return command in COMMANDS and (len(flags) == 2 if command == "gen" else not flags)
 
 
 def remedy(command: str, status: int) -> str:
