@@ -13,7 +13,20 @@ from unittest import mock
 
 from support import IDLE, InFolder
 from nemzhuul.live.wire import Address
-from nemzhuul.signalling.q931 import Element, Message, read_message, write_message
+from nemzhuul.signalling.q931 import (
+    CALL_PROCEEDING,
+    CALLED_PARTY_NUMBER,
+    CALLING_PARTY_NUMBER,
+    CONNECT,
+    CONNECT_ACKNOWLEDGE,
+    SETUP,
+    Element,
+    Message,
+    channel_identification,
+    number,
+    read_message,
+    write_message,
+)
 from nemzhuul.sip.gateway import Gateway, Settings
 from nemzhuul.sip.messages import Place
 from nemzhuul.sip.trunks import read_users
@@ -65,7 +78,7 @@ class Sip:
 
 def read_sip(octets: bytes) -> Sip:
     head, _, body = octets.partition(b"\r\n\r\n")
-    first, *lines = head.decode().split("\r\n")
+    first, *lines = head.decode("utf-8", "surrogateescape").split("\r\n")
     pairs = (line.partition(":") for line in lines)
     return Sip(first, [(name.strip().lower(), value.strip()) for name, _, value in pairs], body)
 
@@ -280,10 +293,11 @@ class Office(InFolder):
         self.read()
 
     def passes(self, seconds: float) -> None:
-        """Time passes, in steps that are short for each timer."""
+        """Time passes, from each timer to the next."""
         end = self.clock.time + seconds
         while self.clock.time < end:
-            self.clock.time = min(end, self.clock.time + 0.5)
+            heap = self.gateway.timers.heap
+            self.clock.time = min(end, max(self.clock.time, heap[0][0])) if heap else end
             self.pump()
 
     def read(self) -> None:
@@ -328,3 +342,27 @@ class Office(InFolder):
     def telephone(self, at: int) -> Telephone:
         digits, password = USERS[at].split()
         return Telephone(self, digits, password)
+
+    # ---- calls
+
+    def answered(self, telephone: Telephone, digits: str = "102", channel: int = 3) -> tuple[Talk, Message]:
+        """A call of a telephone that the exchange answers."""
+        talk = telephone.calls(digits)
+        setup = self.message(SETUP)
+        self.sends(1, setup.reference, CALL_PROCEEDING, channel_identification(channel))
+        self.sends(1, setup.reference, CONNECT)
+        self.message(CONNECT_ACKNOWLEDGE)
+        *_, answer = telephone.all()
+        self.assertEqual(answer.status, 200)
+        telephone.acknowledges(talk, answer)
+        return talk, setup
+
+    def called(self, telephone: Telephone, digits: str, caller: str = "101", channel: int = 5, reference: int = 9) -> Sip:
+        """A call of the exchange to a registered telephone. Returns its INVITE."""
+        elements = [channel_identification(channel), number(CALLING_PARTY_NUMBER, caller), number(CALLED_PARTY_NUMBER, digits)]
+        self.sends(0, reference, SETUP, *elements)
+        self.message(CALL_PROCEEDING)
+        invite = telephone.get()
+        assert invite is not None
+        self.assertEqual(invite.method, "INVITE")
+        return invite

@@ -37,8 +37,9 @@ class Networks:
 
 
 def is_own(host: str) -> bool:
-    """Whether an address of IP is this machine's: only such an address can be bound."""
-    if host == ANYWHERE:
+    """Whether an address of IP is this machine's: such an address can be bound, and is not one of many machines."""
+    address = ipaddress.IPv4Address(host)
+    if address.is_multicast or address.is_unspecified or address.is_reserved:
         return False
     with socket.socket(socket.AF_INET, socket.SOCK_DGRAM) as end:
         try:
