@@ -16,12 +16,12 @@ from typing import NamedTuple
 TOP = Path(__file__).resolve().parents[2]
 CRATES = "# a comment\n\nlow: thiserror\nbeside: low\ntst tests_may=Wait: low\n"
 REMEDY = "`tools/build` proves and builds it"
-# The commands of the kit: `rt run` builds a proved program, and `rt try` an unproved one, which it removes at its end.
+# The commands of the kit: `rt ci` builds a proved program, and `rt try` an unproved one, which it removes at its end.
 KIT = """#!/bin/sh
-[ ! -e ../../during ] || sh ../../during
+(cd "${0%/bin/rt}" && { [ ! -e during ] || sh during; })
 case $1 in
-all) echo "$*" ;;
-run) mkdir -p out; printf '#!/bin/sh\\necho proved' >out/tst; chmod +x out/tst ;;
+ci) [ -z "$RT_JOBS" ] || echo "$RT_JOBS jobs"
+    out=crates/tst/out; mkdir -p $out; printf '#!/bin/sh\\necho proved' >$out/tst; chmod +x $out/tst ;;
 try) printf '#!/bin/sh\\necho unproved' >$TMPDIR/new; chmod +x $TMPDIR/new; mv $TMPDIR/new $TMPDIR/program
      until [ -e $TMPDIR/../tst ]; do sleep 0.05; done; rm $TMPDIR/program ;;
 esac
@@ -100,7 +100,7 @@ class Programs(unittest.TestCase):
         """All crates are proved first, but none if the program fits."""
         said = "crates/tst/out/tst is the proved program of these sources\n"
         self.program.unlink()
-        for errors in ("all check --jobs 3\n", ""):
+        for errors in ("3 jobs\n", ""):
             self.assertEqual(self.copy.run("tools/build", "--jobs", "3"), (0, said, errors))
         for words in (("--jobs",), ("--jobs", "x"), ("3",)):
             self.assertEqual(self.copy.run("tools/build", *words).status, 2)
@@ -179,7 +179,7 @@ class Programs(unittest.TestCase):
     def test_a_change_while_it_is_built(self) -> None:
         """What was built is not known, so nothing is recorded."""
         self.copy.write("crates/low/src/lib.rt", "another\n")
-        self.copy.write("during", "echo more >>../low/src/lib.rt\n")
+        self.copy.write("during", "echo more >>crates/low/src/lib.rt\n")
         said = "build: a source changed while the program was built: run this again\n"
         self.assertEqual(self.copy.run("tools/build"), (1, "", said))
         ran = self.copy.run("tools/run", "run")

@@ -2,6 +2,7 @@
 
 from __future__ import annotations
 
+import os
 import shutil
 import subprocess
 import sys
@@ -14,14 +15,16 @@ from nemzhuul.repository.crates import TOP
 USAGE = """usage: tools/build [--jobs N]
 proves and builds the exchange, crates/tst/out/tst, and records beside it the sources that it was built from. The tools
 and the repository's checks run this program while these sources lie there, and no other. It ends at once if the program
-fits them. With --jobs it first proves all crates, N at a time (`rt all check`), and else what is lacking, one at a time."""
+fits them. Otherwise it runs `rt ci`, which proves every crate, runs every test and builds every program. What passed in
+any checkout on the machine is not proved again. With --jobs it proves N crates at a time, and else as many as processors
+and memory allow."""
 
 
 def main(*words: str) -> str:
     if words and (len(words) != 2 or words[0] != "--jobs" or not words[1].isdigit()):
         raise WrongWords
     if misfit():
-        build(words)
+        build(words[1:])
     return f"{NAMED} is the proved program of these sources\n"
 
 
@@ -29,14 +32,10 @@ def build(jobs: tuple[str, ...]) -> None:
     if shutil.which("rt") is None:
         raise Refused("the commands of the Rattle kit are not on the path")
     sources = sources_of("tst")
-    crate = PROGRAM.parent.parent
-    if jobs and subprocess.run(["rt", "all", "check", *jobs], cwd=TOP, stdout=sys.stderr, check=False).returncode:
-        raise Refused("`rt all check` failed")
-    with open(crate / "stdin", "rb") as trace:
-        command = ["rt", "run", "--", "run"]
-        status = subprocess.run(command, cwd=crate, stdin=trace, stdout=subprocess.DEVNULL, check=False).returncode
+    environment = {**os.environ, **{"RT_JOBS": number for number in jobs}}
+    status = subprocess.run(["rt", "ci"], cwd=TOP, env=environment, stdout=sys.stderr, check=False).returncode
     if status or not PROGRAM.is_file():
-        raise Refused(f"`rt run` ended with status {status} in crates/tst, and built no program")
+        raise Refused(f"`rt ci` ended with status {status}")
     if sources_of("tst") != sources:
         raise Refused("a source changed while the program was built: run this again")
     BUILT.record(sources)
