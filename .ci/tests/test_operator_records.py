@@ -28,7 +28,7 @@ class Records(Attached):
         return list(csv.DictReader((self.folder / path).read_text().splitlines()))
 
     def until_rows(self, count: int) -> list[dict[str, str]]:
-        """Waits until the file has so many records. An endpoint gets frames meanwhile."""
+        """Waits until the file has this number of records. An endpoint gets frames meanwhile."""
         for _ in range(PATIENCE * 20):
             if len(self.rows()) >= count:
                 break
@@ -66,7 +66,7 @@ class Records(Attached):
         return found
 
     def is_as_recorded(self) -> None:
-        """The records are those of tools/records over the log, in the order in which the calls ended."""
+        """The records are what tools/records prints of the log, in the order in which the calls ended."""
         report = subprocess.run(
             [support.TOP / "crates" / "tst" / "out" / "tst", "follow"],
             input=(self.folder / "live.trace").read_bytes(),
