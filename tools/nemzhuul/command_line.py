@@ -11,7 +11,7 @@ import errno
 import os
 import sys
 import time
-from collections.abc import Callable, Iterator, Sequence
+from collections.abc import Callable, Iterable, Iterator, Sequence
 from pathlib import Path
 from typing import NoReturn, TypeVar
 
@@ -81,6 +81,15 @@ def write_output(output: str | bytes) -> None:
             left = left[os.write(1, left) :]
     except OSError as error:
         raise Refused(f"standard output cannot be written: {error.strerror}") from None
+
+
+def write_parts(parts: Iterable[str], is_long: bool) -> str:
+    """Writes the parts of a long output as they come, and returns the rest, which is all of another one."""
+    if not is_long:
+        return "".join(parts)
+    for part in parts:
+        write_output(part)
+    return ""
 
 
 def watch(items: Sequence[Item], what: object) -> Iterator[Item]:

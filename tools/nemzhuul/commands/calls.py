@@ -4,10 +4,10 @@ from __future__ import annotations
 
 from collections.abc import Callable, Iterator, Sequence
 
-from nemzhuul.command_line import WrongWords
+from nemzhuul.command_line import WrongWords, write_parts
 from nemzhuul.pictures.ladders import frames_text, name, note, place, title
-from nemzhuul.traces.following import Call, Row, Run, follow
-from nemzhuul.traces.reading import read_run
+from nemzhuul.traces.following import Call, Row, Run, calls_in_order
+from nemzhuul.traces.long_runs import Opened, open_run
 
 USAGE = """usage: tools/calls TRACE REPORT
 draws each call of the run that REPORT tells of: its messages between the two lines and the exchange"""
@@ -20,13 +20,21 @@ def main(*words: str) -> str:
     if len(words) != 2:
         raise WrongWords
     trace_path, report_path = words
-    run = follow(*read_run(trace_path, report_path))
-    parts = [call_text(call, run) for call in run.calls]
+    opened = open_run(trace_path, report_path)
+    return write_parts(parts(opened), opened.is_long)
+
+
+def parts(opened: Opened) -> Iterator[str]:
+    """The text of each call, when it and those before it have ended, and of the messages on no call."""
+    run = Run(opened.trace)
+    gap = ""
+    for call in calls_in_order(run, opened.steps):
+        yield gap + call_text(call, run)
+        gap = "\n"
     if run.on_no_call:
-        parts.append(no_call_text(run.on_no_call))
-    if not parts:
-        parts.append("no call, and no message\n")
-    return "\n".join(parts)
+        yield gap + no_call_text(run.on_no_call)
+    elif not gap:
+        yield "no call, and no message\n"
 
 
 def call_text(call: Call, run: Run) -> str:

@@ -7,13 +7,14 @@ and the sum of their moved paths.
 
 from __future__ import annotations
 
+import operator
 from collections.abc import Callable, Iterable, Iterator, Sequence
 from typing import NamedTuple
 
 from nemzhuul.command_line import WrongWords
-from nemzhuul.traces.events import PLACES, Step, Trace
+from nemzhuul.traces.events import PLACES
 from nemzhuul.traces.following import Run
-from nemzhuul.traces.reading import read_run
+from nemzhuul.traces.long_runs import open_run
 
 USAGE = """usage: tools/moves [--svg] TRACE REPORT
 plots the taken slots and the moved paths of the run, event by event, as text or as SVG"""
@@ -29,11 +30,10 @@ SVG_GAP = 60
 
 
 class Panel(NamedTuple):
-    """A plot: its title, its values by event, and what joins those that fall in a column."""
+    """A plot: its title, and the heights of its columns."""
 
     title: str
-    values: Sequence[int]
-    join: Callable[[Sequence[int]], int]
+    heights: Sequence[int]
 
 
 def main(*words: str) -> str:
@@ -42,40 +42,47 @@ def main(*words: str) -> str:
     if len(files) != 2 or any(word.startswith("-") for word in files):
         raise WrongWords
     trace_path, report_path = files
-    trace, steps = read_run(trace_path, report_path)
-    taken, moved = counts(steps, trace)
-    most = trace.sizes.external * PLACES
-    panels = [
-        Panel(f"taken slots: at most {max(taken, default=0)} of {most}", taken, max),
-        Panel(f"moved paths: {sum(moved)} in all, at most {max(moved, default=0)} for an event", moved, sum),
-    ]
-    return svg(panels, len(steps)) if as_svg else text(panels, len(steps))
-
-
-def counts(steps: Iterable[Step], trace: Trace) -> tuple[list[int], list[int]]:
-    """After each event, how many slots are taken; and how many paths were moved for it."""
+    trace, steps, total, _ = open_run(trace_path, report_path)
+    taken = Columns(total, SVG_COLUMNS if as_svg else TEXT_COLUMNS, max)
+    moved = Columns(total, SVG_COLUMNS if as_svg else TEXT_COLUMNS, operator.add)
     run = Run(trace)
-    taken: list[int] = []
-    moved: list[int] = []
     for event, reply in steps:
         run.take(event, reply)
-        taken.append(len(run.uses))
-        moved.append(sum(reply.moved or ()))
-    return taken, moved
+        taken.add(len(run.uses))
+        moved.add(sum(reply.moved or ()))
+    panels = [
+        Panel(f"taken slots: at most {taken.most} of {trace.sizes.external * PLACES}", taken.heights),
+        Panel(f"moved paths: {moved.sum} in all, at most {moved.most} for an event", moved.heights),
+    ]
+    return svg(panels, total) if as_svg else text(panels, total)
 
 
-def columns(values: Sequence[int], most: int, join: Callable[[Sequence[int]], int]) -> list[int]:
-    """The values, or as many columns as there may be, each with what joins those that fall in it."""
-    width = min(len(values), most)
-    bounds = [len(values) * at // width for at in range(width + 1)] if width else [0]
-    return [join(values[start:end]) for start, end in zip(bounds, bounds[1:])]
+class Columns:
+    """The values of events, which come one by one, in as many columns as there may be, each with what joins its values."""
+
+    def __init__(self, total: int, most: int, join: Callable[[int, int], int]) -> None:
+        width = min(total, most)
+        self.join = join
+        self.ends = [total * at // width for at in range(1, width + 1)] if width else []
+        self.heights: list[int] = []
+        self.count = self.most = self.sum = 0
+
+    def add(self, value: int) -> None:
+        is_first = self.count == (self.ends[len(self.heights) - 1] if self.heights else 0)
+        if is_first:
+            self.heights.append(value)
+        else:
+            self.heights[-1] = self.join(self.heights[-1], value)
+        self.count += 1
+        self.most = max(self.most, value)
+        self.sum += value
 
 
 # ---- text
 
 
 def text(panels: Iterable[Panel], events: int) -> str:
-    parts = [panel_text(title, columns(values, TEXT_COLUMNS, join)) for title, values, join in panels]
+    parts = [panel_text(title, heights) for title, heights in panels]
     return "\n".join(parts) + f"\n{'':6}{foot(events, TEXT_COLUMNS)}\n"
 
 
@@ -112,9 +119,9 @@ def svg(panels: Iterable[Panel], events: int) -> str:
         f'<rect width="{width}" height="{height}" fill="white"/>',
     ]
     colours = ("#2b6cb0", "#c05621")
-    for at, ((title, values, join), colour) in enumerate(zip(panels, colours)):
+    for at, ((title, heights), colour) in enumerate(zip(panels, colours)):
         top = SVG_TOP + at * (SVG_PANEL + SVG_GAP)
-        parts += panel_svg(title, columns(values, SVG_COLUMNS, join), top, colour)
+        parts += panel_svg(title, heights, top, colour)
     parts.append(f'<text x="{SVG_LEFT}" y="{height - 20}">{foot(events, SVG_COLUMNS)}</text>')
     return "\n".join(parts) + "\n</svg>\n"
 

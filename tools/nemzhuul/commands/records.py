@@ -2,10 +2,12 @@
 
 from __future__ import annotations
 
-from nemzhuul.command_line import WrongWords
+from collections.abc import Iterator
+
+from nemzhuul.command_line import WrongWords, write_parts
 from nemzhuul.traces.call_records import Record, csv_line, record
-from nemzhuul.traces.following import follow
-from nemzhuul.traces.reading import read_run
+from nemzhuul.traces.following import Run, calls_in_order
+from nemzhuul.traces.long_runs import Opened, open_run
 
 USAGE = """usage: tools/records TRACE REPORT >CSV
 writes a call detail record for each call of the run, in the order of their SETUPs, as CSV with a header line. It
@@ -27,5 +29,14 @@ def main(*words: str) -> str:
     if len(words) != 2 or any(word.startswith("-") for word in words):
         raise WrongWords
     trace_path, report_path = words
-    run = follow(*read_run(trace_path, report_path))
-    return "".join(csv_line(fields) for fields in (Record._fields, *(record(call, run) for call in run.calls)))
+    opened = open_run(trace_path, report_path)
+    return write_parts(lines(opened), opened.is_long)
+
+
+def lines(opened: Opened) -> Iterator[str]:
+    """The lines of the records, each when its call and those before it have ended."""
+    run = Run(opened.trace)
+    yield csv_line(Record._fields)
+    for call in calls_in_order(run, opened.steps):
+        run.on_no_call.clear()
+        yield csv_line(record(call, run))

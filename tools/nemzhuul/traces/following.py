@@ -11,7 +11,7 @@ its clearing begins.
 
 from __future__ import annotations
 
-from collections.abc import Iterable
+from collections.abc import Iterable, Iterator
 from dataclasses import dataclass, field, replace
 from typing import NamedTuple
 
@@ -145,6 +145,10 @@ class Call:
     cleared: Clearing | None = None
     released: int | None = None  # the frame, once no leg is left
     refused: int | None = None  # the cause
+
+    @property
+    def has_ended(self) -> bool:
+        return self.released is not None or self.refused is not None
 
 
 class Run:
@@ -407,6 +411,22 @@ def follow(trace: Trace, steps: Iterable[Step]) -> Run:
     for event, reply in steps:
         run.take(event, reply)
     return run
+
+
+def calls_in_order(run: Run, steps: Iterable[Step]) -> Iterator[Call]:
+    """The calls in the order of their SETUPs, each when it and those before it have ended, and at the end the others.
+
+    The run forgets them.
+    """
+    for event, reply in steps:
+        if isinstance(event, Frame) and reply.frame is not None and not reply.sent:
+            run.pass_frame(reply.frame)
+        else:
+            run.take(event, reply)
+        while run.ended and run.calls and run.calls[0].has_ended:
+            yield run.calls.pop(0)
+    while run.calls:
+        yield run.calls.pop(0)
 
 
 def sent_message(octets: bytes, event: int) -> Message:
