@@ -49,9 +49,9 @@ SCRIPT, or of standard input, says. `channel C` may be in front of any of them:
 It waits too if there is no call to do it with yet. It prints each message. A recording ends with its call. A sound has
 8,000 samples a second of A-law or 16 bits, and a recording is A-law; both are looked for beside SCRIPT. A recording
 does not replace a file that has content, unless --overwrite is given.
-With --calls or --answer it loads the exchange, answers each call that comes, and prints at the end what came of its
-calls: how many were offered and answered, how many were refused by cause, and the least, median and most time from
-SETUP to CONNECT. The status is 3 if a call was not answered, was cut, or was not released.
+With --calls or --answer it loads the exchange, and answers each call that comes. At the end it prints how many of the
+calls that it placed were offered, answered and refused by cause, and the least, median and most time from SETUP to
+CONNECT. The status is 3 if a call was not answered, was cut, or was not released.
     --calls N        places N calls to DIGITS
     --rate R         begins R calls a second
     --holding S      clears a call S seconds after its answer (1)

@@ -1,4 +1,4 @@
-"""The load of an endpoint: calls that it places at a rate, calls to it that it answers, and what came of them."""
+"""The load of an endpoint: calls that it places at a rate, calls to it that it answers, and their outcomes."""
 
 from __future__ import annotations
 
@@ -28,7 +28,7 @@ from nemzhuul.signalling.q931 import (
     read_message,
 )
 
-MAX_REFERENCE = 0x7FFF  # so many calls of its own can an endpoint have at a time
+MAX_REFERENCE = 0x7FFF  # an endpoint can have this number of calls that it placed
 CLEARINGS = (DISCONNECT, RELEASE, RELEASE_COMPLETE)
 UNSOUND = 3  # the status if a call was not answered, or did not last
 LIMITS = {"--calls": (1, 1_000_000), "--rate": (0.01, 8000), "--holding": (0, 86_400), "--patience": (0.1, 600), "--answer": (1, 1_000_000)}
@@ -81,10 +81,10 @@ def wrong() -> NoReturn:
 
 @dataclass
 class Tally:
-    """What came of the calls. A cause is None if the exchange stated none."""
+    """The outcomes of the calls. A cause is None if the exchange stated none."""
 
     offered: int = 0
-    set_up: list[float] = field(default_factory=list)  # of the calls that were answered, seconds from SETUP to CONNECT
+    set_up: list[float] = field(default_factory=list)  # seconds from SETUP to CONNECT of each answered call
     refused: Counter[int | None] = field(default_factory=Counter)  # before an answer, by cause
     given_up: int = 0  # without an answer or a refusal
     cut: Counter[int | None] = field(default_factory=Counter)  # cleared by the other side while they were held, by cause
@@ -278,7 +278,7 @@ class Wire:
 
 
 def run(wire: Wire, plan: Plan) -> Tally:
-    """Follows a plan on a line, and returns what came of its calls. If it cannot go on, that is printed first."""
+    """Follows a plan on a line, and returns the outcomes of its calls. If it cannot go on, that is printed first."""
     came: list[bytes] = []
     while wire.line is None:
         came += wire.receive(None)
@@ -289,7 +289,7 @@ def run(wire: Wire, plan: Plan) -> Tally:
             now = time.monotonic()
             if now - said >= 1 and sys.stderr.isatty():
                 said = now
-                say(f"{NAME}: {load.tally.offered} of {plan.calls} calls offered, {len(load.tally.set_up)} answered, {load.tally.came} came")
+                say(f"{NAME}: {load.tally.offered} of {plan.calls} calls offered, {load.tally.came} received")
             wire.send([reply for octets in came for reply in load.receive(octets, now)] + load.work(now))
             if load.is_over and not wire.unsent:
                 return load.tally
