@@ -36,7 +36,7 @@ What happens:
     N frames pass                             frames pass until the sounds end
     a meter is changed                        at once: (the lines that are indented below it)
 A WAV file has 8,000 samples a second of A-law or 16 bits, and is looked for beside FILE. Where there are
-messages, PROGRAM is run on the trace so far (the one that tools/run runs, where no other is named)."""
+messages, PROGRAM is run on the trace so far (the proved one, or an unproved one of the sources, if none is named)."""
 
 BLANKS = " \t\r"
 

@@ -15,6 +15,7 @@ from typing import Callable, Optional
 
 from nemzhuul.repository.crates import TOP, read_crates
 
+HOME = Path(__file__).resolve().parents[2]  # the folder of the package: tools/, or PREFIX/lib/nemzhuul of an installation
 PROVED_PARTS = ("src", "specs", "proofs")  # the folders of a crate that a proved program is built from
 UNPROVED_PARTS = ("src",)
 
@@ -101,8 +102,8 @@ class Built:
         text = json.dumps({"sum": file_sum(self.file), **asdict(sources)}, indent=1)
         self.note.write_text(f"{text}\n", encoding="utf-8")
 
-    def misfit(self, find_sources: Callable[[], Sources]) -> Optional[str]:
-        """Why the file is not the one that was built from these sources, or None if it is."""
+    def misfit(self, find_sources: Optional[Callable[[], Sources]]) -> Optional[str]:
+        """Why the file is not the one that was built from these sources, or from any if there are none, or None if it is."""
         if not self.file.is_file():
             return "is not built"
         try:
@@ -112,12 +113,16 @@ class Built:
             return "has no record of its sources"
         if total != file_sum(self.file):
             return "is not the file whose sources were recorded"
-        difference = recorded.difference(find_sources())
+        difference = recorded.difference(find_sources()) if find_sources else None
         return f"was built {difference}" if difference else None
 
 
 def program_in(folder: Path) -> Built:
     return Built(folder / "tst", folder / "tst.sources")
+
+
+INSTALLED = Built(HOME.parent.parent / "bin" / "tst", HOME / "tst.sources")  # which tools/install has copied
+IS_INSTALLED = INSTALLED.note.is_file()  # whether this package is part of an installation, where no sources lie
 
 
 def library(crate: str) -> Built:

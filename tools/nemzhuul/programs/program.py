@@ -14,16 +14,16 @@ from pathlib import Path
 from typing import Optional
 
 from nemzhuul.command_line import NAME, Refused, say
-from nemzhuul.programs.built import PROVED_PARTS, UNPROVED_PARTS, Sources, program_in, sources_of
+from nemzhuul.programs.built import INSTALLED, IS_INSTALLED, PROVED_PARTS, UNPROVED_PARTS, Sources, program_in, sources_of
 from nemzhuul.repository.crates import TOP
 from nemzhuul.traces.events import MAX_BYTES, MAX_EVENTS, Reply, Sent
 from nemzhuul.traces.reading import METER, reply
 
-BUILT = program_in(TOP / "crates" / "tst" / "out")  # proved
+BUILT = INSTALLED if IS_INSTALLED else program_in(TOP / "crates" / "tst" / "out")  # proved
 BUILT_UNPROVED = program_in(TOP / "tools" / "out")
 PROGRAM, UNPROVED = BUILT.file, BUILT_UNPROVED.file
-NAMED = PROGRAM.relative_to(TOP)  # in a text
-REMEDY = "`tools/build` proves and builds it"
+NAMED = PROGRAM if IS_INSTALLED else PROGRAM.relative_to(TOP)  # in a text
+REMEDY = "`tools/install` copies it again" if IS_INSTALLED else "`tools/build` proves and builds it"
 BUILD_SECONDS = 10  # between two lines on how long a build takes
 TEXT = ("utf-8", "surrogateescape")  # how octets of scripts and comments are read and written: none is lost
 
@@ -43,7 +43,7 @@ def is_program(path: Path) -> bool:
 
 def misfit() -> Optional[str]:
     """Why the proved program is not the one of the sources that lie there, or None if it is."""
-    return BUILT.misfit(functools.partial(sources_of, "tst", PROVED_PARTS))
+    return BUILT.misfit(None if IS_INSTALLED else functools.partial(sources_of, "tst", PROVED_PARTS))
 
 
 def proved_program() -> Path:
@@ -69,6 +69,8 @@ def fitting_program() -> Path:
     why = misfit()
     if why is None:
         return PROGRAM
+    if IS_INSTALLED:
+        raise Refused(f"{NAMED} {why}: {REMEDY}")
     if BUILT_UNPROVED.misfit(unproved_sources):
         build_unproved(why)
     elif PROGRAM.exists():
