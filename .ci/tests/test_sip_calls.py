@@ -401,7 +401,7 @@ class Lead(Office):
     LEAD = 20
 
     def test_the_lead(self) -> None:
-        """The first frames are preceded by idle ones of the lead, and as many come back as are sent."""
+        """Idle frames precede the first octets, and then the line gets one frame for each that it sends."""
         telephone = self.telephone(0)
         talk, _ = self.answered(telephone)
         first = self.period()

@@ -99,7 +99,7 @@ class Hostile(Office):
 
     @slow
     def test_mutated_datagrams(self) -> None:
-        """2,000 mutated datagrams, while a call stands, and then a good call."""
+        """2,000 mutated datagrams during a call, and then a good call."""
         call, _ = self.answered(self.enemy)
         bases = self.bases(call)
         slowest = 0.0
@@ -145,7 +145,7 @@ class Hostile(Office):
         self.assertEqual((gateway.transport.servers, gateway.dialogs, gateway.authenticator.counts), ({}, {}, {}))
 
     def test_a_flood(self) -> None:
-        """Of the datagrams of an address in a second, those over the limit are not read. Large ones are not read either."""
+        """An address has a limit of datagrams in a second, and a datagram has a limit of octets. Others are not read."""
         for _ in range(MAX_DATAGRAMS + 100):
             self.enemy.send(b"x")
         self.assertEqual((self.gateway.transport.malformed, self.gateway.transport.refused), (MAX_DATAGRAMS, 100))

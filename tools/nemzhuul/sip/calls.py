@@ -59,7 +59,7 @@ ANY_CHANNEL = Element(CHANNEL_IDENTIFICATION, b"\xa3")
 T303, T305, T308, T313 = 4, 30, 4, 4  # seconds
 QUIET = 60  # seconds without a packet from which on a user is asked
 
-# The call states of the user side (Q.931, 2.1).
+# The call states of the user side (Q.931).
 NULL, INITIATED, OVERLAP, PROCEEDING, DELIVERED = 0, 1, 2, 3, 4
 RECEIVED, REQUESTED, INCOMING_PROCEEDING, ACTIVE, DISCONNECTING, RELEASING = 7, 8, 9, 10, 11, 19
 
@@ -298,7 +298,7 @@ class Call:
             self.line.send_message(write_message(flag, self.reference.value, kind, *elements))
 
     def clear(self, value: int) -> None:
-        """The SIP user has ended the call (Q.931, 5.3.3)."""
+        """The SIP user has ended the call (Q.931)."""
         if self.state in (NULL, DISCONNECTING, RELEASING):
             return
         self.state = DISCONNECTING

@@ -1,4 +1,4 @@
-"""The two sides of a SIP call (RFC 3261, 12 to 15): `Incoming`, which a user made, and `Outgoing`, which is made to one."""
+"""The two sides of a SIP call (RFC 3261): `Incoming`, which a user made, and `Outgoing`, which is made to one."""
 
 from __future__ import annotations
 
@@ -70,7 +70,7 @@ class Leg:
         self.transport, self.dialogs, self.user = transport, dialogs, user
         self.state = EARLY
         self.tag = token()
-        self.number = 0  # of the last request that was sent
+        self.number = 0  # the last CSeq that was sent
         self.their_number = -1
         self.unacknowledged: Server | None = None  # its 2xx has no ACK yet
 
@@ -169,7 +169,7 @@ class Leg:
         server.answer(200)
 
     def answer_invite(self, server: Server, body: bytes) -> None:
-        """Sends a 2xx until its ACK comes (RFC 3261, 13.3.1.4)."""
+        """Sends a 2xx until its ACK comes (RFC 3261)."""
         server.answer(200, self.tag, [self.contact, ALLOW, SDP], body)
         self.unacknowledged = server
         self.repeat_answer(server, T1, TIMEOUT)

@@ -53,7 +53,7 @@ def read_reply(text: str) -> Reply | None:
 
 
 def digest(reply: Reply, method: str, password: str) -> str:
-    """The response that RFC 2617, 3.2.2, asks for."""
+    """The response that RFC 2617 asks for."""
 
     def md5(*parts: str) -> str:
         return hashlib.md5(":".join(parts).encode("utf-8", "surrogateescape")).hexdigest()
@@ -93,7 +93,7 @@ class Authenticator:
         return reply.realm == REALM and is_same_user(reply.uri, request.uri) and self.takes_count(reply.nonce, reply.count)
 
     def challenge(self, request: Message) -> list[Field]:
-        """The field of a 401 (RFC 2617, 3.2.1)."""
+        """The field of a 401 (RFC 2617)."""
         reply = read_reply(request.get("authorization"))
         is_stale = reply is not None and self.is_own(reply.nonce) and not self.is_fresh(reply.nonce)
         stale = ", stale=true" if is_stale else ""

@@ -43,7 +43,7 @@ class Settings:
 
 
 class Gateway:
-    """It is told of the requests of SIP by its transport."""
+    """It gets the requests of SIP from its transport."""
 
     def __init__(self, settings: Settings, now: Now = time.monotonic) -> None:
         self.settings = settings

@@ -184,7 +184,7 @@ class Line:
     # ---- frames
 
     def take_frames(self, octets: bytes) -> None:
-        """The octets of some frames. As many are sent back; before the first of them, those of the lead."""
+        """The octets of some frames. As many are sent back, and the frames of the lead before the first of them."""
         count = len(octets) // PLACES
         if not self.streams:
             if self.is_speaking:

@@ -280,7 +280,7 @@ def read_fields(lines: list[str]) -> Fields:
 
 
 def received(message: Message, source: Place) -> Received:
-    """A message with its addresses. The Via of a request says where it came from (RFC 3261, 18.2.1; RFC 3581)."""
+    """A message with its addresses. The Via of a request says where it came from (RFC 3261, RFC 3581)."""
     via = read_via(message.get("via"))
     has_rport = "rport" in via.parameters
     fields = list(message.fields)
@@ -325,7 +325,7 @@ def read_sequence(message: Received) -> Sequence:
 
 
 def response(to: Received, status: int, tag: str = "", fields: Iterable[Field] = (), body: bytes = b"") -> Message:
-    """The response to a request (RFC 3261, 8.2.6)."""
+    """The response to a request (RFC 3261)."""
     own = [Field("via", value) for value in to.all("via")]
     if 100 < status < 300:
         own += [Field("record-route", value) for value in to.all("record-route")]

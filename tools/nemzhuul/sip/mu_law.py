@@ -9,7 +9,7 @@ MAX_MAGNITUDE = 32_635
 
 
 def linear_of_mu(octet: int) -> int:
-    """The sample of 16 bits of a mu-law octet (G.711, table 2a)."""
+    """The sample of 16 bits of a mu-law octet."""
     inverted = ~octet & 0xFF
     magnitude = ((inverted & 15) * 8 + BIAS << (inverted >> 4 & 7)) - BIAS
     return -magnitude if inverted & 0x80 else magnitude

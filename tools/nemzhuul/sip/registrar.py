@@ -1,4 +1,4 @@
-"""The registrar: where the telephone of each number is (RFC 3261, 10.3)."""
+"""The registrar: where the telephone of each number is (RFC 3261)."""
 
 from __future__ import annotations
 

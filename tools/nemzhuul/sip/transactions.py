@@ -1,8 +1,8 @@
-"""SIP over UDP: its socket, and the transactions of RFC 3261, 17.
+"""SIP over UDP: its socket, and the transactions of RFC 3261.
 
 `Transport` reads datagrams and gives each new request to its user. A request that repeats one that is kept gets the last
-response again and reaches nobody. The user keeps a request only when it knows whose it is, so that those of strangers
-cost no memory.
+response again and reaches nobody. The user keeps a request only when it knows whose it is, so that a stranger's costs no
+memory.
 """
 
 from __future__ import annotations
@@ -30,7 +30,7 @@ from nemzhuul.sip.timers import Timers
 if TYPE_CHECKING:
     from nemzhuul.sip.dialogs import Incoming
 
-T1, T2, T4 = 0.5, 4.0, 5.0  # seconds (RFC 3261, table 4)
+T1, T2, T4 = 0.5, 4.0, 5.0  # seconds (RFC 3261)
 TIMEOUT = 64 * T1
 MAX_TRANSACTIONS = 5_000  # of servers, from which on requests are not answered
 MAX_TURN = 16  # datagrams that are read before other work is done
@@ -133,7 +133,7 @@ class Transport:
                 server.answer(400, token())
 
     def invite_of(self, cancel: Received) -> Server | None:
-        """The transaction of the INVITE that a CANCEL ends (RFC 3261, 9.2); None if there is none."""
+        """The transaction of the INVITE that a CANCEL ends (RFC 3261); None if there is none."""
         server = self.servers.get(key_of(cancel, "INVITE"))
         return server if server and server.request.call_id == cancel.call_id else None
 
@@ -149,7 +149,7 @@ class Transport:
 
 
 def key_of(message: Received, method: str) -> Key:
-    """The key of the transaction of a request (RFC 3261, 17.2.3)."""
+    """The key of the transaction of a request (RFC 3261)."""
     branch = message.via.branch
     if not branch.startswith(MAGIC):
         branch = f"{message.call_id} {message.sequence.number}"
@@ -226,7 +226,7 @@ class Client:
         self.hear(None)
 
     def give_up_later(self) -> None:
-        """Expires if no final response comes in time after CANCEL (RFC 3261, 9.1)."""
+        """Expires if no final response comes in time after CANCEL (RFC 3261)."""
         if not self.is_over:
             self.deadline.cancel()
             self.deadline = self.transport.timers.after(TIMEOUT, self.expire)
@@ -249,13 +249,13 @@ class Client:
             self.hear(answer)
 
     def acknowledge(self, answer: Received) -> None:
-        """Acknowledges a refusal (RFC 3261, 17.1.1.3)."""
+        """Acknowledges a refusal (RFC 3261)."""
         fields = [*self.own("via", "max-forwards", "from", "call-id"), Field("to", answer.get("to"))]
         fields.append(Field("cseq", f"{answer.sequence.number} ACK"))
         self.transport.send(request("ACK", self.request.uri, [*fields, *self.routes()]), self.place)
 
     def cancel(self) -> None:
-        """Sends CANCEL (RFC 3261, 9.1). The final response to the INVITE follows."""
+        """Sends CANCEL (RFC 3261). The final response to the INVITE follows."""
         number = self.request.get("cseq").partition(" ")[0]
         fields = [*self.own("via", "max-forwards", "from", "to", "call-id"), Field("cseq", f"{number} CANCEL")]
         message = request("CANCEL", self.request.uri, [*fields, *self.routes()])
