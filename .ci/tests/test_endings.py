@@ -20,6 +20,7 @@ WORKING = {
     "audio": ("FILE", 0, 1),
     "calls": ("FILE", "whole_call.report"),
     "explain": ("FILE",),
+    "matrix": ("FILE", "whole_call.report", 1),
     "moves": ("FILE", "whole_call.report"),
     "page": ("FILE", "whole_call.report"),
     "pcap": ("FILE", "whole_call.report"),

@@ -40,6 +40,15 @@ class Move(NamedTuple):
     number: int
 
 
+class Laid(NamedTuple):
+    """A path that was laid, with its internal slot, and the chain that moved for it between two slots, if one did."""
+
+    path: Path
+    number: int
+    chain: list[Move]
+    slots: tuple[int, int] | None = None  # free on its incoming line, and on its outgoing line
+
+
 Paths = dict[int, Path]  # of a line, by internal slot
 
 
@@ -53,10 +62,12 @@ class Fabric:
         self.outgoing: list[Paths] = [{} for _ in self.incoming]
         self.free_ports = {End(self.external + at // PLACES, at % PLACES) for at in range(bridges * PLACES)}
         self.far: dict[Slot, End] = {}  # by slot, the other end of its two paths
+        self.laid: list[Laid] = []  # in the last event
 
     def take(self, run: Run) -> Moved | None:
         """Follows the last event of a run. Returns how many paths were moved there and back; None without a connection."""
         moved = None
+        self.laid = []
         for slot in run.left:
             self._leave(slot)
         for slot, use in run.joined:
@@ -64,7 +75,9 @@ class Fabric:
             far = min(self.free_ports) if use.partner is None else end_of(use.partner)
             self.free_ports.discard(far)
             self.far[slot] = far
-            moved = Moved(self._connect(Path(near, far, use.room)), self._connect(Path(far, near, use.room)))
+            there, back = self._connect(Path(near, far, use.room)), self._connect(Path(far, near, use.room))
+            self.laid += [there, back]
+            moved = Moved(len(there.chain), len(back.chain))
         return moved
 
     def _leave(self, slot: Slot) -> None:
@@ -80,20 +93,21 @@ class Fabric:
         if far.line >= self.external:
             self.free_ports.add(far)
 
-    def _connect(self, path: Path) -> int:
-        """Lays a path, and returns how many others were moved for it."""
+    def _connect(self, path: Path) -> Laid:
+        """Lays a path."""
         row, column = self.incoming[path.source.line], self.outgoing[path.target.line]
         number = next((at for at in range(self.slots) if at not in row and at not in column), None)
         moves: list[Move] = []
+        slots = None
         if number is None:
-            a, b = lowest_free(row), lowest_free(column)
+            slots = a, b = lowest_free(row), lowest_free(column)
             moves, other = self._chain(column, a, b), self._chain(row, b, a)
             number = a
             if len(other) < len(moves):
                 moves, number = other, b
             self._exchange(moves, a, b)
         row[number] = column[number] = path
-        return len(moves)
+        return Laid(path, number, moves, slots)
 
     def _chain(self, line: Paths, a: int, b: int) -> list[Move]:
         """The paths of the chain that begins with the one in slot a of a line: in a and b by turns."""
