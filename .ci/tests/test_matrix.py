@@ -8,7 +8,7 @@ import xml.etree.ElementTree as xml
 import support
 from nemzhuul.commands.matrix import around
 from nemzhuul.traces.reading import read_run
-from support import EXAMPLES, TRACES, is_refused, report_of, silence, slow, tool
+from support import TRACES, is_refused, report_of, silence, slow, tool
 
 REARRANGED = """event 34: 2 new paths
 the path from line 0 to line 1 takes slot 15. No slot is free on both: 15 is free on line 0, 0 on line 1

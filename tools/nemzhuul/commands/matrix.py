@@ -52,7 +52,7 @@ class Matrix:
         return " ".join([*marked, *ranges([at for at in slots if (row, column, at) not in self.marks])]) or "-"
 
     def mark_of(self, row: int, column: int) -> str:
-        """The mark of an entry: that of its chain, or else that of its new path."""
+        """The mark of an entry: the mark of the chain, or else of a new path."""
         found = {mark for (source, target, _), mark in self.marks.items() if (source, target) == (row, column)}
         return CHAIN if CHAIN in found else "".join(found)
 
