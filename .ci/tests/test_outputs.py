@@ -3,10 +3,12 @@
 from __future__ import annotations
 
 import struct
+import tempfile
 import unittest
+from pathlib import Path
 
 import support
-from support import EXAMPLES, PAIRED, TRACES, WANTED, is_refused, packets, report_of, signals, slow, tool
+from support import EXAMPLES, PAIRED, TRACES, WANTED, is_refused, packets, report_of, signals, slow, tool, wav
 
 
 class Outputs(unittest.TestCase):
@@ -78,6 +80,17 @@ class Outputs(unittest.TestCase):
                 # The data have an odd length, so an octet follows them.
                 self.assertEqual(output[8:], head + octets + b"\0")
                 self.assertEqual(output[:8], b"RIFF" + struct.pack("<I", len(output) - 8))
+
+    def test_tones(self) -> None:
+        """The line of a sound has its octets. What is longer than a tone is refused."""
+        for samples, wanted in ((8000, b""), (8001, b"sounds: some.wav has 8,001 samples, and a tone has 1 to 8,000\n")):
+            with self.subTest(samples=samples), tempfile.TemporaryDirectory() as name:
+                folder = Path(name)
+                (folder / "some.wav").write_bytes(wav(bytes([0x12, 0xD5] * (samples // 2) + [0x12] * (samples % 2)), tag=6, bits=8))
+                status, output, said = tool("sounds", "--tone", "busy", "some.wav", folder=folder)
+                line = f"tone busy {'12D5' * 4000}\n".encode()
+                self.assertEqual((status, output, said.encode()), (1, b"", wanted) if wanted else (0, line, b""))
+        self.assertEqual(tool("sounds", "--tone", "dial", "some.wav").status, 2)
 
     def test_sounds_that_are_none(self) -> None:
         """A line of which the report has nothing is refused, and of a silent channel it is said that it is."""
