@@ -106,21 +106,8 @@ fn read_arguments(alloc: Global, words: &[String]) -> Result<Option<Arguments>, 
     }))
 }
 
-// Appends a meter of the kind of its number.
-fn append_meter(
-    alloc: Global,
-    meters: &mut VecDeque<Box<dyn Meter>>,
-    number: u32,
-) -> Result<(), AllocError> {
-    match number % 3 {
-        0 => meters.push_back(Box::new(alloc, CallDetail::new(alloc, DETAILS)?)?)?,
-        1 => meters.push_back(Box::new(alloc, PegCount::new())?)?,
-        _ => meters.push_back(Box::new(alloc, HoldingTime::new())?)?,
-    }
-    Ok(())
-}
-
-// Runs the command. Appends the summaries of the remaining meters, and returns its status.
+// Runs the command with meters, which are boxed here, where they are used. Appends the summaries of the remaining ones,
+// and returns the status of the command.
 fn run<S: Source, K: Sink, R: Threads + Wait + Sync>(
     rt: &R,
     alloc: Global,
@@ -131,7 +118,11 @@ fn run<S: Source, K: Sink, R: Threads + Wait + Sync>(
 ) -> Result<u8, AllocError> {
     let mut boxed: VecDeque<Box<dyn Meter>> = VecDeque::new(alloc);
     for number in (0..arguments.on).chain(0..arguments.spare) {
-        append_meter(alloc, &mut boxed, number)?;
+        match number % 3 {
+            0 => boxed.push_back(Box::new(alloc, CallDetail::new(alloc, DETAILS)?)?)?,
+            1 => boxed.push_back(Box::new(alloc, PegCount::new())?)?,
+            _ => boxed.push_back(Box::new(alloc, HoldingTime::new())?)?,
+        }
     }
     let on = boxed.len().min(arguments.on as usize);
     let mut spare = boxed.split_off(on)?;
