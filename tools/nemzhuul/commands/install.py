@@ -23,12 +23,12 @@ from nemzhuul.programs.program import BUILT, proved_program
 
 USAGE = """usage: tools/install [--overwrite] PREFIX
 copies the proved program and the tools to the folder PREFIX. It refuses a program that does not fit the sources.
-    PREFIX/bin              the program, tst, and the tools: tools/NAME becomes nemzhuul-NAME
-    PREFIX/lib/nemzhuul     the package of the tools, and the sums of all files that were copied
-    PREFIX/share            manual pages, and completion for bash
-The copies need no repository, and PREFIX can be moved. `build`, `install` and `run` are not copied. Files of
-an earlier installation are replaced if they are unchanged. If another file with content is in the place of one, nothing
-is copied, unless --overwrite is given."""
+    PREFIX/bin              tst, which is the program, and each tools/NAME as nemzhuul-NAME
+    PREFIX/lib/nemzhuul     the package of the tools with the sums of all files
+    PREFIX/share            manual pages and completion for bash
+The copies need no repository, and PREFIX can be moved. `build`, `install` and `run` are not copied. Files of an earlier
+installation are replaced if they are unchanged. If another file with content is in the place of one, nothing is copied,
+unless --overwrite is given."""
 
 OF_REPOSITORY = ("build", "install", "run")  # the tools that need the sources
 LIBRARY = "lib/nemzhuul"
