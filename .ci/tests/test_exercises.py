@@ -26,10 +26,14 @@ class Tried(NamedTuple):
 def tries() -> Iterator[Tried]:
     """The commands. Each begins with `$ `, and goes on in lines that begin with `> `."""
     for number, part in enumerate(re.split(r"^\*\*[0-9]+\. ", TEXT, flags=re.MULTILINE)[1:], start=1):
-        for block in re.findall(r"^```console\n(.*?)^```$", part, re.MULTILINE | re.DOTALL):
-            for text in re.split(r"^\$ ", block, flags=re.MULTILINE)[1:]:
-                command, output = re.fullmatch(r"((?:.*\n)(?:> .*\n)*)((?:.*\n)*)", text).groups()  # type: ignore[union-attr]
-                yield Tried(number, command.replace("\n> ", "\n"), output)
+        for text in re.split(r"^\$ ", indented(part), flags=re.MULTILINE)[1:]:
+            command, output = re.fullmatch(r"((?:.*\n)(?:> .*\n)*)((?:.*\n)*)", text).groups()  # type: ignore[union-attr]
+            yield Tried(number, command.replace("\n> ", "\n"), output)
+
+
+def indented(text: str) -> str:
+    """The lines of a text that four spaces indent."""
+    return "".join(f"{line}\n" for line in re.findall("^    (.*)$", text, re.MULTILINE))
 
 
 class Exercises(InFolder):
@@ -43,7 +47,7 @@ class Exercises(InFolder):
         """In a folder with the parts of the repository. PROGRAM in the environment names another program than the proved one."""
         for name in ("crates", "examples", "tools"):
             (self.folder / name).symlink_to(TOP / name)
-        (function,) = re.findall(r"^```sh\n(.*?)^```$", TEXT, re.MULTILINE | re.DOTALL)
+        function = indented(TEXT.partition("**1. ")[0])
         program = os.environ.get("PROGRAM", str(PROGRAM))
         for tried in tries():
             with self.subTest(exercise=tried.exercise, command=tried.command):
