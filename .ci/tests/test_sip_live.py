@@ -131,6 +131,9 @@ class Command(Started):
         status, _, said = tool("sip", "--users", "wrong", "unix:x", folder=self.folder)
         self.assertEqual((status, said.startswith("sip: wrong: line 1 is not"), "secret" in said), (1, True, False))
         self.assertEqual(tool("sip", folder=self.folder)[0], 2)
+        (self.folder / "settings").write_text("exchange 1 1 0 1\n")
+        status, _, said = tool("attach", "--sip", "wrong", "settings", folder=self.folder)
+        self.assertEqual((status, said.startswith("attach: wrong: line 1 is not"), "secret" in said), (1, True, False))
 
 
 class Exchanged(Started):

@@ -31,6 +31,8 @@ from nemzhuul.programs.program import NAMED, PROGRAM, REMEDY, UNPROVED, misfit, 
 from nemzhuul.signalling.captures import CaptureWriter
 from nemzhuul.signalling.lapd import frame_text
 from nemzhuul.signalling.q931 import SETUP, message_text
+from nemzhuul.sip.beside import telephones
+from nemzhuul.sip.trunks import read_users_file
 from nemzhuul.traces.events import FRAMES_PER_SECOND, Arrival, Frame, Link, LinkArrival, Trace
 from nemzhuul.traces.reading import NUMERAL, TraceReader, is_said, lines_of, take_lines
 
@@ -39,6 +41,7 @@ runs the exchange that the file SETTINGS begins (a trace without messages and fr
 endpoint at a time attaches to each line with an ADDRESS: unix:PATH or tcp:HOST:PORT. It ends at signal INT, TERM or HUP.
     --link L unix:PATH  gives line L a data link (LAPD), whose frames are datagrams of a SOCK_SEQPACKET socket, each
                      with two octets of check sequence at its end
+    --sip USERS      runs tools/sip with this users file for all lines without an address, at 127.0.0.1:5060
     --burst MS       makes the frames of this time at once, 1 to 1000 ms (20)
     --log FILE       writes the trace of all that happens, which `tst follow <FILE` runs again
     --resume LOG     goes on where the exchange with this log ended in any way, and appends to it. Calls go on, and so do
@@ -77,6 +80,7 @@ class Options:
     def __init__(self, words: Sequence[str]) -> None:
         self.addresses: dict[int, Address] = {}  # of the endpoints, by line
         self.links: dict[int, Address] = {}  # of the data links
+        self.users = ""  # path for tools/sip
         self.frames = FRAMES_PER_SECOND // 50  # of a burst
         self.seconds: int | None = None
         self.files: dict[str, str | None] = dict.fromkeys((*OUTPUTS, "program"))
@@ -85,7 +89,7 @@ class Options:
         left = list(words)
         while left and left[0].startswith("--"):
             self.option(left.pop(0)[2:], left)
-        if len(left) != 1 or not (self.addresses or self.links):
+        if len(left) != 1 or not (self.addresses or self.links or self.users):
             raise WrongWords
         self.settings = self.read_settings(left[0])
         self.check_files(left[0])
@@ -111,6 +115,9 @@ class Options:
             self.frames = int_of(given[0], 1, 1000) * FRAMES_PER_SECOND // 1000
         elif name == "seconds":
             self.seconds = int_of(given[0], 1, 999_999_999)
+        elif name == "sip":
+            read_users_file(given[0])
+            self.users = given[0]
         elif name == "resume" and self.files["log"] is None:
             (self.files["log"],) = given
             self.is_resumed = True
@@ -457,6 +464,9 @@ def comment(number: int, octets: bytes, is_sent: bool) -> bytes:
 def main(*words: str) -> str:
     options = Options(words)
     with contextlib.ExitStack() as ends:
+        if options.users:
+            free = set(range(options.trace.sizes.external)) - {*options.addresses, *options.linked}
+            ends.enter_context(telephones(options.users, options.addresses, sorted(free)))
         live = Live(options, ends)
         live.start()
         live.run()
