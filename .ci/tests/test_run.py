@@ -77,6 +77,26 @@ class Programs(InFolder):
             os.killpg(work.pid, signal.SIGINT)
             self.assertEqual((work.wait(), stream(work.stderr).read()), (1, b"run: interrupted\n"))
 
+    def test_progress(self) -> None:
+        """It is shown on a terminal, and nowhere else."""
+        self.make_proved("head -c 1500000 >/dev/null; echo report; sleep 0.5")
+        tool = self.copy / "tools" / "nemzhuul" / "commands" / "run.py"
+        tool.write_text(tool.read_text().replace("PROGRESS_SECONDS = 2", "PROGRESS_SECONDS = 0.1"))
+        trace, report = self.copy / "trace", self.copy / "report"
+        trace.write_bytes(bytes(3_000_000))
+        main, other = os.openpty()
+        self.addCleanup(os.close, main)
+        for error in (other, subprocess.PIPE):
+            with open(trace, "rb") as given, open(report, "wb") as told:
+                command = [sys.executable, str(self.copy / "tools" / "run"), "run"]
+                done = subprocess.run(command, stdin=given, stdout=told, stderr=error, check=False)
+            self.assertEqual((done.returncode, report.read_bytes()), (0, b"report\n"))
+        self.assertEqual(len(done.stderr.splitlines()), 1)
+        os.close(other)
+        shown = os.read(main, 10_000).decode()
+        self.assertRegex(shown, r"\rrun: has read 1\.[0-9] of 3\.0 MB and written 0\.0 MB, 0 s\x1b\[K")
+        self.assertRegex(shown, r"\r\x1b\[Krun: the proved program ran for ")
+
     def make_builder(self, before: str = "") -> None:
         """The command of the kit that builds a program. It takes half a second, and ends when its program was found."""
         self.make(self.bin / "rt", f"{before}mkdir $TMPDIR/a; printf '#!/bin/sh\\necho hello' >$TMPDIR/a/b; chmod +x $TMPDIR/a/b\n"

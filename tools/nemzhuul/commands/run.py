@@ -2,6 +2,9 @@
 
 from __future__ import annotations
 
+import contextlib
+import os
+import stat
 import subprocess
 import sys
 import time
@@ -14,10 +17,12 @@ USAGE = """usage: tools/run COMMAND.. <TRACE >REPORT
 runs the exchange with the arguments of a command: `run`, `follow`, `check`, `gen SEED CALLS`. It runs the proved
 program, crates/tst/out/tst, if that was built from the sources that lie there (`tools/build`). Otherwise it runs an
 unproved one, which `rt try` builds once, in about two minutes. Standard error says which was run, how long it took, and
-how a status other than 0 is explained (`tools/explain`)."""
+how a status other than 0 is explained (`tools/explain`). On a terminal it shows after two seconds how far it is."""
 
 COMMANDS = ("run", "follow", "check", "gen")
 REFUSED = 1
+PROGRESS_SECONDS = 2  # between two looks at how far it is
+MEGABYTE = 1_000_000
 
 
 def main(*words: str) -> NoReturn:
@@ -25,7 +30,12 @@ def main(*words: str) -> NoReturn:
         raise WrongWords
     program = program_at()
     begun = time.monotonic()
-    status = subprocess.run([program, *words], check=False).returncode
+    with subprocess.Popen([program, *words]) as child:
+        try:
+            status = waited(child)
+        except BaseException:
+            child.kill()
+            raise
     kind = "an unproved" if program == UNPROVED else "the proved"
     say(f"{NAME}: {kind} program ran for {time.monotonic() - begun:.2f} s and ended with status {status}")
     if status:
@@ -37,6 +47,44 @@ def is_command(command: str = "", *words: str) -> bool:
     """Whether the arguments can be a command of the exchange. It is found before a program is built for them."""
     flags = [word for word in words if word not in ("--", "--strict")]
     return command in COMMANDS and (len(flags) == 2 if command == "gen" else not flags)
+
+
+def waited(child: subprocess.Popen[bytes]) -> int:
+    """Waits for the exchange. Where it takes long, a line on a terminal shows how far it is."""
+    if not os.isatty(2) or os.isatty(1):
+        return child.wait()
+    begun, was_shown = time.monotonic(), False
+    while True:
+        try:
+            status = child.wait(PROGRESS_SECONDS)
+            break
+        except subprocess.TimeoutExpired:
+            show(f"\r{NAME}: {progress()}, {time.monotonic() - begun:.0f} s")
+            was_shown = True
+    if was_shown:
+        show("\r")
+    return status
+
+
+def progress() -> str:
+    """How far the exchange is in the files that it shares with this process."""
+    done, taken = position(0), position(1)
+    read = "is running" if done is None else f"has read {done / MEGABYTE:.1f} of {os.fstat(0).st_size / MEGABYTE:.1f} MB"
+    return read if taken is None else f"{read} and written {taken / MEGABYTE:.1f} MB"
+
+
+def position(number: int) -> int | None:
+    """The place in an open file; None if it is no file."""
+    try:
+        return os.lseek(number, 0, os.SEEK_CUR) if stat.S_ISREG(os.fstat(number).st_mode) else None
+    except OSError:
+        return None
+
+
+def show(text: str) -> None:
+    """Replaces the line of a terminal."""
+    with contextlib.suppress(OSError):
+        os.write(2, f"{text}\x1b[K".encode())
 
 
 def remedy(command: str, status: int) -> str:
