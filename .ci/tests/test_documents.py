@@ -28,7 +28,7 @@ class Documents(unittest.TestCase):
         (settings,) = (block for block in blocks("docs/INTEROP.md", "text") if block.startswith("exchange "))
         reader = TraceReader()
         self.assertIsNone(take_lines(reader, settings.splitlines()))
-        self.assertEqual((len(reader.numbers), len(reader.tones), len(reader.timers), len(reader.events)), (3, 1, 1, 2))
+        self.assertEqual((len(reader.numbers), len(reader.tones), len(reader.timers), len(reader.events)), (2, 1, 1, 1))
 
     def test_signatures(self) -> None:
         sources = [*(TOP / "crates" / "exchange_top" / "src").glob("*.rt"), TOP / "crates" / "ex_io" / "src" / "ends.rt"]

@@ -30,7 +30,7 @@ WORKING = {
     "unpcap": ("FILE",),
 }
 FILES = {"audio": "whole_call.report", "script": "some.script", "unpcap": "some.pcap"}  # of others whole_call.trace
-OTHERS = ("attach", "build", "endpoint", "run", "sounds", "traffic")
+OTHERS = ("attach", "build", "endpoint", "install", "run", "sip", "sounds", "traffic")
 
 
 class Usages(unittest.TestCase):

@@ -1,4 +1,4 @@
-"""The answers of docs/EXERCISES.md, which are tried as they are written there."""
+"""The answers to docs/EXERCISES.md, which are tried as they are written in docs/exercises.answers."""
 
 from __future__ import annotations
 
@@ -12,7 +12,7 @@ import support
 from nemzhuul.programs.program import PROGRAM
 from support import TOP, InFolder, environment, needs_program, slow
 
-TEXT = (TOP / "docs" / "EXERCISES.md").read_text()
+ANSWERS = (TOP / "docs" / "exercises.answers").read_text()
 
 
 class Tried(NamedTuple):
@@ -25,7 +25,7 @@ class Tried(NamedTuple):
 
 def tries() -> Iterator[Tried]:
     """The commands. Each begins with `$ `, and goes on in lines that begin with `> `."""
-    for number, part in enumerate(re.split(r"^\*\*[0-9]+\. ", TEXT, flags=re.MULTILINE)[1:], start=1):
+    for number, part in enumerate(re.split(r"^[0-9]+\. ", ANSWERS, flags=re.MULTILINE)[1:], start=1):
         for text in re.split(r"^\$ ", indented(part), flags=re.MULTILINE)[1:]:
             command, output = re.fullmatch(r"((?:.*\n)(?:> .*\n)*)((?:.*\n)*)", text).groups()  # type: ignore[union-attr]
             yield Tried(number, command.replace("\n> ", "\n"), output)
@@ -39,7 +39,8 @@ def indented(text: str) -> str:
 class Exercises(InFolder):
     def test_numbers(self) -> None:
         self.assertEqual(sorted({tried.exercise for tried in tries()}), list(range(1, 13)))
-        self.assertLessEqual(len(TEXT.splitlines()), 120)
+        questions = re.findall(r"^([0-9]+)\. \*\*", (TOP / "docs" / "EXERCISES.md").read_text(), re.MULTILINE)
+        self.assertEqual([int(number) for number in questions], list(range(1, 13)))
 
     @slow
     @needs_program
@@ -47,7 +48,7 @@ class Exercises(InFolder):
         """In a folder with the parts of the repository. PROGRAM in the environment names another program than the proved one."""
         for name in ("crates", "examples", "tools"):
             (self.folder / name).symlink_to(TOP / name)
-        function = indented(TEXT.partition("**1. ")[0])
+        function = indented(ANSWERS.partition("\n1. ")[0])
         program = os.environ.get("PROGRAM", str(PROGRAM))
         for tried in tries():
             with self.subTest(exercise=tried.exercise, command=tried.command):
