@@ -3,6 +3,7 @@
 from __future__ import annotations
 
 import os
+import shutil
 import subprocess
 import sys
 from collections.abc import Sequence
@@ -51,6 +52,16 @@ class Usages(InFolder):
                 self.assertIn(f"usage: {name}", help_of.stdout.replace("usage: rt ci | ", "usage: "))
                 self.assertEqual((fault.returncode, fault.stdout), (2, ""))
                 self.assertTrue(fault.stderr.startswith("usage: "), fault.stderr)
+        self.assertEqual([path.name for path in self.folder.glob("started")], [])
+
+    def test_no_unasked_proof(self) -> None:
+        """A measurement without a proved program ends at once."""
+        copy = self.folder / "copy"
+        for part in ("bench", "tools"):
+            shutil.copytree(TOP / part, copy / part, ignore=shutil.ignore_patterns("out", "__pycache__"))
+        done = self.ran([copy / "bench" / "run"])
+        self.assertEqual((done.returncode, done.stdout), (2, ""))
+        self.assertEqual(done.stderr, "run: crates/tst/out/tst is not built: `tools/build` proves and builds it\n")
         self.assertEqual([path.name for path in self.folder.glob("started")], [])
 
     def test_an_old_python(self) -> None:
