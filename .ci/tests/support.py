@@ -25,6 +25,7 @@ sys.dont_write_bytecode = True
 from nemzhuul.programs.program import misfit  # noqa: E402
 
 signal.signal(signal.SIGINT, signal.default_int_handler)  # a shell has its background commands ignore it, and so their tools
+signal.signal(signal.SIGHUP, signal.SIG_DFL)  # `nohup` has it ignored, and so the tools
 
 EXAMPLES = TOP / "examples"
 WANTED = TOP / "tools" / "wanted"
