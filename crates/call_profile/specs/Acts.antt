@@ -1,6 +1,6 @@
 -- The operations of each act on the leg that a message is for, and on its peer. Source: this project's profile of basic
 -- call control (ITU-T Q.931 (05/98), 5.1 to 5.3).
-use Rattle.std.specs.Prelude.{ℕ, List, [], ◌∷◌, Option, Some, None, is_some}
+use Rattle.std.specs.Prelude.{ℕ, Bool, false, List, [], ◌∷◌, Option, Some, None, is_some, if◌then◌else◌}
 use Rattle.circuit_model.specs.declared.circuit.Kind.{Kind}
 use Rattle.q931_codec.specs.declared.kind.MessageKind.{MessageKind}
 use Rattle.q931_codec.specs.declared.kind.MessageKind.TheVariants as kind
@@ -13,8 +13,8 @@ use Rattle.call_states.specs.Status.{flag_to}
 use Rattle.tone_rules.specs.declared.tones.Tones.{Tones}
 use Rattle.tone_rules.specs.CallTones.{tone_given}
 use Rattle.call_states.specs.declared.leg.HeldLeg.{HeldLeg}
-use Rattle.call_profile.specs.Legs.{Legs, held_at}
-use Rattle.call_profile.specs.Operations.{Operation, Clear, Pair, Sound, Put, Expect, Remove, Send}
+use Rattle.call_profile.specs.Legs.{Legs, held_at, is_down}
+use Rattle.call_profile.specs.Operations.{Operation, Clear, Pair, Sound, Put, Expect, Await, Remove, Send}
 
 -- ---- messages to the user of a leg
 
@@ -40,6 +40,10 @@ in_state state leg = record leg { state = state }
 -- a leg that is being cleared has no peer
 abbrev pub in_release_request : Leg → Leg
 in_release_request leg = record leg { state = release_request; peer = peer.Alone }
+
+-- the user of an active leg is asked for its call state, or has reported it
+abbrev pub with_enquiry : Bool → Leg → Leg
+with_enquiry enquired leg = record leg { enquired = enquired }
 
 abbrev pub in_disconnect_indication : ℕ → Leg → Leg
 in_disconnect_indication cause leg = record leg { state = disconnect_indication; peer = peer.Alone; cause = cause }
@@ -83,13 +87,17 @@ on_alerting tones h caller =
     ∷ send_to caller (with_progress tone (message_to caller.leg kind.Alerting))
     ∷ []
 
+-- the leg is in active from now on; if the data link of its line is down, T309 starts (5.8.9)
+abbrev pub answered : Legs → Slot → Leg → Operation
+answered legs x leg = if is_down legs x.line then Await x leg else Put x leg
+
 -- the called user has answered: the caller's slot is cleared of its tone, and the two slots are connected
-abbrev pub on_connect : HeldLeg → HeldLeg → List Operation
-on_connect h caller =
+abbrev pub on_connect : Legs → HeldLeg → HeldLeg → List Operation
+on_connect legs h caller =
     Clear caller.slot
     ∷ Pair caller.slot h.slot
-    ∷ Put h.slot (in_state active h.leg)
-    ∷ Put caller.slot (in_state active caller.leg)
+    ∷ answered legs h.slot (in_state active h.leg)
+    ∷ answered legs caller.slot (in_state active caller.leg)
     ∷ send_to h (message_to h.leg kind.ConnectAcknowledge)
     ∷ send_to caller (message_to caller.leg kind.Connect)
     ∷ []
@@ -105,17 +113,17 @@ on_disconnect h =
 abbrev pub on_release : HeldLeg → List Operation
 on_release h =
     Clear h.slot
-    ∷ Remove h.slot
+    ∷ Remove h.slot false
     ∷ send_to h (message_to h.leg kind.ReleaseComplete)
     ∷ []
 
--- the leg is removed, and every circuit that uses its slot
-abbrev pub remove_leg : HeldLeg → List Operation
-remove_leg h =
+-- the leg is removed, and every circuit that uses its slot; the flag states whether its user is owed a RESTART for it
+abbrev pub remove_leg : Bool → HeldLeg → List Operation
+remove_leg owed h =
     Clear h.slot
-    ∷ Remove h.slot
+    ∷ Remove h.slot owed
     ∷ []
 
 -- the user of the leg has released its call reference
 abbrev pub on_release_complete : HeldLeg → List Operation
-on_release_complete h = remove_leg h
+on_release_complete h = remove_leg false h

@@ -1,7 +1,7 @@
 -- The operations of a timer's expiry, and the turn of a frame: ITU-T Q.931 (05/98), 9.1, table 9-1, with 5.1.3 (T302),
 -- 5.2.5.4 (T301, T303, T310), 5.3 (T305, T308) and 5.8.9 (T309). The frame in which a leg is examined, and the clearing of the rest of its
 -- call, are this project's profile.
-use Rattle.std.specs.Prelude.{ℕ, zero, suc, ◌%◌, List, [], ◌∷◌, ◌++◌, Option, Some, None, option_and_then, option_map, unwrap_or}
+use Rattle.std.specs.Prelude.{ℕ, zero, suc, true, false, ◌%◌, List, [], ◌∷◌, ◌++◌, Option, Some, None, option_and_then, option_map, unwrap_or}
 use Rattle.circuit_model.specs.declared.channel.Slot.{Slot}
 use Rattle.circuit_model.specs.FrameInput.{Input}
 use Rattle.q931_codec.specs.declared.kind.MessageKind.TheVariants as kind
@@ -17,7 +17,7 @@ use Rattle.call_states.specs.declared.leg.Leg.{Leg}
 use Rattle.tone_rules.specs.declared.tones.Tones.{Tones}
 use Rattle.exchange_events.specs.Sizes.{Setting}
 use Rattle.call_profile.specs.Acts.{message_to, send_to, in_release_request, peer_of, with_peer, clear_with, remove_leg}
-use Rattle.call_profile.specs.Legs.{Legs, kept_at, held_at}
+use Rattle.call_profile.specs.Legs.{Legs, kept_at, held_at, is_down}
 use Rattle.call_profile.specs.Operations.{Operation, Clear, Expect, Repeat, Remove, making_at}
 use Rattle.call_profile.specs.Restarts.{MessageOutcome, outcome_then}
 use Rattle.call_profile.specs.World.{World, pass}
@@ -37,7 +37,7 @@ send_again h (Some octets) = Repeat h octets ∷ []
 
 -- the called user did not answer the SETUP: its leg is removed
 abbrev pub give_up : HeldLeg → List Operation
-give_up h = Clear h.slot ∷ Remove h.slot ∷ send_to h (release_complete_for h.leg recovery_on_timer_expiry) ∷ []
+give_up h = Clear h.slot ∷ Remove h.slot false ∷ send_to h (release_complete_for h.leg recovery_on_timer_expiry) ∷ []
 
 -- the user did not release the call: it is sent RELEASE with the cause with which it was cleared, and still hears its
 -- tone
@@ -56,9 +56,15 @@ setup_over tones legs h = give_up h ++ clear_peer tones legs h no_user_respondin
 abbrev pub clear_both : Tones → Legs → HeldLeg → ℕ → List Operation
 clear_both tones legs h cause = clear_with tones recovery_on_timer_expiry h ++ clear_peer tones legs h cause
 
--- the data link of the leg's line did not come up again: the leg is removed, and the rest of its call is cleared
+-- the data link of the leg's line did not come up again: the leg is removed, its user is owed a RESTART, and the rest of
+-- its call is cleared
 abbrev pub outage_over : Tones → Legs → HeldLeg → List Operation
-outage_over tones legs h = remove_leg h ++ clear_peer tones legs h destination_out_of_order
+outage_over tones legs h = remove_leg true h ++ clear_peer tones legs h destination_out_of_order
+
+-- the user did not reply to RELEASE, which was sent twice: the leg is removed; if the data link of its line is down, its
+-- user is owed a RESTART
+abbrev pub release_over : Legs → HeldLeg → List Operation
+release_over legs h = remove_leg (is_down legs h.slot.line) h
 
 abbrev pub on_expiry : Tones → Legs → HeldLeg → Expiry → List Operation
 on_expiry tones legs h expiry.Digits = clear_with tones invalid_number_format h
@@ -69,7 +75,7 @@ on_expiry tones legs h expiry.Alerting = clear_both tones legs h no_answer_from_
 on_expiry tones legs h expiry.Outage = outage_over tones legs h
 on_expiry tones legs h expiry.Disconnect = ask_for_release h
 on_expiry tones legs h expiry.ReleaseAgain = send_again h (kept_at legs h.slot)
-on_expiry tones legs h expiry.ReleaseOver = remove_leg h
+on_expiry tones legs h expiry.ReleaseOver = release_over legs h
 
 -- the state of the timer
 abbrev pub timed_state : Expiry → ℕ

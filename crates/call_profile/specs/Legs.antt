@@ -10,12 +10,14 @@ use Rattle.call_states.specs.declared.leg.Side.TheVariants.{Caller, Called}
 use Rattle.call_states.specs.declared.leg.HeldLeg.{HeldLeg}
 use Rattle.call_states.specs.declared.pending.Pending.{Pending}
 
--- for each external slot, by its number, the leg that holds it, the number that is pending there, and the octets of the
--- message that is stored there for retransmission; and for each external line whether its data link is down
+-- for each external slot, by its number, the leg that holds it, the number that is pending there, the octets of the
+-- message that is stored there for retransmission, and whether its user is owed a RESTART for the leg that was removed
+-- last; and for each external line whether its data link is down
 pub record Legs : Type 0 where
   pub held : List (Option Leg)
   pub pending : List (Option Pending)
   pub kept : List (Option (List ℕ))
+  pub owed : List Bool
   pub down : List Bool
 
 abbrev pub no_legs : ℕ → Legs
@@ -23,6 +25,7 @@ no_legs external = record {
   held = replicate (30 * external) None;
   pending = replicate (30 * external) None;
   kept = replicate (30 * external) None;
+  owed = replicate (30 * external) false;
   down = replicate external false;
 }
 
@@ -41,6 +44,10 @@ pending_at legs x = slice_index_or legs.pending (number_of x) None
 
 abbrev pub kept_at : Legs → Slot → Option (List ℕ)
 kept_at legs x = slice_index_or legs.kept (number_of x) None
+
+-- no leg holds the slot, and its user is owed a RESTART for it
+abbrev pub is_owed : Legs → Slot → Bool
+is_owed legs x = slice_index_or legs.owed (number_of x) false && is_none (leg_at legs x)
 
 -- a leg waits in its state from this frame on, after it gets its slot, and again after a retransmission; in active
 -- the flag of a retransmission states that T309 runs (5.8.9)
@@ -61,8 +68,8 @@ with_entry legs x leg = record legs {
 abbrev pub with_leg : Legs → Slot → Leg → Legs
 with_leg legs x leg = with_entry legs x (Some leg)
 
-abbrev pub without_leg : Legs → Slot → Legs
-without_leg legs x = with_entry legs x None
+abbrev pub without_leg : Legs → Slot → Bool → Legs
+without_leg legs x owed = record (with_entry legs x None) { owed = slice_set legs.owed (number_of x) owed }
 
 -- the slot is held by this leg, whose number is pending
 abbrev pub with_waiting : Legs → Slot → Leg → Pending → Legs

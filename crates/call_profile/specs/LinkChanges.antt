@@ -1,18 +1,22 @@
--- The exchange state after a change of a line's data link. Source: ITU-T Q.931 (05/98), 5.8.8 (data link reset) and 5.8.9
--- (data link failure); the clearing of the rest of a call is this project's profile.
-use Rattle.std.specs.Prelude.{ℕ, ◌==◌, Bool, true, false, List, [], ◌∷◌, Option, Some, None, if◌then◌else◌}
+-- The exchange state after a change of a line's data link. Source: ITU-T Q.931 (05/98), 5.8.8 (data link reset), 5.8.9
+-- (data link failure), 5.8.10 (status enquiry) and 5.5 (restart); the clearing of the rest of a call is this project's
+-- profile.
+use Rattle.std.specs.Prelude.{ℕ, ◌==◌, ◌&&◌, not, Bool, true, false, List, [], ◌∷◌, Option, Some, None, is_some, if◌then◌else◌}
+use Rattle.std.specs.List.{list_any}
 use Rattle.circuit_model.specs.declared.channel.Slot.{Slot}
-use Rattle.q931_codec.specs.CallStates.{overlap_sending, active}
-use Rattle.q931_codec.specs.Causes.{destination_out_of_order, normal_unspecified, temporary_failure}
+use Rattle.q931_codec.specs.declared.kind.MessageKind.TheVariants as kind
+use Rattle.q931_codec.specs.CallStates.{overlap_sending, active, disconnect_indication, release_request}
+use Rattle.q931_codec.specs.Causes.{destination_out_of_order, temporary_failure}
 use Rattle.q931_codec.specs.RestartClasses.{single_interface}
+use Rattle.clearing_rules.specs.Restarting.{restart_of}
 use Rattle.clearing_rules.specs.declared.scope.Restart.{Restart}
-use Rattle.clearing_rules.specs.declared.scope.Restart.TheVariants.{Interface}
+use Rattle.clearing_rules.specs.declared.scope.Restart.TheVariants.{Channel, Interface}
 use Rattle.tone_rules.specs.declared.tones.Tones.{Tones}
+use Rattle.call_states.specs.Acts.{is_among}
 use Rattle.call_states.specs.declared.leg.HeldLeg.{HeldLeg}
-use Rattle.call_states.specs.Status.{status}
-use Rattle.call_profile.specs.Acts.{send_to, clear_with}
-use Rattle.call_profile.specs.Legs.{Legs, held_at, with_link}
-use Rattle.call_profile.specs.Operations.{Operation, Put, Await, with_legs}
+use Rattle.call_profile.specs.Acts.{send_to, message_to, clear_with, with_enquiry}
+use Rattle.call_profile.specs.Legs.{Legs, held_at, leg_at, is_owed, slots_of, with_link}
+use Rattle.call_profile.specs.Operations.{Operation, Put, Await, Remove, Send, making_after, with_legs}
 use Rattle.call_profile.specs.Restarts.{MessageOutcome, SlotRule, restart_leg, outcome_below}
 use Rattle.exchange_events.specs.Sizes.{Dimensions}
 use Rattle.call_profile.specs.World.{World}
@@ -23,17 +27,23 @@ use Rattle.call_profile.specs.World.{World}
 abbrev pub whole_line : Restart
 whole_line = Interface single_interface
 
--- T309 starts, unless it runs
+-- T309 starts, unless it runs; what the user was asked before is asked again when the link is up
 abbrev pub start_waiting : HeldLeg → List Operation
-start_waiting h = if h.leg.resent then [] else Await h.slot h.leg ∷ []
+start_waiting h = if h.leg.resent then [] else Await h.slot (with_enquiry false h.leg) ∷ []
 
--- a leg in active waits for the data link; any other is removed, as if its slot was restarted, and the rest of its call
--- is cleared with cause 27: both legs of a call are in active, or neither is
+-- the states of a leg that is being cleared: T305 or T308 runs, and ends it
+abbrev pub being_cleared : List ℕ
+being_cleared = disconnect_indication ∷ release_request ∷ []
+
+-- a leg in active waits for the data link, and one that is being cleared goes on; any other is removed, as if its slot was
+-- restarted, and the rest of its call is cleared with cause 27: both legs of a call are in active, or neither is. The
+-- user of a removed leg is owed a RESTART
 abbrev pub drop_leg : Tones → Legs → Option HeldLeg → List Operation
 drop_leg tones legs None = []
 drop_leg tones legs (Some h) =
     if h.leg.state == active then start_waiting h
-    else restart_leg tones destination_out_of_order whole_line legs (Some h)
+    else if is_among being_cleared h.leg.state then []
+    else restart_leg tones destination_out_of_order true whole_line legs (Some h)
 
 abbrev pub drop_slot : Tones → Legs → Slot → List Operation
 drop_slot tones legs x = drop_leg tones legs (held_at legs x)
@@ -43,33 +53,57 @@ drop_rule tones = record { does = drop_slot tones; cause = destination_out_of_or
 
 -- ---- the data link is up (5.8.8, 5.8.9)
 
--- in active T309 stops, and the user is sent the call state, so that it can compare its own
-abbrev pub report_state : HeldLeg → List Operation
-report_state h = Put h.slot h.leg ∷ send_to h (status h.leg normal_unspecified) ∷ []
+-- in active T309 stops, and the user is asked for its call state (5.8.10)
+abbrev pub enquire : HeldLeg → List Operation
+enquire h = Put h.slot (with_enquiry true h.leg) ∷ send_to h (message_to h.leg kind.StatusEnquiry) ∷ []
 
 -- a leg in overlap sending is cleared with cause 41, since digits may be lost; in all other states the call goes on
-abbrev pub resume_leg : Tones → Option HeldLeg → List Operation
-resume_leg tones None = []
-resume_leg tones (Some h) =
-    if h.leg.state == active then report_state h
+abbrev pub resume_leg : Tones → HeldLeg → List Operation
+resume_leg tones h =
+    if h.leg.state == active then enquire h
     else if h.leg.state == overlap_sending then clear_with tones temporary_failure h
     else []
 
-abbrev pub resume_slot : Tones → Legs → Slot → List Operation
-resume_slot tones legs x = resume_leg tones (held_at legs x)
+-- a RESTART of the channel, unless one of the whole interface follows (5.5.1)
+abbrev pub restart_channel : Bool → Slot → List Operation
+restart_channel whole x = Remove x false ∷ (if whole then [] else Send x.line (restart_of (Channel x.place)) ∷ [])
 
-abbrev pub resume_rule : Tones → SlotRule
-resume_rule tones = record { does = resume_slot tones; cause = temporary_failure }
+abbrev pub resume_held : Tones → Bool → Legs → Slot → Option HeldLeg → List Operation
+resume_held tones whole legs x (Some h) = resume_leg tones h
+resume_held tones whole legs x None = if is_owed legs x then restart_channel whole x else []
+
+abbrev pub resume_slot : Tones → Bool → Legs → Slot → List Operation
+resume_slot tones whole legs x = resume_held tones whole legs x (held_at legs x)
+
+abbrev pub resume_rule : Tones → Bool → SlotRule
+resume_rule tones whole = record { does = resume_slot tones whole; cause = temporary_failure }
+
+-- the whole interface is restarted: its user is owed a RESTART, and no leg is left on the line
+abbrev pub is_held : Legs → Slot → Bool
+is_held legs x = is_some (leg_at legs x)
+
+abbrev pub restarts_interface : Legs → ℕ → Bool
+restarts_interface legs line = list_any (is_owed legs) (slots_of line) && not (list_any (is_held legs) (slots_of line))
 
 -- ---- a change of the link
 
 abbrev pub with_line : World → ℕ → Bool → World
 with_line w line down = with_legs w (with_link w.legs line down)
 
--- the link of the line is down or up from now on, and each of its slots follows the rule, lowest first
-abbrev pub rule_of : Tones → Bool → SlotRule
-rule_of tones true = drop_rule tones
-rule_of tones false = resume_rule tones
+-- each slot of a line that is down from now on follows the rule, lowest first
+abbrev pub outcome_of_failure : Dimensions → Tones → ℕ → World → MessageOutcome
+outcome_of_failure d tones line w = outcome_below d (drop_rule tones) line (with_line w line true) 30
+
+-- the same for a line that is up from now on; and last the RESTART of the interface, if it is restarted
+abbrev pub with_interface : Dimensions → Bool → ℕ → MessageOutcome → MessageOutcome
+with_interface d false line a = a
+with_interface d true line a = record a { making = making_after d a.making (Send line (restart_of whole_line)) }
+
+abbrev pub outcome_of_establishment : Dimensions → Tones → ℕ → World → MessageOutcome
+outcome_of_establishment d tones line w =
+    let whole = restarts_interface w.legs line in
+    with_interface d whole line (outcome_below d (resume_rule tones whole) line (with_line w line false) 30)
 
 abbrev pub outcome_of_link : Dimensions → Tones → Bool → ℕ → World → MessageOutcome
-outcome_of_link d tones down line w = outcome_below d (rule_of tones down) line (with_line w line down) 30
+outcome_of_link d tones true line w = outcome_of_failure d tones line w
+outcome_of_link d tones false line w = outcome_of_establishment d tones line w

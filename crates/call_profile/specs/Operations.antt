@@ -1,5 +1,5 @@
 -- The operations of the exchange on calls, in sequence. Source: this project.
-use Rattle.std.specs.Prelude.{ℕ, List, [], ◌∷◌, ◌++◌, Option, Some, None, option_map}
+use Rattle.std.specs.Prelude.{ℕ, Bool, List, [], ◌∷◌, ◌++◌, Option, Some, None, option_map}
 use Rattle.circuit_model.specs.declared.channel.Slot.{Slot}
 use Rattle.circuit_model.specs.declared.circuit.Kind.{Kind}
 use Rattle.circuit_model.specs.Holding.{Holding, Connect, Seat as Take_seat, Give_tone, Clear as Clear_slot, after}
@@ -36,8 +36,9 @@ pub data Operation : Type 0 where
   -- the slot is held by this leg, with no pending number and no stored message, and waits from the next frame on for the
   -- data link of its line
   Await : (x : Slot) (leg : Leg) → Operation
-  -- the slot is held by no leg, with no pending number and no stored message
-  Remove : (x : Slot) → Operation
+  -- the slot is held by no leg, with no pending number and no stored message; the flag states whether its user is owed a
+  -- RESTART for it, since nothing has told it that the leg is gone
+  Remove : (x : Slot) (owed : Bool) → Operation
   -- a message goes to the user of a line
   Send : (line : ℕ) (message : OutgoingMessage) → Operation
 
@@ -87,7 +88,7 @@ making_after d m (Repeat h octets) = record m {
   sends = m.sends ++ record { line = h.slot.line; octets = octets } ∷ [];
 }
 making_after d m (Await x leg) = record m { world = with_legs m.world (with_leg m.world.legs x (retransmitted_from m.world.holding.next leg)) }
-making_after d m (Remove x) = record m { world = with_legs m.world (without_leg m.world.legs x) }
+making_after d m (Remove x owed) = record m { world = with_legs m.world (without_leg m.world.legs x owed) }
 making_after d m (Send line message) = record m { sends = m.sends ++ record { line = line; octets = encoding message } ∷ [] }
 
 abbrev pub making_after_all : Dimensions → Making → List Operation → Making

@@ -1,6 +1,6 @@
 -- The exchange state after a RESTART, slot by slot. Source: ITU-T Q.931 (05/98), 5.5; the clearing of the calls is this
 -- project's profile.
-use Rattle.std.specs.Prelude.{ℕ, zero, suc, ◌==◌, ◌&&◌, Bool, List, [], ◌++◌, Option, Some, None, if◌then◌else◌}
+use Rattle.std.specs.Prelude.{ℕ, zero, suc, false, ◌==◌, ◌&&◌, Bool, List, [], ◌++◌, Option, Some, None, if◌then◌else◌}
 use Rattle.circuit_model.specs.declared.channel.Slot.{Slot}
 use Rattle.q931_codec.specs.Causes.{temporary_failure}
 use Rattle.clearing_rules.specs.declared.scope.Restart.{Restart}
@@ -23,16 +23,17 @@ restarts_slot r line x = (x.line == line) && is_restarted r x.place
 
 -- the other leg of a call is removed too if its slot is also restarted, and its user is sent nothing; otherwise it is
 -- cleared with a cause
-abbrev pub restart_peer : Tones → ℕ → Restart → ℕ → HeldLeg → List Operation
-restart_peer tones cause r line other = if restarts_slot r line other.slot then remove_leg other else clear_with tones cause other
+abbrev pub restart_peer : Tones → ℕ → Bool → Restart → ℕ → HeldLeg → List Operation
+restart_peer tones cause owed r line other = if restarts_slot r line other.slot then remove_leg owed other else clear_with tones cause other
 
--- the leg that holds a restarted slot is removed
-abbrev pub restart_leg : Tones → ℕ → Restart → Legs → Option HeldLeg → List Operation
-restart_leg tones cause r legs None = []
-restart_leg tones cause r legs (Some h) = remove_leg h ++ with_peer (peer_of legs h.leg.peer) (restart_peer tones cause r h.slot.line)
+-- the leg that holds a restarted slot is removed; the flag states whether its user is owed a RESTART for it
+abbrev pub restart_leg : Tones → ℕ → Bool → Restart → Legs → Option HeldLeg → List Operation
+restart_leg tones cause owed r legs None = []
+restart_leg tones cause owed r legs (Some h) = remove_leg owed h ++ with_peer (peer_of legs h.leg.peer) (restart_peer tones cause owed r h.slot.line)
 
+-- the user who requests a restart is owed none
 abbrev pub restart_slot : Tones → Restart → Legs → Slot → List Operation
-restart_slot tones r legs x = if is_restarted r x.place then restart_leg tones temporary_failure r legs (held_at legs x) else []
+restart_slot tones r legs x = if is_restarted r x.place then restart_leg tones temporary_failure false r legs (held_at legs x) else []
 
 -- ---- the slots of the line, in sequence
 

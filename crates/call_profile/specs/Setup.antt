@@ -24,7 +24,7 @@ use Rattle.number_plan.specs.declared.plan.Number.{Number}
 use Rattle.number_plan.specs.declared.target.Found.{Found}
 use Rattle.number_plan.specs.declared.target.Found.TheVariants.{Line, Lines, Room, More, Nothing}
 use Rattle.number_plan.specs.Plan.{found_for}
-use Rattle.call_profile.specs.Acts.{message_to}
+use Rattle.call_profile.specs.Acts.{message_to, answered}
 use Rattle.call_profile.specs.Course.{Course, only}
 use Rattle.call_profile.specs.IdleSlots.{idle, lowest_idle, lowest_called, hunted}
 use Rattle.call_profile.specs.Legs.{is_down, lowest_free_reference}
@@ -190,10 +190,10 @@ refusal s w line m = first_cause (checks s w line m)
 
 -- a leg of a new call, before it holds a slot
 abbrev pub caller_leg : ℕ → ℕ → Peer → Leg
-caller_leg state reference peer = record { state = state; reference = reference; side = Caller; peer = peer; cause = 0; since = 0; resent = false }
+caller_leg state reference peer = record { state = state; reference = reference; side = Caller; peer = peer; cause = 0; since = 0; resent = false; enquired = false }
 
 abbrev pub called_leg : ℕ → Slot → Leg
-called_leg reference caller = record { state = call_present; reference = reference; side = Called; peer = peer.Leg caller; cause = 0; since = 0; resent = false }
+called_leg reference caller = record { state = call_present; reference = reference; side = Called; peer = peer.Leg caller; cause = 0; since = 0; resent = false; enquired = false }
 
 -- a message with the channel of its user's call
 abbrev pub with_channel : Slot → OutgoingMessage → OutgoingMessage
@@ -230,10 +230,10 @@ call_line first own asked x y reference =
     ∷ []
 
 -- a call to a room is answered at once
-abbrev pub call_room : Bool → ℕ → Slot → ℕ → List Operation
-call_room first own x room =
+abbrev pub call_room : Bool → Legs → ℕ → Slot → ℕ → List Operation
+call_room first legs own x room =
     let caller = caller_leg active own (peer.Room room) in
-    Put x caller
+    answered legs x caller
     ∷ Seat x room
     ∷ Send x.line (call_proceeding first x caller)
     ∷ Send x.line (message_to caller kind.Connect)
@@ -253,7 +253,7 @@ await_digits first own asked x =
 abbrev pub call : Bool → World → ℕ → Pending → Slot → Found → Option Slot → List Operation
 call first w own asked x (Line line) (Some y) = call_line first own asked x y (lowest_free_reference w.legs line)
 call first w own asked x (Lines lines) (Some y) = call_line first own asked x y (lowest_free_reference w.legs y.line)
-call first w own asked x (Room room) called = call_room first own x room
+call first w own asked x (Room room) called = call_room first w.legs own x room
 call first w own asked x More called = await_digits first own asked x
 call first w own asked x _ _ = []
 

@@ -9,8 +9,8 @@ use Rattle.call_states.specs.declared.act.Act.TheVariants as act
 use Rattle.q931_codec.specs.Contents.{cause_value, cause_of, cause_after_recommendation}
 use Rattle.q931_codec.specs.Identifiers as identifier
 use Rattle.q931_elements.specs.InformationElement.{first_of}
-use Rattle.call_states.specs.Acts.{act_of, cause_of_act, clearing_cause, expected_in, is_among, before_release_request, every_state}
-use Rattle.q931_codec.specs.CallStates.{overlap_sending, outgoing_call_proceeding, call_delivered, call_present, call_received, incoming_call_proceeding, active, release_request}
+use Rattle.call_states.specs.Acts.{act_of, act_of_status, cause_of_act, clearing_cause, expected_in, is_among, before_release_request, every_state}
+use Rattle.q931_codec.specs.CallStates.{null, overlap_sending, outgoing_call_proceeding, call_delivered, call_present, call_received, incoming_call_proceeding, active, release_request}
 use Rattle.q931_codec.specs.Causes.{temporary_failure}
 
 abbrev pub Fits : Act → Type 0
@@ -23,27 +23,31 @@ either false a c p q = q
 row : (states : List ℕ) (state : ℕ) (a : Act) → Fits a → Fits (expected_in states state a)
 row states state a p = either (is_among states state) a act.Unexpected p tt
 
-pub act_fits : (state : ℕ) (k : MessageKind) (cause : ℕ) (tells_null : Bool) → cause < 128 → Fits (act_of state k cause tells_null)
-act_fits state kind.Information cause tells_null small =
+status_fits : (state : ℕ) (reported : Option ℕ) → Fits (act_of_status state reported)
+status_fits state None = tt
+status_fits state (Some reported) = either (reported == null) (act.ReleaseComplete temporary_failure) (if state == active then act.Report reported else act.Nothing) (omega arith) (either (state == active) (act.Report reported) act.Nothing tt tt)
+
+pub act_fits : (state : ℕ) (k : MessageKind) (cause : ℕ) (reported : Option ℕ) → cause < 128 → Fits (act_of state k cause reported)
+act_fits state kind.Information cause reported small =
     either (state == overlap_sending) act.Digits (expected_in (outgoing_call_proceeding ∷ call_delivered ∷ active ∷ []) state act.Nothing) tt (row (outgoing_call_proceeding ∷ call_delivered ∷ active ∷ []) state act.Nothing tt)
-act_fits state kind.CallProceeding cause tells_null small = row (call_present ∷ []) state act.Proceeding tt
-act_fits state kind.Alerting cause tells_null small = row (call_present ∷ incoming_call_proceeding ∷ []) state act.Alerting tt
-act_fits state kind.Connect cause tells_null small = row (call_present ∷ call_received ∷ incoming_call_proceeding ∷ []) state act.Answer tt
-act_fits state kind.ConnectAcknowledge cause tells_null small = row (active ∷ []) state act.Nothing tt
-act_fits state kind.Progress cause tells_null small = row every_state state act.Nothing tt
-act_fits state kind.Notify cause tells_null small = row every_state state act.Nothing tt
-act_fits state kind.Facility cause tells_null small = row every_state state act.Nothing tt
-act_fits state kind.UserInformation cause tells_null small = row every_state state act.Nothing tt
-act_fits state kind.Setup cause tells_null small = row every_state state act.Nothing tt
-act_fits state kind.Disconnect cause tells_null small = row before_release_request state (act.Disconnect cause) small
-act_fits state kind.Release cause tells_null small = either (state == release_request) (act.ReleaseComplete cause) (expected_in before_release_request state (act.Release cause)) small (row before_release_request state (act.Release cause) small)
-act_fits state kind.ReleaseComplete cause tells_null small = row every_state state (act.ReleaseComplete cause) small
-act_fits state kind.Status cause tells_null small = row every_state state (if tells_null then act.ReleaseComplete temporary_failure else act.Nothing) (either tells_null (act.ReleaseComplete temporary_failure) act.Nothing (omega arith) tt)
-act_fits state kind.StatusEnquiry cause tells_null small = row every_state state act.Enquiry tt
-act_fits state kind.SetupAcknowledge cause tells_null small = tt
-act_fits state kind.Restart cause tells_null small = tt
-act_fits state kind.RestartAcknowledge cause tells_null small = tt
-act_fits state (kind.Unknown octet) cause tells_null small = tt
+act_fits state kind.CallProceeding cause reported small = row (call_present ∷ []) state act.Proceeding tt
+act_fits state kind.Alerting cause reported small = row (call_present ∷ incoming_call_proceeding ∷ []) state act.Alerting tt
+act_fits state kind.Connect cause reported small = row (call_present ∷ call_received ∷ incoming_call_proceeding ∷ []) state act.Answer tt
+act_fits state kind.ConnectAcknowledge cause reported small = row (active ∷ []) state act.Nothing tt
+act_fits state kind.Progress cause reported small = row every_state state act.Nothing tt
+act_fits state kind.Notify cause reported small = row every_state state act.Nothing tt
+act_fits state kind.Facility cause reported small = row every_state state act.Nothing tt
+act_fits state kind.UserInformation cause reported small = row every_state state act.Nothing tt
+act_fits state kind.Setup cause reported small = row every_state state act.Nothing tt
+act_fits state kind.Disconnect cause reported small = row before_release_request state (act.Disconnect cause) small
+act_fits state kind.Release cause reported small = either (state == release_request) (act.ReleaseComplete cause) (expected_in before_release_request state (act.Release cause)) small (row before_release_request state (act.Release cause) small)
+act_fits state kind.ReleaseComplete cause reported small = row every_state state (act.ReleaseComplete cause) small
+act_fits state kind.Status cause reported small = row every_state state (act_of_status state reported) (status_fits state reported)
+act_fits state kind.StatusEnquiry cause reported small = row every_state state act.Enquiry tt
+act_fits state kind.SetupAcknowledge cause reported small = tt
+act_fits state kind.Restart cause reported small = tt
+act_fits state kind.RestartAcknowledge cause reported small = tt
+act_fits state (kind.Unknown octet) cause reported small = tt
 
 -- ---- the cause of a message
 

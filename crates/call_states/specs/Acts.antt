@@ -31,27 +31,36 @@ every_state = release_request ∷ before_release_request
 abbrev pub expected_in : List ℕ → ℕ → Act → Act
 expected_in states state wanted = if is_among states state then wanted else act.Unexpected
 
--- the act of a message, from the leg's state, the message's type and cause, and whether a STATUS reports the null state
-abbrev pub act_of : ℕ → MessageKind → ℕ → Bool → Act
-act_of state kind.Information cause tells_null = if state == overlap_sending then act.Digits else expected_in (outgoing_call_proceeding ∷ call_delivered ∷ active ∷ []) state act.Nothing
-act_of state kind.CallProceeding cause tells_null = expected_in (call_present ∷ []) state act.Proceeding
-act_of state kind.Alerting cause tells_null = expected_in (call_present ∷ incoming_call_proceeding ∷ []) state act.Alerting
-act_of state kind.Connect cause tells_null = expected_in (call_present ∷ call_received ∷ incoming_call_proceeding ∷ []) state act.Answer
-act_of state kind.ConnectAcknowledge cause tells_null = expected_in (active ∷ []) state act.Nothing
-act_of state kind.Progress cause tells_null = expected_in every_state state act.Nothing
-act_of state kind.Notify cause tells_null = expected_in every_state state act.Nothing
-act_of state kind.Facility cause tells_null = expected_in every_state state act.Nothing
-act_of state kind.UserInformation cause tells_null = expected_in every_state state act.Nothing
-act_of state kind.Setup cause tells_null = expected_in every_state state act.Nothing
-act_of state kind.Disconnect cause tells_null = expected_in before_release_request state (act.Disconnect cause)
-act_of state kind.Release cause tells_null = if state == release_request then act.ReleaseComplete cause else expected_in before_release_request state (act.Release cause)
-act_of state kind.ReleaseComplete cause tells_null = expected_in every_state state (act.ReleaseComplete cause)
-act_of state kind.Status cause tells_null = expected_in every_state state (if tells_null then act.ReleaseComplete temporary_failure else act.Nothing)
-act_of state kind.StatusEnquiry cause tells_null = expected_in every_state state act.Enquiry
-act_of state kind.SetupAcknowledge cause tells_null = act.Unexpected
-act_of state kind.Restart cause tells_null = act.Unexpected
-act_of state kind.RestartAcknowledge cause tells_null = act.Unexpected
-act_of state (kind.Unknown octet) cause tells_null = act.Unexpected
+-- the act of a STATUS, from the leg's state and the one that it reports: the user has no such call, or another state than
+-- the exchange (5.8.11)
+abbrev pub act_of_status : ℕ → Option ℕ → Act
+act_of_status state None = act.Nothing
+act_of_status state (Some reported) =
+    if reported == null then act.ReleaseComplete temporary_failure
+    else if state == active then act.Report reported
+    else act.Nothing
+
+-- the act of a message, from the leg's state, the message's type and cause, and the state that a STATUS reports
+abbrev pub act_of : ℕ → MessageKind → ℕ → Option ℕ → Act
+act_of state kind.Information cause reported = if state == overlap_sending then act.Digits else expected_in (outgoing_call_proceeding ∷ call_delivered ∷ active ∷ []) state act.Nothing
+act_of state kind.CallProceeding cause reported = expected_in (call_present ∷ []) state act.Proceeding
+act_of state kind.Alerting cause reported = expected_in (call_present ∷ incoming_call_proceeding ∷ []) state act.Alerting
+act_of state kind.Connect cause reported = expected_in (call_present ∷ call_received ∷ incoming_call_proceeding ∷ []) state act.Answer
+act_of state kind.ConnectAcknowledge cause reported = expected_in (active ∷ []) state act.Nothing
+act_of state kind.Progress cause reported = expected_in every_state state act.Nothing
+act_of state kind.Notify cause reported = expected_in every_state state act.Nothing
+act_of state kind.Facility cause reported = expected_in every_state state act.Nothing
+act_of state kind.UserInformation cause reported = expected_in every_state state act.Nothing
+act_of state kind.Setup cause reported = expected_in every_state state act.Nothing
+act_of state kind.Disconnect cause reported = expected_in before_release_request state (act.Disconnect cause)
+act_of state kind.Release cause reported = if state == release_request then act.ReleaseComplete cause else expected_in before_release_request state (act.Release cause)
+act_of state kind.ReleaseComplete cause reported = expected_in every_state state (act.ReleaseComplete cause)
+act_of state kind.Status cause reported = expected_in every_state state (act_of_status state reported)
+act_of state kind.StatusEnquiry cause reported = expected_in every_state state act.Enquiry
+act_of state kind.SetupAcknowledge cause reported = act.Unexpected
+act_of state kind.Restart cause reported = act.Unexpected
+act_of state kind.RestartAcknowledge cause reported = act.Unexpected
+act_of state (kind.Unknown octet) cause reported = act.Unexpected
 
 -- ---- the fields of a message that the table reads
 
@@ -59,13 +68,9 @@ act_of state (kind.Unknown octet) cause tells_null = act.Unexpected
 abbrev pub clearing_cause : List InformationElement → ℕ
 clearing_cause elements = unwrap_or (cause_in elements) normal_call_clearing
 
-abbrev pub is_null : Option ℕ → Bool
-is_null None = false
-is_null (Some state) = state == null
-
 -- the act of a message at a leg in this state
 abbrev pub act_on : ℕ → Message → Act
-act_on state m = act_of state m.kind (clearing_cause m.elements) (is_null (call_state_in m.elements))
+act_on state m = act_of state m.kind (clearing_cause m.elements) (call_state_in m.elements)
 
 -- ---- the cause of an act
 

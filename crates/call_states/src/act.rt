@@ -2,7 +2,7 @@
 ghost use Rattle.std.specs.Prelude.{◌≡◌};
 ghost use Rattle.call_states.specs.Acts.{cause_of_act};
 
-/// The act of the exchange for a message. The number is a cause value (Q.931, 4.5.12).
+/// The act of the exchange for a message. The number is a cause value (Q.931, 4.5.12) if nothing else is said.
 #[derive(Clone, Copy, Debug, PartialEq, Eq)]
 pub enum Act {
     /// Nothing.
@@ -25,6 +25,8 @@ pub enum Act {
     Release(u8),
     /// The user has released the channel and the call reference.
     ReleaseComplete(u8),
+    /// The user of a leg in state 10 reports its call state value (4.5.7).
+    Report(u8),
 }
 
 impl Act {

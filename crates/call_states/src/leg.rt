@@ -53,6 +53,9 @@ pub struct Leg {
     /// Whether the message that it got in this state was retransmitted. In state 10, active, whether it waits for the data
     /// link of its line: T309 runs (5.8.9).
     pub resent: bool,
+    /// Whether its user was sent STATUS ENQUIRY after an outage of the data link, and has not reported its state since
+    /// (5.8.10). It counts in state 10 alone.
+    pub enquired: bool,
 }
 
 /// A leg and the slot that it holds.

@@ -1,7 +1,7 @@
 //! The call table: the act of each message at a leg in its state.
 
 ghost use Rattle.std.specs.Prelude.{◌≡◌};
-ghost use Rattle.call_states.specs.Acts.{act_of, act_on, is_among, before_release_request};
+ghost use Rattle.call_states.specs.Acts.{act_of, act_of_status, act_on, is_among, before_release_request};
 
 use crate::act::Act;
 use crate::leg::Leg;
@@ -18,13 +18,12 @@ pub fn on_message(leg: &Leg, message: &Message) -> Act
     ensures { result ≡ act_on leg.now.state message.now }
 {
     let cause = message.cause().unwrap_or(NORMAL_CALL_CLEARING);
-    let tells_null = message.call_state() == Some(NULL);
-    act_of(leg.state, message.kind, cause, tells_null)
+    act_of(leg.state, message.kind, cause, message.call_state())
 }
 
 // Returns the act of the call table. The reply to a message in a state in which it is not expected is STATUS.
-fn act_of(state: u8, kind: MessageKind, cause: u8, tells_null: bool) -> Act
-    ensures { result ≡ act_of state kind cause tells_null }
+fn act_of(state: u8, kind: MessageKind, cause: u8, reported: Option<u8>) -> Act
+    ensures { result ≡ act_of state kind cause reported }
 {
     let before_release_request = is_before_release_request(state);
     let releasing = state == RELEASE_REQUEST;
@@ -50,10 +49,7 @@ fn act_of(state: u8, kind: MessageKind, cause: u8, tells_null: bool) -> Act
         MessageKind::ReleaseComplete if before_release_request || releasing => Act::ReleaseComplete(
             cause,
         ),
-        MessageKind::Status if (before_release_request || releasing) && tells_null => {
-            Act::ReleaseComplete(TEMPORARY_FAILURE)
-        }
-        MessageKind::Status if before_release_request || releasing => Act::Nothing,
+        MessageKind::Status if before_release_request || releasing => act_of_status(state, reported),
         MessageKind::StatusEnquiry if before_release_request || releasing => Act::Enquiry,
         MessageKind::Progress
         | MessageKind::Notify
@@ -62,6 +58,17 @@ fn act_of(state: u8, kind: MessageKind, cause: u8, tells_null: bool) -> Act
         | MessageKind::Setup
             if before_release_request || releasing => { Act::Nothing }
         _ => Act::Unexpected,
+    }
+}
+
+// Returns the act of a STATUS that reports a state.
+fn act_of_status(state: u8, reported: Option<u8>) -> Act
+    ensures { result ≡ act_of_status state reported }
+{
+    match reported {
+        Some(NULL) => Act::ReleaseComplete(TEMPORARY_FAILURE),
+        Some(reported) if state == ACTIVE => Act::Report(reported),
+        _ => Act::Nothing,
     }
 }
 

@@ -60,12 +60,17 @@ abbrev pub IsOnLine : Restart → Type 0
 IsOnLine (Channel place) = place < 30
 IsOnLine (Interface class) = Unit {0}
 
--- ---- the acknowledgement
+-- ---- the messages of the exchange
+
+-- the channel of a restart, if it is of one, and its restart indicator (4.5.25)
+abbrev pub indicated : Restart → Option ℕ × ℕ
+indicated (Channel place) = (Some (channel_at place), indicated_channels)
+indicated (Interface class) = (None, class)
+
+-- RESTART: from the side that chose the call reference (5.5.1)
+abbrev pub restart_of : Restart → OutgoingMessage
+restart_of r = let (channel, class) = indicated r in record (bare false global_call_reference kind.Restart) { channel = channel; restart = Some class }
 
 -- RESTART ACKNOWLEDGE: towards the side that chose the call reference, with the restart that was requested (5.5.2)
-abbrev pub acknowledge : OutgoingMessage
-acknowledge = bare true global_call_reference kind.RestartAcknowledge
-
 abbrev pub acknowledgement : Restart → OutgoingMessage
-acknowledgement (Channel place) = record acknowledge { channel = Some (channel_at place); restart = Some indicated_channels }
-acknowledgement (Interface class) = record acknowledge { restart = Some class }
+acknowledgement r = let (channel, class) = indicated r in record (bare true global_call_reference kind.RestartAcknowledge) { channel = channel; restart = Some class }

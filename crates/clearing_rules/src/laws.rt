@@ -5,7 +5,7 @@ ghost use Rattle.q931_codec.specs.Outgoing.{IsWritable};
 ghost use Rattle.q931_codec.specs.RestartClasses.{single_interface, all_interfaces};
 ghost use Rattle.clearing_rules.specs.declared.scope.Restart.{Restart};
 ghost use Rattle.clearing_rules.specs.declared.scope.Restart.TheVariants.{Channel, Interface};
-ghost use Rattle.clearing_rules.specs.Restarting.{acknowledgement, global_call_reference, IsOnLine};
+ghost use Rattle.clearing_rules.specs.Restarting.{acknowledgement, global_call_reference, restart_of, IsOnLine};
 ghost use Rattle.clearing_rules.specs.UnknownReference.{answer_without_call};
 ghost use Rattle.clearing_rules.specs.Worked.{answer_to_octets, restart_in_octets, acknowledgement_of_octets};
 ghost use Rattle.clearing_rules.specs.Worked as worked;
@@ -17,6 +17,7 @@ use crate::restart_message::GLOBAL_CALL_REFERENCE;
 pub fn law_of_answers()
     ensures answer { (m : Message) → m.reference < 2 ^ 15 → IfSome (answer_without_call m) IsWritable }
     ensures acknowledgement { (r : Restart) → IsOnLine r → IsWritable (acknowledgement r) }
+    ensures restart { (r : Restart) → IsOnLine r → IsWritable (restart_of r) }
 {}
 
 /// Code and definitions have the same global call reference.

@@ -2,7 +2,7 @@
 
 ghost use Rattle.std.specs.Prelude.{◌≡◌, IfSome};
 ghost use Rattle.q931_codec.specs.Outgoing.{outgoing_of};
-ghost use Rattle.clearing_rules.specs.Restarting.{acknowledgement, restart_asked, IsOnLine};
+ghost use Rattle.clearing_rules.specs.Restarting.{acknowledgement, indicated, restart_asked, restart_of, IsOnLine};
 
 use crate::scope::Restart;
 use circuit_model::{channel_of, slot_of_channel};
@@ -35,6 +35,21 @@ pub fn restart(message: &Message) -> Option<Restart>
     }
 }
 
+/// Returns the RESTART (Q.931, 3.4.1) of the exchange for a restart: on the global call reference with flag 0.
+///
+/// The place of a channel is below 30.
+pub fn restart_request(asked: Restart) -> Outgoing<'static>
+    requires { IsOnLine asked }
+    ensures { outgoing_of result ≡ restart_of asked }
+{
+    let (channel, class) = indicated(asked);
+    Outgoing {
+        channel,
+        restart: Some(class),
+        ..Outgoing::new(false, GLOBAL_CALL_REFERENCE, MessageKind::Restart)
+    }
+}
+
 /// Returns the RESTART ACKNOWLEDGE (Q.931, 3.4.2) for a restart: on the global call reference with flag 1, with the
 /// received restart indicator, and the channel if one channel was restarted.
 ///
@@ -43,14 +58,22 @@ pub fn restart_acknowledge(restarted: Restart) -> Outgoing<'static>
     requires { IsOnLine restarted }
     ensures { outgoing_of result ≡ acknowledgement restarted }
 {
-    let (channel, class) = match restarted {
-        Restart::Channel(place) => (Some(channel_of(place)), INDICATED_CHANNELS),
-        Restart::Interface(class) => (None, class),
-    };
+    let (channel, class) = indicated(restarted);
     Outgoing {
         channel,
         restart: Some(class),
         ..Outgoing::new(true, GLOBAL_CALL_REFERENCE, MessageKind::RestartAcknowledge)
+    }
+}
+
+// Returns the channel of a restart, if it is of one, and its restart indicator.
+fn indicated(restart: Restart) -> (Option<u8>, u8)
+    requires { IsOnLine restart }
+    ensures { result ≡ indicated restart }
+{
+    match restart {
+        Restart::Channel(place) => (Some(channel_of(place)), INDICATED_CHANNELS),
+        Restart::Interface(class) => (None, class),
     }
 }
 
