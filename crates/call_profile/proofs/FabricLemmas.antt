@@ -92,7 +92,7 @@ module _ (s : Setting) (slots : ℕ) where
     moved = same.moved;
   }
   same_performed a b (Await x leg) same = record { world = ap (λ (v : World). (making_after s.dimensions (making_at v) (Await x leg)).world) same.world; sends = same.sends; moved = same.moved }
-  same_performed a b (Remove x) same = record { world = ap (λ (v : World). (making_after s.dimensions (making_at v) (Remove x)).world) same.world; sends = same.sends; moved = same.moved }
+  same_performed a b (Remove x owed) same = record { world = ap (λ (v : World). (making_after s.dimensions (making_at v) (Remove x owed)).world) same.world; sends = same.sends; moved = same.moved }
   same_performed a b (Send line message) same = record { world = same.world; sends = rw same.sends refl; moved = same.moved }
 
   same_performed_all : (a b : Making) (os : List Operation) → SameButPaths a b → SameButPaths (making_after_all t.dimensions a os) (making_after_all s.dimensions b os)

@@ -69,7 +69,7 @@ module _ (d : Dimensions) (tones : Tones) (plan : List Number) (P : World → Ty
   performed m (op.Expect x leg message) may holds = keeps.legs m.world (with_kept m.world.legs x (begun m.world leg) (encoding message)) holds
   performed m (op.Repeat h octets) may holds = keeps.legs m.world (with_kept m.world.legs h.slot (retransmitted_from m.world.holding.next h.leg) octets) holds
   performed m (op.Await x leg) may holds = keeps.legs m.world (with_leg m.world.legs x (retransmitted_from m.world.holding.next leg)) holds
-  performed m (op.Remove x) may holds = keeps.legs m.world (without_leg m.world.legs x) holds
+  performed m (op.Remove x owed) may holds = keeps.legs m.world (without_leg m.world.legs x owed) holds
   performed m (op.Send line message) may holds = holds
 
   pub performed_all : (m : Making) (os : List Operation) → ArePermitted d tones plan m os → P m.world → P (making_after_all d m os).world

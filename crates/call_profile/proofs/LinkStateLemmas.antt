@@ -39,7 +39,7 @@ performed_down d m (op.Wait x leg p) = refl
 performed_down d m (op.Expect x leg message) = refl
 performed_down d m (op.Repeat h octets) = refl
 performed_down d m (op.Await x leg) = refl
-performed_down d m (op.Remove x) = refl
+performed_down d m (op.Remove x owed) = refl
 performed_down d m (op.Send line message) = refl
 
 performed_all_down : (d : Dimensions) (m : Making) (os : List Operation) → (making_after_all d m os).world.legs.down ≡ m.world.legs.down

@@ -64,7 +64,7 @@ module _ (d : Dimensions) (z : Slot) (in_z : IsExternal d.external z) where
   idle_spared m (op.Expect x leg message) may idle = idle
   idle_spared m (op.Repeat h octets) may idle = idle
   idle_spared m (op.Await x leg) may idle = idle
-  idle_spared m (op.Remove x) may idle = idle
+  idle_spared m (op.Remove x owed) may idle = idle
   idle_spared m (op.Send line message) may idle = idle
 
   idle_spared_all : (m : Making) (os : List Operation) → SparesAll d z in_z os → is_idle m.world.holding.circuits z ≡ true → is_idle (making_after_all d m os).world.holding.circuits z ≡ true
@@ -83,7 +83,7 @@ sent_still d m (op.Wait x leg p) one sent = sent
 sent_still d m (op.Expect x leg message) one sent = Contains-append_left m.sends _ one sent
 sent_still d m (op.Repeat h octets) one sent = Contains-append_left m.sends _ one sent
 sent_still d m (op.Await x leg) one sent = sent
-sent_still d m (op.Remove x) one sent = sent
+sent_still d m (op.Remove x owed) one sent = sent
 sent_still d m (op.Send line message) one sent = Contains-append_left m.sends _ one sent
 
 sent_still_all : (d : Dimensions) (m : Making) (os : List Operation) (one : Signal) → Contains m.sends one → Contains (making_after_all d m os).sends one

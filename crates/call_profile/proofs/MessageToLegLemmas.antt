@@ -12,7 +12,7 @@ use Rattle.q931_codec.specs.declared.message.Message.{Message}
 use Rattle.q931_codec.specs.CallStates.{overlap_sending, outgoing_call_proceeding, call_delivered, call_present, incoming_call_proceeding, active, release_request}
 use Rattle.q931_codec.specs.Causes.{temporary_failure}
 use Rattle.q931_codec.specs.Contents.{call_state_in}
-use Rattle.call_states.specs.Acts.{act_of, act_on, clearing_cause, expected_in, is_among, is_null, every_state, before_release_request}
+use Rattle.call_states.specs.Acts.{act_of, act_on, clearing_cause, expected_in, is_among, every_state, before_release_request}
 use Rattle.call_states.specs.declared.act.Act.{Act}
 use Rattle.call_states.specs.declared.act.Act.TheVariants as act
 use Rattle.call_states.specs.declared.leg.Leg.{Leg}
@@ -146,4 +146,4 @@ module _ (s : Setting) (w : World) (h : HeldLeg) (planned : IsPlanned s) (stands
   act_kept m (act.ReleaseComplete cause) asks = gone_kept s w h m cause asks valid stand within at
 
   pub leg_kept : (m : Message) → Kept s.dimensions s.tones (making_by s w (course_of s w h m (act_on h.leg.state m))).world
-  leg_kept m = act_kept m (act_on h.leg.state m) (Asked-act_of h.leg.state m.kind (clearing_cause m.elements) (is_null (call_state_in m.elements)) (cause_fits m.elements))
+  leg_kept m = act_kept m (act_on h.leg.state m) (Asked-act_of h.leg.state m.kind (clearing_cause m.elements) (call_state_in m.elements) (cause_fits m.elements))

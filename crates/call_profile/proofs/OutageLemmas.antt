@@ -103,7 +103,7 @@ module _ (d : Dimensions) (links : List Bool) where
   MayStart (op.Expect x leg message) = Unit {0}
   MayStart (op.Repeat h octets) = h.leg.state ≢ active
   MayStart (op.Await x leg) = IsExternal d.external x × (slice_index_or links x.line false ≡ true)
-  MayStart (op.Remove x) = Unit {0}
+  MayStart (op.Remove x owed) = Unit {0}
   MayStart (op.Send line message) = Unit {0}
 
   abbrev MayAll : List Operation → Type 0
@@ -133,7 +133,7 @@ module _ (d : Dimensions) (links : List Bool) where
   performed m (op.Repeat h octets) may wait =
       entered m.world.legs h.slot (Some (retransmitted_from m.world.holding.next h.leg)) (λ l. inactive m.world.holding.next h.leg l may) wait
   performed m (op.Await x leg) may wait = started m.world.legs x (Some (retransmitted_from m.world.holding.next leg)) may.0 may.1 wait
-  performed m (op.Remove x) may wait = entered m.world.legs x None (λ l e awaits. cc) wait
+  performed m (op.Remove x owed) may wait = entered m.world.legs x None (λ l e awaits. cc) wait
   performed m (op.Send line message) may wait = wait
 
   performed_all : (m : Making) (os : List Operation) → MayAll os → Wait m.world.legs → Wait (making_after_all d m os).world.legs

@@ -101,7 +101,7 @@ module _ (d : Dimensions) (tones : Tones) (plan : List Number) where
       entered m.world h.slot may.0 stand (Some (retransmitted_from m.world.holding.next h.leg)) None (Some octets) (awaits_by keeps.message.kind h.leg.state keeps.awaited.state).1 (omega arith)
       (kept_anew m.world.holding.next h.leg octets keeps)
   performed m (op.Await x leg) may stand = entered m.world x may.0 stand (Some (retransmitted_from m.world.holding.next leg)) None None may.2 (omega arith) may.3
-  performed m (op.Remove x) may stand = entered m.world x may stand None None None tt tt tt
+  performed m (op.Remove x owed) may stand = entered m.world x may stand None None None tt tt tt
   performed m (op.Send line message) may stand = stand
 
   performed_all : (m : Making) (os : List Operation) → ArePermitted d tones plan m os → Stand m.world → Stand (making_after_all d m os).world

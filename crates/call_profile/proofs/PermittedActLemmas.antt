@@ -18,7 +18,7 @@ use Rattle.q931_codec.specs.Contents.{call_state_in}
 use Rattle.q931_codec.specs.MessageType.{IsNamed}
 use Rattle.q931_codec.specs.Outgoing.{OutgoingMessage, IsWritable}
 use Rattle.q931_codec.proofs.Writable.{short_writable}
-use Rattle.call_states.specs.Acts.{act_on, clearing_cause, is_null, is_among, every_state}
+use Rattle.call_states.specs.Acts.{act_on, clearing_cause, is_among, every_state}
 use Rattle.call_states.specs.Status.{FitsMessages, status, unexpected_cause}
 use Rattle.call_states.specs.declared.act.Act.{Act}
 use Rattle.call_states.specs.declared.act.Act.TheVariants as act
@@ -212,4 +212,4 @@ module _ (s : Setting) (w : World) (h : HeldLeg) (stand : CallsStand s w) (withi
 
   pub act_permitted : (m : Message) → ((h.leg.state == overlap_sending) ≡ true → ArePermitted d tones s.plan (making_at w) (on_digits s w h m))
       → ArePermitted s.dimensions s.tones s.plan (making_at w) (course_of s w h m (act_on h.leg.state m)).operations
-  act_permitted m digits = asked_permitted m (act_on h.leg.state m) (Asked-act_of h.leg.state m.kind (clearing_cause m.elements) (is_null (call_state_in m.elements)) (cause_fits m.elements)) digits
+  act_permitted m digits = asked_permitted m (act_on h.leg.state m) (Asked-act_of h.leg.state m.kind (clearing_cause m.elements) (call_state_in m.elements) (cause_fits m.elements)) digits

@@ -39,7 +39,7 @@ performed_same d m (op.Wait x leg p) = record { inputs = refl; held = refl; seat
 performed_same d m (op.Expect x leg message) = record { inputs = refl; held = refl; seated = refl; next = refl }
 performed_same d m (op.Repeat h octets) = record { inputs = refl; held = refl; seated = refl; next = refl }
 performed_same d m (op.Await x leg) = record { inputs = refl; held = refl; seated = refl; next = refl }
-performed_same d m (op.Remove x) = record { inputs = refl; held = refl; seated = refl; next = refl }
+performed_same d m (op.Remove x owed) = record { inputs = refl; held = refl; seated = refl; next = refl }
 performed_same d m (op.Send line message) = record { inputs = refl; held = refl; seated = refl; next = refl }
 
 performed_all_same : (d : Dimensions) (m : Making) (os : List Operation) → SameFrames m.world (making_after_all d m os).world

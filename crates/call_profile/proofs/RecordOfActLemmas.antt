@@ -8,7 +8,7 @@ use Rattle.control_memory.specs.Layout.{number_of}
 use Rattle.q931_codec.specs.declared.message.Message.{Message}
 use Rattle.q931_codec.specs.CallStates.{overlap_sending, call_delivered, call_received, incoming_call_proceeding, active}
 use Rattle.q931_codec.specs.Contents.{call_state_in}
-use Rattle.call_states.specs.Acts.{act_of, act_on, cause_of_act, clearing_cause, is_null, is_among}
+use Rattle.call_states.specs.Acts.{act_of, act_on, cause_of_act, clearing_cause, is_among}
 use Rattle.call_states.specs.declared.act.Act.{Act}
 use Rattle.call_states.specs.declared.act.Act.TheVariants as act
 use Rattle.call_states.specs.declared.leg.Leg.{Leg}
@@ -252,8 +252,8 @@ module _ (s : Setting) (w : World) (h : HeldLeg) (m : Message) (planned : IsPlan
   given_records (act.Release cause) asks = act_records (act.Release cause) asks
   given_records (act.ReleaseComplete cause) asks = act_records (act.ReleaseComplete cause) asks
 
-  asked_by : Asked h.leg.state (act_of h.leg.state m.kind (clearing_cause m.elements) (is_null (call_state_in m.elements)))
-  asked_by = Asked-act_of h.leg.state m.kind (clearing_cause m.elements) (is_null (call_state_in m.elements)) (cause_fits m.elements)
+  asked_by : Asked h.leg.state (act_of h.leg.state m.kind (clearing_cause m.elements) (call_state_in m.elements))
+  asked_by = Asked-act_of h.leg.state m.kind (clearing_cause m.elements) (call_state_in m.elements) (cause_fits m.elements)
 
 -- what a message to a leg ends is what its act ends
 module _ (s : Setting) (w : World) (h : HeldLeg) (m : Message) (planned : IsPlanned s) (stands : CallsStand s w)

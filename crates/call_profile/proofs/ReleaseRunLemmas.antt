@@ -20,7 +20,7 @@ use Rattle.q931_codec.specs.Causes.{invalid_number_format, no_answer_from_user, 
 use Rattle.q931_codec.specs.Contents.{call_state_in, channel_in}
 use Rattle.q931_codec.specs.Outgoing.{OutgoingMessage, encoding}
 use Rattle.q931_codec.specs.declared.message.Message.{Message as Q931}
-use Rattle.call_states.specs.Acts.{act_on, clearing_cause, is_null}
+use Rattle.call_states.specs.Acts.{act_on, clearing_cause}
 use Rattle.call_states.proofs.Causes.{cause_fits}
 use Rattle.call_states.specs.declared.leg.HeldLeg.{HeldLeg}
 use Rattle.call_states.specs.declared.leg.Leg.{Leg}
@@ -300,7 +300,7 @@ module _ (s : Setting) (w : World) (stands : CallsStand s w) where
       let named = received_stands w.legs line octets h m is in
       let on = named.among in
       let within : IsExternal s.dimensions.external h.slot = (subst (λ n. n < s.dimensions.external) (sym on.0) fits.0, on.1) in
-      act_sounds s w h stands within named.at m (act_on h.leg.state m) (Asked-act_of h.leg.state m.kind (clearing_cause m.elements) (is_null (call_state_in m.elements)) (cause_fits m.elements))
+      act_sounds s w h stands within named.at m (act_on h.leg.state m) (Asked-act_of h.leg.state m.kind (clearing_cause m.elements) (call_state_in m.elements) (cause_fits m.elements))
       (act_may s w line octets planned fits stands h m is)
       (λ dials may. digits_sound s w now h m (unreleased_by w h.slot (Some h.leg) named.at (timed_elsewhere h.leg.state overlap_sending (eqb-true h.leg.state overlap_sending dials) (λ e. absurd cc))) within may)
   message line octets planned fits (New_call m) is = setup_sounds s w now line m (call_may s w line octets planned fits stands m is)

@@ -50,7 +50,7 @@ performed_next d m (op.Wait x leg p) = refl
 performed_next d m (op.Expect x leg message) = refl
 performed_next d m (op.Repeat h octets) = refl
 performed_next d m (op.Await x leg) = refl
-performed_next d m (op.Remove x) = refl
+performed_next d m (op.Remove x owed) = refl
 performed_next d m (op.Send line message) = refl
 
 performed_all_next : (d : Dimensions) (m : Making) (os : List Operation) → (making_after_all d m os).world.holding.next ≡ m.world.holding.next

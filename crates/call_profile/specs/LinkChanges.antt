@@ -90,20 +90,17 @@ restarts_interface legs line = list_any (is_owed legs) (slots_of line) && not (l
 abbrev pub with_line : World → ℕ → Bool → World
 with_line w line down = with_legs w (with_link w.legs line down)
 
--- each slot of a line that is down from now on follows the rule, lowest first
-abbrev pub outcome_of_failure : Dimensions → Tones → ℕ → World → MessageOutcome
-outcome_of_failure d tones line w = outcome_below d (drop_rule tones) line (with_line w line true) 30
+-- each slot of a line that is down or up from now on follows the rule, lowest first
+abbrev pub rule_of : Tones → Bool → Bool → SlotRule
+rule_of tones whole true = drop_rule tones
+rule_of tones whole false = resume_rule tones whole
 
--- the same for a line that is up from now on; and last the RESTART of the interface, if it is restarted
+-- and last the RESTART of the interface, if it is restarted
 abbrev pub with_interface : Dimensions → Bool → ℕ → MessageOutcome → MessageOutcome
 with_interface d false line a = a
 with_interface d true line a = record a { making = making_after d a.making (Send line (restart_of whole_line)) }
 
-abbrev pub outcome_of_establishment : Dimensions → Tones → ℕ → World → MessageOutcome
-outcome_of_establishment d tones line w =
-    let whole = restarts_interface w.legs line in
-    with_interface d whole line (outcome_below d (resume_rule tones whole) line (with_line w line false) 30)
-
 abbrev pub outcome_of_link : Dimensions → Tones → Bool → ℕ → World → MessageOutcome
-outcome_of_link d tones true line w = outcome_of_failure d tones line w
-outcome_of_link d tones false line w = outcome_of_establishment d tones line w
+outcome_of_link d tones down line w =
+    let whole = not down && restarts_interface w.legs line in
+    with_interface d whole line (outcome_below d (rule_of tones whole down) line (with_line w line down) 30)

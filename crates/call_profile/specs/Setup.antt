@@ -27,7 +27,7 @@ use Rattle.number_plan.specs.Plan.{found_for}
 use Rattle.call_profile.specs.Acts.{message_to, answered}
 use Rattle.call_profile.specs.Course.{Course, only}
 use Rattle.call_profile.specs.IdleSlots.{idle, lowest_idle, lowest_called, hunted}
-use Rattle.call_profile.specs.Legs.{is_down, lowest_free_reference}
+use Rattle.call_profile.specs.Legs.{Legs, is_down, lowest_free_reference}
 use Rattle.call_profile.specs.Operations.{Operation, Seat, Put, Wait, Expect, Send}
 use Rattle.exchange_events.specs.Sizes.{Setting, Dimensions}
 use Rattle.call_profile.specs.World.{World, is_full}
