@@ -18,16 +18,17 @@ use Rattle.call_states.specs.declared.leg.Leg.{Leg}
 use Rattle.tone_rules.specs.declared.tones.Tones.{Tones}
 use Rattle.call_profile.specs.Acts.{in_state, tone_of, on_alerting, on_connect}
 use Rattle.call_profile.specs.LegStanding.{LegsStand, MayHear, AreOneCall, are_matched}
-use Rattle.call_profile.specs.Legs.{leg_at}
-use Rattle.call_profile.specs.Operations.{Put, making_at, making_after_all}
+use Rattle.call_profile.specs.Legs.{is_down, leg_at}
+use Rattle.call_profile.specs.Operations.{Making, Put, making_at, making_after_all}
 use Rattle.exchange_events.specs.Sizes.{Dimensions}
 use Rattle.call_profile.specs.World.{World}
+use Rattle.call_profile.proofs.AnsweredLegLemmas.{connected, making_connected}
 use Rattle.call_profile.proofs.AnsweringLemmas.{cleared_idle, silent_idle}
 use Rattle.call_profile.proofs.BesideLemmas.{leg_at-with_entry_here, leg_at-with_entry_else}
 use Rattle.call_profile.proofs.HearingLemmas.{heard_by_clear_keeps, heard_by_connect_keeps}
 use Rattle.call_profile.proofs.TwoEntriesLemmas.{ArePeers, strange_both}
 use Rattle.call_profile.proofs.ClearingLemmas.{Kept}
-use Rattle.call_profile.proofs.TwoStatesLemmas.{LegsStand_both_gone, gone_to}
+use Rattle.call_profile.proofs.TwoStatesLemmas.{LegsStand_both_gone, gone_to, moved_to}
 use Rattle.call_profile.proofs.ToneLemmas.{no_tone, heard_by_sounding_keeps, sounding_valid, sounds}
 use Rattle.call_profile.proofs.LegTableLemmas.{length-with_entry_both, leg_at_both_else, leg_at_both_first, leg_at_both_second}
 
@@ -68,7 +69,7 @@ module _ (d : Dimensions) (tones : Tones) (w : World) (x y : Slot) (leg other : 
       let waited = waits (first_of_two leg.state among) in
       let old = stand.each y other peers.in_y peers.at_y in (
         valid,
-        LegsStand_both_gone d.external tones w after_proceeding x y leg other incoming_call_proceeding other.state other.since other.resent (record {
+        LegsStand_both_gone d.external tones w after_proceeding x y leg other incoming_call_proceeding other.state other.since false other.resent (record {
           stand = stand;
           in_x = peers.in_x;
           in_y = peers.in_y;
@@ -101,7 +102,7 @@ module _ (d : Dimensions) (tones : Tones) (w : World) (x y : Slot) (leg other : 
       let one : Option Leg = Some (gone_to w call_received leg) in
       let two : Option Leg = Some (gone_to w call_delivered other) in (
         sounding_valid w.holding y idle d.bridges valid tone,
-        LegsStand_both_gone d.external tones w (making_after_all d (making_at w) (on_alerting tones (record { slot = x; leg = leg }) (record { slot = y; leg = other }))).world x y leg other call_received call_delivered w.holding.next false (record {
+        LegsStand_both_gone d.external tones w (making_after_all d (making_at w) (on_alerting tones (record { slot = x; leg = leg }) (record { slot = y; leg = other }))).world x y leg other call_received call_delivered w.holding.next false false (record {
           stand = stand;
           in_x = peers.in_x;
           in_y = peers.in_y;
@@ -147,12 +148,17 @@ module _ (d : Dimensions) (tones : Tones) (w : World) (x y : Slot) (leg other : 
       heard_by_connect_keeps cleared y x z idle_caller idle_called not_y not_x
       ∙ heard_by_clear_keeps d.bridges tones w.holding l z y valid (stand.each z l in_z at_z).hears not_y strange.1
 
-  pub answer_kept : Kept d tones (making_after_all d (making_at w) (on_connect (record { slot = x; leg = leg }) (record { slot = y; leg = other }))).world
-  answer_kept =
-      let one : Option Leg = Some (gone_to w active leg) in
-      let two : Option Leg = Some (gone_to w active other) in (
+  abbrev after_answer : World
+  after_answer = (connected d w (record { slot = x; leg = leg }) (record { slot = y; leg = other })).world
+
+  connected_kept : Kept d tones after_answer
+  connected_kept =
+      let called : Leg = moved_to active w.holding.next (is_down w.legs x.line) leg in
+      let caller : Leg = moved_to active w.holding.next (is_down w.legs y.line) other in
+      let one : Option Leg = Some called in
+      let two : Option Leg = Some caller in (
         valid-connect d.bridges cleared y x (valid-clear d.bridges w.holding y valid) peers.apart idle_caller idle_called,
-        LegsStand_both_gone d.external tones w (making_after_all d (making_at w) (on_connect (record { slot = x; leg = leg }) (record { slot = y; leg = other }))).world x y leg other active active w.holding.next false (record {
+        LegsStand_both_gone d.external tones w after_answer x y leg other active active w.holding.next (is_down w.legs x.line) (is_down w.legs y.line) (record {
           stand = stand;
           in_x = peers.in_x;
           in_y = peers.in_y;
@@ -165,8 +171,8 @@ module _ (d : Dimensions) (tones : Tones) (w : World) (x y : Slot) (leg other : 
           size = length-with_entry_both d.external w.legs x y one two stand.count peers.in_x peers.in_y peers.apart;
           here_x = leg_at_both_first d.external w.legs x y one two stand.count peers.in_x peers.in_y peers.apart;
           here_y = leg_at_both_second d.external w.legs x y one two stand.count peers.in_x peers.in_y peers.apart;
-          hears_x = subst (MayHear tones (gone_to w active leg)) (sym heard_called) (refl, peers.there);
-          hears_y = subst (MayHear tones (gone_to w active other)) (sym heard_caller) (refl, peers.back);
+          hears_x = subst (MayHear tones called) (sym heard_called) (refl, peers.there);
+          hears_y = subst (MayHear tones caller) (sym heard_caller) (refl, peers.back);
           beside = record {
             legs = leg_at_both_else d.external w.legs x y one two stand.count peers.in_x peers.in_y peers.apart;
             heard = heard_others;
@@ -174,3 +180,6 @@ module _ (d : Dimensions) (tones : Tones) (w : World) (x y : Slot) (leg other : 
           };
         }),
       )
+
+  pub answer_kept : Kept d tones (making_after_all d (making_at w) (on_connect w.legs (record { slot = x; leg = leg }) (record { slot = y; leg = other }))).world
+  answer_kept = subst (λ (m : Making). Kept d tones m.world) (sym (making_connected d w (record { slot = x; leg = leg }) (record { slot = y; leg = other }))) connected_kept

@@ -15,8 +15,9 @@ use Rattle.circuit_model.proofs.Validity.{valid-clear, deaf_is_idle, heard_by-cl
 use Rattle.q931_codec.specs.declared.kind.MessageKind.{MessageKind}
 use Rattle.q931_codec.specs.declared.kind.MessageKind.TheVariants as kind
 use Rattle.q931_codec.specs.declared.message.Message.{Message}
-use Rattle.q931_codec.specs.CallStates.{call_delivered, call_present, call_received, disconnect_indication, incoming_call_proceeding}
-use Rattle.call_states.specs.Acts.{act_of, act_on, is_among}
+use Rattle.q931_codec.specs.CallStates.{null, active, call_delivered, call_present, call_received, disconnect_indication, incoming_call_proceeding}
+use Rattle.q931_codec.specs.Causes.{temporary_failure}
+use Rattle.call_states.specs.Acts.{act_of, act_of_status, act_on, is_among}
 use Rattle.call_states.specs.declared.act.Act.{Act}
 use Rattle.call_states.specs.declared.act.Act.TheVariants as act
 use Rattle.call_states.specs.declared.leg.Leg.{Leg}
@@ -32,9 +33,10 @@ use Rattle.call_profile.specs.Acts.{on_connect}
 use Rattle.call_profile.specs.Answered.{AreConnected}
 use Rattle.call_profile.specs.Calls.{Request, For_leg, request_of, outcome_for, after_message}
 use Rattle.call_profile.specs.Legs.{Legs, leg_at, held_at}
-use Rattle.call_profile.specs.Operations.{Operation, making_at, making_after_all}
+use Rattle.call_profile.specs.Operations.{Operation, Making, making_at, making_after_all}
 use Rattle.exchange_events.specs.Sizes.{Setting}
 use Rattle.call_profile.specs.World.{World}
+use Rattle.call_profile.proofs.AnsweredLegLemmas.{connected, making_connected}
 use Rattle.call_profile.proofs.ToneLemmas.{no_tone}
 use Rattle.call_profile.proofs.NamedLegLemmas.{received_stands}
 
@@ -61,31 +63,36 @@ not_release true b cause e = cc
 not_release false true cause e = cc
 not_release false false cause e = cc
 
-not_status : (a b : Bool) (cause : ℕ) → (if a then (if b then act.ReleaseComplete cause else act.Nothing) else act.Unexpected) ≡ act.Answer → ⊥
-not_status true true cause e = cc
-not_status true false cause e = cc
-not_status false b cause e = cc
+not_reported : (a b : Bool) (cause reported : ℕ) → (if a then act.ReleaseComplete cause else (if b then act.Report reported else act.Nothing)) ≡ act.Answer → ⊥
+not_reported true b cause reported e = cc
+not_reported false true cause reported e = cc
+not_reported false false cause reported e = cc
 
-pub answers_among : (state : ℕ) (k : MessageKind) (cause : ℕ) (b : Bool) → act_of state k cause b ≡ act.Answer → is_among ringing state ≡ true
-answers_among state kind.CallProceeding cause b e = absurd (not_answer _ act.Proceeding (λ f. cc) e)
-answers_among state kind.Alerting cause b e = absurd (not_answer _ act.Alerting (λ f. cc) e)
-answers_among state kind.Connect cause b e = answer_among (is_among ringing state) e
-answers_among state kind.ConnectAcknowledge cause b e = absurd (not_answer _ act.Nothing (λ f. cc) e)
-answers_among state kind.Progress cause b e = absurd (not_answer _ act.Nothing (λ f. cc) e)
-answers_among state kind.Notify cause b e = absurd (not_answer _ act.Nothing (λ f. cc) e)
-answers_among state kind.Facility cause b e = absurd (not_answer _ act.Nothing (λ f. cc) e)
-answers_among state kind.UserInformation cause b e = absurd (not_answer _ act.Nothing (λ f. cc) e)
-answers_among state kind.Setup cause b e = absurd (not_answer _ act.Nothing (λ f. cc) e)
-answers_among state kind.Disconnect cause b e = absurd (not_answer _ (act.Disconnect cause) (λ f. cc) e)
-answers_among state kind.Release cause b e = absurd (not_release _ _ cause e)
-answers_among state kind.ReleaseComplete cause b e = absurd (not_answer _ (act.ReleaseComplete cause) (λ f. cc) e)
-answers_among state kind.Status cause b e = absurd (not_status _ b _ e)
-answers_among state kind.StatusEnquiry cause b e = absurd (not_answer _ act.Enquiry (λ f. cc) e)
-answers_among state kind.SetupAcknowledge cause b e = absurd cc
-answers_among state kind.Restart cause b e = absurd cc
-answers_among state kind.RestartAcknowledge cause b e = absurd cc
-answers_among state kind.Information cause b e = absurd (not_dialled _ _ e)
-answers_among state (kind.Unknown octet) cause b e = absurd cc
+not_status : (b : Bool) (state : ℕ) (reported : Option ℕ) → (if b then act_of_status state reported else act.Unexpected) ≡ act.Answer → ⊥
+not_status true state None e = cc
+not_status true state (Some reported) e = not_reported (reported == null) (state == active) temporary_failure reported e
+not_status false state reported e = cc
+
+pub answers_among : (state : ℕ) (k : MessageKind) (cause : ℕ) (r : Option ℕ) → act_of state k cause r ≡ act.Answer → is_among ringing state ≡ true
+answers_among state kind.CallProceeding cause r e = absurd (not_answer _ act.Proceeding (λ f. cc) e)
+answers_among state kind.Alerting cause r e = absurd (not_answer _ act.Alerting (λ f. cc) e)
+answers_among state kind.Connect cause r e = answer_among (is_among ringing state) e
+answers_among state kind.ConnectAcknowledge cause r e = absurd (not_answer _ act.Nothing (λ f. cc) e)
+answers_among state kind.Progress cause r e = absurd (not_answer _ act.Nothing (λ f. cc) e)
+answers_among state kind.Notify cause r e = absurd (not_answer _ act.Nothing (λ f. cc) e)
+answers_among state kind.Facility cause r e = absurd (not_answer _ act.Nothing (λ f. cc) e)
+answers_among state kind.UserInformation cause r e = absurd (not_answer _ act.Nothing (λ f. cc) e)
+answers_among state kind.Setup cause r e = absurd (not_answer _ act.Nothing (λ f. cc) e)
+answers_among state kind.Disconnect cause r e = absurd (not_answer _ (act.Disconnect cause) (λ f. cc) e)
+answers_among state kind.Release cause r e = absurd (not_release _ _ cause e)
+answers_among state kind.ReleaseComplete cause r e = absurd (not_answer _ (act.ReleaseComplete cause) (λ f. cc) e)
+answers_among state kind.Status cause r e = absurd (not_status _ state r e)
+answers_among state kind.StatusEnquiry cause r e = absurd (not_answer _ act.Enquiry (λ f. cc) e)
+answers_among state kind.SetupAcknowledge cause r e = absurd cc
+answers_among state kind.Restart cause r e = absurd cc
+answers_among state kind.RestartAcknowledge cause r e = absurd cc
+answers_among state kind.Information cause r e = absurd (not_dialled _ _ e)
+answers_among state (kind.Unknown octet) cause r e = absurd cc
 
 -- ---- a leg that may be answered
 
@@ -137,7 +144,7 @@ held_there : (legs : Legs) (y : Slot) (other : Leg) → leg_at legs y ≡ Some o
 held_there legs y other e = rw e refl
 
 answer_operations : (s : Setting) (w : World) (h : HeldLeg) (m : Message) (y : Slot) (other : Leg) → h.leg.peer ≡ peer.Leg y → leg_at w.legs y ≡ Some other
-    → (course_of s w h m act.Answer).operations ≡ on_connect h (record { slot = y; leg = other })
+    → (course_of s w h m act.Answer).operations ≡ on_connect w.legs h (record { slot = y; leg = other })
 answer_operations s w h m y other is at = rw (is, held_there w.legs y other at) refl
 
 pub pair_there : (circuits : List Circuit) (a b : Circuit) → Contains (circuits ++ a ∷ b ∷ []) a × Contains (circuits ++ a ∷ b ∷ []) b
@@ -166,8 +173,9 @@ answered_by s w line r h m valid stand e at within answers =
     let y = c.0 in
     let other = c.3.0 in
     let silent = silent_by external s.tones w h.slot h.leg ringing_state (heard_by w.holding.circuits h.slot) stands.hears in
-    let done : (outcome_for s w line r).making.world ≡ (making_after_all s.dimensions (making_at w) (on_connect h (record { slot = y; leg = other }))).world =
-    rw (e, answers) (ap (λ (os : List Operation). (making_after_all s.dimensions (making_at w) os).world) (answer_operations s w h m y other c.1 c.3.1)) in
+    let done : (outcome_for s w line r).making.world ≡ (connected s.dimensions w h (record { slot = y; leg = other })).world =
+    rw (e, answers) (ap (λ (os : List Operation). (making_after_all s.dimensions (making_at w) os).world) (answer_operations s w h m y other c.1 c.3.1)
+    ∙ ap (λ (a : Making). a.world) (making_connected s.dimensions w h (record { slot = y; leg = other }))) in
     let two = pair_there (after w.holding (Clear y)).circuits (Pair y h.slot w.holding.next) (Pair h.slot y w.holding.next) in (
       y,
       c.1,

@@ -36,10 +36,10 @@ use Rattle.call_profile.proofs.SetupLemmas.{CanReach, accepted_kept, all_from, a
 use Rattle.call_profile.proofs.ToneLemmas.{cleared_is_idle, heard_by_sounding_keeps, sounding_valid, sounds}
 use Rattle.call_profile.proofs.WaitingLegLemmas.{each_waits, waiting_may}
 
--- ---- a leg that is alone is cleared
+-- ---- a leg that no other is in a call with is cleared
 
 module _ (d : Dimensions) (tones : Tones) (w : World) (h : HeldLeg) (cause : ℕ) (small : cause < 128) (valid : Valid d.bridges w.holding) (stand : LegsStand d.external tones w)
-    (within : IsExternal d.external h.slot) (at : leg_at w.legs h.slot ≡ Some h.leg) (alone : h.leg.peer ≡ peer.Alone) where
+    (within : IsExternal d.external h.slot) (at : leg_at w.legs h.slot ≡ Some h.leg) (no_peer : (p : Slot) → h.leg.peer ≡ peer.Leg p → ⊥) where
   abbrev x : Slot
   x = h.slot
 
@@ -55,12 +55,10 @@ module _ (d : Dimensions) (tones : Tones) (w : World) (h : HeldLeg) (cause : ℕ
   idle_x : is_idle cleared.circuits x ≡ true
   idle_x = cleared_is_idle w.holding x
 
-  -- nobody names a leg that is alone
+  -- nobody names it
   strange_x : (z : Slot) (l : Leg) → IsExternal d.external z → leg_at w.legs z ≡ Some l → IsStrange l x
   strange_x z l in_z at_z p names same =
-      let back = named_back d.external w.legs z p l h.leg names (stand.each z l in_z at_z).peer (ap (leg_at w.legs) same ∙ at) in
-      let wrong : peer.Alone ≡ peer.Leg z = sym alone ∙ back in
-      cc
+      no_peer z (named_back d.external w.legs z p l h.leg names (stand.each z l in_z at_z).peer (ap (leg_at w.legs) same ∙ at))
 
   legs_else : (z : Slot) → IsExternal d.external z → (z ≡ x → ⊥) → leg_at v.legs z ≡ leg_at w.legs z
   legs_else z in_z apart = leg_at-with_entry_else d.external w.legs x z (Some new) within in_z apart
@@ -92,8 +90,8 @@ module _ (d : Dimensions) (tones : Tones) (w : World) (h : HeldLeg) (cause : ℕ
     | inr apart ↦ (b, sym (legs_else z in_z apart) ∙ at_z, refl, refl)
   ]
 
-  pub cleared_kept : Kept d tones (making_after_all d (making_at w) (clear_with tones cause h)).world
-  cleared_kept = (
+  pub uncoupled_kept : Kept d tones (making_after_all d (making_at w) (clear_with tones cause h)).world
+  uncoupled_kept = (
     sounding_valid cleared x idle_x d.bridges (valid-clear d.bridges w.holding x valid) (tone_of tones new),
     record {
       count = length-set w.legs.held (number_of x) (Some new) ∙ stand.count;
@@ -101,6 +99,11 @@ module _ (d : Dimensions) (tones : Tones) (w : World) (h : HeldLeg) (cause : ℕ
       one = still_one d.external tones w v references stand;
     },
   )
+
+pub cleared_kept : (d : Dimensions) (tones : Tones) (w : World) (h : HeldLeg) (cause : ℕ) → cause < 128 → Valid d.bridges w.holding → LegsStand d.external tones w
+    → IsExternal d.external h.slot → leg_at w.legs h.slot ≡ Some h.leg → h.leg.peer ≡ peer.Alone → Kept d tones (making_after_all d (making_at w) (clear_with tones cause h)).world
+cleared_kept d tones w h cause small valid stand within at alone =
+    uncoupled_kept d tones w h cause small valid stand within at (λ p same. let wrong : peer.Alone ≡ peer.Leg p = sym alone ∙ same in cc)
 
 -- ---- what the checks give
 

@@ -23,29 +23,29 @@ use Rattle.call_profile.proofs.HearingLemmas.{IsStrange}
 
 -- ---- a leg that waits anew, in the same state
 
--- the leg waits since this frame, with this flag
-abbrev pub anew_from : ℕ → Bool → Leg → Leg
-anew_from next again leg = record leg { since = next; resent = again }
+-- the leg waits since this frame, with these flags
+abbrev pub anew_from : ℕ → Bool → Bool → Leg → Leg
+anew_from next again asked leg = record leg { since = next; resent = again; enquired = asked }
 
-may_hear_anew : (tones : Tones) (next : ℕ) (again : Bool) (leg : Leg) (o : Option Circuit) → MayHear tones leg o → MayHear tones (anew_from next again leg) o
-may_hear_anew tones next again leg None may = may
-may_hear_anew tones next again leg (Some (Tone kind to since)) may = may
-may_hear_anew tones next again leg (Some (Pair from to since)) may = may
-may_hear_anew tones next again leg (Some (Member room at since)) may = may
+may_hear_anew : (tones : Tones) (next : ℕ) (again asked : Bool) (leg : Leg) (o : Option Circuit) → MayHear tones leg o → MayHear tones (anew_from next again asked leg) o
+may_hear_anew tones next again asked leg None may = may
+may_hear_anew tones next again asked leg (Some (Tone kind to since)) may = may
+may_hear_anew tones next again asked leg (Some (Pair from to since)) may = may
+may_hear_anew tones next again asked leg (Some (Member room at since)) may = may
 
 -- either leg of a call may wait anew
-this_anew : (next : ℕ) (again : Bool) (side : Side) (x y : Slot) (leg other : Leg) → IsInCall side x leg y other → IsInCall side x (anew_from next again leg) y other
-this_anew next again Caller x y leg other one = record { calls = one.calls; is_called = one.is_called; there = one.there; back = one.back; matched = one.matched }
-this_anew next again Called x y leg other one = record { calls = one.calls; is_called = one.is_called; there = one.there; back = one.back; matched = one.matched }
+this_anew : (next : ℕ) (again asked : Bool) (side : Side) (x y : Slot) (leg other : Leg) → IsInCall side x leg y other → IsInCall side x (anew_from next again asked leg) y other
+this_anew next again asked Caller x y leg other one = record { calls = one.calls; is_called = one.is_called; there = one.there; back = one.back; matched = one.matched }
+this_anew next again asked Called x y leg other one = record { calls = one.calls; is_called = one.is_called; there = one.there; back = one.back; matched = one.matched }
 
-other_anew : (next : ℕ) (again : Bool) (side : Side) (x y : Slot) (leg other : Leg) → IsInCall side x leg y other → IsInCall side x leg y (anew_from next again other)
-other_anew next again Caller x y leg other one = record { calls = one.calls; is_called = one.is_called; there = one.there; back = one.back; matched = one.matched }
-other_anew next again Called x y leg other one = record { calls = one.calls; is_called = one.is_called; there = one.there; back = one.back; matched = one.matched }
+other_anew : (next : ℕ) (again asked : Bool) (side : Side) (x y : Slot) (leg other : Leg) → IsInCall side x leg y other → IsInCall side x leg y (anew_from next again asked other)
+other_anew next again asked Caller x y leg other one = record { calls = one.calls; is_called = one.is_called; there = one.there; back = one.back; matched = one.matched }
+other_anew next again asked Called x y leg other one = record { calls = one.calls; is_called = one.is_called; there = one.there; back = one.back; matched = one.matched }
 
-module _ (external : ℕ) (tones : Tones) (w v : World) (x : Slot) (leg : Leg) (next : ℕ) (again : Bool) (stand : LegsStand external tones w) (within : IsExternal external x) (at : leg_at w.legs x ≡ Some leg)
-    (legs : v.legs.held ≡ (with_entry w.legs x (Some (anew_from next again leg))).held) (holding : v.holding ≡ w.holding) where
+module _ (external : ℕ) (tones : Tones) (w v : World) (x : Slot) (leg : Leg) (next : ℕ) (again asked : Bool) (stand : LegsStand external tones w) (within : IsExternal external x) (at : leg_at w.legs x ≡ Some leg)
+    (legs : v.legs.held ≡ (with_entry w.legs x (Some (anew_from next again asked leg))).held) (holding : v.holding ≡ w.holding) where
   abbrev anew : Leg
-  anew = anew_from next again leg
+  anew = anew_from next again asked leg
 
   leg_at_here : leg_at v.legs x ≡ Some anew
   leg_at_here = ap (look x) legs ∙ leg_at-with_entry_here external w.legs x (Some anew) stand.count within
@@ -60,14 +60,14 @@ module _ (external : ℕ) (tones : Tones) (w v : World) (x : Slot) (leg : Leg) (
     | inl is_x ↦
         let same : Some has.1.0 ≡ Some leg = sym has.1.1 ∙ ap (leg_at w.legs) is_x ∙ at in
         let other : has.1.0 ≡ leg = cc in
-        (has.0, (anew, ap (leg_at v.legs) is_x ∙ leg_at_here, other_anew next again l.side z y l leg (subst (λ (k : Leg). IsInCall l.side z l y k) other has.1.2)))
+        (has.0, (anew, ap (leg_at v.legs) is_x ∙ leg_at_here, other_anew next again asked l.side z y l leg (subst (λ (k : Leg). IsInCall l.side z l y k) other has.1.2)))
     | inr apart ↦ (has.0, (has.1.0, leg_at_else_where y has.0 apart ∙ has.1.1, has.1.2))
   ]
   peer_anew z l (peer.Room room) has = has
 
   peer_of_anew : (p : Peer) → HasPeer external v.legs x leg p → HasPeer external v.legs x anew p
   peer_of_anew peer.Alone has = has
-  peer_of_anew (peer.Leg y) has = (has.0, (has.1.0, has.1.1, this_anew next again leg.side x y leg has.1.0 has.1.2))
+  peer_of_anew (peer.Leg y) has = (has.0, (has.1.0, has.1.1, this_anew next again asked leg.side x y leg has.1.0 has.1.2))
   peer_of_anew (peer.Room room) has = has
 
   hears_as_before : (z : Slot) (l : Leg) → MayHear tones l (heard_by w.holding.circuits z) → MayHear tones l (heard_by v.holding.circuits z)
@@ -81,7 +81,7 @@ module _ (external : ℕ) (tones : Tones) (w v : World) (x : Slot) (leg : Leg) (
         reference = old.reference;
         cause = old.cause;
         peer = peer_of_anew leg.peer (peer_anew x leg leg.peer old.peer);
-        hears = hears_as_before x anew (may_hear_anew tones next again leg (heard_by w.holding.circuits x) old.hears);
+        hears = hears_as_before x anew (may_hear_anew tones next again asked leg (heard_by w.holding.circuits x) old.hears);
       }
 
   else_stands : (z : Slot) (l : Leg) → IsExternal external z → leg_at w.legs z ≡ Some l → LegStands external tones v z l
@@ -113,12 +113,17 @@ module _ (external : ℕ) (tones : Tones) (w v : World) (x : Slot) (leg : Leg) (
     | inr apart ↦ (b, sym (leg_at_else_where z in_z apart) ∙ at_z, refl, refl)
   ]
 
-  pub waits_anew : LegsStand external tones v
-  waits_anew = record {
+  pub waits_enquired : LegsStand external tones v
+  waits_enquired = record {
     count = ap length legs ∙ length-set w.legs.held (number_of x) (Some anew) ∙ stand.count;
     each = stands_anew;
     one = still_one external tones w v references_anew stand;
   }
+
+-- with the flag of an enquiry as it was
+pub waits_anew : (external : ℕ) (tones : Tones) (w v : World) (x : Slot) (leg : Leg) (next : ℕ) (again : Bool) → LegsStand external tones w → IsExternal external x → leg_at w.legs x ≡ Some leg
+    → v.legs.held ≡ (with_entry w.legs x (Some (anew_from next again leg.enquired leg))).held → v.holding ≡ w.holding → LegsStand external tones v
+waits_anew external tones w v x leg next again = waits_enquired external tones w v x leg next again leg.enquired
 
 -- ---- a leg in disconnect indication, whose user is asked to release
 

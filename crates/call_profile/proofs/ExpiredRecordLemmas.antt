@@ -19,7 +19,7 @@ use Rattle.exchange_events.specs.Sizes.{Setting, Dimensions}
 use Rattle.call_profile.specs.Acts.{in_disconnect_indication, in_release_request, peer_of, with_peer, clear_with, remove_leg}
 use Rattle.call_profile.specs.CallRecords.{before_clearing, is_calling, records}
 use Rattle.call_profile.specs.EndedCalls.{caller_in, record_calling, record_ended, record_of_expiry, expired_records}
-use Rattle.call_profile.specs.Expiring.{timed_state, send_again, give_up, ask_for_release, clear_peer, clear_both, on_expiry, cause_of_expiry, cause_if_due, cause_at, due_of, if_due, expire_leg, expire_slot}
+use Rattle.call_profile.specs.Expiring.{timed_state, send_again, give_up, ask_for_release, clear_peer, clear_both, on_expiry, release_over, cause_of_expiry, cause_if_due, cause_at, due_of, if_due, expire_leg, expire_slot}
 use Rattle.call_profile.specs.LegStanding.{AreOneCall}
 use Rattle.call_profile.specs.Legs.{leg_at, kept_at, with_entry, retransmitted_from}
 use Rattle.call_profile.specs.Operations.{Operation, Making, begun, making_after_all}
@@ -118,10 +118,10 @@ module _ (d : Dimensions) (tones : Tones) (m : Making) (x : Slot) (leg : Leg) (k
   expiry_told expiry.SetupOver state = over_told
   expiry_told expiry.Proceeding state = both_told no_user_responding (rw state refl)
   expiry_told expiry.Alerting state = both_told no_answer_from_user (rw state refl)
-  expiry_told expiry.Outage state = clearing_records d tones w x leg None destination_out_of_order kept.1 within at (inl refl) (making_after_all d m (remove_leg h)) refl
+  expiry_told expiry.Outage state = clearing_records d tones w x leg None destination_out_of_order kept.1 within at (inl refl) (making_after_all d m (remove_leg true h)) refl
   expiry_told expiry.Disconnect state = records_quiet no_user_responding (making_after_all d m (ask_for_release h)).world (Some (begun w (in_release_request leg))) refl (is_calling_never (Some (begun w (in_release_request leg))) (rw state refl))
   expiry_told expiry.ReleaseAgain state = again_told (kept_at w.legs x)
-  expiry_told expiry.ReleaseOver state = records_quiet no_user_responding (making_after_all d m (remove_leg h)).world None refl (is_calling_never None (rw state refl))
+  expiry_told expiry.ReleaseOver state = records_quiet no_user_responding (making_after_all d m (release_over w.legs h)).world None refl (is_calling_never None (rw state refl))
 
 -- ---- a slot, in a frame
 

@@ -1,5 +1,5 @@
 -- Whatever expires, each operation that is done for it is permitted, and the legs stay consistent.
-use Rattle.std.proofs.Common.{◌≡◌, ◌≢◌, ℕ, zero, suc, ◌<◌, ◌≤◌, true, inl, List, [], ◌∷◌, ◌++◌, Option, Some, None, refl, sym, ◌∙◌, subst, arith}
+use Rattle.std.proofs.Common.{◌≡◌, ◌≢◌, ℕ, zero, suc, ◌<◌, ◌≤◌, true, inl, List, [], ◌++◌, Option, Some, None, refl, sym, ◌∙◌, subst, arith}
 use Rattle.std.specs.Prelude.{option_map}
 use Rattle.circuit_model.specs.declared.channel.Slot.{Slot}
 use Rattle.circuit_model.specs.Extent.{IsExternal}
@@ -20,7 +20,7 @@ use Rattle.number_plan.specs.declared.plan.Number.{Number}
 use Rattle.tone_rules.specs.declared.tones.Tones.{Tones}
 use Rattle.exchange_events.specs.Sizes.{Setting, Dimensions}
 use Rattle.call_profile.specs.Acts.{in_release_request, peer_of, with_peer, clear_with, remove_leg}
-use Rattle.call_profile.specs.Expiring.{timed_state, release_for, release_complete_for, send_again, give_up, ask_for_release, clear_peer, clear_both, on_expiry, due_of, if_due, expire_leg, expire_slot, slot_looked_at, outcome_on_line, outcome_of_lines, outage_over}
+use Rattle.call_profile.specs.Expiring.{timed_state, release_for, release_complete_for, send_again, give_up, ask_for_release, clear_peer, clear_both, on_expiry, release_over, due_of, if_due, expire_leg, expire_slot, slot_looked_at, outcome_on_line, outcome_of_lines, outage_over}
 use Rattle.call_profile.specs.KeptMessages.{IsAwaited}
 use Rattle.call_profile.specs.LegStanding.{LegStands, HasPeer, alone}
 use Rattle.call_profile.specs.Legs.{Legs, leg_at, kept_at}
@@ -28,18 +28,13 @@ use Rattle.call_profile.specs.Operations.{Operation, Making, making_at, making_a
 use Rattle.call_profile.specs.Peers.{IsThere, PeerIsThere}
 use Rattle.call_profile.specs.Restarts.{MessageOutcome}
 use Rattle.call_profile.specs.World.{World}
-use Rattle.call_profile.proofs.BothDisconnectedLemmas.{both_valid, both_disconnected}
-use Rattle.call_profile.proofs.ClearingLemmas.{Kept, held_there, peers_of, clearing_kept, alone_kept}
+use Rattle.call_profile.proofs.ClearingLemmas.{Kept, clearing_kept, alone_kept}
 use Rattle.call_profile.proofs.DigitsLemmas.{cleared_kept}
+use Rattle.call_profile.proofs.DisconnectedCallLemmas.{disconnected_by}
 use Rattle.call_profile.proofs.ExpiredLegLemmas.{waits_anew, release_asked}
 use Rattle.call_profile.proofs.ExpiryStateLemmas.{due_state, is_alone}
-use Rattle.call_profile.proofs.Permitted.{ArePermitted}
 use Rattle.call_profile.proofs.PermittedActLemmas.{is_there, peer_there_too, clear_permitted, peer_permitted}
-
-permitted_both : (d : Dimensions) (tones : Tones) (plan : List Number) (m : Making) (os ps : List Operation) → ArePermitted d tones plan m os → ArePermitted d tones plan (making_after_all d m os) ps
-    → ArePermitted d tones plan m (os ++ ps)
-permitted_both d tones plan m [] ps one more = more
-permitted_both d tones plan m (o ∷ os) ps one more = (one.0, permitted_both d tones plan (making_after d m o) os ps one.1 more)
+use Rattle.call_profile.proofs.Permitted.{ArePermitted, permitted_both}
 
 module _ (d : Dimensions) (tones : Tones) (m : Making) (x : Slot) (leg : Leg) (kept : Kept d tones m.world) (within : IsExternal d.external x) (at : leg_at m.world.legs x ≡ Some leg) where
   abbrev h : HeldLeg
@@ -95,7 +90,7 @@ module _ (d : Dimensions) (tones : Tones) (m : Making) (x : Slot) (leg : Leg) (k
     expiry_may expiry.SetupOver = over_may
     expiry_may expiry.Proceeding = both_may no_user_responding (omega arith)
     expiry_may expiry.Alerting = both_may no_answer_from_user (omega arith)
-    expiry_may expiry.Outage = (within, (within, peer_permitted d tones plan (making_after_all d m (remove_leg h)) h destination_out_of_order (peer_of w.legs leg.peer) peer_too (omega arith)))
+    expiry_may expiry.Outage = (within, (within, peer_permitted d tones plan (making_after_all d m (remove_leg true h)) h destination_out_of_order (peer_of w.legs leg.peer) peer_too (omega arith)))
     expiry_may expiry.Disconnect = asked_may
     expiry_may expiry.ReleaseAgain = again_may (kept_at w.legs x) refl
     expiry_may expiry.ReleaseOver = (within, (within, tt))
@@ -122,34 +117,25 @@ module _ (d : Dimensions) (tones : Tones) (m : Making) (x : Slot) (leg : Leg) (k
   over_fine = clearing_kept d tones w x leg None no_user_responding (omega arith) kept.0 kept.1 within at (inl refl) (making_after_all d m (give_up h)) refl refl
 
   outage_fine : Fine (outage_over tones w.legs h)
-  outage_fine = clearing_kept d tones w x leg None destination_out_of_order (omega arith) kept.0 kept.1 within at (inl refl) (making_after_all d m (remove_leg h)) refl refl
+  outage_fine = clearing_kept d tones w x leg None destination_out_of_order (omega arith) kept.0 kept.1 within at (inl refl) (making_after_all d m (remove_leg true h)) refl refl
 
-  released_fine : leg.peer ≡ peer.Alone → Fine (remove_leg h)
-  released_fine is = alone_kept d tones w x leg None no_user_responding (omega arith) kept.0 kept.1 within at (inl refl) (making_after_all d m (remove_leg h)) refl refl (no_leg is)
+  released_fine : leg.peer ≡ peer.Alone → Fine (release_over w.legs h)
+  released_fine is = alone_kept d tones w x leg None no_user_responding (omega arith) kept.0 kept.1 within at (inl refl) (making_after_all d m (release_over w.legs h)) refl refl (no_leg is)
 
   asked_fine : leg.state ≡ timed_state expiry.Disconnect → leg.peer ≡ peer.Alone → Fine (ask_for_release h)
   asked_fine state is = (kept.0, release_asked d.external tones w (making_after_all d m (ask_for_release h)).world x leg w.holding.next kept.1 within at state is refl refl)
 
   -- both legs are disconnected, where the call has two
-  both_by : (cause : ℕ) → cause < 128 → leg.state ≢ active → (p : Peer) → leg.peer ≡ p → HasPeer d.external w.legs x leg p
+  both_by : (cause : ℕ) → cause < 128 → (p : Peer) → leg.peer ≡ p → HasPeer d.external w.legs x leg p
       → Fine (clear_with tones recovery_on_timer_expiry h ++ with_peer (peer_of w.legs p) (clear_with tones cause))
-  both_by cause small quiet peer.Alone is has = cleared_kept d tones w h recovery_on_timer_expiry (omega arith) kept.0 kept.1 within at is
-  both_by cause small quiet (peer.Leg y) is has =
-      let other = has.1.0 in
-      let peers = peers_of d.external w x y leg other within has.0 at has.1.1 has.1.2 in
-      let v : World = (making_after_all d m (clear_with tones recovery_on_timer_expiry h ++ clear_with tones cause (record { slot = y; leg = other }))).world in
-      rw (held_there w.legs y other has.1.1) (
-        both_valid d.external tones d.bridges w v x y leg other recovery_on_timer_expiry cause (omega arith) small kept.0 kept.1 peers,
-        both_disconnected d.external tones d.bridges w v x y leg other recovery_on_timer_expiry cause (omega arith) small kept.0 kept.1 peers refl refl,
-      )
-  both_by cause small quiet (peer.Room room) is has = absurd (quiet has.1)
+  both_by cause small p is has = disconnected_by d tones m h recovery_on_timer_expiry cause (omega arith) small kept.0 kept.1 within at p is has
 
   pub expiry_fine : (e : Expiry) → leg.state ≡ timed_state e → Fine (on_expiry tones w.legs h e)
   expiry_fine expiry.Digits state = digits_fine (nobody (rw state refl))
   expiry_fine expiry.SetupAgain state = again_fine (kept_at w.legs x)
   expiry_fine expiry.SetupOver state = over_fine
-  expiry_fine expiry.Proceeding state = both_by no_user_responding (omega arith) (λ up. let wrong = sym state ∙ up in absurd cc) leg.peer refl stands.peer
-  expiry_fine expiry.Alerting state = both_by no_answer_from_user (omega arith) (λ up. let wrong = sym state ∙ up in absurd cc) leg.peer refl stands.peer
+  expiry_fine expiry.Proceeding state = both_by no_user_responding (omega arith) leg.peer refl stands.peer
+  expiry_fine expiry.Alerting state = both_by no_answer_from_user (omega arith) leg.peer refl stands.peer
   expiry_fine expiry.Outage state = outage_fine
   expiry_fine expiry.Disconnect state = asked_fine state (nobody (rw state refl))
   expiry_fine expiry.ReleaseAgain state = again_fine (kept_at w.legs x)

@@ -17,6 +17,8 @@ pub mod RefusalLemmas
 pub mod FabricLemmas
 pub mod NamedLegLemmas
 pub mod ToneLemmas
+pub mod AnsweredLegLemmas
+pub mod DisconnectedCallLemmas
 pub mod AnsweringLemmas
 pub mod LineLemmas
 pub mod BesideLemmas

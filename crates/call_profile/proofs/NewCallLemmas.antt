@@ -18,11 +18,12 @@ use Rattle.call_states.specs.declared.leg.Side.TheVariants.{Caller, Called}
 use Rattle.tone_rules.specs.declared.tones.Tones.{Tones}
 use Rattle.call_profile.specs.IdleSlots.{idle}
 use Rattle.call_profile.specs.LegStanding.{LegStands, LegsStand, MayHear, AreOneCall}
-use Rattle.call_profile.specs.Legs.{Legs, leg_at, leg_named, with_entry}
-use Rattle.call_profile.specs.Operations.{Wait, begun, making_at, making_after, making_after_all}
+use Rattle.call_profile.specs.Legs.{Legs, is_down, leg_at, leg_named, with_entry}
+use Rattle.call_profile.specs.Operations.{Making, Wait, begun, making_at, making_after, making_after_all}
 use Rattle.call_profile.specs.Setup.{caller_leg, called_leg, call_line, call_room, await_digits}
 use Rattle.exchange_events.specs.Sizes.{Dimensions}
 use Rattle.call_profile.specs.World.{World, is_full}
+use Rattle.call_profile.proofs.AnsweredLegLemmas.{answered_from, joined, making_joined, room_leg}
 use Rattle.call_profile.proofs.BesideLemmas.{leg_at-with_entry_here, leg_at-with_entry_else, same_or_apart, Beside, each_stands}
 use Rattle.call_profile.proofs.HearingLemmas.{IsStrange, heard_by_seat_keeps}
 use Rattle.call_profile.proofs.ClearingLemmas.{Kept}
@@ -193,10 +194,10 @@ module _ (d : Dimensions) (tones : Tones) (w : World) (first : Bool) (own : ℕ)
 
 module _ (d : Dimensions) (tones : Tones) (w : World) (first : Bool) (own : ℕ) (x : Slot) (room : ℕ) (may : MayCall d tones w own x) (free : is_full d w ≡ false) where
   abbrev member : Leg
-  member = begun w (caller_leg active own (peer.Room room))
+  member = answered_from (is_down w.legs x.line) w.holding.next (room_leg own room)
 
   abbrev after_seat : World
-  after_seat = (making_after_all d (making_at w) (call_room first own x room)).world
+  after_seat = (joined d w first own x room).world
 
   at_member : leg_at after_seat.legs x ≡ Some member
   at_member = leg_at-with_entry_here d.external w.legs x (Some member) may.stand.count may.in_x
@@ -231,8 +232,8 @@ module _ (d : Dimensions) (tones : Tones) (w : World) (first : Bool) (own : ℕ)
   none_member : HasNone d.external w.legs x member
   none_member = may.unused
 
-  pub room_call_kept : Kept d tones (making_after_all d (making_at w) (call_room first own x room)).world
-  room_call_kept = (
+  joined_kept : Kept d tones after_seat
+  joined_kept = (
     valid-seat d.bridges w.holding x room may.valid idle_member (count_by-is_member_not_full d.bridges w.holding may.valid free),
     record {
       count = length-set w.legs.held (number_of x) (Some member) ∙ may.stand.count;
@@ -240,6 +241,9 @@ module _ (d : Dimensions) (tones : Tones) (w : World) (first : Bool) (own : ℕ)
       one = distinct_with d.external w.legs x member may.stand.count may.in_x may.stand.one none_member;
     },
   )
+
+  pub room_call_kept : Kept d tones (making_after_all d (making_at w) (call_room first w.legs own x room)).world
+  room_call_kept = subst (λ (m : Making). Kept d tones m.world) (sym (making_joined d w first own x room)) joined_kept
 
 -- ---- a call whose number isn't complete
 

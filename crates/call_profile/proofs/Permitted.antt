@@ -1,5 +1,5 @@
 -- What an operation asks of the world in the making.
-use Rattle.std.specs.Prelude.{◌≡◌, ◌≢◌, ◌<◌, true, false, List, [], ◌∷◌, Option, Some, IfSome}
+use Rattle.std.specs.Prelude.{◌≡◌, ◌≢◌, ◌<◌, true, false, List, [], ◌∷◌, ◌++◌, Option, Some, IfSome}
 use Rattle.circuit_model.specs.declared.channel.Slot.{Slot}
 use Rattle.circuit_model.specs.declared.circuit.Kind.{Kind}
 use Rattle.circuit_model.specs.Circuits.{is_idle}
@@ -11,7 +11,7 @@ use Rattle.call_states.specs.Acts.{is_among}
 use Rattle.call_states.specs.Status.{FitsMessages}
 use Rattle.tone_rules.specs.declared.tones.Tones.{Tones}
 use Rattle.tone_rules.specs.Tables.{IsGiven}
-use Rattle.call_profile.specs.Operations.{Operation, Clear, Pair, Seat, Sound, Put, Wait, Expect, Repeat, Await, Remove, Send, Making, making_after}
+use Rattle.call_profile.specs.Operations.{Operation, Clear, Pair, Seat, Sound, Put, Wait, Expect, Repeat, Await, Remove, Send, Making, making_after, making_after_all}
 use Rattle.exchange_events.specs.Sizes.{Dimensions}
 use Rattle.call_profile.specs.World.{World}
 use Rattle.call_profile.specs.KeptMessages.{IsAwaited, awaiting_answer}
@@ -50,3 +50,9 @@ IsPermitted d tones plan m (Send line message) = (line < d.external) × IsWritab
 abbrev pub ArePermitted : Dimensions → Tones → List Number → Making → List Operation → Type 0
 ArePermitted d tones plan m [] = Unit {0}
 ArePermitted d tones plan m (o ∷ os) = IsPermitted d tones plan m o × ArePermitted d tones plan (making_after d m o) os
+
+-- some operations, and then others
+pub permitted_both : (d : Dimensions) (tones : Tones) (plan : List Number) (m : Making) (os ps : List Operation) → ArePermitted d tones plan m os → ArePermitted d tones plan (making_after_all d m os) ps
+    → ArePermitted d tones plan m (os ++ ps)
+permitted_both d tones plan m [] ps one more = more
+permitted_both d tones plan m (o ∷ os) ps one more = (one.0, permitted_both d tones plan (making_after d m o) os ps one.1 more)

@@ -37,7 +37,8 @@ use Rattle.exchange_events.specs.Sound.{IsPlanned, line_exists}
 use Rattle.call_profile.specs.Waiting.{IsWaiting}
 use Rattle.call_profile.specs.World.{World}
 use Rattle.call_profile.proofs.AcceptedSetupLemmas.{can_seat, refusal_small, can_still}
-use Rattle.call_profile.proofs.PermittedActLemmas.{message_writable}
+use Rattle.call_profile.proofs.PermittedActLemmas.{answered_permitted, message_writable}
+use Rattle.call_profile.proofs.AnsweredLegLemmas.{joining, room_leg}
 use Rattle.call_profile.proofs.SetupLemmas.{all_pass, all_from, all_reached, caller_is, MayOffer-lowest_free_reference, offered_by_hunting, reached}
 
 -- ---- what is passed on is not too long
@@ -134,16 +135,14 @@ module _ (s : Setting) (w : World) (first : Bool) (own : ℕ) (asked : Pending) 
         ),
       )
 
-  room_permitted : (room : ℕ) → IsExternal s.dimensions.external x → own < 2 ^ 15 → CanSeat s.dimensions w x → ArePermitted s.dimensions s.tones s.plan (making_at w) (call_room first own x room)
+  room_permitted : (room : ℕ) → IsExternal s.dimensions.external x → own < 2 ^ 15 → CanSeat s.dimensions w x → ArePermitted s.dimensions s.tones s.plan (making_at w) (call_room first w.legs own x room)
   room_permitted room in_x small can =
-      let member : FitsMessages _ = told small active (peer.Room room) (omega arith) in (
-        (in_x, member, λ e. absurd cc, refl),
+      let member : FitsMessages _ = told small active (peer.Room room) (omega arith) in
+      answered_permitted s.dimensions s.tones s.plan (making_at w) w.legs x (room_leg own room) (joining first own x room) (in_x, member, λ e. absurd cc, refl) (
+        can_still s.dimensions w x _ can,
         (
-          can_still s.dimensions w x _ can,
-          (
-            (in_x.0, proceeding_writable first x _ in_x.1 member),
-            ((in_x.0, message_writable _ kind.Connect member tt), tt),
-          ),
+          (in_x.0, proceeding_writable first x _ in_x.1 member),
+          ((in_x.0, message_writable _ kind.Connect member tt), tt),
         ),
       )
 

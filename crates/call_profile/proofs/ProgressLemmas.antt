@@ -1,5 +1,5 @@
 -- A progress indicator goes with each tone.
-use Rattle.std.proofs.Common.{◌≡◌, ℕ, ◌==◌, Bool, true, false, List, [], ◌∷◌, Option, Some, None, refl, ◌∙◌, ap, if◌then◌else◌}
+use Rattle.std.proofs.Common.{◌≡◌, ℕ, ◌==◌, Bool, true, false, List, [], ◌∷◌, ◌++◌, Option, Some, None, refl, ◌∙◌, ap, if◌then◌else◌}
 use Rattle.circuit_model.specs.declared.channel.Slot.{Slot}
 use Rattle.circuit_model.specs.Extent.{IsExternal}
 use Rattle.circuit_model.specs.declared.circuit.Kind.{Kind}
@@ -8,17 +8,18 @@ use Rattle.q931_codec.specs.declared.kind.MessageKind.TheVariants as kind
 use Rattle.q931_codec.specs.declared.message.Message.{Message}
 use Rattle.q931_codec.specs.Outgoing.{OutgoingMessage, encoding}
 use Rattle.q931_codec.specs.Contents.{call_state_in, channel_in}
-use Rattle.q931_codec.specs.Causes.{invalid_number_format, no_answer_from_user, no_user_responding, recovery_on_timer_expiry, temporary_failure, destination_out_of_order}
+use Rattle.q931_codec.specs.Causes.{invalid_number_format, message_not_compatible_with_call_state, no_answer_from_user, no_user_responding, recovery_on_timer_expiry, temporary_failure, destination_out_of_order}
 use Rattle.q931_codec.specs.Reading.{reading}
 use Rattle.q931_codec.proofs.EncodingFacts.{encoding_read}
 use Rattle.q931_codec.proofs.Messages.{reading_message}
 use Rattle.q931_codec.proofs.RowFacts.{fields_back}
 use Rattle.call_timers.specs.declared.expiry.Expiry.{Expiry}
 use Rattle.call_timers.specs.declared.expiry.Expiry.TheVariants as expiry
-use Rattle.q931_codec.specs.CallStates.{call_delivered, null}
+use Rattle.q931_codec.specs.CallStates.{active, call_delivered, null}
 use Rattle.call_states.specs.declared.act.Act.{Act}
 use Rattle.call_states.specs.declared.act.Act.TheVariants as act
 use Rattle.call_states.specs.declared.leg.HeldLeg.{HeldLeg}
+use Rattle.call_states.specs.declared.leg.Leg.{Leg}
 use Rattle.clearing_rules.specs.declared.scope.Restart.{Restart}
 use Rattle.clearing_rules.specs.Restarting.{is_restarted, global_call_reference}
 use Rattle.clearing_rules.specs.UnknownReference.{answer_to_status, answer_to_type, answer_without_call, no_such_call}
@@ -26,15 +27,17 @@ use Rattle.number_plan.specs.declared.target.Found.{Found}
 use Rattle.number_plan.specs.declared.target.Found.TheVariants.{Line, Lines, Room, More, Nothing}
 use Rattle.tone_rules.specs.declared.tones.Tones.{Tones}
 use Rattle.exchange_events.specs.Sizes.{Setting}
-use Rattle.call_profile.specs.ActCourse.{course_of}
-use Rattle.call_profile.specs.Acts.{in_state, in_disconnect_indication, tone_of, message_to, disconnect, with_progress, peer_of, with_peer, clear_with, on_alerting, on_connect, remove_leg}
+use Rattle.call_profile.specs.ActCourse.{course_of, course_of_report}
+use Rattle.call_profile.specs.Course.{only, nothing}
+use Rattle.call_profile.specs.Acts.{answered, in_state, with_enquiry, in_disconnect_indication, tone_of, message_to, disconnect, with_progress, peer_of, with_peer, clear_with, on_alerting, on_connect, remove_leg}
 use Rattle.call_profile.specs.Calls.{answer_back}
 use Rattle.call_profile.specs.Expiring.{send_again, clear_peer, clear_both, on_expiry}
 use Rattle.call_profile.specs.KeptMessages.{IsKept}
 use Rattle.call_profile.specs.LegStanding.{CallsStand}
-use Rattle.call_profile.specs.Legs.{Legs, leg_at, held_at, kept_at, pending_at}
-use Rattle.call_profile.specs.Operations.{Operation, Sound, Send}
+use Rattle.call_profile.specs.Legs.{Legs, is_down, leg_at, held_at, kept_at, pending_at}
+use Rattle.call_profile.specs.Operations.{Operation, Sound, Put, Await, Send}
 use Rattle.call_profile.specs.Progress.{TellsOfTones, has_progress}
+use Rattle.call_profile.proofs.AnsweredLegLemmas.{acknowledging, joining, room_leg}
 use Rattle.call_profile.proofs.KeptMessageLemmas.{kept_there}
 use Rattle.call_profile.specs.Restarts.{restarts_slot, restart_peer, restart_leg, restart_slot}
 use Rattle.call_states.specs.declared.pending.Pending.{Pending}
@@ -52,9 +55,16 @@ alerting_tells : (tones : Tones) (h : HeldLeg) (o : Option HeldLeg) → TellsOfT
 alerting_tells tones h None = refl
 alerting_tells tones h (Some caller) = sounding_tells (tone_of tones (in_state call_delivered caller.leg)) caller.slot (message_to caller.leg kind.Alerting)
 
-answering_tells : (h : HeldLeg) (o : Option HeldLeg) → TellsOfTones (with_peer o (on_connect h))
-answering_tells h None = refl
-answering_tells h (Some caller) = refl
+-- whether a leg that is answered waits for its data link or not
+answered_tells : (down : Bool) (x : Slot) (leg : Leg) (os : List Operation) → TellsOfTones os → TellsOfTones ((if down then Await x leg else Put x leg) ∷ os)
+answered_tells true x leg os tells = tells
+answered_tells false x leg os tells = tells
+
+answering_tells : (legs : Legs) (h : HeldLeg) (o : Option HeldLeg) → TellsOfTones (with_peer o (on_connect legs h))
+answering_tells legs h None = refl
+answering_tells legs h (Some caller) =
+    answered_tells (is_down legs h.slot.line) h.slot (in_state active h.leg) (answered legs caller.slot (in_state active caller.leg) ∷ acknowledging h caller)
+    (answered_tells (is_down legs caller.slot.line) caller.slot (in_state active caller.leg) (acknowledging h caller) refl)
 
 cleared_tells : (tones : Tones) (cause : ℕ) (other : HeldLeg) → TellsOfTones (clear_with tones cause other)
 cleared_tells tones cause other = sounding_tells (tone_of tones (in_disconnect_indication cause other.leg)) other.slot (disconnect other.leg cause)
@@ -62,6 +72,11 @@ cleared_tells tones cause other = sounding_tells (tone_of tones (in_disconnect_i
 peer_tells : (tones : Tones) (cause : ℕ) (o : Option HeldLeg) → TellsOfTones (with_peer o (clear_with tones cause))
 peer_tells tones cause None = refl
 peer_tells tones cause (Some other) = cleared_tells tones cause other
+
+-- two legs are cleared, one after the other
+both_tell : (x : Slot) (tone : Option Kind) (m : OutgoingMessage) (ps : List Operation) → TellsOfTones ps → TellsOfTones (Sound x tone ∷ Send x.line (with_progress tone m) ∷ ps)
+both_tell x None m ps tells = tells
+both_tell x (Some kind) m ps tells = ap (λ (lines : List ℕ). x.line ∷ lines) tells
 
 -- ---- a new call
 
@@ -72,8 +87,8 @@ call_tells first w own asked x (Line l) None = refl
 call_tells true w own asked x (Lines ls) (Some y) = refl
 call_tells false w own asked x (Lines ls) (Some y) = refl
 call_tells first w own asked x (Lines ls) None = refl
-call_tells true w own asked x (Room room) o = refl
-call_tells false w own asked x (Room room) o = refl
+call_tells true w own asked x (Room room) o = answered_tells (is_down w.legs x.line) x (room_leg own room) (joining true own x room) refl
+call_tells false w own asked x (Room room) o = answered_tells (is_down w.legs x.line) x (room_leg own room) (joining false own x room) refl
 call_tells true w own asked x More o = refl
 call_tells false w own asked x More o = refl
 call_tells first w own asked x Nothing o = refl
@@ -91,17 +106,31 @@ digits_tell s w h m (Some p) = dialling_tells s w h (asked_with p m) (digits_ref
 
 -- ---- the acts
 
+state_tells : (s : Setting) (w : World) (h : HeldLeg) (reported : ℕ) (same : Bool) → TellsOfTones (if same then only (Put h.slot (with_enquiry false h.leg) ∷ []) else record {
+  operations = clear_with s.tones message_not_compatible_with_call_state h ++ with_peer (peer_of w.legs h.leg.peer) (clear_with s.tones message_not_compatible_with_call_state);
+  cause = Some message_not_compatible_with_call_state;
+}).operations
+state_tells s w h reported true = refl
+state_tells s w h reported false =
+    let cause : ℕ = message_not_compatible_with_call_state in
+    both_tell h.slot (tone_of s.tones (in_disconnect_indication cause h.leg)) (disconnect h.leg cause) (with_peer (peer_of w.legs h.leg.peer) (clear_with s.tones cause)) (peer_tells s.tones cause (peer_of w.legs h.leg.peer))
+
+report_tells : (s : Setting) (w : World) (h : HeldLeg) (reported : ℕ) (asked : Bool) → TellsOfTones (if asked then course_of_report s w h reported else nothing).operations
+report_tells s w h reported true = state_tells s w h reported (reported == active)
+report_tells s w h reported false = refl
+
 pub act_tells : (s : Setting) (w : World) (h : HeldLeg) (m : Message) (a : Act) → TellsOfTones (course_of s w h m a).operations
 act_tells s w h m act.Nothing = refl
 act_tells s w h m act.Unexpected = refl
 act_tells s w h m act.Enquiry = refl
 act_tells s w h m act.Proceeding = refl
 act_tells s w h m act.Alerting = alerting_tells s.tones h (peer_of w.legs h.leg.peer)
-act_tells s w h m act.Answer = answering_tells h (peer_of w.legs h.leg.peer)
+act_tells s w h m act.Answer = answering_tells w.legs h (peer_of w.legs h.leg.peer)
 act_tells s w h m act.Digits = digits_tell s w h m (pending_at w.legs h.slot)
 act_tells s w h m (act.Disconnect cause) = peer_tells s.tones cause (peer_of w.legs h.leg.peer)
 act_tells s w h m (act.Release cause) = peer_tells s.tones cause (peer_of w.legs h.leg.peer)
 act_tells s w h m (act.ReleaseComplete cause) = peer_tells s.tones cause (peer_of w.legs h.leg.peer)
+act_tells s w h m (act.Report reported) = report_tells s w h reported h.leg.enquired
 
 -- ---- a SETUP
 
@@ -123,17 +152,17 @@ either_tells : (b : Bool) (p q : List Operation) → TellsOfTones p → TellsOfT
 either_tells true p q one other = one
 either_tells false p q one other = other
 
-restarted_peer_tells : (tones : Tones) (cause : ℕ) (r : Restart) (line : ℕ) (o : Option HeldLeg) → TellsOfTones (with_peer o (restart_peer tones cause r line))
-restarted_peer_tells tones cause r line None = refl
-restarted_peer_tells tones cause r line (Some other) =
-    either_tells (restarts_slot r line other.slot) (remove_leg other) (clear_with tones cause other) refl (cleared_tells tones cause other)
+restarted_peer_tells : (tones : Tones) (cause : ℕ) (owed : Bool) (r : Restart) (line : ℕ) (o : Option HeldLeg) → TellsOfTones (with_peer o (restart_peer tones cause owed r line))
+restarted_peer_tells tones cause owed r line None = refl
+restarted_peer_tells tones cause owed r line (Some other) =
+    either_tells (restarts_slot r line other.slot) (remove_leg owed other) (clear_with tones cause other) refl (cleared_tells tones cause other)
 
-pub restarted_leg_tells : (tones : Tones) (cause : ℕ) (r : Restart) (legs : Legs) (o : Option HeldLeg) → TellsOfTones (restart_leg tones cause r legs o)
-restarted_leg_tells tones cause r legs None = refl
-restarted_leg_tells tones cause r legs (Some h) = restarted_peer_tells tones cause r h.slot.line (peer_of legs h.leg.peer)
+pub restarted_leg_tells : (tones : Tones) (cause : ℕ) (owed : Bool) (r : Restart) (legs : Legs) (o : Option HeldLeg) → TellsOfTones (restart_leg tones cause owed r legs o)
+restarted_leg_tells tones cause owed r legs None = refl
+restarted_leg_tells tones cause owed r legs (Some h) = restarted_peer_tells tones cause owed r h.slot.line (peer_of legs h.leg.peer)
 
 pub restart_tells : (tones : Tones) (r : Restart) (legs : Legs) (x : Slot) → TellsOfTones (restart_slot tones r legs x)
-restart_tells tones r legs x = either_tells (is_restarted r x.place) (restart_leg tones temporary_failure r legs (held_at legs x)) [] (restarted_leg_tells tones temporary_failure r legs (held_at legs x)) refl
+restart_tells tones r legs x = either_tells (is_restarted r x.place) (restart_leg tones temporary_failure false r legs (held_at legs x)) [] (restarted_leg_tells tones temporary_failure false r legs (held_at legs x)) refl
 
 -- ---- a message on no call
 
@@ -186,14 +215,9 @@ module _ (s : Setting) (w : World) (h : HeldLeg) (stands : CallsStand s w) (in_x
   peer_of_tells : (cause : ℕ) → TellsOfTones (clear_peer s.tones w.legs h cause)
   peer_of_tells cause = peer_tells s.tones cause (peer_of w.legs h.leg.peer)
 
-  -- two legs are cleared, one after the other
-  both_tell : (tone : Option Kind) (m : OutgoingMessage) (ps : List Operation) → TellsOfTones ps → TellsOfTones (Sound h.slot tone ∷ Send h.slot.line (with_progress tone m) ∷ ps)
-  both_tell None m ps tells = tells
-  both_tell (Some kind) m ps tells = ap (λ (lines : List ℕ). h.slot.line ∷ lines) tells
-
   legs_tell : (cause : ℕ) → TellsOfTones (clear_both s.tones w.legs h cause)
   legs_tell cause =
-      both_tell (tone_of s.tones (in_disconnect_indication recovery_on_timer_expiry h.leg)) (disconnect h.leg recovery_on_timer_expiry) (clear_peer s.tones w.legs h cause) (peer_of_tells cause)
+      both_tell h.slot (tone_of s.tones (in_disconnect_indication recovery_on_timer_expiry h.leg)) (disconnect h.leg recovery_on_timer_expiry) (clear_peer s.tones w.legs h cause) (peer_of_tells cause)
 
   pub expiry_tells : (e : Expiry) → TellsOfTones (on_expiry s.tones w.legs h e)
   expiry_tells expiry.Digits = cleared_tells s.tones invalid_number_format h

@@ -1,15 +1,17 @@
 -- A message has a record for each call that it ends, and no other.
 use Rattle.std.proofs.Common.{◌≡◌, ℕ, zero, suc, ◌*◌, ◌<◌, ◌≤◌, Bool, true, false, ◌⊎◌, inl, inr, List, [], ◌++◌, length, Option, Some, None, refl, sym, ◌∙◌, ap, subst, arith, if◌then◌else◌}
-use Rattle.std.specs.Prelude.{Contains}
+use Rattle.std.specs.Prelude.{◌==◌, Contains, option_and_then, unwrap_or}
+use Rattle.std.specs.List.{cons_option}
 use Rattle.std.proofs.lemmas.List.Elements.{Contains-append_left, Contains-append_right, Contains-append_cases}
 use Rattle.circuit_model.specs.declared.channel.Slot.{Slot}
 use Rattle.circuit_model.specs.Circuits.{heard_by}
 use Rattle.circuit_model.specs.Extent.{IsExternal}
 use Rattle.circuit_model.proofs.Age.{none_in_nil}
 use Rattle.circuit_model.proofs.Slots.{true_or_false}
-use Rattle.q931_codec.specs.Causes.{temporary_failure}
+use Rattle.q931_codec.specs.CallStates.{active}
+use Rattle.q931_codec.specs.Causes.{message_not_compatible_with_call_state, temporary_failure}
 use Rattle.q931_codec.specs.declared.message.Message.{Message}
-use Rattle.call_states.specs.Acts.{act_on, cause_of_act}
+use Rattle.call_states.specs.Acts.{act_on}
 use Rattle.call_states.specs.declared.act.Act.{Act}
 use Rattle.call_states.specs.declared.act.Act.TheVariants as act
 use Rattle.call_states.specs.declared.leg.HeldLeg.{HeldLeg}
@@ -21,6 +23,7 @@ use Rattle.exchange_events.specs.declared.record.CallRecord.{CallRecord}
 use Rattle.exchange_events.specs.Sizes.{Setting}
 use Rattle.call_profile.specs.CallRecords.{is_calling, record_of, records}
 use Rattle.call_profile.specs.Calls.{Request, For_leg, New_call, On_no_call, Restarts, Unanswered, request_of, outcome_for, after_message, answer_to, course_on, making_by}
+use Rattle.call_profile.specs.EndedCalls.{cause_of_act_at, record_ended}
 use Rattle.call_profile.specs.Legs.{leg_at, held_at}
 use Rattle.call_profile.specs.Operations.{making_after_all}
 use Rattle.call_profile.specs.Recorded.{Arrive, HasEnded, IsRecordOf, IsRecorded, cause_of_clearing}
@@ -195,7 +198,7 @@ module _ (s : Setting) (r : Restart) (line : ℕ) (w : World) (below : line < s.
           let done = slot_done s.dimensions s.tones r line a.making here refl so_far.legs.kept (below, small) restarted in
           step_by (stays_silent external r line u v here done) (calls_on external r line u v here done)
       | inr not_so ↦
-          let same : v ≡ u = ap (λ (b : Bool). (making_after_all s.dimensions a.making (if b then restart_leg s.tones temporary_failure r u.legs (held_at u.legs here) else [])).world) not_so in
+          let same : v ≡ u = ap (λ (b : Bool). (making_after_all s.dimensions a.making (if b then restart_leg s.tones temporary_failure false r u.legs (held_at u.legs here) else [])).world) not_so in
           step_by
           (λ z in_z silent. ap (λ (q : World). is_calling (leg_at q.legs z)) same ∙ silent)
           (λ z l in_z at calls. (sym (ap (λ (q : World). leg_at q.legs z) same) ∙ at, ap (λ (q : World). heard_by q.holding.circuits z) same))
@@ -215,7 +218,14 @@ module _ (s : Setting) (r : Restart) (line : ℕ) (w : World) (below : line < s.
 abbrev pub IsAccounted : ℕ → World → World → Option ℕ → List CallRecord → Type 0
 IsAccounted external w v given told = (cause : ℕ) × AreOfEnded external w v cause told × ((given ≡ Some cause) ⊎ (told ≡ []))
 
-act_clears : (w : World) (h : HeldLeg) (a : Act) → (cause_of_act a ≡ Some (told_cause a)) ⊎ (records_of_act w h a ≡ [])
+report_clears : (w : World) (h : HeldLeg) (asked same : Bool)
+    → let given : Option ℕ = (if asked then (if same then None else Some message_not_compatible_with_call_state) else None) in
+    (given ≡ Some (unwrap_or given 0)) ⊎ (cons_option (option_and_then (record_ended w h) given) [] ≡ [])
+report_clears w h true true = inr refl
+report_clears w h true false = inl refl
+report_clears w h false same = inr refl
+
+act_clears : (w : World) (h : HeldLeg) (a : Act) → (cause_of_act_at h.leg a ≡ Some (told_cause h.leg a)) ⊎ (records_of_act w h a ≡ [])
 act_clears w h act.Nothing = inr refl
 act_clears w h act.Unexpected = inr refl
 act_clears w h act.Enquiry = inr refl
@@ -226,19 +236,20 @@ act_clears w h act.Digits = inr refl
 act_clears w h (act.Disconnect cause) = inl refl
 act_clears w h (act.Release cause) = inl refl
 act_clears w h (act.ReleaseComplete cause) = inl refl
+act_clears w h (act.Report reported) = report_clears w h h.leg.enquired (reported == active)
 
 module _ (s : Setting) (w : World) (line : ℕ) (octets : List ℕ) (may : Arrive s w line octets) where
   abbrev size : length w.legs.held ≡ 30 * s.dimensions.external
   size = may.stands.legs.count
 
   leg_accounted : (h : HeldLeg) (m : Message) → request_of w.legs line octets ≡ For_leg h m
-      → IsAccounted s.dimensions.external w (outcome_for s w line (For_leg h m)).making.world (cause_of_act (act_on h.leg.state m)) (outcome_for s w line (For_leg h m)).recorded
+      → IsAccounted s.dimensions.external w (outcome_for s w line (For_leg h m)).making.world (cause_of_act_at h.leg (act_on h.leg.state m)) (outcome_for s w line (For_leg h m)).recorded
   leg_accounted h m is =
       let named = received_stands w.legs line octets h m is in
       let on = named.among in
       let within : IsExternal s.dimensions.external h.slot = (subst (λ n. n < s.dimensions.external) (sym on.0) may.fits.0, on.1) in
       let v = (making_by s w (course_on s w h m)).world in
-      let cause = told_cause (act_on h.leg.state m) in
+      let cause = told_cause h.leg (act_on h.leg.state m) in
       let told = leg_records s w h m may.planned may.stands within named.at in (
         cause,
         subst (AreOfEnded s.dimensions.external w v cause) (records_leg_ends s w h m may.planned may.stands within named.at ∙ sym told) (of_records s.dimensions.external w v cause size),

@@ -12,14 +12,15 @@ use Rattle.number_plan.specs.declared.target.Found.TheVariants.{Line, Lines, Roo
 use Rattle.call_profile.specs.CallRecords.{records, is_calling}
 use Rattle.call_profile.specs.Calls.{making_by}
 use Rattle.call_profile.specs.LegStanding.{CallsStand}
-use Rattle.call_profile.specs.Legs.{Legs, leg_at, lowest_free_reference}
-use Rattle.call_profile.specs.Operations.{Wait, begun, making_at, making_after, making_after_all}
+use Rattle.call_profile.specs.Legs.{Legs, is_down, leg_at, lowest_free_reference}
+use Rattle.call_profile.specs.Operations.{Making, Wait, begun, making_at, making_after, making_after_all}
 use Rattle.exchange_events.specs.Sizes.{Setting}
 use Rattle.call_states.specs.declared.leg.Leg.{Leg}
 use Rattle.call_states.specs.declared.pending.Pending.{Pending}
 use Rattle.call_profile.specs.Setup.{caller_leg, called_leg, caller_slot, called_slot, target_of, call_asked, call_line, call_room, await_digits, call, accept, accept_at, setup, refusal, course_of_setup}
 use Rattle.exchange_events.specs.Sound.{IsPlanned, line_exists}
 use Rattle.call_profile.specs.World.{World}
+use Rattle.call_profile.proofs.AnsweredLegLemmas.{answered_from, joined, making_joined, room_leg}
 use Rattle.call_profile.proofs.BesideLemmas.{leg_at-with_entry_else}
 use Rattle.call_profile.proofs.EndedCallLemmas.{no_record_where_kept}
 use Rattle.call_profile.proofs.NewCallLemmas.{leg_at_empty_slot}
@@ -45,10 +46,14 @@ module _ (s : Setting) (w : World) (first : Bool) (own : ℕ) (asked : Pending) 
       leg_at_both_else s.dimensions.external w.legs x y (Some (begun w (caller_leg outgoing_call_proceeding own (peer.Leg y)))) (Some (begun w (called_leg reference x))) size in_x in_y apart z in_z
       (not_there w.legs x z leg silent at calls) (not_there w.legs y z leg silent_y at calls) ∙ at)
 
-  records_room_ends : (room : ℕ) → records w (making_after_all s.dimensions (making_at w) (call_room first own x room)).world 0 ≡ []
-  records_room_ends room =
-      no_record_where_kept s.dimensions.external w (making_after_all s.dimensions (making_at w) (call_room first own x room)).world 0 size
-      (λ z leg in_z at calls. leg_at-with_entry_else s.dimensions.external w.legs x z (Some (begun w (caller_leg active own (peer.Room room)))) in_x in_z (not_there w.legs x z leg silent at calls) ∙ at)
+  records_joined_ends : (room : ℕ) → records w (joined s.dimensions w first own x room).world 0 ≡ []
+  records_joined_ends room =
+      no_record_where_kept s.dimensions.external w (joined s.dimensions w first own x room).world 0 size
+      (λ z leg in_z at calls. leg_at-with_entry_else s.dimensions.external w.legs x z (Some (answered_from (is_down w.legs x.line) w.holding.next (room_leg own room))) in_x in_z
+      (not_there w.legs x z leg silent at calls) ∙ at)
+
+  records_room_ends : (room : ℕ) → records w (making_after_all s.dimensions (making_at w) (call_room first w.legs own x room)).world 0 ≡ []
+  records_room_ends room = subst (λ (m : Making). records w m.world 0 ≡ []) (sym (making_joined s.dimensions w first own x room)) (records_joined_ends room)
 
   records_wait_ends : records w (making_after s.dimensions (making_at w) (Wait x (caller_leg overlap_sending own peer.Alone) asked)).world 0 ≡ []
   records_wait_ends =

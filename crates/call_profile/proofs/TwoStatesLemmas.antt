@@ -18,12 +18,12 @@ use Rattle.call_profile.proofs.BesideLemmas.{same_or_apart, Beside, each_stands,
 abbrev pub gone_to : World → ℕ → Leg → Leg
 gone_to w state leg = begun w (in_state state leg)
 
--- the other leg of its call, which may have stayed in its own
+-- the same, whatever its wait: the leg may have stayed in its state, or wait for its data link
 abbrev pub moved_to : ℕ → ℕ → Bool → Leg → Leg
 moved_to state since resent leg = record leg { state = state; since = since; resent = resent }
 
 -- what is known once the called leg at x is in state s and the caller's at y in state t
-pub record HasGone (external : ℕ) (tones : Tones) (w v : World) (x y : Slot) (leg other : Leg) (s t since : ℕ) (resent : Bool) : Type 0 where
+pub record HasGone (external : ℕ) (tones : Tones) (w v : World) (x y : Slot) (leg other : Leg) (s t since : ℕ) (waits resent : Bool) : Type 0 where
   pub stand : LegsStand external tones w
   pub in_x : IsExternal external x
   pub in_y : IsExternal external y
@@ -34,42 +34,42 @@ pub record HasGone (external : ℕ) (tones : Tones) (w v : World) (x y : Slot) (
   pub state_y : is_among every_state t ≡ true
   pub matched : are_matched t s ≡ true
   pub size : length v.legs.held ≡ 30 * external
-  pub here_x : leg_at v.legs x ≡ Some (gone_to w s leg)
+  pub here_x : leg_at v.legs x ≡ Some (moved_to s w.holding.next waits leg)
   pub here_y : leg_at v.legs y ≡ Some (moved_to t since resent other)
-  pub hears_x : MayHear tones (gone_to w s leg) (heard_by v.holding.circuits x)
+  pub hears_x : MayHear tones (moved_to s w.holding.next waits leg) (heard_by v.holding.circuits x)
   pub hears_y : MayHear tones (moved_to t since resent other) (heard_by v.holding.circuits y)
   pub beside : Beside external w v x y
 
-module _ (external : ℕ) (tones : Tones) (w v : World) (x y : Slot) (leg other : Leg) (s t since : ℕ) (resent : Bool) (g : HasGone external tones w v x y leg other s t since resent) where
-  gone_call : AreOneCall y (moved_to t since resent other) x (gone_to w s leg)
+module _ (external : ℕ) (tones : Tones) (w v : World) (x y : Slot) (leg other : Leg) (s t since : ℕ) (waits resent : Bool) (g : HasGone external tones w v x y leg other s t since waits resent) where
+  gone_call : AreOneCall y (moved_to t since resent other) x (moved_to s w.holding.next waits leg)
   gone_call = let c = g.call in record { calls = c.calls; is_called = c.is_called; there = c.there; back = c.back; matched = g.matched }
 
-  called_stands : LegStands external tones v x (gone_to w s leg)
+  called_stands : LegStands external tones v x (moved_to s w.holding.next waits leg)
   called_stands =
       let old = g.stand.each x leg g.in_x g.at_x in
-      let in_call : IsInCall leg.side x (gone_to w s leg) y (moved_to t since resent other) = subst (λ (side : Side). IsInCall side x (gone_to w s leg) y (moved_to t since resent other)) (sym g.call.is_called) gone_call in
+      let in_call : IsInCall leg.side x (moved_to s w.holding.next waits leg) y (moved_to t since resent other) = subst (λ (side : Side). IsInCall side x (moved_to s w.holding.next waits leg) y (moved_to t since resent other)) (sym g.call.is_called) gone_call in
       record {
         state = g.state_x;
         reference = old.reference;
         cause = old.cause;
-        peer = subst (HasPeer external v.legs x (gone_to w s leg)) (sym g.call.back) (g.in_y, (moved_to t since resent other, g.here_y, in_call));
+        peer = subst (HasPeer external v.legs x (moved_to s w.holding.next waits leg)) (sym g.call.back) (g.in_y, (moved_to t since resent other, g.here_y, in_call));
         hears = g.hears_x;
       }
 
   caller_stands : LegStands external tones v y (moved_to t since resent other)
   caller_stands =
       let old = g.stand.each y other g.in_y g.at_y in
-      let in_call : IsInCall other.side y (moved_to t since resent other) x (gone_to w s leg) = subst (λ (side : Side). IsInCall side y (moved_to t since resent other) x (gone_to w s leg)) (sym g.call.calls) gone_call in
+      let in_call : IsInCall other.side y (moved_to t since resent other) x (moved_to s w.holding.next waits leg) = subst (λ (side : Side). IsInCall side y (moved_to t since resent other) x (moved_to s w.holding.next waits leg)) (sym g.call.calls) gone_call in
       record {
         state = g.state_y;
         reference = old.reference;
         cause = old.cause;
-        peer = subst (HasPeer external v.legs y (moved_to t since resent other)) (sym g.call.there) (g.in_x, (gone_to w s leg, g.here_x, in_call));
+        peer = subst (HasPeer external v.legs y (moved_to t since resent other)) (sym g.call.there) (g.in_x, (moved_to s w.holding.next waits leg, g.here_x, in_call));
         hears = g.hears_y;
       }
 
   gone_x : (l : Leg) → leg_at v.legs x ≡ Some l → LegStands external tones v x l
-  gone_x l is = let e : Some (gone_to w s leg) ≡ Some l = sym g.here_x ∙ is in let same : gone_to w s leg ≡ l = cc in subst (LegStands external tones v x) same called_stands
+  gone_x l is = let e : Some (moved_to s w.holding.next waits leg) ≡ Some l = sym g.here_x ∙ is in let same : moved_to s w.holding.next waits leg ≡ l = cc in subst (LegStands external tones v x) same called_stands
 
   gone_y : (l : Leg) → leg_at v.legs y ≡ Some l → LegStands external tones v y l
   gone_y l is = let e : Some (moved_to t since resent other) ≡ Some l = sym g.here_y ∙ is in let same : moved_to t since resent other ≡ l = cc in subst (LegStands external tones v y) same caller_stands
@@ -77,8 +77,8 @@ module _ (external : ℕ) (tones : Tones) (w v : World) (x y : Slot) (leg other 
   references_gone : SameReferences external w v
   references_gone z b in_z at_z = elim (same_or_apart z x) [
     | inl is_x ↦
-        let e : Some (gone_to w s leg) ≡ Some b = sym g.here_x ∙ sym (ap (leg_at v.legs) is_x) ∙ at_z in
-        let same : gone_to w s leg ≡ b = cc in
+        let e : Some (moved_to s w.holding.next waits leg) ≡ Some b = sym g.here_x ∙ sym (ap (leg_at v.legs) is_x) ∙ at_z in
+        let same : moved_to s w.holding.next waits leg ≡ b = cc in
         (leg, ap (leg_at w.legs) is_x ∙ g.at_x, ap (λ (l : Leg). l.side) same, ap (λ (l : Leg). l.reference) same)
     | inr not_x ↦ elim (same_or_apart z y) [
       | inl is_y ↦

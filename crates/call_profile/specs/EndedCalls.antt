@@ -4,11 +4,13 @@ use Rattle.std.specs.Prelude.{ℕ, ◌==◌, List, [], Option, Some, None, optio
 use Rattle.std.specs.List.{cons_option}
 use Rattle.circuit_model.specs.declared.channel.Slot.{Slot}
 use Rattle.q931_codec.specs.CallStates.{active}
-use Rattle.q931_codec.specs.Causes.{destination_out_of_order, no_answer_from_user, no_user_responding, temporary_failure}
+use Rattle.q931_codec.specs.Causes.{destination_out_of_order, message_not_compatible_with_call_state, no_answer_from_user, no_user_responding, temporary_failure}
 use Rattle.call_timers.specs.declared.expiry.Expiry.{Expiry}
 use Rattle.call_timers.specs.declared.expiry.Expiry.TheVariants as expiry
 use Rattle.call_states.specs.Acts.{cause_of_act}
 use Rattle.call_states.specs.declared.act.Act.{Act}
+use Rattle.call_states.specs.declared.act.Act.TheVariants as act
+use Rattle.call_states.specs.declared.leg.Leg.{Leg}
 use Rattle.call_states.specs.declared.leg.Side.{Side}
 use Rattle.call_states.specs.declared.leg.Side.TheVariants.{Caller, Called}
 use Rattle.clearing_rules.specs.declared.scope.Restart.{Restart}
@@ -35,9 +37,14 @@ record_calling w cause h = if is_calling (Some h.leg) then record_of w cause h e
 abbrev pub record_ended : World → HeldLeg → ℕ → Option CallRecord
 record_ended w h cause = option_and_then (record_calling w cause) (caller_in h.leg.side h (peer_of w.legs h.leg.peer))
 
+-- the cause with which an act clears the call of a leg, if it clears it: what the user reports matters only if it was asked
+abbrev pub cause_of_act_at : Leg → Act → Option ℕ
+cause_of_act_at leg (act.Report reported) = if leg.enquired then (if reported == active then None else Some message_not_compatible_with_call_state) else None
+cause_of_act_at leg a = cause_of_act a
+
 -- the record of the call that an act ends
 abbrev pub record_of_act : World → HeldLeg → Act → Option CallRecord
-record_of_act w h a = option_and_then (record_ended w h) (cause_of_act a)
+record_of_act w h a = option_and_then (record_ended w h) (cause_of_act_at h.leg a)
 
 -- the records of the calls that the restart of a slot ends
 abbrev pub slot_records : Restart → World → Slot → List CallRecord

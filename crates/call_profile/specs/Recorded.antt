@@ -2,7 +2,7 @@
 use Rattle.std.specs.Prelude.{◌≡◌, ℕ, ◌<◌, nat_lt, true, false, List, AllPairs, Contains, Option, Some, None, if◌then◌else◌}
 use Rattle.circuit_model.specs.Extent.{IsExternal}
 use Rattle.q931_codec.specs.Causes.{temporary_failure}
-use Rattle.call_states.specs.Acts.{act_on, cause_of_act}
+use Rattle.call_states.specs.Acts.{act_on}
 use Rattle.call_states.specs.declared.leg.HeldLeg.{HeldLeg}
 use Rattle.clearing_rules.specs.declared.scope.Restart.{Restart}
 use Rattle.exchange_events.specs.declared.record.CallRecord.{CallRecord}
@@ -13,6 +13,7 @@ use Rattle.exchange_events.specs.Sizes.{Setting}
 use Rattle.exchange_events.specs.Sound.{Fits, IsPlanned}
 use Rattle.call_profile.specs.CallRecords.{is_calling, record_of}
 use Rattle.call_profile.specs.Calls.{Request, For_leg, New_call, On_no_call, Restarts, Unanswered, request_of, after_message, answer_to}
+use Rattle.call_profile.specs.EndedCalls.{cause_of_act_at}
 use Rattle.call_profile.specs.LegStanding.{CallsStand}
 use Rattle.call_profile.specs.Legs.{leg_at}
 use Rattle.call_profile.specs.Restarts.{restarts_slot}
@@ -33,7 +34,7 @@ pub record HasEnded (external : ℕ) (before afterwards : World) (h : HeldLeg) :
 
 -- the cause with which a message begins to clear calls, if it clears any
 abbrev pub cause_of_clearing : Request → Option ℕ
-cause_of_clearing (For_leg h m) = cause_of_act (act_on h.leg.state m)
+cause_of_clearing (For_leg h m) = cause_of_act_at h.leg (act_on h.leg.state m)
 cause_of_clearing (New_call setup) = None
 cause_of_clearing (On_no_call m) = None
 cause_of_clearing (Restarts r) = Some temporary_failure
