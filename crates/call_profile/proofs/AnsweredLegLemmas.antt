@@ -30,6 +30,14 @@ making_by_link d m x leg false = refl
 pub making_answered : (d : Dimensions) (m : Making) (legs : Legs) (x : Slot) (leg : Leg) → making_after d m (answered legs x leg) ≡ with_answered legs m x leg
 making_answered d m legs x leg = making_by_link d m x leg (is_down legs x.line)
 
+-- what holds of either operation
+either_way : (P : Operation → Type 0) (x : Slot) (leg : Leg) (down : Bool) → P (Await x leg) → P (Put x leg) → P (if down then Await x leg else Put x leg)
+either_way P x leg true awaits puts = awaits
+either_way P x leg false awaits puts = puts
+
+pub answered_does : (P : Operation → Type 0) (legs : Legs) (x : Slot) (leg : Leg) → P (Await x leg) → P (Put x leg) → P (answered legs x leg)
+answered_does P legs x leg = either_way P x leg (is_down legs x.line)
+
 -- ---- an answered call
 
 abbrev pub connecting : Dimensions → World → HeldLeg → HeldLeg → Making

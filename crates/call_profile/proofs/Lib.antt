@@ -19,6 +19,7 @@ pub mod NamedLegLemmas
 pub mod ToneLemmas
 pub mod AnsweredLegLemmas
 pub mod DisconnectedCallLemmas
+pub mod ReportLemmas
 pub mod AnsweringLemmas
 pub mod LineLemmas
 pub mod BesideLemmas

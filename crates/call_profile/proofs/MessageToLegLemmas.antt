@@ -1,5 +1,5 @@
 -- A message to a leg keeps the legs consistent.
-use Rattle.std.proofs.Common.{◌≡◌, ◌≢◌, ℕ, ◌<◌, Bool, true, false, List, [], ◌∷◌, ◌++◌, Option, Some, None, refl, sym, subst, arith, eqb-true, if◌then◌else◌}
+use Rattle.std.proofs.Common.{◌≡◌, ◌≢◌, ℕ, ◌<◌, Bool, true, false, List, [], ◌∷◌, Option, Some, None, refl, sym, subst, arith, eqb-true, if◌then◌else◌}
 use Rattle.std.specs.Prelude.{◌==◌}
 use Rattle.std.proofs.lemmas.Grind.{common_steps}
 use Rattle.circuit_model.specs.declared.channel.Slot.{Slot}
@@ -21,10 +21,9 @@ use Rattle.call_states.specs.declared.leg.Peer.TheVariants as peer
 use Rattle.call_states.specs.declared.leg.Side.{Side}
 use Rattle.call_states.proofs.Causes.{cause_fits}
 use Rattle.call_states.specs.declared.leg.HeldLeg.{HeldLeg}
-use Rattle.call_profile.specs.ActCourse.{course_of, course_of_report}
-use Rattle.call_profile.specs.Acts.{clear_with, with_enquiry, peer_of, with_peer, on_alerting, on_connect}
+use Rattle.call_profile.specs.ActCourse.{course_of}
+use Rattle.call_profile.specs.Acts.{with_enquiry, peer_of, with_peer, on_alerting, on_connect}
 use Rattle.call_profile.specs.Calls.{making_by}
-use Rattle.call_profile.specs.Course.{only, nothing}
 use Rattle.call_profile.specs.LegStanding.{CallsStand, LegsStand, IsInCall, AreOneCall}
 use Rattle.exchange_events.specs.Sound.{IsPlanned}
 use Rattle.call_profile.specs.Legs.{Legs, leg_at}
@@ -37,6 +36,7 @@ use Rattle.call_profile.proofs.TwoEntriesLemmas.{ArePeers}
 use Rattle.call_profile.proofs.DigitsLemmas.{digits_kept}
 use Rattle.call_profile.proofs.DisconnectedCallLemmas.{call_disconnected}
 use Rattle.call_profile.proofs.ExpiredLegLemmas.{waits_enquired}
+use Rattle.call_profile.proofs.ReportLemmas.{report_does}
 use Rattle.call_profile.proofs.ClearingLemmas.{Kept, held_there, peers_of, disconnect_kept, released_kept, gone_kept}
 
 -- ---- what is known of a leg in whose state an act was asked, and of the act's cause
@@ -137,25 +137,12 @@ module _ (s : Setting) (w : World) (h : HeldLeg) (planned : IsPlanned s) (stands
   heard_by_silent : is_among ringing h.leg.state ≡ true → heard_by w.holding.circuits h.slot ≡ None
   heard_by_silent rings = silent_by s.dimensions.external s.tones w h.slot h.leg rings (heard_by w.holding.circuits h.slot) (stand.each h.slot h.leg within at).hears
 
-  -- a user reports its state
+  -- a user reports the state of its leg
   same_state_kept : Kept s.dimensions s.tones (making_after_all s.dimensions (making_at w) (Put h.slot (with_enquiry false h.leg) ∷ [])).world
   same_state_kept = (
     valid,
     waits_enquired s.dimensions.external s.tones w (making_after_all s.dimensions (making_at w) (Put h.slot (with_enquiry false h.leg) ∷ [])).world h.slot h.leg w.holding.next false false stand within at refl refl,
   )
-
-  state_kept : (m : Message) (reported : ℕ) (b : Bool)
-      → Kept s.dimensions s.tones (making_by s w (if b then only (Put h.slot (with_enquiry false h.leg) ∷ []) else record {
-        operations = clear_with s.tones message_not_compatible_with_call_state h ++ with_peer (peer_of w.legs h.leg.peer) (clear_with s.tones message_not_compatible_with_call_state);
-        cause = Some message_not_compatible_with_call_state;
-      })).world
-  state_kept m reported true = same_state_kept
-  state_kept m reported false =
-      call_disconnected s.dimensions s.tones (making_at w) h message_not_compatible_with_call_state message_not_compatible_with_call_state (omega arith) (omega arith) valid stand within at
-
-  report_kept : (m : Message) (reported : ℕ) (b : Bool) → Kept s.dimensions s.tones (making_by s w (if b then course_of_report s w h reported else nothing)).world
-  report_kept m reported true = state_kept m reported (reported == active)
-  report_kept m reported false = (valid, stand)
 
   -- what an act that was asked makes
   act_kept : (m : Message) (a : Act) → Asked h.leg.state a → Kept s.dimensions s.tones (making_by s w (course_of s w h m a)).world
@@ -177,7 +164,9 @@ module _ (s : Setting) (w : World) (h : HeldLeg) (planned : IsPlanned s) (stands
   act_kept m (act.Disconnect cause) asks = disconnect_kept s w h m cause asks.0 valid stand within at
   act_kept m (act.Release cause) asks = released_kept s w h m cause asks valid stand within at
   act_kept m (act.ReleaseComplete cause) asks = gone_kept s w h m cause asks valid stand within at
-  act_kept m (act.Report reported) asks = report_kept m reported h.leg.enquired
+  act_kept m (act.Report reported) asks =
+      report_does (λ (os : List Operation). Kept s.dimensions s.tones (making_after_all s.dimensions (making_at w) os).world) s w h m reported (valid, stand) same_state_kept
+      (call_disconnected s.dimensions s.tones (making_at w) h message_not_compatible_with_call_state message_not_compatible_with_call_state (omega arith) (omega arith) valid stand within at)
 
   pub leg_kept : (m : Message) → Kept s.dimensions s.tones (making_by s w (course_of s w h m (act_on h.leg.state m))).world
   leg_kept m = act_kept m (act_on h.leg.state m) (Asked-act_of h.leg.state m.kind (clearing_cause m.elements) (call_state_in m.elements) (cause_fits m.elements))

@@ -1,5 +1,5 @@
 -- What an act does for a message to a leg is permitted.
-use Rattle.std.proofs.Common.{◌≡◌, ℕ, ◌≢◌, ◌<◌, Bool, true, false, List, [], ◌∷◌, ◌++◌, Option, Some, None, refl, sym, ◌∙◌, subst, arith, eqb-true, if◌then◌else◌}
+use Rattle.std.proofs.Common.{◌≡◌, ℕ, ◌≢◌, ◌<◌, true, false, List, [], ◌∷◌, Option, Some, None, refl, sym, ◌∙◌, subst, arith, eqb-true}
 use Rattle.std.specs.Prelude.{IfSome, ◌==◌}
 use Rattle.std.proofs.lemmas.Grind.{common_steps}
 use Rattle.circuit_model.specs.declared.channel.Slot.{Slot}
@@ -27,24 +27,24 @@ use Rattle.call_states.specs.declared.leg.Peer.{Peer}
 use Rattle.call_states.specs.declared.leg.Peer.TheVariants as peer
 use Rattle.call_states.proofs.Causes.{cause_fits}
 use Rattle.call_states.specs.declared.leg.HeldLeg.{HeldLeg}
-use Rattle.call_profile.specs.ActCourse.{course_of, course_of_report}
-use Rattle.call_profile.specs.Course.{only, nothing}
+use Rattle.call_profile.specs.ActCourse.{course_of}
 use Rattle.call_profile.specs.Digits.{on_digits}
 use Rattle.call_profile.specs.Acts.{answered, with_enquiry, with_progress, peer_of, tone_of, with_peer, clear_with, in_state, in_release_request, in_disconnect_indication, message_to, disconnect, on_alerting, on_connect}
 use Rattle.call_profile.specs.KeptMessages.{IsAwaited, awaiting_answer}
 use Rattle.call_profile.specs.LegStanding.{CallsStand, LegStands, LegsStand, HasPeer}
-use Rattle.call_profile.specs.Legs.{Legs, is_down, leg_at}
-use Rattle.call_profile.specs.Operations.{Operation, Await, Put, Making, making_at, making_after_all}
+use Rattle.call_profile.specs.Legs.{Legs, leg_at}
+use Rattle.call_profile.specs.Operations.{Operation, Put, Making, making_at, making_after_all}
 use Rattle.number_plan.specs.declared.plan.Number.{Number}
 use Rattle.call_profile.specs.Peers.{IsThere, PeerIsThere}
 use Rattle.call_profile.proofs.Permitted.{CanPair, CanSound, IsPermitted, ArePermitted, permitted_both}
 use Rattle.exchange_events.specs.Sizes.{Setting, Dimensions}
 use Rattle.call_profile.specs.World.{World, obey}
-use Rattle.call_profile.proofs.AnsweredLegLemmas.{acknowledging, connecting, making_answered, with_answered}
+use Rattle.call_profile.proofs.AnsweredLegLemmas.{acknowledging, answered_does, connecting, making_answered, with_answered}
 use Rattle.call_profile.proofs.AnsweringLemmas.{ringing, caller_of, silent_by, cleared_idle, silent_idle}
 use Rattle.call_profile.proofs.AlertingLemmas.{waiting, silent_waiting}
 use Rattle.call_profile.proofs.ClearingLemmas.{held_there, peers_apart}
 use Rattle.call_profile.proofs.MessageToLegLemmas.{Asked, Asked-act_of, two_ring}
+use Rattle.call_profile.proofs.ReportLemmas.{report_does, state_agrees, state_differs}
 use Rattle.call_profile.proofs.ToneLemmas.{cleared_is_idle, tone_octets}
 
 -- ---- what can be sent to a leg
@@ -146,16 +146,11 @@ pub peer_permitted : (d : Dimensions) (tones : Tones) (plan : List Number) (m : 
 peer_permitted d tones plan m h cause None there small = tt
 peer_permitted d tones plan m h cause (Some c) there small = clear_permitted d tones plan m cause c there.0 small
 
-may_answer : (d : Dimensions) (tones : Tones) (plan : List Number) (m : Making) (x : Slot) (leg : Leg) (down : Bool)
-    → IsPermitted d tones plan m (Put x leg) → IsPermitted d tones plan m (if down then Await x leg else Put x leg)
-may_answer d tones plan m x leg true may = may
-may_answer d tones plan m x leg false may = may
-
 -- a leg that is answered, and what is done then
 pub answered_permitted : (d : Dimensions) (tones : Tones) (plan : List Number) (m : Making) (legs : Legs) (x : Slot) (leg : Leg) (os : List Operation)
     → IsPermitted d tones plan m (Put x leg) → ArePermitted d tones plan (with_answered legs m x leg) os → ArePermitted d tones plan m (answered legs x leg ∷ os)
 answered_permitted d tones plan m legs x leg os may rest = (
-  may_answer d tones plan m x leg (is_down legs x.line) may,
+  answered_does (IsPermitted d tones plan m) legs x leg may may,
   subst (λ (a : Making). ArePermitted d tones plan a os) (sym (making_answered d m legs x leg)) rest,
 )
 
@@ -206,21 +201,16 @@ module _ (s : Setting) (w : World) (h : HeldLeg) (stand : CallsStand s w) (withi
   each_idle (Some c) deaf = deaf_is_idle w.holding.circuits c.slot (stand.circuits.standing c.slot) deaf
 
   -- a user reports its state
-  state_permitted : (reported : ℕ) → h.leg.state ≡ active → (same : Bool) → ArePermitted d tones s.plan (making_at w) (if same then only (Put h.slot (with_enquiry false h.leg) ∷ []) else record {
-    operations = clear_with tones message_not_compatible_with_call_state h ++ with_peer (peer_of w.legs h.leg.peer) (clear_with tones message_not_compatible_with_call_state);
-    cause = Some message_not_compatible_with_call_state;
-  }).operations
-  state_permitted reported up true =
+  agreed_permitted : h.leg.state ≡ active → ArePermitted d tones s.plan (making_at w) (state_agrees h)
+  agreed_permitted up =
       let told : FitsMessages (with_enquiry false h.leg) = record { state = there.told.state; reference = there.told.reference } in
       ((within, told, (λ e. let wrong = sym up ∙ e in absurd cc), rw up refl), tt)
-  state_permitted reported up false =
+
+  differing_permitted : ArePermitted d tones s.plan (making_at w) (state_differs s w h)
+  differing_permitted =
       let cause : ℕ = message_not_compatible_with_call_state in
       permitted_both d tones s.plan (making_at w) (clear_with tones cause h) (with_peer (peer_of w.legs h.leg.peer) (clear_with tones cause)) (clear_permitted d tones s.plan (making_at w) cause h there (omega arith))
       (peer_permitted d tones s.plan (making_after_all d (making_at w) (clear_with tones cause h)) h cause (peer_of w.legs h.leg.peer) peer_too (omega arith))
-
-  report_permitted : (reported : ℕ) → h.leg.state ≡ active → (asked : Bool) → ArePermitted d tones s.plan (making_at w) (if asked then course_of_report s w h reported else nothing).operations
-  report_permitted reported up true = state_permitted reported up (reported == active)
-  report_permitted reported up false = tt
 
   -- what is done for more digits being permitted
   asked_permitted : (m : Message) (a : Act) → Asked h.leg.state a → (Asked h.leg.state act.Digits → ArePermitted d tones s.plan (making_at w) (on_digits s w h m))
@@ -243,7 +233,8 @@ module _ (s : Setting) (w : World) (h : HeldLeg) (stand : CallsStand s w) (withi
       let sends : Sends d h (message_to h.leg kind.ReleaseComplete) = (within.0, message_writable h.leg kind.ReleaseComplete there.told tt) in
       (within, (within, (sends, peer_permitted d tones s.plan _ h cause (peer_of w.legs h.leg.peer) peer_too asks)))
   asked_permitted m (act.ReleaseComplete cause) asks digits = (within, (within, peer_permitted d tones s.plan _ h cause (peer_of w.legs h.leg.peer) peer_too asks))
-  asked_permitted m (act.Report reported) asks digits = report_permitted reported (eqb-true h.leg.state active asks) h.leg.enquired
+  asked_permitted m (act.Report reported) asks digits =
+      report_does (ArePermitted d tones s.plan (making_at w)) s w h m reported tt (agreed_permitted (eqb-true h.leg.state active asks)) differing_permitted
 
   pub act_permitted : (m : Message) → ((h.leg.state == overlap_sending) ≡ true → ArePermitted d tones s.plan (making_at w) (on_digits s w h m))
       → ArePermitted s.dimensions s.tones s.plan (making_at w) (course_of s w h m (act_on h.leg.state m)).operations

@@ -1,5 +1,5 @@
 -- A progress indicator goes with each tone.
-use Rattle.std.proofs.Common.{◌≡◌, ℕ, ◌==◌, Bool, true, false, List, [], ◌∷◌, ◌++◌, Option, Some, None, refl, ◌∙◌, ap, if◌then◌else◌}
+use Rattle.std.proofs.Common.{◌≡◌, ℕ, ◌==◌, Bool, true, false, List, [], ◌∷◌, Option, Some, None, refl, ◌∙◌, ap, if◌then◌else◌}
 use Rattle.circuit_model.specs.declared.channel.Slot.{Slot}
 use Rattle.circuit_model.specs.Extent.{IsExternal}
 use Rattle.circuit_model.specs.declared.circuit.Kind.{Kind}
@@ -27,9 +27,8 @@ use Rattle.number_plan.specs.declared.target.Found.{Found}
 use Rattle.number_plan.specs.declared.target.Found.TheVariants.{Line, Lines, Room, More, Nothing}
 use Rattle.tone_rules.specs.declared.tones.Tones.{Tones}
 use Rattle.exchange_events.specs.Sizes.{Setting}
-use Rattle.call_profile.specs.ActCourse.{course_of, course_of_report}
-use Rattle.call_profile.specs.Course.{only, nothing}
-use Rattle.call_profile.specs.Acts.{answered, in_state, with_enquiry, in_disconnect_indication, tone_of, message_to, disconnect, with_progress, peer_of, with_peer, clear_with, on_alerting, on_connect, remove_leg}
+use Rattle.call_profile.specs.ActCourse.{course_of}
+use Rattle.call_profile.specs.Acts.{answered, in_state, in_disconnect_indication, tone_of, message_to, disconnect, with_progress, peer_of, with_peer, clear_with, on_alerting, on_connect, remove_leg}
 use Rattle.call_profile.specs.Calls.{answer_back}
 use Rattle.call_profile.specs.Expiring.{send_again, clear_peer, clear_both, on_expiry}
 use Rattle.call_profile.specs.KeptMessages.{IsKept}
@@ -39,6 +38,7 @@ use Rattle.call_profile.specs.Operations.{Operation, Sound, Put, Await, Send}
 use Rattle.call_profile.specs.Progress.{TellsOfTones, has_progress}
 use Rattle.call_profile.proofs.AnsweredLegLemmas.{acknowledging, joining, room_leg}
 use Rattle.call_profile.proofs.KeptMessageLemmas.{kept_there}
+use Rattle.call_profile.proofs.ReportLemmas.{report_does, state_differs}
 use Rattle.call_profile.specs.Restarts.{restarts_slot, restart_peer, restart_leg, restart_slot}
 use Rattle.call_states.specs.declared.pending.Pending.{Pending}
 use Rattle.call_profile.specs.Digits.{asked_with, digits_refusal, dial_on, with_pending}
@@ -106,18 +106,10 @@ digits_tell s w h m (Some p) = dialling_tells s w h (asked_with p m) (digits_ref
 
 -- ---- the acts
 
-state_tells : (s : Setting) (w : World) (h : HeldLeg) (reported : ℕ) (same : Bool) → TellsOfTones (if same then only (Put h.slot (with_enquiry false h.leg) ∷ []) else record {
-  operations = clear_with s.tones message_not_compatible_with_call_state h ++ with_peer (peer_of w.legs h.leg.peer) (clear_with s.tones message_not_compatible_with_call_state);
-  cause = Some message_not_compatible_with_call_state;
-}).operations
-state_tells s w h reported true = refl
-state_tells s w h reported false =
+differing_tells : (s : Setting) (w : World) (h : HeldLeg) → TellsOfTones (state_differs s w h)
+differing_tells s w h =
     let cause : ℕ = message_not_compatible_with_call_state in
     both_tell h.slot (tone_of s.tones (in_disconnect_indication cause h.leg)) (disconnect h.leg cause) (with_peer (peer_of w.legs h.leg.peer) (clear_with s.tones cause)) (peer_tells s.tones cause (peer_of w.legs h.leg.peer))
-
-report_tells : (s : Setting) (w : World) (h : HeldLeg) (reported : ℕ) (asked : Bool) → TellsOfTones (if asked then course_of_report s w h reported else nothing).operations
-report_tells s w h reported true = state_tells s w h reported (reported == active)
-report_tells s w h reported false = refl
 
 pub act_tells : (s : Setting) (w : World) (h : HeldLeg) (m : Message) (a : Act) → TellsOfTones (course_of s w h m a).operations
 act_tells s w h m act.Nothing = refl
@@ -130,7 +122,7 @@ act_tells s w h m act.Digits = digits_tell s w h m (pending_at w.legs h.slot)
 act_tells s w h m (act.Disconnect cause) = peer_tells s.tones cause (peer_of w.legs h.leg.peer)
 act_tells s w h m (act.Release cause) = peer_tells s.tones cause (peer_of w.legs h.leg.peer)
 act_tells s w h m (act.ReleaseComplete cause) = peer_tells s.tones cause (peer_of w.legs h.leg.peer)
-act_tells s w h m (act.Report reported) = report_tells s w h reported h.leg.enquired
+act_tells s w h m (act.Report reported) = report_does TellsOfTones s w h m reported refl refl (differing_tells s w h)
 
 -- ---- a SETUP
 

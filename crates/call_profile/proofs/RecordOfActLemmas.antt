@@ -1,6 +1,6 @@
 -- The records of what an act ends: the caller's for an act that clears a call, none for any other.
 use Rattle.std.proofs.Common.{◌≡◌, ℕ, ◌*◌, Bool, true, false, ◌&&◌, inl, inr, List, [], length, Option, Some, None, refl, sym, ◌∙◌, ap, subst, eqb-true}
-use Rattle.std.specs.Prelude.{◌==◌, ◌∷◌, ◌++◌, if◌then◌else◌, option_and_then, unwrap_or, slice_set}
+use Rattle.std.specs.Prelude.{◌==◌, if◌then◌else◌, option_and_then, unwrap_or, slice_set}
 use Rattle.std.specs.List.{cons_option}
 use Rattle.circuit_model.specs.declared.channel.Slot.{Slot}
 use Rattle.circuit_model.specs.Extent.{IsExternal}
@@ -30,7 +30,7 @@ use Rattle.call_profile.specs.EndedCalls.{caller_in, cause_of_act_at, record_cal
 use Rattle.call_profile.specs.LegStanding.{CallsStand, LegsStand, HasPeer, IsInCall, AreOneCall}
 use Rattle.exchange_events.specs.Sound.{IsPlanned}
 use Rattle.call_profile.specs.Legs.{Legs, is_down, waiting_from, leg_at, with_entry}
-use Rattle.call_profile.specs.Operations.{Operation, Put, Making, begun, making_at, making_after_all}
+use Rattle.call_profile.specs.Operations.{Operation, Making, begun, making_at, making_after_all}
 use Rattle.exchange_events.specs.Sizes.{Setting, Dimensions}
 use Rattle.call_profile.specs.World.{World}
 use Rattle.call_profile.proofs.AnsweredLegLemmas.{answered_from, connected, making_connected}
@@ -42,6 +42,7 @@ use Rattle.call_profile.proofs.DigitsRecordLemmas.{records_digits_end_none}
 use Rattle.call_profile.proofs.EndedCallLemmas.{GoesOn, no_record_where_calling, one_record}
 use Rattle.call_profile.proofs.MessageToLegLemmas.{Asked, Asked-act_of, two_ring, one_rings, with_caller}
 use Rattle.call_profile.proofs.RefusalLemmas.{no_records}
+use Rattle.call_profile.proofs.ReportLemmas.{state_agrees, state_differs}
 use Rattle.call_profile.proofs.TwoStatesLemmas.{gone_to}
 use Rattle.call_profile.proofs.LegTableLemmas.{leg_at_both_else, leg_at_both_first, leg_at_both_second}
 
@@ -225,10 +226,7 @@ module _ (s : Setting) (w : World) (h : HeldLeg) (m : Message) (planned : IsPlan
 
   abbrev report_course : Bool → Bool → Course
   report_course asked same =
-      if asked then (if same then only (Put h.slot (with_enquiry false h.leg) ∷ []) else record {
-        operations = clear_with s.tones message_not_compatible_with_call_state h ++ with_peer (peer_of w.legs h.leg.peer) (clear_with s.tones message_not_compatible_with_call_state);
-        cause = Some message_not_compatible_with_call_state;
-      }) else nothing
+      if asked then (if same then only (state_agrees h) else record { operations = state_differs s w h; cause = Some message_not_compatible_with_call_state }) else nothing
 
   same_state_goes_on : (z : Slot) → IsExternal s.dimensions.external z → GoesOn w.legs (making_by s w (report_course true true)).world.legs z
   same_state_goes_on z in_z =
