@@ -1,6 +1,6 @@
 -- The fabric decides nothing but how many paths are moved.
-use Rattle.std.proofs.Common.{◌∙◌, ◌≡◌, ℕ, zero, suc, Bool, true, false, List, [], ◌∷◌, ◌++◌, Option, Some, None, refl, sym, ap, subst, not}
-use Rattle.std.specs.Prelude.{is_some, map, option_map, if◌then◌else◌}
+use Rattle.std.proofs.Common.{◌∙◌, ◌≡◌, ℕ, zero, suc, Bool, true, false, List, [], ◌∷◌, ◌++◌, Option, Some, None, refl, sym, ap, subst, not, ◌&&◌}
+use Rattle.std.specs.Prelude.{is_some, map, option_map, if◌then◌else◌, not}
 use Rattle.circuit_model.specs.declared.channel.Slot.{Slot}
 use Rattle.circuit_model.specs.FrameInput.{Input}
 use Rattle.circuit_model.specs.Holding.{Connect, Seat as Take_seat, Clear as Clear_slot}
@@ -8,7 +8,7 @@ use Rattle.circuit_model.specs.Ports.{port_of, ports_with}
 use Rattle.control_memory.specs.Layout.{Layout}
 use Rattle.call_states.specs.Acts.{act_on}
 use Rattle.clearing_rules.specs.declared.scope.Restart.{Restart}
-use Rattle.clearing_rules.specs.Restarting.{acknowledgement}
+use Rattle.clearing_rules.specs.Restarting.{acknowledgement, restart_of}
 use Rattle.clearing_rules.specs.UnknownReference.{answer_without_call}
 use Rattle.exchange_events.specs.declared.trace.Event.{Event}
 use Rattle.exchange_events.specs.declared.trace.Event.TheVariants.{Nail, Seat as Seat_event, Free, Message, Frame, LinkUp, LinkDown}
@@ -29,7 +29,7 @@ use Rattle.call_profile.specs.Step.{reply, next, may_nail, may_seat, run, world_
 use Rattle.call_profile.specs.World.{World, is_full, nail_reply, seat_reply, obey, pass, start}
 use Rattle.call_profile.proofs.ExpiringLemmas.{lines_none, lines_more}
 use Rattle.call_profile.proofs.RestartedSlotLemmas.{below_none, below_more}
-use Rattle.call_profile.specs.LinkChanges.{outcome_of_link, rule_of, with_line}
+use Rattle.call_profile.specs.LinkChanges.{outcome_of_link, rule_of, with_line, restarts_interface, with_interface, whole_line}
 
 -- two worlds in the making that differ in nothing but paths
 pub record SameButPaths (a b : Making) : Type 0 where
@@ -184,8 +184,15 @@ module _ (s : Setting) (slots : ℕ) where
 
   -- ---- a change of a data link
 
+  interface_alike : (whole : Bool) (line : ℕ) (a b : MessageOutcome) → DoneAlike a b → DoneAlike (with_interface t.dimensions whole line a) (with_interface s.dimensions whole line b)
+  interface_alike false line a b alike = alike
+  interface_alike true line a b alike = record { making = same_performed a.making b.making (Send line (restart_of whole_line)) alike.making; recorded = alike.recorded }
+
   link_alike : (w : World) (layout : Layout) (down : Bool) (line : ℕ) → DoneAlike (outcome_of_link t.dimensions t.tones down line (with_layout w layout)) (outcome_of_link s.dimensions s.tones down line w)
-  link_alike w layout down line = below_alike (with_line w line down) layout (rule_of s.tones down) line 30
+  link_alike w layout down line =
+      let whole : Bool = not down && restarts_interface w.legs line in
+      interface_alike whole line (outcome_below t.dimensions (rule_of s.tones whole down) line (with_line (with_layout w layout) line down) 30) (outcome_below s.dimensions (rule_of s.tones whole down) line (with_line w line down) 30)
+      (below_alike (with_line w line down) layout (rule_of s.tones whole down) line 30)
 
   -- ---- an event
 

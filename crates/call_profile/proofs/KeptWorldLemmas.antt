@@ -39,7 +39,7 @@ use Rattle.call_profile.proofs.CommandLemmas.{both_true, pass_kept}
 use Rattle.call_profile.proofs.ExpiringLemmas.{slot_may, slot_fine, each_line, place_within}
 use Rattle.call_profile.proofs.StandingLegLemmas.{happened_kept}
 use Rattle.call_profile.proofs.PermittedLemmas.{act_may, call_may, answer_may}
-use Rattle.call_profile.proofs.RestartedSlotLemmas.{each_below}
+use Rattle.call_profile.proofs.RestartedSlotLemmas.{each_below, linked_by}
 use Rattle.call_profile.proofs.RestartLemmas.{slot_kept, slot_permitted}
 use Rattle.call_profile.specs.LinkChanges.{outcome_of_link, rule_of, with_line}
 use Rattle.call_profile.proofs.LinkLemmas.{linked_kept, rule_kept, rule_may}
@@ -116,13 +116,13 @@ module _ (s : Setting) (P : World → Type 0) (keeps : Keeps s.dimensions s.tone
   -- ---- a change of a data link
 
   linked : (w : World) (down : Bool) (line : ℕ) → line < s.dimensions.external → CallsStand s w → P w → P (outcome_of_link s.dimensions s.tones down line w).making.world
-  linked w down line below stands holds =
-      (each_below s.dimensions (rule_of s.tones down) line (with_line w line down) (λ a. P a.making.world × Kept s.dimensions s.tones a.making.world)
+  linked w down line below stands holds = linked_by s.dimensions s.tones down line w P (λ whole.
+      (each_below s.dimensions (rule_of s.tones whole down) line (with_line w line down) (λ a. P a.making.world × Kept s.dimensions s.tones a.making.world)
       (keeps.legs w (with_link w.legs line down) holds, linked_kept s.dimensions s.tones w line down (stands.circuits, stands.legs)) (λ a place small k.
       let x : Slot = record { line = line; place = place } in (
-        operated a.making ((rule_of s.tones down).does a.making.world.legs x) (rule_may s.dimensions s.tones a.making x k.1 (below, small) down s.plan) k.0,
-        rule_kept s.dimensions s.tones a.making x k.1 (below, small) down,
-      )) 30 (omega arith)).0
+        operated a.making ((rule_of s.tones whole down).does a.making.world.legs x) (rule_may s.dimensions s.tones a.making x k.1 (below, small) whole down s.plan) k.0,
+        rule_kept s.dimensions s.tones a.making x k.1 (below, small) whole down,
+      )) 30 (omega arith)).0)
 
   -- ---- an event
 

@@ -67,6 +67,9 @@ pub mod RestartedLineLemmas
 pub mod DroppedLineLemmas
 pub mod ResumedLineLemmas
 pub mod LinkStateLemmas
+mod OwedEventLemmas
+mod OwedSlotLemmas
+mod LinkedLegLemmas
 pub mod OutageLemmas
 pub mod UnfailingLinkLemmas
 pub mod LostLegLemmas

@@ -25,7 +25,7 @@ use Rattle.call_profile.specs.Setup.{course_of_setup}
 use Rattle.call_profile.specs.Step.{next, may_nail, may_seat, world_after_all}
 use Rattle.call_profile.specs.World.{World, start, obey, pass}
 use Rattle.call_profile.proofs.ExpiringLemmas.{each_line}
-use Rattle.call_profile.proofs.RestartedSlotLemmas.{each_below}
+use Rattle.call_profile.proofs.RestartedSlotLemmas.{each_below, linked_by}
 
 -- ---- operations leave the links as they are
 
@@ -42,7 +42,7 @@ performed_down d m (op.Await x leg) = refl
 performed_down d m (op.Remove x owed) = refl
 performed_down d m (op.Send line message) = refl
 
-performed_all_down : (d : Dimensions) (m : Making) (os : List Operation) → (making_after_all d m os).world.legs.down ≡ m.world.legs.down
+pub performed_all_down : (d : Dimensions) (m : Making) (os : List Operation) → (making_after_all d m os).world.legs.down ≡ m.world.legs.down
 performed_all_down d m [] = refl
 performed_all_down d m (o ∷ os) = performed_all_down d (making_after d m o) os ∙ performed_down d m o
 
@@ -56,9 +56,9 @@ received_down s w line (Restarts r) =
 received_down s w line Unanswered = refl
 
 linked_down : (s : Setting) (w : World) (down : Bool) (line : ℕ) → (outcome_of_link s.dimensions s.tones down line w).making.world.legs.down ≡ slice_set w.legs.down line down
-linked_down s w down line =
-    each_below s.dimensions (rule_of s.tones down) line (with_line w line down) (λ a. a.making.world.legs.down ≡ slice_set w.legs.down line down) refl
-    (λ a place small same. performed_all_down s.dimensions a.making ((rule_of s.tones down).does a.making.world.legs (record { line = line; place = place })) ∙ same) 30 (omega arith)
+linked_down s w down line = linked_by s.dimensions s.tones down line w (λ v. v.legs.down ≡ slice_set w.legs.down line down) (λ whole.
+    each_below s.dimensions (rule_of s.tones whole down) line (with_line w line down) (λ a. a.making.world.legs.down ≡ slice_set w.legs.down line down) refl
+    (λ a place small same. performed_all_down s.dimensions a.making ((rule_of s.tones whole down).does a.making.world.legs (record { line = line; place = place })) ∙ same) 30 (omega arith))
 
 -- ---- an event
 
@@ -135,7 +135,7 @@ links_run s w (e ∷ es) line size fits =
     ∙ ap (λ (down : Bool). down_after_all line down es) (is_down_next s w e line size (fits 0 e (omega arith)))
 
 -- before the first event each link is up
-all_up : (n line : ℕ) → slice_index_or (replicate n false) line false ≡ false
+pub all_up : (n line : ℕ) → slice_index_or (replicate n false) line false ≡ false
 all_up zero line = refl
 all_up (suc n) zero = refl
 all_up (suc n) (suc line) = all_up n line

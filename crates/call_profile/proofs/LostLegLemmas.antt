@@ -302,7 +302,7 @@ module _ (s : Setting) (frame : ℕ) (w : World) (kept : Kept s.dimensions s.ton
     now_kept = lines_kept s frame w kept x.line (omega (arith, below))
 
     abbrev gone : Making
-    gone = making_after_all d now (remove_leg h)
+    gone = making_after_all d now (remove_leg true h)
 
     abbrev rest : List Operation
     rest = with_peer (peer_of now.world.legs leg.peer) (clear_with s.tones destination_out_of_order)

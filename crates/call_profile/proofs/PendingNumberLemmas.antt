@@ -21,7 +21,7 @@ use Rattle.call_profile.specs.ActCourse.{course_of}
 use Rattle.call_profile.specs.Calls.{Request, For_leg, New_call, On_no_call, Restarts, Unanswered, request_of, answer_back, outcome_for}
 use Rattle.call_profile.specs.Expiring.{slot_looked_at, expire_slot}
 use Rattle.call_profile.specs.IdleSlots.{is_nailed}
-use Rattle.call_profile.specs.Legs.{Legs, waiting_from, retransmitted_from, leg_at, pending_at, no_legs}
+use Rattle.call_profile.specs.Legs.{Legs, waiting_from, retransmitted_from, leg_at, pending_at, no_legs, with_entry}
 use Rattle.call_profile.specs.LegStanding.{CallsStand}
 use Rattle.call_profile.specs.Operations as op
 use Rattle.call_profile.specs.Operations.{Operation, Making, begun, with_legs, making_at, making_after, making_after_all}
@@ -41,7 +41,7 @@ use Rattle.call_profile.proofs.ToneLemmas.{with_tone_sounding_next}
 use Rattle.call_profile.proofs.Permitted.{IsPermitted, ArePermitted}
 use Rattle.call_profile.proofs.PermittedLemmas.{act_may, call_may, answer_may}
 use Rattle.call_profile.proofs.RestartLemmas.{slot_kept, slot_permitted}
-use Rattle.call_profile.proofs.RestartedSlotLemmas.{each_below}
+use Rattle.call_profile.proofs.RestartedSlotLemmas.{each_below, linked_by}
 use Rattle.call_profile.specs.LinkChanges.{outcome_of_link, rule_of, with_line}
 use Rattle.call_profile.proofs.LinkLemmas.{linked_kept, rule_kept, rule_may}
 
@@ -70,6 +70,13 @@ module _ (external : ℕ) (plan : List Number) (legs : Legs) (x : Slot) (pend : 
 -- what every event is to keep of the entries of slots
 abbrev pub EntriesStand : ℕ → List Number → World → Type 0
 EntriesStand external plan w = NumbersPend external plan w.legs × LegsWait external w.holding.next w.legs
+
+-- which depends neither on what users are owed nor on the data links
+flags_stand : (external : ℕ) (plan : List Number) (w : World) (owed down : List Bool) → EntriesStand external plan w → EntriesStand external plan (with_legs w (record w.legs { owed = owed; down = down }))
+flags_stand external plan w owed down stand = (
+  record { legs_count = stand.0.legs_count; count = stand.0.count; each = stand.0.each },
+  record { legs_count = stand.1.legs_count; count = stand.1.count; since = stand.1.since; each = stand.1.each },
+)
 
 waiting_begun : (plan : List Number) (next : ℕ) (leg : Leg) (p : Pending) → IsWaiting plan leg p → IsWaiting plan (waiting_from next leg) p
 waiting_begun plan next leg p is = record { state = is.state; calls = is.calls; alone = is.alone; dialled = is.dialled; fits = is.fits }
@@ -101,7 +108,7 @@ module _ (d : Dimensions) (tones : Tones) (plan : List Number) where
       entered m.world h.slot may.0 stand (Some (retransmitted_from m.world.holding.next h.leg)) None (Some octets) (awaits_by keeps.message.kind h.leg.state keeps.awaited.state).1 (omega arith)
       (kept_anew m.world.holding.next h.leg octets keeps)
   performed m (op.Await x leg) may stand = entered m.world x may.0 stand (Some (retransmitted_from m.world.holding.next leg)) None None may.2 (omega arith) may.3
-  performed m (op.Remove x owed) may stand = entered m.world x may stand None None None tt tt tt
+  performed m (op.Remove x owed) may stand = flags_stand d.external plan (with_legs m.world (with_entry m.world.legs x None)) _ _ (entered m.world x may stand None None None tt tt tt)
   performed m (op.Send line message) may stand = stand
 
   performed_all : (m : Making) (os : List Operation) → ArePermitted d tones plan m os → Stand m.world → Stand (making_after_all d m os).world
@@ -144,20 +151,14 @@ turn_stands s w input stands =
 
 -- ---- a change of a data link
 
-linked_stand : (external : ℕ) (plan : List Number) (w : World) (line : ℕ) (down : Bool) → EntriesStand external plan w → EntriesStand external plan (with_line w line down)
-linked_stand external plan w line down stand = (
-  record { legs_count = stand.0.legs_count; count = stand.0.count; each = stand.0.each },
-  record { legs_count = stand.1.legs_count; count = stand.1.count; since = stand.1.since; each = stand.1.each },
-)
-
 link_stands : (s : Setting) (w : World) (down : Bool) (line : ℕ) → line < s.dimensions.external → CallsStand s w → EntriesStand s.dimensions.external s.plan (outcome_of_link s.dimensions s.tones down line w).making.world
-link_stands s w down line below stands =
-    (each_below s.dimensions (rule_of s.tones down) line (with_line w line down) (λ a. EntriesStand s.dimensions.external s.plan a.making.world × Kept s.dimensions s.tones a.making.world)
-    (linked_stand s.dimensions.external s.plan w line down (stands.numbers, stands.waits), linked_kept s.dimensions s.tones w line down (stands.circuits, stands.legs)) (λ a place small k.
+link_stands s w down line below stands = linked_by s.dimensions s.tones down line w (EntriesStand s.dimensions.external s.plan) (λ whole.
+    (each_below s.dimensions (rule_of s.tones whole down) line (with_line w line down) (λ a. EntriesStand s.dimensions.external s.plan a.making.world × Kept s.dimensions s.tones a.making.world)
+    (flags_stand s.dimensions.external s.plan w _ _ (stands.numbers, stands.waits), linked_kept s.dimensions s.tones w line down (stands.circuits, stands.legs)) (λ a place small k.
     let x : Slot = record { line = line; place = place } in (
-      performed_all s.dimensions s.tones s.plan a.making ((rule_of s.tones down).does a.making.world.legs x) (rule_may s.dimensions s.tones a.making x k.1 (below, small) down s.plan) k.0,
-      rule_kept s.dimensions s.tones a.making x k.1 (below, small) down,
-    )) 30 (omega arith)).0
+      performed_all s.dimensions s.tones s.plan a.making ((rule_of s.tones whole down).does a.making.world.legs x) (rule_may s.dimensions s.tones a.making x k.1 (below, small) whole down s.plan) k.0,
+      rule_kept s.dimensions s.tones a.making x k.1 (below, small) whole down,
+    )) 30 (omega arith)).0)
 
 -- ---- an event
 

@@ -18,7 +18,7 @@ use Rattle.call_profile.specs.Step.{next, may_nail, may_seat}
 use Rattle.call_profile.specs.Expiring.{slot_looked_at, expire_slot}
 use Rattle.call_profile.specs.World.{World, obey, pass}
 use Rattle.call_profile.proofs.ExpiringLemmas.{each_line}
-use Rattle.call_profile.proofs.RestartedSlotLemmas.{each_below}
+use Rattle.call_profile.proofs.RestartedSlotLemmas.{each_below, linked_by}
 use Rattle.call_profile.proofs.ToneLemmas.{with_tone_sounding_next}
 use Rattle.call_profile.specs.LinkChanges.{outcome_of_link, rule_of, with_line}
 
@@ -69,9 +69,9 @@ received_same s w line (Restarts r) =
 received_same s w line Unanswered = record { inputs = refl; held = refl; seated = refl; next = refl }
 
 linked_same : (s : Setting) (w : World) (down : Bool) (line : ℕ) → SameFrames w (outcome_of_link s.dimensions s.tones down line w).making.world
-linked_same s w down line =
-    each_below s.dimensions (rule_of s.tones down) line (with_line w line down) (λ a. SameFrames w a.making.world) (record { inputs = refl; held = refl; seated = refl; next = refl })
-    (λ a place small same. then_same w a.making.world _ same (performed_all_same s.dimensions a.making ((rule_of s.tones down).does a.making.world.legs (record { line = line; place = place })))) 30 (omega arith)
+linked_same s w down line = linked_by s.dimensions s.tones down line w (SameFrames w) (λ whole.
+    each_below s.dimensions (rule_of s.tones whole down) line (with_line w line down) (λ a. SameFrames w a.making.world) (record { inputs = refl; held = refl; seated = refl; next = refl })
+    (λ a place small same. then_same w a.making.world _ same (performed_all_same s.dimensions a.making ((rule_of s.tones whole down).does a.making.world.legs (record { line = line; place = place })))) 30 (omega arith))
 
 pub SameFrames-next : (s : Setting) (w : World) (e : Event) → ((input : Input) → ¬ (e ≡ Frame input)) → SameFrames w (next s w e)
 SameFrames-next s w (Nail x y) other = either_same (may_nail w x y) w (obey s.dimensions w (Connect x y)) (record { inputs = refl; held = refl; seated = refl; next = refl })

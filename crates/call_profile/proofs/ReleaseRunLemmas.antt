@@ -36,13 +36,13 @@ use Rattle.exchange_events.specs.declared.trace.Event.{Event}
 use Rattle.exchange_events.specs.declared.trace.Event.TheVariants.{Nail, Seat, Free, Message, Frame, LinkUp, LinkDown}
 use Rattle.exchange_events.specs.Sizes.{Setting, Dimensions}
 use Rattle.exchange_events.specs.Sound.{Fits, IsPlanned}
-use Rattle.call_profile.specs.Acts.{in_disconnect_indication, in_release_request, peer_of, with_peer, clear_with, remove_leg}
+use Rattle.call_profile.specs.Acts.{in_disconnect_indication, in_release_request, peer_of, with_peer, clear_with, remove_leg, with_enquiry}
 use Rattle.call_profile.specs.Calls.{Request, For_leg, New_call, On_no_call, Restarts, Unanswered, request_of, answer_back, outcome_for}
 use Rattle.call_profile.specs.Digits.{asked_with, digits_refusal, dial_on, with_pending, on_digits}
 use Rattle.call_profile.specs.Expiring.{timed_state, release_for, send_again, give_up, ask_for_release, clear_peer, clear_both, on_expiry, expire_slot, slot_looked_at}
 use Rattle.call_profile.specs.IdleSlots.{idle, is_nailed}
 use Rattle.call_profile.specs.LegStanding.{CallsStand, MayHear}
-use Rattle.call_profile.specs.Legs.{leg_at, pending_at, kept_at}
+use Rattle.call_profile.specs.Legs.{leg_at, pending_at, kept_at, is_down, is_owed, retransmitted_from}
 use Rattle.call_profile.specs.Operations as op
 use Rattle.call_profile.specs.Operations.{Operation, Making, begun, making_at, making_after, making_after_all}
 use Rattle.call_profile.specs.Permitted.{CanSeat}
@@ -62,16 +62,16 @@ use Rattle.call_profile.proofs.ExpiryStateLemmas.{due_state}
 use Rattle.call_profile.proofs.KeptMessageLemmas.{each_is_kept}
 use Rattle.call_profile.proofs.MessageToLegLemmas.{Asked-act_of}
 use Rattle.call_profile.proofs.NamedLegLemmas.{received_stands}
-use Rattle.call_profile.proofs.Permitted.{CanPair, ArePermitted}
+use Rattle.call_profile.proofs.Permitted.{CanPair, ArePermitted, IsPermitted}
 use Rattle.call_profile.proofs.PermittedActLemmas.{peer_there_too, is_there}
 use Rattle.call_profile.proofs.PermittedLemmas.{act_may, call_may}
-use Rattle.call_profile.proofs.ReleaseEventLemmas.{IsElsewhere, PeerUnreleased, unreleased_by, sounding_of, peer_quiet_still, removed_sounds, clear_quiet, cleared_sounds, act_sounds, then_peer}
+use Rattle.call_profile.proofs.ReleaseEventLemmas.{IsElsewhere, PeerUnreleased, unreleased_by, sounding_of, peer_quiet_still, removed_sounds, clear_quiet, cleared_sounds, act_sounds, then_peer, answered_quiet}
 use Rattle.call_profile.proofs.ReleaseToneLemmas.{Sounding, Unreleased, AreHushed, Sounding-making_after, performed_all}
-use Rattle.call_profile.proofs.RestartedSlotLemmas.{each_below}
+use Rattle.call_profile.proofs.RestartedSlotLemmas.{each_below, linked_by}
 use Rattle.call_profile.proofs.RestartLemmas as restarting
 use Rattle.call_profile.proofs.RestartLemmas.{slot_kept}
-use Rattle.call_profile.specs.LinkChanges.{outcome_of_link, rule_of, with_line, whole_line, drop_leg, report_state, resume_leg}
-use Rattle.call_profile.proofs.LinkLemmas.{linked_kept, rule_kept, started_may, reported_may, at_held}
+use Rattle.call_profile.specs.LinkChanges.{outcome_of_link, rule_of, with_line, whole_line, drop_leg, enquire, restart_channel, resume_held, resume_leg}
+use Rattle.call_profile.proofs.LinkLemmas.{linked_kept, rule_kept, started_may, enquired_may, channel_may, by_drop, by_resume, at_held}
 
 -- ---- a call is made, by a SETUP or for more digits
 
@@ -86,14 +86,24 @@ module _ (s : Setting) (w : World) (before : Sounding s.dimensions s.tones w) wh
   abbrev Quiet : List Operation → Type 0
   Quiet os = AreHushed s.dimensions s.tones (making_at w) os
 
+  -- the caller of a room, which waits or not
+  room_quiet : (x : Slot) (caller : Leg) → caller.state ≢ release_request → (down : Bool) → IsExternal s.dimensions.external x → Unreleased (making_after s.dimensions (making_at w) (if down then op.Await x caller else op.Put x caller)).world x
+  room_quiet x caller apart true in_x = subst IsElsewhere (sym (leg_at-with_entry_here s.dimensions.external w.legs x (Some (retransmitted_from w.holding.next caller)) before.held in_x)) apart
+  room_quiet x caller apart false in_x = subst IsElsewhere (sym (leg_at-with_entry_here s.dimensions.external w.legs x (Some (begun w caller)) before.held in_x)) apart
+
+  -- its slot is one of the exchange
+  room_within : (x : Slot) (caller : Leg) (down : Bool) → IsPermitted s.dimensions s.tones s.plan (making_at w) (if down then op.Await x caller else op.Put x caller) → IsExternal s.dimensions.external x
+  room_within x caller true may = may.0
+  room_within x caller false may = may.0
+
   call_quiet : (first : Bool) (own : ℕ) (p : Pending) (x : Slot) (t : Found) (o : Option Slot) → May (call first w own p x t o) → Quiet (call first w own p x t o)
   call_quiet first own p x (Line line) (Some y) may = (tt, (tt, ((λ is. absurd cc), tt)))
   call_quiet first own p x (Line line) None may = tt
   call_quiet first own p x (Lines lines) (Some y) may = (tt, (tt, ((λ is. absurd cc), tt)))
   call_quiet first own p x (Lines lines) None may = tt
   call_quiet first own p x (Room room) o may =
-      let caller = begun w (caller_leg active own (peer.Room room)) in
-      (tt, (subst IsElsewhere (sym (leg_at-with_entry_here s.dimensions.external w.legs x (Some caller) before.held may.0.0)) (λ is. absurd cc), (tt, (tt, tt))))
+      let caller = caller_leg active own (peer.Room room) in
+      (answered_quiet s.tones (making_at w) w.legs x caller, (room_quiet x caller (λ is. absurd cc) (is_down w.legs x.line) (room_within x caller (is_down w.legs x.line) may.0), (tt, (tt, tt))))
   call_quiet first own p x More o may = await_quiet s w first own p x
   call_quiet first own p x Nothing o may = tt
 
@@ -129,25 +139,25 @@ timed_elsewhere state n is apart same = apart (sym is ∙ same)
 
 -- ---- a slot is restarted, or its data link changes
 
-module _ (d : Dimensions) (tones : Tones) (r : Restart) (cause : ℕ) (small : cause < 128) (m : Making) (x : Slot) (kept : Kept d tones m.world) (within : IsExternal d.external x) (plan : List Number) (before : Sounding d tones m.world) where
+module _ (d : Dimensions) (tones : Tones) (r : Restart) (cause : ℕ) (owed : Bool) (small : cause < 128) (m : Making) (x : Slot) (kept : Kept d tones m.world) (within : IsExternal d.external x) (plan : List Number) (before : Sounding d tones m.world) where
   module _ (leg : Leg) (at : leg_at m.world.legs x ≡ Some leg) where
     abbrev held : HeldLeg
     held = record { slot = x; leg = leg }
 
     abbrev gone : Making
-    gone = making_after_all d m (remove_leg held)
+    gone = making_after_all d m (remove_leg owed held)
 
     gone_sounds : Sounding d tones gone.world
-    gone_sounds = removed_sounds d tones plan m before held within
+    gone_sounds = removed_sounds d tones plan m before owed held within
 
-    peer_restarted : (o : Option HeldLeg) → PeerIsThere d.external held o → PeerUnreleased gone.world o → Sounding d tones (making_after_all d gone (with_peer o (restart_peer tones cause r x.line))).world
+    peer_restarted : (o : Option HeldLeg) → PeerIsThere d.external held o → PeerUnreleased gone.world o → Sounding d tones (making_after_all d gone (with_peer o (restart_peer tones cause owed r x.line))).world
     peer_restarted None there quiet = gone_sounds
     peer_restarted (Some other) there quiet = elim (true_or_false (restarts_slot r x.line other.slot)) [
-      | inl too ↦ rw too (removed_sounds d tones plan gone gone_sounds other there.0.within)
+      | inl too ↦ rw too (removed_sounds d tones plan gone gone_sounds owed other there.0.within)
       | inr not_so ↦ rw not_so (cleared_sounds d tones plan gone gone_sounds other cause there.0 small quiet)
     ]
 
-    leg_restarted : Sounding d tones (making_after_all d m (restart_leg tones cause r m.world.legs (Some held))).world
+    leg_restarted : Sounding d tones (making_after_all d m (restart_leg tones cause owed r m.world.legs (Some held))).world
     leg_restarted =
         peer_restarted (peer_of m.world.legs leg.peer) (peer_there_too d.external tones m.world held kept.1 within at)
         (peer_quiet_still d tones plan m.world held kept.1 within at gone.world None refl)
@@ -155,7 +165,7 @@ module _ (d : Dimensions) (tones : Tones) (r : Restart) (cause : ℕ) (small : c
 module _ (d : Dimensions) (tones : Tones) (m : Making) (x : Slot) (kept : Kept d tones m.world) (within : IsExternal d.external x) (plan : List Number) (before : Sounding d tones m.world) where
   slot_restarted : (r : Restart) → Sounding d tones (making_after_all d m (restart_slot tones r m.world.legs x)).world
   slot_restarted r = restarting.at_slot tones r m.world.legs x (λ os. Sounding d tones (making_after_all d m os).world) before
-      (λ leg at. leg_restarted d tones r temporary_failure (omega arith) m x kept within plan before leg at)
+      (λ leg at. leg_restarted d tones r temporary_failure false (omega arith) m x kept within plan before leg at)
 
   module _ (leg : Leg) (at : leg_at m.world.legs x ≡ Some leg) where
     abbrev k : HeldLeg
@@ -164,33 +174,32 @@ module _ (d : Dimensions) (tones : Tones) (m : Making) (x : Slot) (kept : Kept d
     abbrev SoundsBy : List Operation → Type 0
     SoundsBy os = Sounding d tones (making_after_all d m os).world
 
-    started_sounds : leg.state ≡ active → (runs : Bool) → SoundsBy (if runs then [] else op.Await x leg ∷ [])
+    started_sounds : leg.state ≡ active → (runs : Bool) → SoundsBy (if runs then [] else op.Await x (with_enquiry false leg) ∷ [])
     started_sounds is true = before
-    started_sounds is false = performed_all d tones plan m (op.Await x leg ∷ []) (started_may d tones m x leg kept within at plan is false) (tt, tt) before
+    started_sounds is false = performed_all d tones plan m (op.Await x (with_enquiry false leg) ∷ []) (started_may d tones m x leg kept within at plan is false) (tt, tt) before
 
     drop_sounds : SoundsBy (drop_leg tones m.world.legs (Some k))
-    drop_sounds = elim (true_or_false (leg.state == active)) [
-      | inl up ↦ rw up (started_sounds (eqb-true leg.state active up) leg.resent)
-      | inr not_up ↦ rw not_up (leg_restarted d tones whole_line destination_out_of_order (omega arith) m x kept within plan before leg at)
-    ]
+    drop_sounds = by_drop d tones m x leg kept within at SoundsBy (λ talks. started_sounds talks leg.resent) (λ clears. before)
+        (λ goes. leg_restarted d tones whole_line destination_out_of_order true (omega arith) m x kept within plan before leg at)
 
     digits_cleared : leg.state ≡ overlap_sending → SoundsBy (clear_with tones temporary_failure k)
     digits_cleared dials =
         cleared_sounds d tones plan m before k temporary_failure (is_there d.external tones m.world k kept.1 within at) (omega arith)
         (unreleased_by m.world x (Some leg) at (timed_elsewhere leg.state overlap_sending dials (λ e. absurd cc)))
 
-    resume_sounds : SoundsBy (resume_leg tones (Some k))
-    resume_sounds = elim (true_or_false (leg.state == active)) [
-      | inl up ↦ rw up (performed_all d tones plan m (report_state k) (reported_may d tones m x leg kept within at plan (eqb-true leg.state active up)) (tt, (tt, tt)) before)
-      | inr not_up ↦ elim (true_or_false (leg.state == overlap_sending)) [
-        | inl dials ↦ rw (not_up, dials) (digits_cleared (eqb-true leg.state overlap_sending dials))
-        | inr other ↦ rw (not_up, other) before
-      ]
-    ]
+    resume_sounds : SoundsBy (resume_leg tones k)
+    resume_sounds = by_resume d tones m x leg kept within at SoundsBy
+        (λ talks. performed_all d tones plan m (enquire k) (enquired_may d tones m x leg kept within at plan talks) (tt, (tt, tt)) before) digits_cleared before
 
-  rule_sounds : (down : Bool) → Sounding d tones (making_after_all d m ((rule_of tones down).does m.world.legs x)).world
-  rule_sounds true = at_held m.world.legs x (drop_leg tones m.world.legs) (λ os. Sounding d tones (making_after_all d m os).world) before drop_sounds
-  rule_sounds false = at_held m.world.legs x (resume_leg tones) (λ os. Sounding d tones (making_after_all d m os).world) before resume_sounds
+  channel_sounds : leg_at m.world.legs x ≡ None → (owed whole : Bool) → Sounding d tones (making_after_all d m (if owed then restart_channel whole x else [])).world
+  channel_sounds none true true = performed_all d tones plan m (restart_channel true x) (channel_may d tones m x kept within none plan true true) (tt, tt) before
+  channel_sounds none true false = performed_all d tones plan m (restart_channel false x) (channel_may d tones m x kept within none plan true false) (tt, (tt, tt)) before
+  channel_sounds none false whole = before
+
+  rule_sounds : (whole down : Bool) → Sounding d tones (making_after_all d m ((rule_of tones whole down).does m.world.legs x)).world
+  rule_sounds whole true = at_held m.world.legs x (drop_leg tones m.world.legs) (λ os. Sounding d tones (making_after_all d m os).world) (λ none. before) drop_sounds
+  rule_sounds whole false = at_held m.world.legs x (resume_held tones whole m.world.legs x) (λ os. Sounding d tones (making_after_all d m os).world)
+      (λ none. channel_sounds none (is_owed m.world.legs x) whole) resume_sounds
 
 -- ---- a leg whose timer has run out
 
@@ -252,13 +261,13 @@ module _ (s : Setting) (frame : ℕ) (m : Making) (x : Slot) (kept : Kept s.dime
     expired : (e : Expiry) → leg.state ≡ timed_state e → ArePermitted d s.tones s.plan m (on_expiry s.tones m.world.legs h e) → Sounds (on_expiry s.tones m.world.legs h e)
     expired expiry.Digits state may = by (clear_with s.tones invalid_number_format h) may (clear_quiet d s.tones s.plan m before h invalid_number_format within (quiet_in _ state (λ e. absurd cc)))
     expired expiry.SetupAgain state may = again_sounds (kept_at m.world.legs x) may
-    expired expiry.SetupOver state may = then_cleared no_user_responding (omega arith) None (give_up h) refl (removed_sounds d s.tones s.plan m before h within)
+    expired expiry.SetupOver state may = then_cleared no_user_responding (omega arith) None (give_up h) refl (removed_sounds d s.tones s.plan m before false h within)
     expired expiry.Proceeding state may = both_cleared no_user_responding (omega arith) _ state (λ e. absurd cc)
     expired expiry.Alerting state may = both_cleared no_answer_from_user (omega arith) _ state (λ e. absurd cc)
-    expired expiry.Outage state may = then_cleared destination_out_of_order (omega arith) None (remove_leg h) refl (removed_sounds d s.tones s.plan m before h within)
+    expired expiry.Outage state may = then_cleared destination_out_of_order (omega arith) None (remove_leg true h) refl (removed_sounds d s.tones s.plan m before true h within)
     expired expiry.Disconnect state may = by (ask_for_release h) may ((λ is. asked_release state), tt)
     expired expiry.ReleaseAgain state may = again_sounds (kept_at m.world.legs x) may
-    expired expiry.ReleaseOver state may = removed_sounds d s.tones s.plan m before h within
+    expired expiry.ReleaseOver state may = removed_sounds d s.tones s.plan m before (is_down m.world.legs x.line) h within
 
   slot_expired : Sounding d s.tones (making_after_all d m (expire_slot s frame m.world.legs x)).world
   slot_expired = expiring.at_slot s frame m.world.legs x (λ os. Sounding d s.tones (making_after_all d m os).world) before
@@ -324,13 +333,13 @@ module _ (s : Setting) (w : World) (stands : CallsStand s w) where
       (slot_expired s f a.making x k.1 within k.0, slot_fine s f a.making x k.1 within)) s.dimensions.external (omega arith)).0
 
   linked : (down : Bool) (line : ℕ) → line < s.dimensions.external → Now (outcome_of_link s.dimensions s.tones down line w).making.world
-  linked down line below =
-      (each_below s.dimensions (rule_of s.tones down) line (with_line w line down) (λ a. Now a.making.world × Kept s.dimensions s.tones a.making.world)
+  linked down line below = linked_by s.dimensions s.tones down line w Now (λ whole.
+      (each_below s.dimensions (rule_of s.tones whole down) line (with_line w line down) (λ a. Now a.making.world × Kept s.dimensions s.tones a.making.world)
       (record { valid = now.valid; held = now.held; kept = now.kept; sound = now.sound }, linked_kept s.dimensions s.tones w line down (stands.circuits, stands.legs)) (λ a place small k.
       let x : Slot = record { line = line; place = place } in (
-        rule_sounds s.dimensions s.tones a.making x k.1 (below, small) s.plan k.0 down,
-        rule_kept s.dimensions s.tones a.making x k.1 (below, small) down,
-      )) 30 (omega arith)).0
+        rule_sounds s.dimensions s.tones a.making x k.1 (below, small) s.plan k.0 whole down,
+        rule_kept s.dimensions s.tones a.making x k.1 (below, small) whole down,
+      )) 30 (omega arith)).0)
 
   pub event_sounds : (e : Event) → IsPlanned s → Fits s.dimensions.external e → Now (next s w e)
   event_sounds (Nail x y) planned fits = elim (true_or_false (may_nail w x y)) [

@@ -204,7 +204,9 @@ module _ (d : Dimensions) (tones : Tones) (plan : List Number) where
   Sounding-making_after m (op.Await x leg) may quiet before =
       let next : ℕ = m.world.holding.next in
       entered m.world x (Some (retransmitted_from next leg)) None None may.0 before (other_state tones x (retransmitted_from next leg) None (heard_by m.world.holding.circuits x) (unkept_state leg.state may.3))
-  Sounding-making_after m (op.Remove x owed) may quiet before = entered m.world x None None None may before (λ leg octets e is f. absurd cc)
+  Sounding-making_after m (op.Remove x owed) may quiet before =
+      let gone = entered m.world x None None None may before (λ leg octets e is f. absurd cc) in
+      record { valid = gone.valid; held = gone.held; kept = gone.kept; sound = gone.sound }
   Sounding-making_after m (op.Send line message) may quiet before = before
 
   pub performed_all : (m : Making) (os : List Operation) → ArePermitted d tones plan m os → AreHushed d tones m os → Sounding d tones m.world → Sounding d tones (making_after_all d m os).world

@@ -1,5 +1,5 @@
 -- What the restart of a slot makes of the legs, and of what slots hear that no leg holds.
-use Rattle.std.proofs.Common.{◌≡◌, ℕ, true, false, inl, inr, Option, Some, None, refl, sym, ◌∙◌, ap, subst, if◌then◌else◌}
+use Rattle.std.proofs.Common.{◌≡◌, ℕ, Bool, true, false, inl, inr, Option, Some, None, refl, sym, ◌∙◌, ap, subst, if◌then◌else◌}
 use Rattle.std.specs.Prelude.{option_map}
 use Rattle.circuit_model.specs.declared.channel.Slot.{Slot}
 use Rattle.circuit_model.specs.declared.circuit.Circuit.{Circuit}
@@ -26,7 +26,7 @@ use Rattle.call_profile.specs.Operations.{Making, begun, making_after_all, with_
 use Rattle.call_profile.specs.Restarts.{restarts_slot, restart_peer, restart_leg, restart_slot}
 use Rattle.exchange_events.specs.Sizes.{Dimensions}
 use Rattle.call_profile.specs.World.{World}
-use Rattle.call_profile.proofs.BesideLemmas.{leg_at-with_entry_here, leg_at-with_entry_else, named_back, same_or_apart}
+use Rattle.call_profile.proofs.BesideLemmas.{look, leg_at-with_entry_here, leg_at-with_entry_else, named_back, same_or_apart}
 use Rattle.call_profile.proofs.TwoEntriesLemmas.{ArePeers, strange_both}
 use Rattle.call_profile.proofs.ClearingLemmas.{Kept, held_there, peers_of}
 use Rattle.call_profile.proofs.CommandLemmas.{not_empty, strange_to_empty}
@@ -89,7 +89,7 @@ pub record IsRestartedAt (external : ℕ) (r : Restart) (cause line : ℕ) (u v 
   pub unheld : (z : Slot) → IsExternal external z → leg_at u.legs z ≡ None → heard_by v.holding.circuits z ≡ heard_by u.holding.circuits z
   pub next : v.holding.next ≡ u.holding.next
 
-module _ (d : Dimensions) (tones : Tones) (r : Restart) (cause line : ℕ) (m : Making) (x : Slot) (on_line : x.line ≡ line) (kept : Kept d tones m.world) (in_x : IsExternal d.external x) where
+module _ (d : Dimensions) (tones : Tones) (r : Restart) (cause : ℕ) (owed : Bool) (line : ℕ) (m : Making) (x : Slot) (on_line : x.line ≡ line) (kept : Kept d tones m.world) (in_x : IsExternal d.external x) where
   abbrev u : World
   u = m.world
 
@@ -112,7 +112,7 @@ module _ (d : Dimensions) (tones : Tones) (r : Restart) (cause line : ℕ) (m : 
     held = record { slot = x; leg = leg }
 
     abbrev gone : Making
-    gone = making_after_all d m (remove_leg held)
+    gone = making_after_all d m (remove_leg owed held)
 
     keeps_unheld : (y : Slot) → leg_at u.legs y ≡ None → heard_by (after u.holding (Clear_slot x)).circuits y ≡ heard_by u.holding.circuits y
     keeps_unheld y none = heard_by-clear u.holding.circuits x y (kept.0.standing y) ∙ unless_naming_unheld_keeps d.external d.bridges tones u kept.0 kept.1 x leg in_x at y none
@@ -134,7 +134,7 @@ module _ (d : Dimensions) (tones : Tones) (r : Restart) (cause line : ℕ) (m : 
     -- it has one, which becomes this
     module _ (y : Slot) (other : Leg) (in_y : IsExternal d.external y) (at_y : leg_at u.legs y ≡ Some other) (call : IsInCall leg.side x leg y other)
         (o : Option Leg) (is : peer_after r cause line u.holding.next y other ≡ o) (tone : Option Kind)
-        (v : World) (legs : v.legs ≡ with_entry (with_entry u.legs x None) y o)
+        (v : World) (legs : v.legs.held ≡ (with_entry (with_entry u.legs x None) y o).held)
         (holding : v.holding ≡ with_tone (after (after u.holding (Clear_slot x)) (Clear_slot y)) y tone) where
       peers : ArePeers d.external u x y leg other
       peers = peers_of d.external u x y leg other in_x in_y at at_y call
@@ -153,7 +153,7 @@ module _ (d : Dimensions) (tones : Tones) (r : Restart) (cause line : ℕ) (m : 
       is_other l at_l = let e : Some l ≡ Some other = sym at_l ∙ at_y in cc
 
       here_y : leg_at v.legs y ≡ o
-      here_y = ap (λ ls. leg_at ls y) legs ∙ leg_at_both_second d.external u.legs x y None o kept.1.count in_x in_y peers.apart
+      here_y = ap (look y) legs ∙ leg_at_both_second d.external u.legs x y None o kept.1.count in_x in_y peers.apart
 
       both_other : (z : Slot) (l : Leg) → IsExternal d.external z → leg_at u.legs z ≡ Some l → l.peer ≡ peer.Leg x → leg_at v.legs z ≡ peer_after r cause line u.holding.next z l
       both_other z l in_z at_z names_x = elim (same_or_apart z y) [
@@ -185,35 +185,35 @@ module _ (d : Dimensions) (tones : Tones) (r : Restart) (cause line : ℕ) (m : 
 
       both_done : Done v
       both_done = record {
-        here = ap (λ ls. leg_at ls x) legs ∙ leg_at_both_first d.external u.legs x y None o kept.1.count in_x in_y peers.apart;
+        here = ap (look x) legs ∙ leg_at_both_first d.external u.legs x y None o kept.1.count in_x in_y peers.apart;
         other_leg = both_other;
-        legs = λ z in_z not_x strange. ap (λ ls. leg_at ls z) legs ∙ leg_at_both_else d.external u.legs x y None o kept.1.count in_x in_y peers.apart z in_z not_x (apart_from z strange);
+        legs = λ z in_z not_x strange. ap (look z) legs ∙ leg_at_both_else d.external u.legs x y None o kept.1.count in_x in_y peers.apart z in_z not_x (apart_from z strange);
         heard = λ z l in_z at_z not_x strange. both_heard z l in_z at_z not_x (λ same. strange (ap (λ (k : Leg). k.peer) (is_other l (sym (ap (leg_at u.legs) same) ∙ at_z)) ∙ peers.back));
         unheld = λ z in_z none. both_unheld z none;
         next = ap (λ (h : Holding). h.next) holding ∙ with_tone_sounding_next cleared y tone;
       }
 
-    with_peer_done : (p : Peer) → leg.peer ≡ p → HasPeer d.external u.legs x leg p → Done (making_after_all d gone (with_peer (peer_of u.legs p) (restart_peer tones cause r line))).world
+    with_peer_done : (p : Peer) → leg.peer ≡ p → HasPeer d.external u.legs x leg p → Done (making_after_all d gone (with_peer (peer_of u.legs p) (restart_peer tones cause owed r line))).world
     with_peer_done peer.Alone is has = one_done (λ p same. let e : peer.Alone ≡ peer.Leg p = sym is ∙ same in cc)
     with_peer_done (peer.Leg y) is has =
         let other = has.1.0 in
         rw (held_there u.legs y other has.1.1) (elim (true_or_false (restarts_slot r line y)) [
           | inl too ↦ rw too (both_done y other has.0 has.1.1 has.1.2 None (rw too refl) None
-              (making_after_all d gone (remove_leg (record { slot = y; leg = other }))).world refl refl)
+              (making_after_all d gone (remove_leg owed (record { slot = y; leg = other }))).world refl refl)
           | inr not_so ↦ rw not_so (both_done y other has.0 has.1.1 has.1.2 (Some (begun u (in_disconnect_indication cause other))) (rw not_so refl)
               (tone_of tones (in_disconnect_indication cause other))
               (making_after_all d gone (clear_with tones cause (record { slot = y; leg = other }))).world refl refl)
         ])
     with_peer_done (peer.Room room) is has = one_done (λ p same. let e : peer.Room room ≡ peer.Leg p = sym is ∙ same in cc)
 
-    pub leg_done : Done (making_after_all d m (restart_leg tones cause r u.legs (Some held))).world
-    leg_done = subst (λ n. Done (making_after_all d gone (with_peer (peer_of u.legs leg.peer) (restart_peer tones cause r n))).world) (sym on_line) (with_peer_done leg.peer refl (kept.1.each x leg in_x at).peer)
+    pub leg_done : Done (making_after_all d m (restart_leg tones cause owed r u.legs (Some held))).world
+    leg_done = subst (λ n. Done (making_after_all d gone (with_peer (peer_of u.legs leg.peer) (restart_peer tones cause owed r n))).world) (sym on_line) (with_peer_done leg.peer refl (kept.1.each x leg in_x at).peer)
 
   pub held_done : (o : Option Leg) → leg_at u.legs x ≡ o
-      → Done (making_after_all d m (restart_leg tones cause r u.legs (option_map (λ (leg : Leg). let h : HeldLeg = record { slot = x; leg = leg } in h) o))).world
+      → Done (making_after_all d m (restart_leg tones cause owed r u.legs (option_map (λ (leg : Leg). let h : HeldLeg = record { slot = x; leg = leg } in h) o))).world
   held_done None none = none_done none
   held_done (Some leg) at = leg_done leg at
 
 module _ (d : Dimensions) (tones : Tones) (r : Restart) (line : ℕ) (m : Making) (x : Slot) (on_line : x.line ≡ line) (kept : Kept d tones m.world) (in_x : IsExternal d.external x) where
   pub slot_done : is_restarted r x.place ≡ true → IsRestartedAt d.external r temporary_failure line m.world (making_after_all d m (restart_slot tones r m.world.legs x)).world x
-  slot_done restarted = rw restarted (held_done d tones r temporary_failure line m x on_line kept in_x (leg_at m.world.legs x) refl)
+  slot_done restarted = rw restarted (held_done d tones r temporary_failure false line m x on_line kept in_x (leg_at m.world.legs x) refl)

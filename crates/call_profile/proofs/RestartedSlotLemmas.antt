@@ -1,5 +1,8 @@
 -- The slots of a line, one after another.
-use Rattle.std.proofs.Common.{◌≡◌, ℕ, zero, suc, ◌<◌, ◌≤◌, [], refl, sym, subst, arith}
+use Rattle.std.proofs.Common.{◌≡◌, ℕ, zero, suc, ◌<◌, ◌≤◌, ◌&&◌, Bool, true, false, [], refl, sym, subst, arith}
+use Rattle.std.specs.Prelude.{not}
+use Rattle.tone_rules.specs.declared.tones.Tones.{Tones}
+use Rattle.call_profile.specs.LinkChanges.{outcome_of_link, restarts_interface, rule_of, with_interface, with_line}
 use Rattle.call_profile.specs.Operations.{making_at}
 use Rattle.call_profile.specs.Restarts.{MessageOutcome, SlotRule, outcome_at_slot, outcome_below}
 use Rattle.exchange_events.specs.Sizes.{Dimensions}
@@ -21,3 +24,22 @@ pub each_below : (d : Dimensions) (rule : SlotRule) (line : ℕ) (w : World) (P 
 each_below d rule line w P first more zero small = subst P (sym (below_none d rule line w)) first
 each_below d rule line w P first more (suc place) small =
     subst P (sym (below_more d rule line w place)) (more (outcome_below d rule line w place) place (omega (arith, small)) (each_below d rule line w P first more place (omega (arith, small))))
+
+-- ---- a change of a data link
+
+-- the RESTART of the interface changes no exchange state, and records nothing
+pub interface_world : (d : Dimensions) (whole : Bool) (line : ℕ) (a : MessageOutcome) → (with_interface d whole line a).making.world ≡ a.making.world
+interface_world d true line a = refl
+interface_world d false line a = refl
+
+pub interface_recorded : (d : Dimensions) (whole : Bool) (line : ℕ) (a : MessageOutcome) → (with_interface d whole line a).recorded ≡ a.recorded
+interface_recorded d true line a = refl
+interface_recorded d false line a = refl
+
+-- so what all slots of the line keep holds after the change
+module _ (d : Dimensions) (tones : Tones) (down : Bool) (line : ℕ) (w : World) where
+  abbrev at_last : Bool → MessageOutcome
+  at_last whole = outcome_below d (rule_of tones whole down) line (with_line w line down) 30
+
+  pub linked_by : (P : World → Type 0) → ((whole : Bool) → P (at_last whole).making.world) → P (outcome_of_link d tones down line w).making.world
+  linked_by P each = let whole : Bool = not down && restarts_interface w.legs line in subst P (sym (interface_world d whole line (at_last whole))) (each whole)

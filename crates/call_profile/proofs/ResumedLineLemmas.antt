@@ -1,5 +1,5 @@
 -- What the establishment of a data link leaves of the legs: slot by slot.
-use Rattle.std.proofs.Common.{◌≡◌, ℕ, zero, suc, ◌<◌, ◌≤◌, ◌&&◌, Bool, true, false, inl, inr, Option, Some, None, refl, sym, ◌∙◌, ap, subst, arith, if◌then◌else◌}
+use Rattle.std.proofs.Common.{◌≡◌, ℕ, zero, suc, ◌<◌, ◌≤◌, ◌&&◌, Bool, true, false, inl, inr, Option, Some, None, refl, sym, ◌∙◌, ap, subst, arith, if◌then◌else◌, [], List}
 use Rattle.std.specs.Prelude.{nat_lt, ◌==◌, option_map}
 use Rattle.std.proofs.lemmas.Grind.{common_steps}
 use Rattle.circuit_model.specs.declared.channel.Slot.{Slot}
@@ -11,20 +11,20 @@ use Rattle.call_states.specs.declared.leg.HeldLeg.{HeldLeg}
 use Rattle.call_states.specs.declared.leg.Leg.{Leg}
 use Rattle.tone_rules.specs.declared.tones.Tones.{Tones}
 use Rattle.exchange_events.specs.Sizes.{Dimensions, Setting}
-use Rattle.call_profile.specs.Acts.{in_disconnect_indication, tone_of}
+use Rattle.call_profile.specs.Acts.{in_disconnect_indication, tone_of, with_enquiry}
 use Rattle.call_profile.specs.Dropped.{HasLine}
-use Rattle.call_profile.specs.Legs.{leg_at, with_entry}
-use Rattle.call_profile.specs.LinkChanges.{resume_leg, resume_slot, rule_of, with_line, outcome_of_link}
+use Rattle.call_profile.specs.Legs.{leg_at, with_entry, is_owed}
+use Rattle.call_profile.specs.LinkChanges.{resume_leg, resume_slot, rule_of, with_line, outcome_of_link, restart_channel, resume_held}
 use Rattle.call_profile.specs.Operations.{Making, begun, making_after_all}
 use Rattle.call_profile.specs.Restarts.{MessageOutcome, outcome_below, restarts_slot}
 use Rattle.call_profile.specs.Resumed.{resumed, resumed_on, LegsAreResumed}
 use Rattle.call_profile.specs.LinkChanges.{whole_line}
 use Rattle.call_profile.specs.World.{World}
-use Rattle.call_profile.proofs.BesideLemmas.{leg_at-with_entry_here, leg_at-with_entry_else, same_or_apart}
+use Rattle.call_profile.proofs.BesideLemmas.{leg_at-with_entry_here, leg_at-with_entry_else, same_or_apart, look}
 use Rattle.call_profile.proofs.ClearingLemmas.{Kept}
-use Rattle.call_profile.proofs.LinkLemmas.{linked_kept, resume_slot_kept}
+use Rattle.call_profile.proofs.LinkLemmas.{linked_kept, resume_slot_kept, at_held, held_same}
 use Rattle.call_profile.proofs.RestartedLineLemmas.{was_restarted, same_where_apart, lt_true, lt_false, none_before}
-use Rattle.call_profile.proofs.RestartedSlotLemmas.{below_none, below_more}
+use Rattle.call_profile.proofs.RestartedSlotLemmas.{below_none, below_more, linked_by}
 use Rattle.call_profile.proofs.ToneLemmas.{with_tone_sounding_next}
 use Rattle.circuit_model.specs.Holding.{Clear as Clear_slot, after}
 
@@ -39,8 +39,14 @@ module _ (d : Dimensions) (tones : Tones) (m : Making) (x : Slot) (kept : Kept d
   abbrev u : World
   u = m.world
 
-  none_resumes : leg_at u.legs x ≡ None → Resumes d.external u u x
-  none_resumes none = record { here = none ∙ ap (option_map (resumed u)) (sym none); same = λ z in_z apart. refl; next = refl }
+  -- no leg holds the slot, and none holds it after its RESTART
+  unheld_resumes : leg_at u.legs x ≡ None → (v : World) → v.legs.held ≡ u.legs.held → v.holding.next ≡ u.holding.next → Resumes d.external u v x
+  unheld_resumes none v held next = record { here = ap (look x) held ∙ none ∙ ap (option_map (resumed u)) (sym none); same = λ z in_z apart. ap (look z) held; next = next }
+
+  none_resumes : leg_at u.legs x ≡ None → (owed whole : Bool) → Resumes d.external u (making_after_all d m (if owed then restart_channel whole x else [])).world x
+  none_resumes none true true = unheld_resumes none _ (held_same d tones m x kept in_x none) refl
+  none_resumes none true false = unheld_resumes none _ (held_same d tones m x kept in_x none) refl
+  none_resumes none false whole = unheld_resumes none u refl refl
 
   -- the slot has another leg
   entered : (leg new : Leg) → leg_at u.legs x ≡ Some leg → resumed u leg ≡ new → (v : World) → ((z : Slot) → leg_at v.legs z ≡ leg_at (with_entry u.legs x (Some new)) z) → v.holding.next ≡ u.holding.next → Resumes d.external u v x
@@ -54,9 +60,9 @@ module _ (d : Dimensions) (tones : Tones) (m : Making) (x : Slot) (kept : Kept d
     abbrev h : HeldLeg
     h = record { slot = x; leg = leg }
 
-    leg_resumes : Resumes d.external u (making_after_all d m (resume_leg tones (Some h))).world x
+    leg_resumes : Resumes d.external u (making_after_all d m (resume_leg tones h)).world x
     leg_resumes = elim (true_or_false (leg.state == active)) [
-      | inl up ↦ rw up (entered leg (begun u leg) at (rw up refl) _ (λ z. refl) refl)
+      | inl up ↦ rw up (entered leg (begun u (with_enquiry true leg)) at (rw up refl) _ (λ z. refl) refl)
       | inr not_up ↦ elim (true_or_false (leg.state == overlap_sending)) [
         | inl dials ↦ rw (not_up, dials) (entered leg (begun u (in_disconnect_indication temporary_failure leg)) at (rw (not_up, dials) refl) _ (λ z. refl)
             (with_tone_sounding_next (after u.holding (Clear_slot x)) x (tone_of tones (in_disconnect_indication temporary_failure leg))))
@@ -71,13 +77,9 @@ module _ (d : Dimensions) (tones : Tones) (m : Making) (x : Slot) (kept : Kept d
         unchanged : (leg.state == active) ≡ false → (leg.state == overlap_sending) ≡ false → resumed u leg ≡ leg
         unchanged not_up other = rw (not_up, other) refl
 
-  held_resumes : (o : Option Leg) → leg_at u.legs x ≡ o
-      → Resumes d.external u (making_after_all d m (resume_leg tones (option_map (λ (leg : Leg). let k : HeldLeg = record { slot = x; leg = leg } in k) o))).world x
-  held_resumes None none = none_resumes none
-  held_resumes (Some leg) at = leg_resumes leg at
-
-  slot_resumes : Resumes d.external u (making_after_all d m (resume_slot tones u.legs x)).world x
-  slot_resumes = held_resumes (leg_at u.legs x) refl
+  slot_resumes : (whole : Bool) → Resumes d.external u (making_after_all d m (resume_slot tones whole u.legs x)).world x
+  slot_resumes whole = at_held u.legs x (resume_held tones whole u.legs x) (λ os. Resumes d.external u (making_after_all d m os).world x)
+      (λ none. none_resumes none (is_owed u.legs x) whole) leg_resumes
 
 -- ---- the slots of the line
 
@@ -99,7 +101,7 @@ both_mapped : (f g : Leg → Leg) (o : Option Leg) → ((l : Leg) → f l ≡ g 
 both_mapped f g None same = refl
 both_mapped f g (Some l) same = ap (λ (k : Leg). Some k) (same l)
 
-module _ (s : Setting) (line : ℕ) (w : World) (n : ℕ) (below : line < s.dimensions.external) (small : n < 30) (m : Making) (so_far : AreResumed s line w n m.world) where
+module _ (s : Setting) (whole : Bool) (line : ℕ) (w : World) (n : ℕ) (below : line < s.dimensions.external) (small : n < 30) (m : Making) (so_far : AreResumed s line w n m.world) where
   abbrev d : Dimensions
   d = s.dimensions
 
@@ -110,10 +112,10 @@ module _ (s : Setting) (line : ℕ) (w : World) (n : ℕ) (below : line < s.dime
   in_here = (below, small)
 
   abbrev v : World
-  v = (making_after_all d m (resume_slot s.tones m.world.legs here)).world
+  v = (making_after_all d m (resume_slot s.tones whole m.world.legs here)).world
 
   done : Resumes d.external m.world v here
-  done = slot_resumes d s.tones m here so_far.kept in_here
+  done = slot_resumes d s.tones m here so_far.kept in_here whole
 
   same_resumed : (l : Leg) → resumed m.world l ≡ resumed w l
   same_resumed l = ap (λ (k : ℕ). resumed (record w { holding = record w.holding { next = k } }) l) so_far.next
@@ -138,9 +140,9 @@ module _ (s : Setting) (line : ℕ) (w : World) (n : ℕ) (below : line < s.dime
   ]
 
   one_more : AreResumed s line w (suc n) v
-  one_more = record { kept = resume_slot_kept d s.tones m here so_far.kept in_here; legs = legs_then; next = done.next ∙ so_far.next }
+  one_more = record { kept = resume_slot_kept d s.tones m here so_far.kept in_here whole; legs = legs_then; next = done.next ∙ so_far.next }
 
-module _ (s : Setting) (line : ℕ) (w : World) (below : line < s.dimensions.external) (kept : Kept s.dimensions s.tones w) where
+module _ (s : Setting) (whole : Bool) (line : ℕ) (w : World) (below : line < s.dimensions.external) (kept : Kept s.dimensions s.tones w) where
   abbrev begins : World
   begins = with_line w line false
 
@@ -151,22 +153,22 @@ module _ (s : Setting) (line : ℕ) (w : World) (below : line < s.dimensions.ext
     next = refl;
   }
 
-  resumed_so_far : (n : ℕ) → n ≤ 30 → AreResumed s line w n (outcome_below s.dimensions (rule_of s.tones false) line begins n).making.world
-  resumed_so_far zero small = subst (λ (a : MessageOutcome). AreResumed s line w 0 a.making.world) (sym (below_none s.dimensions (rule_of s.tones false) line begins)) start
+  resumed_so_far : (n : ℕ) → n ≤ 30 → AreResumed s line w n (outcome_below s.dimensions (rule_of s.tones whole false) line begins n).making.world
+  resumed_so_far zero small = subst (λ (a : MessageOutcome). AreResumed s line w 0 a.making.world) (sym (below_none s.dimensions (rule_of s.tones whole false) line begins)) start
   resumed_so_far (suc n) small =
-      subst (λ (a : MessageOutcome). AreResumed s line w (suc n) a.making.world) (sym (below_more s.dimensions (rule_of s.tones false) line begins n))
-      (one_more s line w n below (omega (arith, small)) (outcome_below s.dimensions (rule_of s.tones false) line begins n).making (resumed_so_far n (omega (arith, small))))
+      subst (λ (a : MessageOutcome). AreResumed s line w (suc n) a.making.world) (sym (below_more s.dimensions (rule_of s.tones whole false) line begins n))
+      (one_more s whole line w n below (omega (arith, small)) (outcome_below s.dimensions (rule_of s.tones whole false) line begins n).making (resumed_so_far n (omega (arith, small))))
 
 -- ---- what is left
 
 pub legs_are_resumed : (s : Setting) (w : World) (line : ℕ) → HasLine s w line → LegsAreResumed s.dimensions.external line w (outcome_of_link s.dimensions s.tones false line w).making.world
-legs_are_resumed s w line can x in_x =
-    (resumed_so_far s line w can.line_exists (can.stands.circuits, can.stands.legs) 30 (omega arith)).legs x in_x
-    ∙ both_mapped (resumed_below line w 30 x) (resumed_on line w x) (leg_at w.legs x) (λ l. ap (λ (b : Bool). if b then resumed w l else l) whole)
+legs_are_resumed s w line can x in_x = linked_by s.dimensions s.tones false line w (λ v. leg_at v.legs x ≡ option_map (resumed_on line w x) (leg_at w.legs x)) (λ whole.
+    (resumed_so_far s whole line w can.line_exists (can.stands.circuits, can.stands.legs) 30 (omega arith)).legs x in_x
+    ∙ both_mapped (resumed_below line w 30 x) (resumed_on line w x) (leg_at w.legs x) (λ l. ap (λ (b : Bool). if b then resumed w l else l) on_line))
   where
     both : (b : Bool) → ((b && true) && true) ≡ b
     both true = refl
     both false = refl
 
-    whole : was_restarted whole_line line 30 x ≡ (x.line == line)
-    whole = ap (λ (b : Bool). ((x.line == line) && true) && b) (lt_true whole_line line x.place 30 in_x.1) ∙ both (x.line == line)
+    on_line : was_restarted whole_line line 30 x ≡ (x.line == line)
+    on_line = ap (λ (b : Bool). ((x.line == line) && true) && b) (lt_true whole_line line x.place 30 in_x.1) ∙ both (x.line == line)

@@ -20,7 +20,7 @@ use Rattle.call_profile.specs.Step.{next, world_after_all, events_of, may_nail, 
 use Rattle.call_profile.specs.Expiring.{slot_looked_at, expire_slot}
 use Rattle.call_profile.specs.World.{World, pass}
 use Rattle.call_profile.proofs.ExpiringLemmas.{each_line}
-use Rattle.call_profile.proofs.RestartedSlotLemmas.{each_below}
+use Rattle.call_profile.proofs.RestartedSlotLemmas.{each_below, linked_by}
 use Rattle.call_profile.proofs.ToneLemmas.{with_tone_sounding_next}
 use Rattle.call_profile.specs.LinkChanges.{outcome_of_link, rule_of, with_line}
 
@@ -67,9 +67,9 @@ received_next s w line (Restarts r) =
 received_next s w line Unanswered = refl
 
 link_next : (s : Setting) (w : World) (down : Bool) (line : ℕ) → (outcome_of_link s.dimensions s.tones down line w).making.world.holding.next ≡ w.holding.next
-link_next s w down line =
-    each_below s.dimensions (rule_of s.tones down) line (with_line w line down) (λ a. a.making.world.holding.next ≡ w.holding.next) refl
-    (λ a place small same. performed_all_next s.dimensions a.making ((rule_of s.tones down).does a.making.world.legs (record { line = line; place = place })) ∙ same) 30 (omega arith)
+link_next s w down line = linked_by s.dimensions s.tones down line w (λ v. v.holding.next ≡ w.holding.next) (λ whole.
+    each_below s.dimensions (rule_of s.tones whole down) line (with_line w line down) (λ a. a.making.world.holding.next ≡ w.holding.next) refl
+    (λ a place small same. performed_all_next s.dimensions a.making ((rule_of s.tones whole down).does a.making.world.legs (record { line = line; place = place })) ∙ same) 30 (omega arith))
 
 turn_next : (s : Setting) (w : World) (input : Input) → (next s w (Frame input)).holding.next ≡ w.holding.next + 1
 turn_next s w input =

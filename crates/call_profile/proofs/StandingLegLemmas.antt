@@ -36,7 +36,7 @@ use Rattle.call_profile.proofs.ReleaseToneLemmas.{Sounding}
 use Rattle.call_profile.proofs.SetupLemmas.{setup_kept, new_from}
 use Rattle.call_profile.specs.LinkChanges.{outcome_of_link, rule_of, with_line}
 use Rattle.call_profile.proofs.LinkLemmas.{linked_kept, rule_kept}
-use Rattle.call_profile.proofs.RestartedSlotLemmas.{each_below}
+use Rattle.call_profile.proofs.RestartedSlotLemmas.{each_below, linked_by}
 
 -- a message that is sent changes nothing else
 kept_without : (s : Setting) (w : World) (line : ℕ) (o : Option OutgoingMessage) → Kept s.dimensions s.tones w → Kept s.dimensions s.tones (making_by s w (only (answer_back line o))).world
@@ -67,9 +67,9 @@ turn_kept s w input stands =
 
 -- the slots of a line whose data link changes
 pub link_kept : (s : Setting) (w : World) (down : Bool) (line : ℕ) → line < s.dimensions.external → CallsStand s w → Kept s.dimensions s.tones (outcome_of_link s.dimensions s.tones down line w).making.world
-link_kept s w down line below stands =
-    each_below s.dimensions (rule_of s.tones down) line (with_line w line down) (λ a. Kept s.dimensions s.tones a.making.world) (linked_kept s.dimensions s.tones w line down (stands.circuits, stands.legs))
-    (λ a place small k. rule_kept s.dimensions s.tones a.making (record { line = line; place = place }) k (below, small) down) 30 (omega arith)
+link_kept s w down line below stands = linked_by s.dimensions s.tones down line w (Kept s.dimensions s.tones) (λ whole.
+    each_below s.dimensions (rule_of s.tones whole down) line (with_line w line down) (λ a. Kept s.dimensions s.tones a.making.world) (linked_kept s.dimensions s.tones w line down (stands.circuits, stands.legs))
+    (λ a place small k. rule_kept s.dimensions s.tones a.making (record { line = line; place = place }) k (below, small) whole down) 30 (omega arith))
 
 pub happened_kept : (s : Setting) (w : World) (e : Event) → IsPlanned s → Fits s.dimensions.external e → CallsStand s w → CallsStand s (next s w e)
 happened_kept s w (Nail x y) planned fits stands = kept_stands s (next s w (Nail x y)) (nail_kept s w stands.circuits stands.legs x y fits) (entries_stand s w (Nail x y) planned fits stands) (event_sounds s w stands (Nail x y) planned fits)

@@ -8,8 +8,10 @@ use Rattle.exchange_events.specs.declared.trace.Event.{Event}
 use Rattle.exchange_events.specs.declared.trace.Event.TheVariants.{LinkUp, LinkDown}
 use Rattle.exchange_events.specs.Sizes.{Setting}
 use Rattle.exchange_events.specs.Sound.{Fits, IsPlanned}
-use Rattle.call_profile.specs.Legs.{Legs, leg_at, is_down}
+use Rattle.call_profile.specs.Legs.{Legs, leg_at, is_down, is_owed}
 use Rattle.call_profile.specs.World.{World}
+use Rattle.call_states.specs.Acts.{is_among}
+use Rattle.call_profile.specs.LinkChanges.{being_cleared}
 
 -- ---- the data links
 
@@ -45,10 +47,23 @@ NoLinkIsDown legs = (line : ℕ) → is_down legs line ≡ false
 abbrev pub AwaitsLink : Leg → Type 0
 AwaitsLink leg = (leg.state ≡ active) × (leg.resent ≡ true)
 
--- each line has a data link, and T309 of a leg runs only while the link of its line is down
+-- the states in which the flag of an enquiry is set: it is set in active, and stays while the leg is being cleared
+abbrev pub enquired_in : List ℕ
+enquired_in = active ∷ being_cleared
+
+-- the user of a leg is asked for its call state only in active while the link of the line is up, until the leg is removed
+pub record MayEnquire (down : Bool) (leg : Leg) : Type 0 where
+  pub states : is_among enquired_in leg.state ≡ true
+  pub up : leg.state ≡ active → down ≡ false
+
+-- each line has a data link; T309 of a leg in active runs if and only if the link of its line is down, an enquiry is open
+-- only while it is up, and a RESTART is owed only while it is down
 pub record OutagesStand (external : ℕ) (legs : Legs) : Type 0 where
   pub links : length legs.down ≡ external
   pub waits : (x : Slot) (leg : Leg) → IsExternal external x → leg_at legs x ≡ Some leg → AwaitsLink leg → is_down legs x.line ≡ true
+  pub runs : (x : Slot) (leg : Leg) → IsExternal external x → leg_at legs x ≡ Some leg → leg.state ≡ active → is_down legs x.line ≡ true → AwaitsLink leg
+  pub enquiries : (x : Slot) (leg : Leg) → IsExternal external x → leg_at legs x ≡ Some leg → leg.enquired ≡ true → MayEnquire (is_down legs x.line) leg
+  pub owed : (x : Slot) → IsExternal external x → is_owed legs x ≡ true → is_down legs x.line ≡ true
 
 -- the leg is on a line whose data link is up
 pub record IsOnLineUp (s : Setting) (w : World) (x : Slot) (leg : Leg) : Type 0 where

@@ -1,20 +1,20 @@
--- The exchange state after the establishment of a data link. Source: ITU-T Q.931 (05/98), 5.8.8 and 5.8.9.
-use Rattle.std.specs.Prelude.{◌≡◌, ℕ, ◌==◌, option_map, if◌then◌else◌}
+-- The exchange state after the establishment of a data link. Source: ITU-T Q.931 (05/98), 5.8.8 to 5.8.10.
+use Rattle.std.specs.Prelude.{◌≡◌, ℕ, ◌==◌, option_map, if◌then◌else◌, true}
 use Rattle.circuit_model.specs.declared.channel.Slot.{Slot}
 use Rattle.circuit_model.specs.Extent.{IsExternal}
 use Rattle.q931_codec.specs.CallStates.{active, overlap_sending}
 use Rattle.q931_codec.specs.Causes.{temporary_failure}
 use Rattle.call_states.specs.declared.leg.Leg.{Leg}
-use Rattle.call_profile.specs.Acts.{in_disconnect_indication}
+use Rattle.call_profile.specs.Acts.{in_disconnect_indication, with_enquiry}
 use Rattle.call_profile.specs.Legs.{leg_at}
 use Rattle.call_profile.specs.Operations.{begun}
 use Rattle.call_profile.specs.World.{World}
 
--- a leg of the line: in active it waits for the link no longer, in overlap sending it is cleared with cause 41, and in
--- every other state it is unchanged
+-- a leg of the line: in active it waits for the link no longer, and its user is asked for its call state; in overlap
+-- sending it is cleared with cause 41; in every other state it is unchanged
 abbrev pub resumed : World → Leg → Leg
 resumed w leg =
-    if leg.state == active then begun w leg
+    if leg.state == active then begun w (with_enquiry true leg)
     else if leg.state == overlap_sending then begun w (in_disconnect_indication temporary_failure leg)
     else leg
 

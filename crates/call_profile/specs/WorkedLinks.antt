@@ -44,12 +44,12 @@ outage_over = ended_in 30 (cleared_with 0 0x9B ∷ []) (record { caller = at 0 0
 abbrev pub down_again : World
 down_again = next hasty_lines (world_in 20 outage) (LinkDown 1)
 
--- the link comes up in frame 20: T309 stops, and the user is sent STATUS with cause 31 and state 10
+-- the link comes up in frame 20: T309 stops, and the user is sent STATUS ENQUIRY
 abbrev pub up_again : World
 up_again = next hasty_lines (world_in 20 outage) (LinkUp 1)
 
-abbrev pub state_reported : Reply
-state_reported = sends_reply (to 1 (0x08 ∷ 0x02 ∷ 0x00 ∷ 0x01 ∷ 0x7D ∷ 0x08 ∷ 0x02 ∷ 0x82 ∷ 0x9F ∷ 0x14 ∷ 0x01 ∷ 0x0A ∷ []) ∷ [])
+abbrev pub state_enquired : Reply
+state_enquired = sends_reply (to 1 (0x08 ∷ 0x02 ∷ 0x00 ∷ 0x01 ∷ 0x75 ∷ []) ∷ [])
 
 -- the link is established again: a leg in overlap sending is cleared with cause 41
 abbrev pub reset_while_dialling : Reply

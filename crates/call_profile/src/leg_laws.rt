@@ -15,7 +15,7 @@ ghost use Rattle.exchange_events.specs.Sizes.{Setting};
 ghost use Rattle.call_profile.specs.ActCourse.{course_of};
 ghost use Rattle.call_profile.specs.Calls.{after_message, answer_back, answer_to};
 ghost use Rattle.exchange_events.specs.declared.trace.Event.TheVariants.{LinkDown, LinkUp};
-ghost use Rattle.call_profile.specs.Dropped.{HasLine, OthersAreGone, ActiveWait, OtherLinesAreLeft};
+ghost use Rattle.call_profile.specs.Dropped.{HasLine, OthersAreGone, ClearedStay, ActiveWait, OtherLinesAreLeft};
 ghost use Rattle.call_profile.specs.Resumed.{LegsAreResumed};
 ghost use Rattle.call_profile.specs.Step.{next};
 ghost use Rattle.call_profile.specs.Expiring.{on_expiry, outcome_of_frame};
@@ -89,17 +89,18 @@ pub fn law_of_frame_records()
         → ComeByLine (outcome_of_frame s w input).recorded }
 {}
 
-/// After the failure of a data link, each leg of the line in state 10 waits for the link, since the first failure, and each
-/// other leg of the line is removed. At the other lines, a leg whose peer was removed is in disconnect indication with
+/// After the failure of a data link, each leg of the line in state 10 waits for the link, since the first failure. Each
+/// that is being cleared, in state 12 or 19, is unchanged, and each other leg of the line is removed. At the other lines, a leg whose peer was removed is in disconnect indication with
 /// cause 27, and each other leg is unchanged.
 pub fn law_of_link_failures()
     ensures gone { (s : Setting) (w : World) (line : ℕ) → HasLine s w line → OthersAreGone s.dimensions.external line w (next s w (LinkDown line)) }
+    ensures stays { (s : Setting) (w : World) (line : ℕ) → HasLine s w line → ClearedStay s.dimensions.external line w (next s w (LinkDown line)) }
     ensures waits { (s : Setting) (w : World) (line : ℕ) → HasLine s w line → ActiveWait s.dimensions.external line w (next s w (LinkDown line)) }
     ensures others { (s : Setting) (w : World) (line : ℕ) → HasLine s w line → OtherLinesAreLeft s.dimensions.external line w (next s w (LinkDown line)) }
 {}
 
-/// After the establishment of a data link, no leg of the line in state 10 waits for the link, each in state 2 is in
-/// disconnect indication with cause 41, and every other leg is unchanged.
+/// After the establishment of a data link, no leg of the line in state 10 waits for the link, and each is asked for its call
+/// state. Each in state 2 is in disconnect indication with cause 41, and every other leg is unchanged.
 pub fn law_of_link_establishments()
     ensures legs { (s : Setting) (w : World) (line : ℕ) → HasLine s w line → LegsAreResumed s.dimensions.external line w (next s w (LinkUp line)) }
 {}

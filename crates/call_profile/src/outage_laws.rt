@@ -1,4 +1,4 @@
-//! Theorems on T309, which runs while the data link of a line is down.
+//! Theorems on the outage of a data link: on T309, which runs while the link is down, and on what a user is asked or owed.
 ghost use Rattle.std.specs.Prelude.{◌≡◌, ◌≢◌, ℕ, false, All, List, Contains, Some};
 ghost use Rattle.circuit_model.specs.declared.channel.Slot.{Slot};
 ghost use Rattle.circuit_model.specs.FrameInput.{Input};
@@ -21,10 +21,11 @@ ghost use Rattle.call_profile.specs.Recorded.{HasEnded};
 ghost use Rattle.call_profile.specs.Step.{next};
 ghost use Rattle.call_profile.specs.World.{World, start};
 
-/// T309 of a leg runs only while the data link of its line is down. Every event, and so every run, preserves this. A
-/// data link is down if and only if its last change was a failure. A leg on a line whose link is up is not due. If no
-/// link is down, T309 of no leg expires in any frame. In a trace in which no link fails, none is ever down, and T309
-/// never expires.
+/// T309 of a leg in state 10 runs if and only if the data link of its line is down. The user of a leg is asked for its
+/// call state only in state 10 while that link is up. A user is owed a RESTART only while the link of its line is down.
+/// Every event, and so every run, preserves this. A data link is down if and only if its last change was a failure. A leg
+/// on a line whose link is up is not due. If no link is down, T309 of no leg expires in any frame. In a trace in which no
+/// link fails, none is ever down, and T309 never expires.
 pub fn law_of_outages()
     ensures begins { (s : Setting) → OutagesStand s.dimensions.external (start s.dimensions).legs }
     ensures kept { (s : Setting) (w : World) (e : Event) → Fits s.dimensions.external e → CallsStand s w

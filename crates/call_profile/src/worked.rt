@@ -7,7 +7,7 @@ ghost use Rattle.call_profile.specs.Legs.{leg_at, no_legs};
 ghost use Rattle.call_profile.specs.WorkedExpiries.{cleared_with, hasty_lines, turn_of, after_turn, world_in, in_frame, nothing_in, offered, setup_again, setup_over, proceeds, proceeding_over, both_proceed, both_over, alerted, alerting_over, alerted_again, answered_in_time, begun_on_both, digits_over, first_turn, second_turn, third_turn, released};
 ghost use Rattle.exchange_events.specs.declared.trace.Event.TheVariants.{LinkUp};
 ghost use Rattle.call_profile.specs.Step.{reply};
-ghost use Rattle.call_profile.specs.WorkedLinks.{down_while_alerted, alerted_dropped, call_to_down, refused_as_down, own_line_down, own_line_dropped, outage, outage_over, down_again, up_again, state_reported, reset_while_dialling};
+ghost use Rattle.call_profile.specs.WorkedLinks.{down_while_alerted, alerted_dropped, call_to_down, refused_as_down, own_line_down, own_line_dropped, outage, outage_over, down_again, up_again, state_enquired, reset_while_dialling};
 ghost use Rattle.call_profile.specs.WorkedOverlap.{dialled_in_part, dialled_in_part_answered, pending_after, first_digit, refused_at_once, refused_at_once_answered, no_numbers, dials_nothing, dials_nothing_answered, given_up, given_up_answered};
 
 /// The definitions of the operations for messages, evaluated on more messages.
@@ -72,7 +72,7 @@ pub fn worked_links()
     ensures own_line { answers own_line own_line_down ≡ own_line_dropped }
     ensures outage { turn_of (world_in 30 outage) ≡ outage_over }
     ensures again { option_map (λ leg. leg.since) (leg_at down_again.legs (at 1 0)) ≡ Some 0 }
-    ensures up { reply hasty_lines (world_in 20 outage) (LinkUp 1) ≡ state_reported }
+    ensures up { reply hasty_lines (world_in 20 outage) (LinkUp 1) ≡ state_enquired }
     ensures in_time { turn_of (in_frame 30 up_again) ≡ nothing_in 30 }
     ensures reset { reset_while_dialling ≡ sends_reply (cleared_with 0 0xA9 ∷ []) }
 {}
