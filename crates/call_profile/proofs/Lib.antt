@@ -69,7 +69,7 @@ pub mod ResumedLineLemmas
 pub mod LinkStateLemmas
 mod OwedEventLemmas
 mod OwedSlotLemmas
-mod LinkedLegLemmas
+pub mod LinkedLegLemmas
 pub mod OutageLemmas
 pub mod UnfailingLinkLemmas
 pub mod LostLegLemmas

@@ -10,9 +10,10 @@ use Rattle.control_memory.specs.Layout.{number_of}
 use Rattle.q931_codec.specs.declared.kind.MessageKind.{MessageKind}
 use Rattle.q931_codec.specs.declared.kind.MessageKind.TheVariants as kind
 use Rattle.q931_codec.specs.declared.message.Message.{Message}
-use Rattle.q931_codec.specs.CallStates.{active, incoming_call_proceeding, overlap_sending}
+use Rattle.q931_codec.specs.CallStates.{active, call_delivered, call_present, call_received, incoming_call_proceeding, null, outgoing_call_proceeding, overlap_sending, release_request}
 use Rattle.q931_codec.specs.Contents.{call_state_in}
-use Rattle.call_states.specs.Acts.{act_of, act_on, clearing_cause, is_null}
+use Rattle.q931_codec.specs.Causes.{message_not_compatible_with_call_state, temporary_failure}
+use Rattle.call_states.specs.Acts.{act_of, act_of_status, act_on, before_release_request, clearing_cause, every_state, expected_in, is_among}
 use Rattle.call_states.specs.declared.act.Act.{Act}
 use Rattle.call_states.specs.declared.act.Act.TheVariants as act
 use Rattle.call_states.specs.declared.leg.HeldLeg.{HeldLeg}
@@ -27,8 +28,9 @@ use Rattle.exchange_events.specs.declared.trace.Event.TheVariants.{LinkUp, LinkD
 use Rattle.exchange_events.specs.Sizes.{Setting, Dimensions}
 use Rattle.exchange_events.specs.Sound.{IsPlanned}
 use Rattle.call_profile.specs.ActCourse.{course_of}
-use Rattle.call_profile.specs.Acts.{in_state, peer_of, with_peer, on_alerting, on_connect}
+use Rattle.call_profile.specs.Acts.{answered, in_state, with_enquiry, peer_of, with_peer, on_alerting, on_connect}
 use Rattle.call_profile.specs.Calls.{Request, For_leg, New_call, On_no_call, Restarts, Unanswered, request_of, answer_back, outcome_for, after_message}
+use Rattle.call_profile.specs.Course.{only, nothing}
 use Rattle.call_profile.specs.Dropped.{HasLine, left_by_failure, waiting_for_link}
 use Rattle.call_profile.specs.LegStanding.{CallsStand, HasPeer, IsInCall, AreOneCall, are_matched}
 use Rattle.call_profile.specs.Legs.{Legs, leg_at, with_entry, retransmitted_from}
@@ -40,14 +42,16 @@ use Rattle.call_profile.specs.Resumed.{resumed_on}
 use Rattle.call_profile.specs.Setup.{setup, refusal}
 use Rattle.call_profile.specs.Step.{next}
 use Rattle.call_profile.specs.World.{World}
+use Rattle.call_profile.proofs.AnsweredLegLemmas.{answered_does}
 use Rattle.call_profile.proofs.BesideLemmas.{leg_at-with_entry_here, leg_at-with_entry_else, same_or_apart}
 use Rattle.call_profile.proofs.ClearingLemmas.{held_there}
 use Rattle.call_profile.proofs.DroppedLineLemmas.{active_wait, call_active, other_lines_are_left}
 use Rattle.call_profile.proofs.NamedLegLemmas.{received_stands}
 use Rattle.call_profile.proofs.RestartedLineLemmas.{leg_at_restarted_others}
+use Rattle.call_profile.proofs.ReportLemmas.{state_agrees, state_differs}
 use Rattle.call_profile.proofs.ResumedLineLemmas.{legs_are_resumed}
 use Rattle.call_profile.proofs.StandingLegLemmas.{happened_kept}
-use Rattle.privacy.specs.Ending.{IsClearing, By_disconnect, By_release, By_release_complete, By_status, IsEnding, Of_leg, Of_slot, Lasts}
+use Rattle.privacy.specs.Ending.{IsClearing, By_disconnect, By_release, By_release_complete, By_status, By_report, IsEnding, Of_leg, Of_slot, Lasts}
 use Rattle.privacy.specs.Undisturbed.{AreCalling}
 use Rattle.privacy.proofs.LegStateLemmas.{digits_overlap}
 use Rattle.privacy.proofs.LineLemmas.{IsStrange, act_skip, answer_skip, by_skip, setup_skip}
@@ -106,7 +110,7 @@ module _ (d : Dimensions) (z : Slot) (in_z : IsExternal d.external z) (leg : Leg
   Keeps (op.Expect x l message) = Writes x l
   Keeps (op.Repeat h octets) = Writes h.slot h.leg
   Keeps (op.Await x l) = Writes x l
-  Keeps (op.Remove x) = IsExternal d.external x × (z ≡ x → ⊥)
+  Keeps (op.Remove x owed) = IsExternal d.external x × (z ≡ x → ⊥)
   Keeps (op.Send line message) = Unit {0}
 
   abbrev KeepAll : List Operation → Type 0
@@ -148,7 +152,7 @@ module _ (d : Dimensions) (z : Slot) (in_z : IsExternal d.external z) (leg : Leg
   one_kept m (op.Await x l) may so_far =
       let new = retransmitted_from m.world.holding.next l in
       record { size = length-set m.world.legs.held (number_of x) (Some new) ∙ so_far.size; stays = wrote m.world.legs x new so_far.size (may.0, λ same. from_now m.world.holding.next true l (may.1 same)) so_far.stays }
-  one_kept m (op.Remove x) may so_far = record {
+  one_kept m (op.Remove x owed) may so_far = record {
     size = length-set m.world.legs.held (number_of x) None ∙ so_far.size;
     stays = (so_far.stays.0, leg_at-with_entry_else d.external m.world.legs x z None may.0 in_z may.1 ∙ so_far.stays.1, so_far.stays.2);
   }
@@ -171,10 +175,15 @@ IsHarmless act.Digits = ⊥
 IsHarmless (act.Disconnect cause) = ⊥
 IsHarmless (act.Release cause) = ⊥
 IsHarmless (act.ReleaseComplete cause) = ⊥
+IsHarmless (act.Report reported) = ⊥
 
 module _ (s : Setting) (w : World) (stands : CallsStand s w) (z : Slot) (leg : Leg) (in_z : IsExternal s.dimensions.external z) (at_z : leg_at w.legs z ≡ Some leg) where
   abbrev Keep : List Operation → Type 0
   Keep os = KeepAll s.dimensions z in_z leg os
+
+  -- an answered leg
+  put_keeps : (x : Slot) (l : Leg) → Writes s.dimensions z in_z leg x l → Keeps s.dimensions z in_z leg (answered w.legs x l)
+  put_keeps x l may = answered_does (Keeps s.dimensions z in_z leg) w.legs x l may may
 
   -- the leg of a slot in another state
   other_state : (k : HeldLeg) (state : ℕ) → leg_at w.legs k.slot ≡ Some k.leg → z ≡ k.slot → IsSameCall leg (in_state state k.leg)
@@ -200,60 +209,96 @@ module _ (s : Setting) (w : World) (stands : CallsStand s w) (z : Slot) (leg : L
     course_keeps m act.Enquiry can = (tt, tt)
     course_keeps m act.Proceeding can = (own incoming_call_proceeding, tt)
     course_keeps m act.Alerting can = peer_keeps h.leg.peer (on_alerting s.tones h) refl (λ k in_k at_k. (own 7, ((in_k, other_state k 4 at_k), (tt, (tt, tt)))))
-    course_keeps m act.Answer can = peer_keeps h.leg.peer (on_connect h) refl (λ k in_k at_k. (tt, (tt, (own active, ((in_k, other_state k active at_k), (tt, (tt, tt)))))))
+    course_keeps m act.Answer can =
+        peer_keeps h.leg.peer (on_connect w.legs h) refl (λ k in_k at_k. (tt, (tt, (put_keeps h.slot (in_state active h.leg) (own active), (put_keeps k.slot (in_state active k.leg) (in_k, other_state k active at_k), (tt, (tt, tt)))))))
     course_keeps m act.Digits can = absurd can
     course_keeps m (act.Disconnect cause) can = absurd can
     course_keeps m (act.Release cause) can = absurd can
     course_keeps m (act.ReleaseComplete cause) can = absurd can
+    course_keeps m (act.Report reported) can = absurd can
+
+    pub stays_after : (os : List Operation) → Keep os → Stays (making_after_all s.dimensions (making_at w) os).world z leg
+    stays_after os keep = (all_kept s.dimensions z in_z leg (making_at w) os keep (record { size = stands.legs.count; stays = (leg, at_z, same_call leg) })).stays
 
     pub stays_by : (m : Message) (a : Act) → IsHarmless a → Stays (making_after_all s.dimensions (making_at w) (course_of s w h m a).operations).world z leg
-    stays_by m a can =
-        (all_kept s.dimensions z in_z leg (making_at w) (course_of s w h m a).operations (course_keeps m a can) (record { size = stands.legs.count; stays = (leg, at_z, same_call leg) })).stays
+    stays_by m a can = stays_after (course_of s w h m a).operations (course_keeps m a can)
 
--- ---- the acts of clearing messages
+    -- the leg whose user reported the same state
+    pub agreed_stays : Stays (making_after_all s.dimensions (making_at w) (state_agrees h)).world z leg
+    agreed_stays = stays_after (state_agrees h) (
+      (
+        in_h,
+        λ same.
+            let is = other_state h h.leg.state at same in
+            record { side = is.side; reference = is.reference; peer = is.peer },
+      ),
+      tt,
+    )
 
-abbrev Clears : Act → Type 0
-Clears act.Nothing = ⊥
-Clears act.Unexpected = ⊥
-Clears act.Enquiry = ⊥
-Clears act.Proceeding = ⊥
-Clears act.Alerting = ⊥
-Clears act.Answer = ⊥
-Clears act.Digits = ⊥
-Clears (act.Disconnect cause) = Unit {0}
-Clears (act.Release cause) = Unit {0}
-Clears (act.ReleaseComplete cause) = Unit {0}
+-- ---- what an act states of its message
 
-if_expected : (b : Bool) (a : Act) → ¬ (Clears a) → ¬ (Clears (if b then a else act.Unexpected))
-if_expected true a never c = never c
-if_expected false a never c = c
+abbrev Means : HeldLeg → Message → Act → Type 0
+Means h m act.Nothing = Unit {0}
+Means h m act.Unexpected = Unit {0}
+Means h m act.Enquiry = Unit {0}
+Means h m act.Proceeding = Unit {0}
+Means h m act.Alerting = Unit {0}
+Means h m act.Answer = Unit {0}
+Means h m act.Digits = Unit {0}
+Means h m (act.Disconnect cause) = IsClearing h m
+Means h m (act.Release cause) = IsClearing h m
+Means h m (act.ReleaseComplete cause) = IsClearing h m
+Means h m (act.Report reported) = (m.kind ≡ kind.Status) × (call_state_in m.elements ≡ Some reported) × (h.leg.state ≡ active)
 
-if_digits : (b c : Bool) → ¬ (Clears (if b then act.Digits else (if c then act.Nothing else act.Unexpected)))
-if_digits true c clears = clears
-if_digits false true clears = clears
-if_digits false false clears = clears
+module _ (h : HeldLeg) (m : Message) where
+  either_means : (b : Bool) (a c : Act) → Means h m a → Means h m c → Means h m (if b then a else c)
+  either_means true a c one other = one
+  either_means false a c one other = other
 
-clearing : (m : Message) (state : ℕ) (k : MessageKind) (cause : ℕ) (b : Bool) → m.kind ≡ k → is_null (call_state_in m.elements) ≡ b → Clears (act_of state k cause b) → IsClearing m
-clearing m state kind.CallProceeding cause b is null c = absurd (if_expected _ act.Proceeding (λ e. e) c)
-clearing m state kind.Alerting cause b is null c = absurd (if_expected _ act.Alerting (λ e. e) c)
-clearing m state kind.Connect cause b is null c = absurd (if_expected _ act.Answer (λ e. e) c)
-clearing m state kind.ConnectAcknowledge cause b is null c = absurd (if_expected _ act.Nothing (λ e. e) c)
-clearing m state kind.Progress cause b is null c = absurd (if_expected _ act.Nothing (λ e. e) c)
-clearing m state kind.Notify cause b is null c = absurd (if_expected _ act.Nothing (λ e. e) c)
-clearing m state kind.Facility cause b is null c = absurd (if_expected _ act.Nothing (λ e. e) c)
-clearing m state kind.UserInformation cause b is null c = absurd (if_expected _ act.Nothing (λ e. e) c)
-clearing m state kind.Setup cause b is null c = absurd (if_expected _ act.Nothing (λ e. e) c)
-clearing m state kind.Disconnect cause b is null c = By_disconnect is
-clearing m state kind.Release cause b is null c = By_release is
-clearing m state kind.ReleaseComplete cause b is null c = By_release_complete is
-clearing m state kind.Status cause true is null c = By_status is null
-clearing m state kind.Status cause false is null c = absurd (if_expected _ act.Nothing (λ e. e) c)
-clearing m state kind.StatusEnquiry cause b is null c = absurd (if_expected _ act.Enquiry (λ e. e) c)
-clearing m state kind.SetupAcknowledge cause b is null c = absurd c
-clearing m state kind.Restart cause b is null c = absurd c
-clearing m state kind.RestartAcknowledge cause b is null c = absurd c
-clearing m state kind.Information cause b is null c = absurd (if_digits _ _ c)
-clearing m state (kind.Unknown octet) cause b is null c = absurd c
+  expected_means : (states : List ℕ) (state : ℕ) (a : Act) → Means h m a → Means h m (expected_in states state a)
+  expected_means states state a means = either_means (is_among states state) a act.Unexpected means tt
+
+  null_means : (reported : ℕ) (b : Bool) (a : Act) → (reported == null) ≡ b → m.kind ≡ kind.Status → call_state_in m.elements ≡ Some reported → Means h m a
+      → Means h m (if b then act.ReleaseComplete temporary_failure else a)
+  null_means reported true a is k told means = By_status k (told ∙ ap (λ n. Some n) (eqb-true reported null is))
+  null_means reported false a is k told means = means
+
+  report_means : (reported : ℕ) (b : Bool) → (h.leg.state == active) ≡ b → m.kind ≡ kind.Status → call_state_in m.elements ≡ Some reported → Means h m (if b then act.Report reported else act.Nothing)
+  report_means reported true is k told = (k, told, eqb-true h.leg.state active is)
+  report_means reported false is k told = tt
+
+  status_means : (r : Option ℕ) → m.kind ≡ kind.Status → call_state_in m.elements ≡ r → Means h m (act_of_status h.leg.state r)
+  status_means None k told = tt
+  status_means (Some reported) k told =
+      null_means reported (reported == null) (if h.leg.state == active then act.Report reported else act.Nothing) refl k told (report_means reported (h.leg.state == active) refl k told)
+
+  kind_means : (k : MessageKind) (cause : ℕ) → m.kind ≡ k → Means h m (act_of h.leg.state k cause (call_state_in m.elements))
+  kind_means kind.CallProceeding cause is = expected_means (call_present ∷ []) h.leg.state act.Proceeding tt
+  kind_means kind.Alerting cause is = expected_means (call_present ∷ incoming_call_proceeding ∷ []) h.leg.state act.Alerting tt
+  kind_means kind.Connect cause is = expected_means (call_present ∷ call_received ∷ incoming_call_proceeding ∷ []) h.leg.state act.Answer tt
+  kind_means kind.ConnectAcknowledge cause is = expected_means (active ∷ []) h.leg.state act.Nothing tt
+  kind_means kind.Progress cause is = expected_means every_state h.leg.state act.Nothing tt
+  kind_means kind.Notify cause is = expected_means every_state h.leg.state act.Nothing tt
+  kind_means kind.Facility cause is = expected_means every_state h.leg.state act.Nothing tt
+  kind_means kind.UserInformation cause is = expected_means every_state h.leg.state act.Nothing tt
+  kind_means kind.Setup cause is = expected_means every_state h.leg.state act.Nothing tt
+  kind_means kind.Disconnect cause is = expected_means before_release_request h.leg.state (act.Disconnect cause) (By_disconnect is)
+  kind_means kind.Release cause is =
+      either_means (h.leg.state == release_request) (act.ReleaseComplete cause) (expected_in before_release_request h.leg.state (act.Release cause)) (By_release is)
+      (expected_means before_release_request h.leg.state (act.Release cause) (By_release is))
+  kind_means kind.ReleaseComplete cause is = expected_means every_state h.leg.state (act.ReleaseComplete cause) (By_release_complete is)
+  kind_means kind.Status cause is = expected_means every_state h.leg.state (act_of_status h.leg.state (call_state_in m.elements)) (status_means (call_state_in m.elements) is refl)
+  kind_means kind.StatusEnquiry cause is = expected_means every_state h.leg.state act.Enquiry tt
+  kind_means kind.SetupAcknowledge cause is = tt
+  kind_means kind.Restart cause is = tt
+  kind_means kind.RestartAcknowledge cause is = tt
+  kind_means kind.Information cause is =
+      either_means (h.leg.state == overlap_sending) act.Digits (expected_in (outgoing_call_proceeding ∷ call_delivered ∷ active ∷ []) h.leg.state act.Nothing) tt
+      (expected_means (outgoing_call_proceeding ∷ call_delivered ∷ active ∷ []) h.leg.state act.Nothing tt)
+  kind_means (kind.Unknown octet) cause is = tt
+
+  act_means : Means h m (act_on h.leg.state m)
+  act_means = kind_means m.kind (clearing_cause m.elements) refl
 
 -- ---- an event
 
@@ -270,7 +315,7 @@ module _ (s : Setting) (w : World) (line : ℕ) (planned : IsPlanned s) (stands 
 
   -- ---- a change of the data link
 
-  resumed_same : (leg : Leg) (b e o : Bool) (other : Leg) → o ≡ false → IsSameCall leg (if b then (if e then begun w leg else if o then other else leg) else leg)
+  resumed_same : (leg : Leg) (b e o : Bool) (other : Leg) → o ≡ false → IsSameCall leg (if b then (if e then begun w (with_enquiry true leg) else if o then other else leg) else leg)
   resumed_same leg true true o other not_so = record { side = refl; reference = refl; peer = refl }
   resumed_same leg true false true other not_so = absurd cc
   resumed_same leg true false false other not_so = same_call leg
@@ -284,7 +329,7 @@ module _ (s : Setting) (w : World) (line : ℕ) (planned : IsPlanned s) (stands 
       (resumed_on line w x caller, legs_are_resumed s w line can x c.in_x ∙ ap (option_map (resumed_on line w x)) c.at_x, resumed_same caller _ _ _ _ (not_state caller.state overlap_sending overlap.0))
       (resumed_on line w y called, legs_are_resumed s w line can y c.in_y ∙ ap (option_map (resumed_on line w y)) c.at_y, resumed_same called _ _ _ _ (not_state called.state overlap_sending overlap.1))
 
-  waits_same : (leg : Leg) (b : Bool) → IsSameCall leg (if b then leg else retransmitted_from w.holding.next leg)
+  waits_same : (leg : Leg) (b : Bool) → IsSameCall leg (if b then leg else retransmitted_from w.holding.next (with_enquiry false leg))
   waits_same leg true = same_call leg
   waits_same leg false = record { side = refl; reference = refl; peer = refl }
 
@@ -372,16 +417,37 @@ module _ (s : Setting) (w : World) (line : ℕ) (planned : IsPlanned s) (stands 
         ]
       ]
 
-      cleared : (a : Act) → act_on h.leg.state m ≡ a → Clears a → CallsStand s (after a) → LastsIn (after a) ⊎ Ends
-      cleared a acts clears stands_v =
-          let is : IsClearing m = clearing m h.leg.state m.kind (clearing_cause m.elements) (is_null (call_state_in m.elements)) refl refl (subst Clears (sym acts) clears) in
-          elim own_or_other [
-            | inl same ↦ inr (Of_leg h m asks (inl same) is)
-            | inr rest ↦ elim rest [
-              | inl same ↦ inr (Of_leg h m asks (inr same) is)
-              | inr off ↦ inl (elsewhere a off.0 off.1 stands_v)
-            ]
-          ]
+      cleared : (a : Act) → IsClearing h m → CallsStand s (after a) → LastsIn (after a) ⊎ Ends
+      cleared a is stands_v = elim own_or_other [
+        | inl same ↦ inr (Of_leg h m asks (inl same) is)
+        | inr rest ↦ elim rest [
+          | inl same ↦ inr (Of_leg h m asks (inr same) is)
+          | inr off ↦ inl (elsewhere a off.0 off.1 stands_v)
+        ]
+      ]
+
+      -- the user of a leg of the call reports its state
+      abbrev after_report : Bool → Bool → World
+      after_report asked same =
+          (making_after_all s.dimensions (making_at w) (if asked then (if same then only (state_agrees h) else record { operations = state_differs s w h; cause = Some message_not_compatible_with_call_state }) else nothing).operations).world
+
+      by_report : (reported : ℕ) → act_on h.leg.state m ≡ act.Report reported → (h.slot ≡ x) ⊎ (h.slot ≡ y) → (asked same : Bool) → h.leg.enquired ≡ asked → (reported == active) ≡ same
+          → CallsStand s (after_report asked same) → LastsIn (after_report asked same) ⊎ Ends
+      by_report reported acts which true true asked same stands_v =
+          inl (last_both (after_report true true) stands_v (agreed_stays s w stands x caller c.in_x c.at_x h in_h at) (agreed_stays s w stands y called c.in_y c.at_y h in_h at))
+      by_report reported acts which true false asked differs stands_v =
+          let means = subst (Means h m) acts (act_means h m) in
+          inr (Of_leg h m asks which (By_report reported means.0 means.1 (λ e. grind (arith, nat_tests, differs, e)) means.2 asked))
+      by_report reported acts which false same asked differs stands_v = inl (same_legs w stands refl refl)
+
+      reported_lasts : (reported : ℕ) → act_on h.leg.state m ≡ act.Report reported → CallsStand s (after (act.Report reported)) → LastsIn (after (act.Report reported)) ⊎ Ends
+      reported_lasts reported acts stands_v = elim own_or_other [
+        | inl same ↦ by_report reported acts (inl same) h.leg.enquired (reported == active) refl refl stands_v
+        | inr rest ↦ elim rest [
+          | inl same ↦ by_report reported acts (inr same) h.leg.enquired (reported == active) refl refl stands_v
+          | inr off ↦ inl (elsewhere (act.Report reported) off.0 off.1 stands_v)
+        ]
+      ]
 
       -- digits come for a leg without another leg
       overlap : act_on h.leg.state m ≡ act.Digits → h.leg.state ≡ overlap_sending
@@ -406,9 +472,10 @@ module _ (s : Setting) (w : World) (line : ℕ) (planned : IsPlanned s) (stands 
       leg_lasts act.Alerting acts stands_v = inl (harmless act.Alerting tt stands_v)
       leg_lasts act.Answer acts stands_v = inl (harmless act.Answer tt stands_v)
       leg_lasts act.Digits acts stands_v = inl (dialled acts stands_v)
-      leg_lasts (act.Disconnect cause) acts stands_v = cleared (act.Disconnect cause) acts tt stands_v
-      leg_lasts (act.Release cause) acts stands_v = cleared (act.Release cause) acts tt stands_v
-      leg_lasts (act.ReleaseComplete cause) acts stands_v = cleared (act.ReleaseComplete cause) acts tt stands_v
+      leg_lasts (act.Disconnect cause) acts stands_v = cleared (act.Disconnect cause) (subst (Means h m) acts (act_means h m)) stands_v
+      leg_lasts (act.Release cause) acts stands_v = cleared (act.Release cause) (subst (Means h m) acts (act_means h m)) stands_v
+      leg_lasts (act.ReleaseComplete cause) acts stands_v = cleared (act.ReleaseComplete cause) (subst (Means h m) acts (act_means h m)) stands_v
+      leg_lasts (act.Report reported) acts stands_v = reported_lasts reported acts stands_v
 
     -- a new call, or a message without a leg
     by_list : (os : List Operation) → ((z : Slot) (leg : Leg) (in_z : IsExternal s.dimensions.external z) → leg_at w.legs z ≡ Some leg → CallsStand s (making_after_all s.dimensions (making_at w) os).world

@@ -17,7 +17,7 @@ use Rattle.circuit_model.proofs.Validity.{heard_by-listener}
 use Rattle.control_memory.specs.Layout.{number_of}
 use Rattle.q931_codec.specs.declared.message.Message.{Message}
 use Rattle.q931_codec.specs.Contents.{called_in, channel_in}
-use Rattle.q931_codec.specs.CallStates.{overlap_sending}
+use Rattle.q931_codec.specs.CallStates.{overlap_sending, active}
 use Rattle.call_states.specs.Acts.{act_on}
 use Rattle.call_states.specs.declared.act.Act.{Act}
 use Rattle.call_states.specs.declared.act.Act.TheVariants as act
@@ -47,6 +47,7 @@ use Rattle.call_profile.proofs.BesideLemmas.{leg_at-with_entry_here, leg_at-with
 use Rattle.call_profile.proofs.CommandLemmas.{both_true, is_empty}
 use Rattle.call_profile.proofs.NamedLegLemmas.{received_stands}
 use Rattle.call_profile.proofs.SetupLemmas.{caller_is}
+use Rattle.call_profile.proofs.AnsweredLegLemmas.{answered_does}
 use Rattle.privacy.specs.Lines.{IsAsBefore}
 use Rattle.privacy.specs.Undisturbed.{IsOnLine, IsSingle}
 use Rattle.privacy.proofs.CalledLemmas.{called_idle}
@@ -75,7 +76,7 @@ module _ (d : Dimensions) (z : Slot) (in_z : IsExternal d.external z) where
   Spares (op.Expect x leg message) = Writes x leg
   Spares (op.Repeat h octets) = Writes h.slot h.leg
   Spares (op.Await x leg) = Writes x leg
-  Spares (op.Remove x) = IsExternal d.external x
+  Spares (op.Remove x owed) = IsExternal d.external x
   Spares (op.Send line message) = Unit {0}
 
   abbrev pub SpareAll : List Operation → Type 0
@@ -93,7 +94,7 @@ module _ (d : Dimensions) (z : Slot) (in_z : IsExternal d.external z) where
   one_misses u (op.Expect x leg message) may = (may.0, λ same. absurd (may.1 same))
   one_misses u (op.Repeat h octets) may = (may.0, λ same. absurd (may.1 same))
   one_misses u (op.Await x leg) may = (may.0, λ same. absurd (may.1 same))
-  one_misses u (op.Remove x) may = may.0
+  one_misses u (op.Remove x owed) may = may.0
   one_misses u (op.Send line message) may = tt
 
   pub all_miss : (u : World) (os : List Operation) → MissAll d u z in_z os → SpareAll os
@@ -143,7 +144,7 @@ module _ (d : Dimensions) (z : Slot) (in_z : IsExternal d.external z) where
   one_spared m (op.Await x leg) may so_far =
       let again = retransmitted_from m.world.holding.next leg in
       record { size = length-set m.world.legs.held (number_of x) (Some again) ∙ so_far.size; leg = put m.world.legs x again so_far.size may so_far.leg; tone = so_far.tone }
-  one_spared m (op.Remove x) may so_far = record { size = length-set m.world.legs.held (number_of x) None ∙ so_far.size; leg = wrote m.world.legs x None so_far.size may (λ l e. absurd cc) so_far.leg; tone = so_far.tone }
+  one_spared m (op.Remove x owed) may so_far = record { size = length-set m.world.legs.held (number_of x) None ∙ so_far.size; leg = wrote m.world.legs x None so_far.size may (λ l e. absurd cc) so_far.leg; tone = so_far.tone }
   one_spared m (op.Send line message) may so_far = record { size = so_far.size; leg = so_far.leg; tone = so_far.tone }
 
   pub all_spared : (m : Making) (os : List Operation) → SpareAll os → IsSpared m.world → IsSpared (making_after_all d m os).world
@@ -163,6 +164,7 @@ digits_or_not act.Digits = inl refl
 digits_or_not (act.Disconnect cause) = inr (λ e. cc)
 digits_or_not (act.Release cause) = inr (λ e. cc)
 digits_or_not (act.ReleaseComplete cause) = inr (λ e. cc)
+digits_or_not (act.Report reported) = inr (λ e. cc)
 
 module _ (s : Setting) (w : World) (planned : IsPlanned s) (stands : CallsStand s w) (z : Slot) (in_z : IsExternal s.dimensions.external z) (free : idle w z ≡ true) where
   empty : leg_at w.legs z ≡ None
@@ -225,7 +227,9 @@ module _ (s : Setting) (w : World) (planned : IsPlanned s) (stands : CallsStand 
     call_spares (Line l) None within = tt
     call_spares (Lines ls) (Some y) within = ((in_x, λ same. absurd (apart same)), (tt, ((within y refl, λ same. (x, refl)), tt)))
     call_spares (Lines ls) None within = tt
-    call_spares (Room room) o within = ((in_x, λ same. absurd (apart same)), (tt, (tt, (tt, tt))))
+    call_spares (Room room) o within =
+        let mine : Writes s.dimensions z in_z x (caller_leg active own (peer.Room room)) = (in_x, λ same. absurd (apart same)) in
+        (answered_does (Spares s.dimensions z in_z) w.legs x (caller_leg active own (peer.Room room)) mine mine, (tt, (tt, (tt, tt))))
     call_spares More o within = ((in_x, λ same. absurd (apart same)), asking first)
     call_spares Nothing o within = tt
 

@@ -5,7 +5,7 @@ use Rattle.control_memory.specs.Layout.{number_of}
 use Rattle.q931_codec.specs.declared.message.Message.{Message}
 use Rattle.q931_codec.specs.CallStates.{overlap_sending}
 use Rattle.q931_codec.specs.Contents.{call_state_in}
-use Rattle.call_states.specs.Acts.{act_on, clearing_cause, is_null}
+use Rattle.call_states.specs.Acts.{act_on, clearing_cause}
 use Rattle.call_states.specs.declared.act.Act.TheVariants as act
 use Rattle.call_states.specs.declared.leg.Leg.{Leg}
 use Rattle.call_states.proofs.Causes.{cause_fits}
@@ -18,7 +18,7 @@ use Rattle.call_profile.proofs.MessageToLegLemmas.{Asked, Asked-act_of}
 -- digits come only to a leg in overlap sending
 pub digits_overlap : (leg : Leg) (m : Message) → act_on leg.state m ≡ act.Digits → leg.state ≡ overlap_sending
 digits_overlap leg m acts =
-    let asked = subst (Asked leg.state) acts (Asked-act_of leg.state m.kind (clearing_cause m.elements) (is_null (call_state_in m.elements)) (cause_fits m.elements)) in
+    let asked = subst (Asked leg.state) acts (Asked-act_of leg.state m.kind (clearing_cause m.elements) (call_state_in m.elements) (cause_fits m.elements)) in
     eqb-true leg.state overlap_sending asked
 
 -- there is no leg before the first event

@@ -1,6 +1,6 @@
 -- The lines to which an event on a line sends messages.
 use Rattle.std.proofs.Common.{◌≡◌, ℕ, ◌<◌, inl, inr, Bool, true, false, List, [], ◌∷◌, ◌++◌, All, Option, Some, None, length-set, refl, sym, ◌∙◌, ap, subst, arith}
-use Rattle.std.specs.Prelude.{◌==◌, if◌then◌else◌}
+use Rattle.std.specs.Prelude.{not, ◌&&◌}
 use Rattle.std.proofs.lemmas.List.Elements.{All-nil, All-push}
 use Rattle.circuit_model.specs.declared.channel.Slot.{Slot}
 use Rattle.circuit_model.specs.Extent.{IsExternal}
@@ -8,7 +8,7 @@ use Rattle.circuit_model.proofs.Slots.{true_or_false}
 use Rattle.control_memory.specs.Layout.{number_of}
 use Rattle.q931_codec.specs.declared.message.Message.{Message}
 use Rattle.q931_codec.specs.CallStates.{active, overlap_sending}
-use Rattle.q931_codec.specs.Causes.{destination_out_of_order, temporary_failure}
+use Rattle.q931_codec.specs.Causes.{destination_out_of_order, temporary_failure, message_not_compatible_with_call_state}
 use Rattle.q931_codec.specs.Contents.{called_in, channel_in}
 use Rattle.q931_codec.specs.Outgoing.{OutgoingMessage}
 use Rattle.call_states.specs.Acts.{act_on}
@@ -30,13 +30,13 @@ use Rattle.exchange_events.specs.declared.trace.Event.TheVariants.{Nail, Seat, F
 use Rattle.exchange_events.specs.Sizes.{Setting, Dimensions}
 use Rattle.exchange_events.specs.Sound.{Fits, IsPlanned}
 use Rattle.call_profile.specs.ActCourse.{course_of}
-use Rattle.call_profile.specs.Acts.{peer_of, with_peer, clear_with, on_alerting, on_connect, on_disconnect, on_release, on_release_complete}
+use Rattle.call_profile.specs.Acts.{peer_of, with_peer, clear_with, on_alerting, on_connect, on_disconnect, on_release, on_release_complete, answered, in_state}
 use Rattle.call_profile.specs.Calls.{Request, For_leg, New_call, On_no_call, Restarts, Unanswered, request_of, answer_back, outcome_for, outcome_of_octets}
 use Rattle.call_profile.specs.Digits.{asked_with, digits_refusal, dial_on, with_pending}
 use Rattle.call_profile.specs.IdleSlots.{idle}
 use Rattle.call_profile.specs.LegStanding.{CallsStand, LegsStand, HasPeer}
 use Rattle.call_profile.specs.Legs.{leg_at, pending_at, lowest_free_reference}
-use Rattle.call_profile.specs.LinkChanges.{drop_leg, resume_leg, rule_of, outcome_of_link, whole_line}
+use Rattle.call_profile.specs.LinkChanges.{rule_of, outcome_of_link, whole_line, with_interface, with_line, restarts_interface}
 use Rattle.call_profile.specs.Operations as op
 use Rattle.call_profile.specs.Operations.{Operation, Making, begun, making_at, making_after, making_after_all}
 use Rattle.call_profile.specs.Restarts.{MessageOutcome, restart_peer, restart_leg, restart_slot, restarts_slot, restart_rule, outcome_below}
@@ -45,17 +45,20 @@ use Rattle.call_profile.specs.Step.{next, reply}
 use Rattle.call_profile.specs.World.{World}
 use Rattle.call_profile.proofs.BesideLemmas.{leg_at-with_entry_here}
 use Rattle.call_profile.proofs.ClearingLemmas.{held_there}
-use Rattle.call_profile.proofs.LinkLemmas.{rule_kept, at_held}
+use Rattle.call_profile.proofs.LinkLemmas.{rule_kept}
 use Rattle.call_profile.proofs.NamedLegLemmas.{received_stands}
 use Rattle.call_profile.proofs.RestartLemmas as restarts
 use Rattle.call_profile.proofs.RestartedSlotLemmas.{each_below}
 use Rattle.call_profile.proofs.SetupLemmas.{caller_is}
+use Rattle.call_profile.proofs.ReportLemmas.{report_does}
+use Rattle.call_profile.proofs.AnsweredLegLemmas.{answered_does}
 use Rattle.privacy.specs.Lines.{IsConcerned, Itself, In_call, Offered, sends_of}
 use Rattle.privacy.specs.Undisturbed.{IsOnLine}
 use Rattle.privacy.proofs.CalledLemmas.{called_idle}
 use Rattle.privacy.proofs.CourseLemmas.{restart_slot_orderly, rule_orderly}
 use Rattle.privacy.proofs.GrowthLemmas.{IsWalked, walk, walk_first, linked_first}
 use Rattle.privacy.proofs.OrderlyLemmas.{none}
+use Rattle.privacy.proofs.LinkRuleLemmas.{IsAtLeg, rule_by}
 
 -- ---- operations that send only to some lines
 
@@ -70,7 +73,7 @@ module _ (d : Dimensions) (To : ℕ → Type 0) where
   Sends (op.Expect x leg message) = To x.line
   Sends (op.Repeat h octets) = To h.slot.line
   Sends (op.Await x leg) = Unit {0}
-  Sends (op.Remove x) = Unit {0}
+  Sends (op.Remove x owed) = Unit {0}
   Sends (op.Send line message) = To line
 
   abbrev pub SendAll : List Operation → Type 0
@@ -94,7 +97,7 @@ module _ (d : Dimensions) (To : ℕ → Type 0) where
   one_sent m (op.Expect x leg message) may so_far = All-push (λ (q : Signal). To q.line) m.sends _ so_far may
   one_sent m (op.Repeat h octets) may so_far = All-push (λ (q : Signal). To q.line) m.sends _ so_far may
   one_sent m (op.Await x leg) may so_far = so_far
-  one_sent m (op.Remove x) may so_far = so_far
+  one_sent m (op.Remove x owed) may so_far = so_far
   one_sent m (op.Send line message) may so_far = All-push (λ (q : Signal). To q.line) m.sends _ so_far may
 
   pub all_sent : (m : Making) (os : List Operation) → SendAll os → AreTo m.sends → AreTo (making_after_all d m os).sends
@@ -124,33 +127,22 @@ module _ (d : Dimensions) (tones : Tones) (u : World) (stand : LegsStand d.exter
   pub and_peer : (os : List Operation) (cause : ℕ) → SendOut os → SendOut (os ++ with_peer (peer_of u.legs h.leg.peer) (clear_with tones cause))
   and_peer os cause first = send_both d To os (with_peer (peer_of u.legs h.leg.peer) (clear_with tones cause)) first (peer_sends h.leg.peer (clear_with tones cause) refl (clear_sends cause))
 
-  restarted_peer : (cause : ℕ) (r : Restart) (k : HeldLeg) → To k.slot.line → SendOut (restart_peer tones cause r h.slot.line k)
-  restarted_peer cause r k to = elim (true_or_false (restarts_slot r h.slot.line k.slot)) [
+  restarted_peer : (cause : ℕ) (owed : Bool) (r : Restart) (k : HeldLeg) → To k.slot.line → SendOut (restart_peer tones cause owed r h.slot.line k)
+  restarted_peer cause owed r k to = elim (true_or_false (restarts_slot r h.slot.line k.slot)) [
     | inl too ↦ rw too (tt, (tt, tt))
     | inr not_so ↦ rw not_so (clear_sends cause k to)
   ]
 
-  pub restart_sends : (cause : ℕ) (r : Restart) → SendOut (restart_leg tones cause r u.legs (Some h))
-  restart_sends cause r = (tt, (tt, peer_sends h.leg.peer (restart_peer tones cause r h.slot.line) refl (restarted_peer cause r)))
+  pub restart_sends : (cause : ℕ) (owed : Bool) (r : Restart) → SendOut (restart_leg tones cause owed r u.legs (Some h))
+  restart_sends cause owed r = (tt, (tt, peer_sends h.leg.peer (restart_peer tones cause owed r h.slot.line) refl (restarted_peer cause owed r)))
 
-  waiting : (b : Bool) → SendOut (if b then [] else op.Await h.slot h.leg ∷ [])
-  waiting true = tt
-  waiting false = (tt, tt)
-
-  pub drop_sends : SendOut (drop_leg tones u.legs (Some h))
-  drop_sends = elim (true_or_false (h.leg.state == active)) [
-    | inl up ↦ rw up (waiting h.leg.resent)
-    | inr not_up ↦ rw not_up (restart_sends destination_out_of_order whole_line)
-  ]
-
-  pub resume_sends : SendOut (resume_leg tones (Some h))
-  resume_sends = elim (true_or_false (h.leg.state == active)) [
-    | inl up ↦ rw up (tt, (own, tt))
-    | inr not_up ↦ elim (true_or_false (h.leg.state == overlap_sending)) [
-      | inl dials ↦ rw (not_up, dials) (own_cleared temporary_failure)
-      | inr apart ↦ rw (not_up, apart) tt
-    ]
-  ]
+  pub link_sends : IsAtLeg tones u.legs SendOut h
+  link_sends = record {
+    waits = (tt, tt);
+    goes = restart_sends destination_out_of_order true whole_line;
+    asks = (tt, (own, tt));
+    clears = own_cleared temporary_failure;
+  }
 
 -- ---- an event on a line
 
@@ -163,6 +155,10 @@ module _ (s : Setting) (w : World) (e : Event) (line : ℕ) (planned : IsPlanned
 
   abbrev Out : List Operation → Type 0
   Out os = SendAll s.dimensions To os
+
+  -- an answered leg sends nothing
+  put_none : (x : Slot) (leg : Leg) → Sends s.dimensions To (answered w.legs x leg)
+  put_none x leg = answered_does (Sends s.dimensions To) w.legs x leg tt tt
 
   none_sent : AllTo []
   none_sent = All-nil (λ (m : Signal). To m.line)
@@ -203,7 +199,7 @@ module _ (s : Setting) (w : World) (e : Event) (line : ℕ) (planned : IsPlanned
     call_sends (Line l) None found is = tt
     call_sends (Lines ls) (Some y) found is = offered y (lowest_free_reference w.legs y.line) (found y refl) is
     call_sends (Lines ls) None found is = tt
-    call_sends (Room room) o found is = (tt, (tt, (Itself on, (Itself on, tt))))
+    call_sends (Room room) o found is = (put_none x (caller_leg active own (peer.Room room)), (tt, (Itself on, (Itself on, tt))))
     call_sends More o found is = (tt, asking first)
     call_sends Nothing o found is = tt
 
@@ -249,11 +245,14 @@ module _ (s : Setting) (w : World) (e : Event) (line : ℕ) (planned : IsPlanned
       course_sends act.Enquiry after = (own, tt)
       course_sends act.Proceeding after = (tt, tt)
       course_sends act.Alerting after = peers (on_alerting s.tones h) (λ k to. (tt, (tt, (tt, (to, tt)))))
-      course_sends act.Answer after = peers (on_connect h) (λ k to. (tt, (tt, (tt, (tt, (own, (to, tt)))))))
+      course_sends act.Answer after = peers (on_connect w.legs h) (λ k to. (tt, (tt, (put_none h.slot (in_state active h.leg), (put_none k.slot (in_state active k.leg), (own, (to, tt)))))))
       course_sends act.Digits after = pending_sends (pending_at w.legs h.slot) after
       course_sends (act.Disconnect cause) after = then_peer (on_disconnect h) cause (tt, (own, tt))
       course_sends (act.Release cause) after = then_peer (on_release h) cause (tt, (tt, (own, tt)))
       course_sends (act.ReleaseComplete cause) after = then_peer (on_release_complete h) cause (tt, (tt, tt))
+      course_sends (act.Report reported) after =
+          let cause : ℕ = message_not_compatible_with_call_state in
+          report_does Out s w h m reported tt (tt, tt) (then_peer (clear_with s.tones cause h) cause (own_cleared s.dimensions s.tones w stands.legs To h in_h at own (other_to h at in_h on) cause))
 
     accepted_sends : (m : Message) (o : Option Slot) → ((x : Slot) → o ≡ Some x → IsExternal s.dimensions.external x × (x.line ≡ line))
         → next s w e ≡ (making_after_all s.dimensions (making_at w) (accept_at s w m o)).world → Out (accept_at s w m o)
@@ -290,29 +289,39 @@ module _ (s : Setting) (w : World) (e : Event) (line : ℕ) (planned : IsPlanned
       let m : Making = a.making in
       let os = restart_slot s.tones r m.world.legs x in
       let out : Out os = restarts.at_slot s.tones r m.world.legs x Out tt (λ leg at.
-      restart_sends s.dimensions s.tones m.world so_far.0.kept.1 To (record { slot = x; leg = leg }) (exists, small) at (Itself refl) (walked_to a so_far x leg (exists, small) refl at) temporary_failure r) in (
+      restart_sends s.dimensions s.tones m.world so_far.0.kept.1 To (record { slot = x; leg = leg }) (exists, small) at (Itself refl) (walked_to a so_far x leg (exists, small) refl at) temporary_failure false r) in (
         walk s w e planned stands m os so_far.0 (restart_slot_orderly s.dimensions s.tones m.world so_far.0.kept.1 none x (exists, small) r) (restarts.slot_kept s.dimensions s.tones r m x so_far.0.kept (exists, small)),
         all_sent s.dimensions To m os out so_far.1,
       ))
       30 (omega arith)
 
-  rule_sends : (a : MessageOutcome) → HasWalked a → (x : Slot) → IsExternal s.dimensions.external x → x.line ≡ line → (down : Bool) → Out ((rule_of s.tones down).does a.making.world.legs x)
-  rule_sends a so_far x in_x on true = at_held a.making.world.legs x (drop_leg s.tones a.making.world.legs) Out tt (λ leg at.
-      drop_sends s.dimensions s.tones a.making.world so_far.0.kept.1 To (record { slot = x; leg = leg }) in_x at (Itself on) (walked_to a so_far x leg in_x on at))
-  rule_sends a so_far x in_x on false = at_held a.making.world.legs x (resume_leg s.tones) Out tt (λ leg at.
-      resume_sends s.dimensions s.tones a.making.world so_far.0.kept.1 To (record { slot = x; leg = leg }) in_x at (Itself on) (walked_to a so_far x leg in_x on at))
+  rule_sends : (a : MessageOutcome) → HasWalked a → (x : Slot) → IsExternal s.dimensions.external x → x.line ≡ line → (whole down : Bool) → Out ((rule_of s.tones whole down).does a.making.world.legs x)
+  rule_sends a so_far x in_x on =
+      rule_by s.tones a.making.world.legs Out tt x
+      (λ leg at. link_sends s.dimensions s.tones a.making.world so_far.0.kept.1 To (record { slot = x; leg = leg }) in_x at (Itself on) (walked_to a so_far x leg in_x on at))
+      (λ none. record { forgets = (tt, tt); restarts = (tt, (Itself on, tt)) })
 
-  pub linked_sends : (down : Bool) → AllTo (outcome_of_link s.dimensions s.tones down line w).making.sends
-  linked_sends down = (
-      each_below s.dimensions (rule_of s.tones down) line _ HasWalked (linked_first s w e planned stands line down, none_sent)
+  -- the RESTART of the interface goes to the line itself
+  interface_sends : (whole : Bool) (a : MessageOutcome) → AllTo a.making.sends → AllTo (with_interface s.dimensions whole line a).making.sends
+  interface_sends true a so_far = All-push (λ (m : Signal). To m.line) a.making.sends _ so_far (Itself refl)
+  interface_sends false a so_far = so_far
+
+  slots_send : (whole down : Bool) → HasWalked (outcome_below s.dimensions (rule_of s.tones whole down) line (with_line w line down) 30)
+  slots_send whole down =
+      each_below s.dimensions (rule_of s.tones whole down) line _ HasWalked (linked_first s w e planned stands line down, none_sent)
       (λ a place small so_far.
       let x : Slot = record { line = line; place = place } in
       let m : Making = a.making in
-      let os = (rule_of s.tones down).does m.world.legs x in (
-        walk s w e planned stands m os so_far.0 (rule_orderly s.dimensions s.tones m.world so_far.0.kept.1 none x (exists, small) down) (rule_kept s.dimensions s.tones m x so_far.0.kept (exists, small) down),
-        all_sent s.dimensions To m os (rule_sends a so_far x (exists, small) refl down) so_far.1,
+      let os = (rule_of s.tones whole down).does m.world.legs x in (
+        walk s w e planned stands m os so_far.0 (rule_orderly s.dimensions s.tones m.world so_far.0.kept.1 none x (exists, small) whole down) (rule_kept s.dimensions s.tones m x so_far.0.kept (exists, small) whole down),
+        all_sent s.dimensions To m os (rule_sends a so_far x (exists, small) refl whole down) so_far.1,
       ))
-      30 (omega arith)).1
+      30 (omega arith)
+
+  pub linked_sends : (down : Bool) → AllTo (outcome_of_link s.dimensions s.tones down line w).making.sends
+  linked_sends down =
+      let whole : Bool = not down && restarts_interface w.legs line in
+      interface_sends whole (outcome_below s.dimensions (rule_of s.tones whole down) line (with_line w line down) 30) (slots_send whole down).1
 
   module _ (octets : List ℕ) (is : e ≡ Message_event line octets) where
     request_sends : (r : Request) → request_of w.legs line octets ≡ r → next s w e ≡ (outcome_for s w line r).making.world → AllTo (outcome_for s w line r).making.sends

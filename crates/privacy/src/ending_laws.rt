@@ -12,8 +12,9 @@ ghost use Rattle.privacy.specs.Premises.{IsStep};
 ghost use Rattle.privacy.specs.Undisturbed.{AreCalling};
 
 /// A call of two legs lasts when a data link is established (`up`). An answered call lasts when a data link fails (`down`).
-/// Of all messages only DISCONNECT, RELEASE, RELEASE COMPLETE and a STATUS that reports the null state end it, for one of its
-/// two legs, and a RESTART of one of its two slots (`messages`).
+/// Of all messages for one of its two legs only DISCONNECT, RELEASE, RELEASE COMPLETE and a STATUS that reports the null
+/// state end it, and so does the first STATUS after an outage, if it reports another state than active. A RESTART of one of
+/// its two slots ends it too (`messages`).
 pub fn law_of_call_ends()
     ensures up { (s : Setting) (w : World) (line : ℕ) (x y : Slot) (caller called : Leg) → IsStep s w (LinkUp line)
         → AreCalling s.dimensions.external w x y caller called → Lasts s (next s w (LinkUp line)) x y caller called }

@@ -1,0 +1,64 @@
+-- What holds of each of the operations at a slot holds of those of a line's data link.
+use Rattle.std.proofs.Common.{◌≡◌, Bool, true, false, List, [], ◌∷◌, Some, None, inl, inr, if◌then◌else◌}
+use Rattle.std.specs.Prelude.{◌==◌}
+use Rattle.circuit_model.specs.declared.channel.Slot.{Slot}
+use Rattle.circuit_model.proofs.Slots.{true_or_false}
+use Rattle.q931_codec.specs.CallStates.{active, overlap_sending}
+use Rattle.q931_codec.specs.Causes.{destination_out_of_order, temporary_failure}
+use Rattle.call_states.specs.Acts.{is_among}
+use Rattle.call_states.specs.declared.leg.HeldLeg.{HeldLeg}
+use Rattle.call_states.specs.declared.leg.Leg.{Leg}
+use Rattle.clearing_rules.specs.Restarting.{restart_of}
+use Rattle.clearing_rules.specs.declared.scope.Restart.TheVariants.{Channel}
+use Rattle.tone_rules.specs.declared.tones.Tones.{Tones}
+use Rattle.call_profile.specs.Acts.{clear_with, with_enquiry}
+use Rattle.call_profile.specs.Legs.{Legs, is_owed, leg_at}
+use Rattle.call_profile.specs.LinkChanges.{being_cleared, drop_leg, enquire, restart_channel, resume_held, resume_leg, rule_of, whole_line}
+use Rattle.call_profile.specs.Operations.{Operation, Await, Remove, Send}
+use Rattle.call_profile.specs.Restarts.{restart_leg}
+use Rattle.call_profile.proofs.LinkLemmas.{at_held}
+
+-- at a leg, and at a slot without a leg
+pub record IsAtLeg (tones : Tones) (legs : Legs) (P : List Operation → Type 0) (h : HeldLeg) : Type 0 where
+  pub waits : P (Await h.slot (with_enquiry false h.leg) ∷ [])
+  pub goes : P (restart_leg tones destination_out_of_order true whole_line legs (Some h))
+  pub asks : P (enquire h)
+  pub clears : P (clear_with tones temporary_failure h)
+
+pub record IsAtEmpty (P : List Operation → Type 0) (x : Slot) : Type 0 where
+  pub forgets : P (Remove x false ∷ [])
+  pub restarts : P (Remove x false ∷ Send x.line (restart_of (Channel x.place)) ∷ [])
+
+module _ (tones : Tones) (legs : Legs) (P : List Operation → Type 0) (none : P []) where
+  module _ (h : HeldLeg) (at : IsAtLeg tones legs P h) where
+    waiting : (runs : Bool) → P (if runs then [] else Await h.slot (with_enquiry false h.leg) ∷ [])
+    waiting true = none
+    waiting false = at.waits
+
+    dropped : P (drop_leg tones legs (Some h))
+    dropped = elim (true_or_false (h.leg.state == active)) [
+      | inl up ↦ rw up (waiting h.leg.resent)
+      | inr not_up ↦ elim (true_or_false (is_among being_cleared h.leg.state)) [
+        | inl clears ↦ rw (not_up, clears) none
+        | inr other ↦ rw (not_up, other) at.goes
+      ]
+    ]
+
+    resumed : P (resume_leg tones h)
+    resumed = elim (true_or_false (h.leg.state == active)) [
+      | inl up ↦ rw up at.asks
+      | inr not_up ↦ elim (true_or_false (h.leg.state == overlap_sending)) [
+        | inl dials ↦ rw (not_up, dials) at.clears
+        | inr other ↦ rw (not_up, other) none
+      ]
+    ]
+
+  channel : (x : Slot) → IsAtEmpty P x → (owed whole : Bool) → P (if owed then restart_channel whole x else [])
+  channel x at true true = at.forgets
+  channel x at true false = at.restarts
+  channel x at false whole = none
+
+  pub rule_by : (x : Slot) → ((leg : Leg) → leg_at legs x ≡ Some leg → IsAtLeg tones legs P (record { slot = x; leg = leg })) → (leg_at legs x ≡ None → IsAtEmpty P x)
+      → (whole down : Bool) → P ((rule_of tones whole down).does legs x)
+  rule_by x held empty whole true = at_held legs x (drop_leg tones legs) P (λ at. none) (λ leg at. dropped (record { slot = x; leg = leg }) (held leg at))
+  rule_by x held empty whole false = at_held legs x (resume_held tones whole legs x) P (λ at. channel x (empty at) (is_owed legs x) whole) (λ leg at. resumed (record { slot = x; leg = leg }) (held leg at))
