@@ -69,6 +69,7 @@ pub mod ResumedLineLemmas
 pub mod LinkStateLemmas
 mod OwedEventLemmas
 mod OwedSlotLemmas
+mod ResumedSendLemmas
 pub mod LinkedLegLemmas
 pub mod OutageLemmas
 pub mod UnfailingLinkLemmas

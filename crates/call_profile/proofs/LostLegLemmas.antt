@@ -86,7 +86,7 @@ sent_still d m (op.Await x leg) one sent = sent
 sent_still d m (op.Remove x owed) one sent = sent
 sent_still d m (op.Send line message) one sent = Contains-append_left m.sends _ one sent
 
-sent_still_all : (d : Dimensions) (m : Making) (os : List Operation) (one : Signal) → Contains m.sends one → Contains (making_after_all d m os).sends one
+pub sent_still_all : (d : Dimensions) (m : Making) (os : List Operation) (one : Signal) → Contains m.sends one → Contains (making_after_all d m os).sends one
 sent_still_all d m [] one sent = sent
 sent_still_all d m (o ∷ os) one sent = sent_still_all d (making_after d m o) os one (sent_still d m o one sent)
 

@@ -30,7 +30,7 @@ use Rattle.call_profile.specs.Calls.{Request, For_leg, New_call, On_no_call, Res
 use Rattle.call_profile.specs.Dropped.{HasLine, left_by_failure, waiting_for_link}
 use Rattle.call_profile.specs.Expiring.{due_of, expire_slot, slot_looked_at}
 use Rattle.call_profile.specs.ExpiryBounds.{NoneIsLost}
-use Rattle.call_profile.specs.IdleSlots.{is_nailed}
+use Rattle.call_profile.specs.IdleSlots.{is_nailed, lowest_called, lowest_idle_beside}
 use Rattle.call_profile.specs.Legs.{Legs, is_down, retransmitted_from, leg_at, no_legs, is_owed}
 use Rattle.call_profile.specs.LegStanding.{CallsStand}
 use Rattle.call_profile.specs.LinkChanges.{being_cleared}
@@ -38,7 +38,7 @@ use Rattle.call_profile.specs.Operations.{begun, making_at}
 use Rattle.call_profile.specs.Outages.{AwaitsLink, OutagesStand, NoLinkIsDown, HasNoFailure, IsOnLineUp, enquired_in}
 use Rattle.call_profile.specs.Restarts.{restart_slot, restart_rule}
 use Rattle.call_profile.specs.Resumed.{resumed, resumed_on}
-use Rattle.call_profile.specs.Setup.{refusal, course_of_setup}
+use Rattle.call_profile.specs.Setup.{refusal, course_of_setup, called_slot}
 use Rattle.call_profile.specs.Step.{next, may_nail, may_seat, world_after_all}
 use Rattle.call_profile.specs.World.{World, start, obey, pass}
 use Rattle.call_profile.proofs.DroppedLineLemmas.{others_are_gone, cleared_stay, none_stay, active_wait, other_lines_are_left}
@@ -54,6 +54,9 @@ use Rattle.call_profile.proofs.ResumedLineLemmas.{legs_are_resumed}
 use Rattle.call_profile.proofs.StandingLegLemmas.{start_stands, happened_kept, run_stands}
 use Rattle.call_profile.proofs.OwedEventLemmas.{next_owed}
 use Rattle.call_profile.proofs.CommandLemmas.{both_true}
+use Rattle.call_profile.proofs.SetupLemmas.{called_is, lowest_idle_beside_hunted_on}
+use Rattle.number_plan.specs.declared.target.Found.{Found}
+use Rattle.number_plan.specs.declared.target.Found.TheVariants.{Line, Lines, Room, More, Nothing}
 
 -- ---- what the invariant says of a leg
 
@@ -299,3 +302,25 @@ none_is_lost s w frame stands outages up x leg at is =
 pub never_lost : (s : Setting) (es : List Event) (frame : ℕ) → HasNoFailure s es → NoneIsLost s.timers frame (world_after_all s (start s.dimensions) es).legs
 never_lost s es frame calm =
     none_is_lost s (world_after_all s (start s.dimensions) es) frame (run_stands s (start s.dimensions) es calm.planned calm.fits (start_stands s)) (outages_stand s es calm.planned calm.fits) (none_fails s es calm)
+
+-- ---- no call is offered on a channel that is owed a RESTART
+
+lowest_is_up : (w : World) (x : Slot) (line : ℕ) (y : Slot) → lowest_called w x line ≡ Some y → is_down w.legs line ≡ false
+lowest_is_up w x line y chosen = by (is_down w.legs line) refl where
+  by : (b : Bool) → is_down w.legs line ≡ b → b ≡ false
+  by true is = let wrong : None ≡ Some y = sym (ap (λ (b : Bool). if b then None else lowest_idle_beside w x line) is) ∙ chosen in absurd cc
+  by false is = refl
+
+offered_is_up : (w : World) (x : Slot) (t : Found) (y : Slot) → called_slot w x t ≡ Some y → is_down w.legs y.line ≡ false
+offered_is_up w x (Line line) y chosen = ap (is_down w.legs) (called_is w x line y chosen).2.0 ∙ lowest_is_up w x line y chosen
+offered_is_up w x (Lines lines) y chosen = lowest_is_up w x y.line y (lowest_idle_beside_hunted_on w x lines y chosen)
+offered_is_up w x (Room room) y chosen = absurd cc
+offered_is_up w x More y chosen = absurd cc
+offered_is_up w x Nothing y chosen = absurd cc
+
+pub offered_owes_none : (s : Setting) (w : World) → OutagesStand s.dimensions.external w.legs → (x : Slot) (t : Found) (y : Slot) → IsExternal s.dimensions.external y → called_slot w x t ≡ Some y
+    → is_owed w.legs y ≡ false
+offered_owes_none s w outages x t y in_y chosen = by (is_owed w.legs y) refl where
+  by : (b : Bool) → is_owed w.legs y ≡ b → b ≡ false
+  by true is = let wrong : false ≡ true = sym (offered_is_up w x t y chosen) ∙ outages.owed y in_y is in absurd cc
+  by false is = refl

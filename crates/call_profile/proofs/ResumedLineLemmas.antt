@@ -84,16 +84,16 @@ module _ (d : Dimensions) (tones : Tones) (m : Making) (x : Slot) (kept : Kept d
 -- ---- the slots of the line
 
 -- a leg once the slots below a place are done
-abbrev resumed_below : ℕ → World → ℕ → Slot → Leg → Leg
+abbrev pub resumed_below : ℕ → World → ℕ → Slot → Leg → Leg
 resumed_below line w n x leg = if was_restarted whole_line line n x then resumed w leg else leg
 
-record AreResumed (s : Setting) (line : ℕ) (w : World) (n : ℕ) (v : World) : Type 0 where
-  kept : Kept s.dimensions s.tones v
-  legs : (z : Slot) → IsExternal s.dimensions.external z → leg_at v.legs z ≡ option_map (resumed_below line w n z) (leg_at w.legs z)
-  next : v.holding.next ≡ w.holding.next
+pub record AreResumed (s : Setting) (line : ℕ) (w : World) (n : ℕ) (v : World) : Type 0 where
+  pub kept : Kept s.dimensions s.tones v
+  pub legs : (z : Slot) → IsExternal s.dimensions.external z → leg_at v.legs z ≡ option_map (resumed_below line w n z) (leg_at w.legs z)
+  pub next : v.holding.next ≡ w.holding.next
 
 -- no leg is another
-mapped : (f : Leg → Leg) (o : Option Leg) → ((l : Leg) → f l ≡ l) → option_map f o ≡ o
+pub mapped : (f : Leg → Leg) (o : Option Leg) → ((l : Leg) → f l ≡ l) → option_map f o ≡ o
 mapped f None same = refl
 mapped f (Some l) same = ap (λ (k : Leg). Some k) (same l)
 
@@ -139,14 +139,14 @@ module _ (s : Setting) (whole : Bool) (line : ℕ) (w : World) (n : ℕ) (below 
         ∙ both_mapped (resumed_below line w n z) (resumed_below line w (suc n) z) (leg_at w.legs z) (λ l. ap (λ (b : Bool). if b then resumed w l else l) (sym (same_where_apart whole_line line z n apart)))
   ]
 
-  one_more : AreResumed s line w (suc n) v
+  pub one_more : AreResumed s line w (suc n) v
   one_more = record { kept = resume_slot_kept d s.tones m here so_far.kept in_here whole; legs = legs_then; next = done.next ∙ so_far.next }
 
 module _ (s : Setting) (whole : Bool) (line : ℕ) (w : World) (below : line < s.dimensions.external) (kept : Kept s.dimensions s.tones w) where
   abbrev begins : World
   begins = with_line w line false
 
-  start : AreResumed s line w 0 begins
+  pub start : AreResumed s line w 0 begins
   start = record {
     kept = linked_kept s.dimensions s.tones w line false kept;
     legs = λ z in_z. sym (mapped (resumed_below line w 0 z) (leg_at w.legs z) (λ l. ap (λ (b : Bool). if b then resumed w l else l) (none_before (restarts_slot whole_line line z) (nat_lt z.place 0) (lt_false whole_line line z.place 0 (omega arith)))));

@@ -39,6 +39,7 @@ pub mod WorkedExpiries
 pub mod WorkedLinks
 pub mod ExpiryBounds
 pub mod Outages
+pub mod Reconciled
 pub mod LostLegs
 pub mod ExpiryRecords
 pub mod CallsTold

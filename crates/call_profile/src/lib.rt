@@ -49,6 +49,6 @@ pub use leg_laws::{
     law_of_records, law_of_references, law_of_restarts,
 };
 pub use legs::{is_addressed_to, retransmitted_from, waiting_from};
-pub use outage_laws::{law_of_lost_legs, law_of_outages, law_of_unfailing_links};
+pub use outage_laws::{law_of_lost_legs, law_of_outages, law_of_reconciliation, law_of_unfailing_links};
 pub use records::{first_frame_of, is_calling, party_of};
 pub use worked::{worked_digits, worked_expiries, worked_links, worked_messages, worked_overlap};

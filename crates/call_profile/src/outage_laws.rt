@@ -1,23 +1,29 @@
 //! Theorems on the outage of a data link: on T309, which runs while the link is down, and on what a user is asked or owed.
 ghost use Rattle.std.specs.Prelude.{◌≡◌, ◌≢◌, ℕ, false, All, List, Contains, Some};
 ghost use Rattle.circuit_model.specs.declared.channel.Slot.{Slot};
+ghost use Rattle.circuit_model.specs.Extent.{IsExternal};
 ghost use Rattle.circuit_model.specs.FrameInput.{Input};
 ghost use Rattle.call_timers.specs.declared.expiry.Expiry.TheVariants as expiry;
 ghost use Rattle.call_states.specs.declared.leg.HeldLeg.{HeldLeg};
 ghost use Rattle.call_states.specs.declared.leg.Leg.{Leg};
+ghost use Rattle.number_plan.specs.declared.target.Found.{Found};
 ghost use Rattle.exchange_events.specs.declared.record.CallRecord.{CallRecord};
 ghost use Rattle.exchange_events.specs.declared.trace.Event.{Event};
 ghost use Rattle.exchange_events.specs.Sizes.{Setting};
 ghost use Rattle.exchange_events.specs.Sound.{Fits, IsPlanned};
+ghost use Rattle.call_profile.specs.Dropped.{HasLine};
 ghost use Rattle.call_profile.specs.Expiring.{due_of, outcome_of_frame};
 ghost use Rattle.call_profile.specs.ExpiryBounds.{NoneIsLost, UntimedStay, ConversationsStay, LayoutStays, PortsStay};
 ghost use Rattle.call_profile.specs.ExpiryRecords.{IsFrameRecord, IsInFrame, ComeByLine};
 ghost use Rattle.call_profile.specs.Fabrics.{world_of_run};
 ghost use Rattle.call_profile.specs.LegStanding.{CallsStand};
-ghost use Rattle.call_profile.specs.Legs.{is_down};
+ghost use Rattle.call_profile.specs.Legs.{is_down, is_owed, leg_at};
+ghost use Rattle.call_profile.specs.LinkChanges.{outcome_of_link};
 ghost use Rattle.call_profile.specs.LostLegs.{IsDisconnected, IsLeftBehind, IsLossRecorded, IsLostFirst, IsUnchanged, IsVacated, NeitherIsLost};
 ghost use Rattle.call_profile.specs.Outages.{down_after_all, HasNoFailure, IsOnLineUp, NoLinkIsDown, OutagesStand};
+ghost use Rattle.call_profile.specs.Reconciled.{IsReconciled};
 ghost use Rattle.call_profile.specs.Recorded.{HasEnded};
+ghost use Rattle.call_profile.specs.Setup.{called_slot};
 ghost use Rattle.call_profile.specs.Step.{next};
 ghost use Rattle.call_profile.specs.World.{World, start};
 
@@ -75,4 +81,16 @@ pub fn law_of_lost_legs()
         → IsLossRecorded s w input x leg }
     ensures others { (s : Setting) (w : World) (input : Input) → CallsStand s w → (x : Slot) (leg : Leg) → NeitherIsLost s w x leg
         → IsUnchanged s w input x leg }
+{}
+
+/// After the establishment of a data link, no call is left on one side alone. A channel of the line without a leg is owed
+/// no RESTART, and if it was owed one, a RESTART that covers it was sent. The user of each leg in state 10 was asked for
+/// its call state. A leg that is being cleared, in state 12 or 19, has its timer running. A leg in any other state is
+/// unchanged: its call was set up while the link was down. No call is offered on a channel that is owed a RESTART.
+pub fn law_of_reconciliation()
+    ensures channels { (s : Setting) (w : World) (line : ℕ) → HasLine s w line → OutagesStand s.dimensions.external w.legs → (x : Slot)
+        → IsExternal s.dimensions.external x → x.line ≡ line
+        → IsReconciled w (outcome_of_link s.dimensions s.tones false line w).making x (leg_at (outcome_of_link s.dimensions s.tones false line w).making.world.legs x) }
+    ensures offered { (s : Setting) (w : World) → OutagesStand s.dimensions.external w.legs → (x : Slot) (t : Found) (y : Slot)
+        → IsExternal s.dimensions.external y → called_slot w x t ≡ Some y → is_owed w.legs y ≡ false }
 {}

@@ -1,0 +1,52 @@
+-- What the end of an outage leaves of each channel of a line: no call is left on one side alone. Source: ITU-T Q.931
+-- (05/98), 5.8.9, 5.8.10 and 5.5.
+use Rattle.std.specs.Prelude.{◌≡◌, ◌≢◌, true, false, is_some, Contains, Option, Some, None}
+use Rattle.circuit_model.specs.declared.channel.Slot.{Slot}
+use Rattle.q931_codec.specs.CallStates.{active}
+use Rattle.q931_codec.specs.Outgoing.{encoding}
+use Rattle.q931_codec.specs.declared.kind.MessageKind.TheVariants as kind
+use Rattle.call_states.specs.Acts.{is_among}
+use Rattle.call_states.specs.declared.leg.Leg.{Leg}
+use Rattle.call_timers.specs.Expiries.{expiry_in}
+use Rattle.clearing_rules.specs.Restarting.{is_restarted, restart_of}
+use Rattle.clearing_rules.specs.declared.scope.Restart.{Restart}
+use Rattle.exchange_events.specs.declared.signal.Signal.{Signal}
+use Rattle.call_profile.specs.Acts.{message_to}
+use Rattle.call_profile.specs.Legs.{is_owed, leg_at}
+use Rattle.call_profile.specs.LinkChanges.{being_cleared}
+use Rattle.call_profile.specs.Operations.{Making}
+use Rattle.call_profile.specs.World.{World}
+
+-- a RESTART to the user of a line
+abbrev pub restart_signal : Slot → Restart → Signal
+restart_signal x r = record { line = x.line; octets = encoding (restart_of r) }
+
+-- STATUS ENQUIRY to the user of a leg
+abbrev pub enquiry_signal : Slot → Leg → Signal
+enquiry_signal x leg = record { line = x.line; octets = encoding (message_to leg kind.StatusEnquiry) }
+
+-- a RESTART that covers the channel is among the messages
+abbrev pub IsRestartSent : Making → Slot → Type 0
+IsRestartSent m x = (r : Restart) × (is_restarted r x.place ≡ true) × Contains m.sends (restart_signal x r)
+
+-- a channel without a leg: no RESTART is owed for it, and if one was owed, one was sent
+pub record IsPaid (before : World) (m : Making) (x : Slot) : Type 0 where
+  pub none_owed : is_owed m.world.legs x ≡ false
+  pub sent : is_owed before.legs x ≡ true → IsRestartSent m x
+
+-- a leg in active: its user was asked for its call state
+pub record IsEnquired (m : Making) (x : Slot) (leg : Leg) : Type 0 where
+  pub flag : leg.enquired ≡ true
+  pub sent : Contains m.sends (enquiry_signal x leg)
+
+-- a channel with a leg: in active its user was asked; while it is being cleared its timer runs; in every other state it is
+-- unchanged, since its call was set up while the link was down
+pub record IsAccounted (before : World) (m : Making) (x : Slot) (leg : Leg) : Type 0 where
+  pub in_active : leg.state ≡ active → IsEnquired m x leg
+  pub in_clearing : is_among being_cleared leg.state ≡ true → is_some (expiry_in leg.state leg.resent) ≡ true
+  pub in_others : leg.state ≢ active → is_among being_cleared leg.state ≡ false → leg_at before.legs x ≡ Some leg
+
+-- a channel, by the leg that holds it
+abbrev pub IsReconciled : World → Making → Slot → Option Leg → Type 0
+IsReconciled before m x None = IsPaid before m x
+IsReconciled before m x (Some leg) = IsAccounted before m x leg
