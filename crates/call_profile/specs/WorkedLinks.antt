@@ -1,5 +1,6 @@
--- Worked calls on lines whose data links go down and come up, on which the definitions are evaluated. Source: this project.
-use Rattle.std.specs.Prelude.{true, false, List, [], ◌∷◌, ◌++◌}
+-- Worked calls on lines whose data links go down and come up, on which the definitions are evaluated. Source: this
+-- project; the octets are from ITU-T Q.931 (05/98), section 4.
+use Rattle.std.specs.Prelude.{ℕ, true, false, List, [], ◌∷◌, ◌++◌}
 use Rattle.exchange_events.specs.declared.record.Party.TheVariants as party
 use Rattle.exchange_events.specs.declared.reply.Reply.{Reply}
 use Rattle.exchange_events.specs.declared.trace.Event.{Event}
@@ -7,7 +8,8 @@ use Rattle.exchange_events.specs.declared.trace.Event.TheVariants.{Message, Link
 use Rattle.call_profile.specs.Step.{reply, next}
 use Rattle.call_profile.specs.World.{World}
 use Rattle.call_profile.specs.WorkedCalls.{at, to, own_call_offered, records_reply, sends_reply}
-use Rattle.call_profile.specs.WorkedExpiries.{alerted, begun_on_both, cleared_with, ended_in, hasty_lines, offered, world_in}
+use Rattle.call_profile.specs.WorkedExpiries.{alerted, begun_on_both, cleared_with, ended_in, hasty_lines, offered, world_in, after_turn, in_frame}
+use Rattle.exchange_events.specs.declared.signal.Signal.{Signal}
 
 -- the link of line 1 goes down while its user is alerted: its leg is removed, and the caller is sent cause 27
 abbrev pub down_while_alerted : Reply
@@ -54,3 +56,90 @@ state_enquired = sends_reply (to 1 (0x08 ∷ 0x02 ∷ 0x00 ∷ 0x01 ∷ 0x75 ∷
 -- the link is established again: a leg in overlap sending is cleared with cause 41
 abbrev pub reset_while_dialling : Reply
 reset_while_dialling = reply hasty_lines (world_in 9 begun_on_both) (LinkUp 0)
+
+-- ---- what the exchange gave up is restarted, or asked for
+
+-- RESTART of the whole line, and of one channel (the last octet of channel identification is the channel's number)
+abbrev pub restart_of_line : ℕ → Signal
+restart_of_line line = to line (0x08 ∷ 0x02 ∷ 0x00 ∷ 0x00 ∷ 0x46 ∷ 0x79 ∷ 0x01 ∷ 0x86 ∷ [])
+
+abbrev pub restart_of_second : ℕ → Signal
+restart_of_second line = to line (0x08 ∷ 0x02 ∷ 0x00 ∷ 0x00 ∷ 0x46 ∷ 0x18 ∷ 0x03 ∷ 0xA9 ∷ 0x83 ∷ 0x82 ∷ 0x79 ∷ 0x01 ∷ 0x80 ∷ [])
+
+-- the user of line 1 has answered
+abbrev pub answered : List Event
+answered = offered ++ Message 1 (0x08 ∷ 0x02 ∷ 0x80 ∷ 0x01 ∷ 0x07 ∷ []) ∷ []
+
+-- line 0 clears and its leg is released, and then the link of line 1 goes down: T305 and T308 go on, and end the leg of
+-- line 1 in frame 90
+abbrev pub cleared_as_it_fails : List Event
+cleared_as_it_fails =
+    answered
+    ++ Message 0 (0x08 ∷ 0x02 ∷ 0x00 ∷ 0x01 ∷ 0x45 ∷ 0x08 ∷ 0x02 ∷ 0x80 ∷ 0x90 ∷ [])
+    ∷ Message 0 (0x08 ∷ 0x02 ∷ 0x00 ∷ 0x01 ∷ 0x5A ∷ [])
+    ∷ LinkDown 1
+    ∷ []
+
+abbrev pub release_asked : World
+release_asked = after_turn (world_in 30 cleared_as_it_fails)
+
+abbrev pub release_asked_again : World
+release_asked_again = after_turn (in_frame 60 release_asked)
+
+abbrev pub release_given_up : World
+release_given_up = after_turn (in_frame 90 release_asked_again)
+
+-- RELEASE with the cause of line 0, 16
+abbrev pub asked_to_release : Signal
+asked_to_release = to 1 (0x08 ∷ 0x02 ∷ 0x00 ∷ 0x01 ∷ 0x4D ∷ 0x08 ∷ 0x02 ∷ 0x82 ∷ 0x90 ∷ [])
+
+-- the link of line 1 goes down while its user is alerted, and up again: the line has no leg, so it is restarted
+abbrev pub alerted_then_up : Reply
+alerted_then_up = reply hasty_lines (next hasty_lines (world_in 9 alerted) (LinkDown 1)) (LinkUp 1)
+
+-- the same beside a conversation, which is asked for: only the channel of the lost call is restarted
+abbrev pub beside_conversation : List Event
+beside_conversation =
+    answered
+    ++ Message 0 (0x08 ∷ 0x02 ∷ 0x00 ∷ 0x02 ∷ 0x05 ∷ 0x04 ∷ 0x03 ∷ 0x80 ∷ 0x90 ∷ 0xA3 ∷ 0x70 ∷ 0x04 ∷ 0x80 ∷ 0x31 ∷ 0x30 ∷ 0x31 ∷ [])
+    ∷ Message 1 (0x08 ∷ 0x02 ∷ 0x80 ∷ 0x02 ∷ 0x01 ∷ [])
+    ∷ LinkDown 1
+    ∷ []
+
+abbrev pub one_restarted : Reply
+one_restarted = sends_reply (to 1 (0x08 ∷ 0x02 ∷ 0x00 ∷ 0x01 ∷ 0x75 ∷ []) ∷ restart_of_second 1 ∷ [])
+
+-- T309 has expired when the link of line 1 comes up
+abbrev pub up_too_late : Reply
+up_too_late = reply hasty_lines (after_turn (world_in 30 outage)) (LinkUp 1)
+
+-- ---- the reply to an enquiry
+
+-- the caller's CONNECT is lost with its link: the exchange asks the caller for its state
+abbrev pub connect_lost : List Event
+connect_lost = answered ++ LinkDown 0 ∷ LinkUp 0 ∷ []
+
+-- STATUS with cause 30 and this state
+abbrev pub reports : ℕ → Event
+reports state = Message 0 (0x08 ∷ 0x02 ∷ 0x00 ∷ 0x01 ∷ 0x7D ∷ 0x08 ∷ 0x02 ∷ 0x80 ∷ 0x9E ∷ 0x14 ∷ 0x01 ∷ state ∷ [])
+
+-- in state 1 both legs are cleared with cause 101
+abbrev pub both_cleared : Reply
+both_cleared =
+    records_reply (cleared_with 0 0xE5 ∷ to 1 (0x08 ∷ 0x02 ∷ 0x00 ∷ 0x01 ∷ 0x45 ∷ 0x08 ∷ 0x02 ∷ 0x82 ∷ 0xE5 ∷ []) ∷ [])
+    (record { caller = at 0 0; called = party.Line (at 1 0); answered = true; from = 0; to = 9; cause = 101 })
+
+-- in state 10 the call goes on, and the enquiry has ended: the next STATUS changes nothing
+abbrev pub confirmed : World
+confirmed = next hasty_lines (world_in 9 connect_lost) (reports 10)
+
+-- ---- a call is answered on a line that is down
+
+-- T309 of the caller runs from the answer on
+abbrev pub answered_on_down : List Event
+answered_on_down = LinkDown 0 ∷ answered
+
+abbrev pub lost_after_answer : Reply
+lost_after_answer =
+    ended_in 30 (to 1 (0x08 ∷ 0x02 ∷ 0x00 ∷ 0x01 ∷ 0x45 ∷ 0x08 ∷ 0x02 ∷ 0x82 ∷ 0x9B ∷ []) ∷ [])
+    (record { caller = at 0 0; called = party.Line (at 1 0); answered = true; from = 0; to = 31; cause = 27 })

@@ -12,9 +12,9 @@
 //! - The turn of a frame, in which timers expire (`Expiring`), sends at most two messages and records at most one call
 //!   for each external line. It changes only legs of calls with an expired timer, and no connection unless T309 expires
 //!   ([`law_of_expiries`]).
-//! - T309 of a leg runs only while the data link of its line is down ([`law_of_outages`]). In a trace in which no link
-//!   fails it never expires ([`law_of_unfailing_links`]). If it expires, the call is cleared and recorded
-//!   ([`law_of_lost_legs`]).
+//! - T309 of a leg in state 10 runs if and only if the data link of its line is down ([`law_of_outages`]). In a trace in
+//!   which no link fails it never expires ([`law_of_unfailing_links`]). If it expires, the call is cleared and recorded
+//!   ([`law_of_lost_legs`]). After an outage no call is left on one side alone ([`law_of_reconciliation`]).
 //! - A number of several lines gets the lowest idle slot of the first line that has one ([`law_of_hunting`]).
 //! - Further digits are refused with cause 34 only if each called line is down or has no idle slot, and with cause 42
 //!   only if no port is free. They end no call, so nothing is recorded ([`law_of_digits`]).
@@ -49,6 +49,10 @@ pub use leg_laws::{
     law_of_records, law_of_references, law_of_restarts,
 };
 pub use legs::{is_addressed_to, retransmitted_from, waiting_from};
-pub use outage_laws::{law_of_lost_legs, law_of_outages, law_of_reconciliation, law_of_unfailing_links};
+pub use outage_laws::{
+    law_of_lost_legs, law_of_outages, law_of_reconciliation, law_of_unfailing_links,
+};
 pub use records::{first_frame_of, is_calling, party_of};
-pub use worked::{worked_digits, worked_expiries, worked_links, worked_messages, worked_overlap};
+pub use worked::{
+    worked_digits, worked_expiries, worked_links, worked_messages, worked_outages, worked_overlap,
+};
