@@ -70,6 +70,7 @@ pub mod LinkStateLemmas
 mod OwedEventLemmas
 mod OwedSlotLemmas
 mod ResumedSendLemmas
+mod EnquiryReplyLemmas
 pub mod LinkedLegLemmas
 pub mod OutageLemmas
 pub mod UnfailingLinkLemmas

@@ -166,17 +166,17 @@ same_record u w cause h next heard =
     ∙ ap (λ (o : Option Circuit). record_with cause w.holding.next o h) heard
     ∙ sym (record_is_with w cause h)
 
-calling_active : (leg : Leg) → leg.side ≡ Caller → leg.state ≡ active → is_calling (Some leg) ≡ true
+pub calling_active : (leg : Leg) → leg.side ≡ Caller → leg.state ≡ active → is_calling (Some leg) ≡ true
 calling_active leg side state = rw (side, state) refl
 
-calling_is : (w : World) (cause : ℕ) (h : HeldLeg) → is_calling (Some h.leg) ≡ true → record_calling w cause h ≡ record_of w cause h
+pub calling_is : (w : World) (cause : ℕ) (h : HeldLeg) → is_calling (Some h.leg) ≡ true → record_calling w cause h ≡ record_of w cause h
 calling_is w cause h calls = rw calls refl
 
 -- the caller of a leg's call
-ended_caller : (w : World) (cause : ℕ) (h : HeldLeg) (o : Option HeldLeg) (side : Side) → side ≡ Caller → option_and_then (record_calling w cause) (caller_in side h o) ≡ record_calling w cause h
+pub ended_caller : (w : World) (cause : ℕ) (h : HeldLeg) (o : Option HeldLeg) (side : Side) → side ≡ Caller → option_and_then (record_calling w cause) (caller_in side h o) ≡ record_calling w cause h
 ended_caller w cause h o side is = rw is refl
 
-ended_called : (w : World) (cause : ℕ) (h k : HeldLeg) (o : Option HeldLeg) (side : Side) → side ≡ Called → o ≡ Some k → option_and_then (record_calling w cause) (caller_in side h o) ≡ record_calling w cause k
+pub ended_called : (w : World) (cause : ℕ) (h k : HeldLeg) (o : Option HeldLeg) (side : Side) → side ≡ Called → o ≡ Some k → option_and_then (record_calling w cause) (caller_in side h o) ≡ record_calling w cause k
 ended_called w cause h k o side is at = rw (is, at) refl
 
 module _ (s : Setting) (frame : ℕ) (w : World) (kept : Kept s.dimensions s.tones w) (later : frame < w.holding.next) where

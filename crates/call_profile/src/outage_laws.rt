@@ -3,6 +3,8 @@ ghost use Rattle.std.specs.Prelude.{◌≡◌, ◌≢◌, ℕ, false, All, List,
 ghost use Rattle.circuit_model.specs.declared.channel.Slot.{Slot};
 ghost use Rattle.circuit_model.specs.Extent.{IsExternal};
 ghost use Rattle.circuit_model.specs.FrameInput.{Input};
+ghost use Rattle.q931_codec.specs.CallStates.{active};
+ghost use Rattle.q931_codec.specs.declared.message.Message.{Message};
 ghost use Rattle.call_timers.specs.declared.expiry.Expiry.TheVariants as expiry;
 ghost use Rattle.call_states.specs.declared.leg.HeldLeg.{HeldLeg};
 ghost use Rattle.call_states.specs.declared.leg.Leg.{Leg};
@@ -11,7 +13,9 @@ ghost use Rattle.exchange_events.specs.declared.record.CallRecord.{CallRecord};
 ghost use Rattle.exchange_events.specs.declared.trace.Event.{Event};
 ghost use Rattle.exchange_events.specs.Sizes.{Setting};
 ghost use Rattle.exchange_events.specs.Sound.{Fits, IsPlanned};
+ghost use Rattle.call_profile.specs.Calls.{outcome_of_octets};
 ghost use Rattle.call_profile.specs.Dropped.{HasLine};
+ghost use Rattle.call_profile.specs.EnquiryReplies.{confirmed, unchanged, IsClearedByReply, IsReply, IsStatus};
 ghost use Rattle.call_profile.specs.Expiring.{due_of, outcome_of_frame};
 ghost use Rattle.call_profile.specs.ExpiryBounds.{NoneIsLost, UntimedStay, ConversationsStay, LayoutStays, PortsStay};
 ghost use Rattle.call_profile.specs.ExpiryRecords.{IsFrameRecord, IsInFrame, ComeByLine};
@@ -93,4 +97,16 @@ pub fn law_of_reconciliation()
         → IsReconciled w (outcome_of_link s.dimensions s.tones false line w).making x (leg_at (outcome_of_link s.dimensions s.tones false line w).making.world.legs x) }
     ensures offered { (s : Setting) (w : World) → OutagesStand s.dimensions.external w.legs → (x : Slot) (t : Found) (y : Slot)
         → IsExternal s.dimensions.external y → called_slot w x t ≡ Some y → is_owed w.legs y ≡ false }
+{}
+
+/// The reply to an enquiry with state 10 ends the enquiry, and changes nothing else. With another state that is not null,
+/// both legs of the call are cleared with cause 101, both users are sent DISCONNECT, and the call is recorded. At a leg
+/// whose user was not asked, a STATUS that does not report the null state changes nothing.
+pub fn law_of_enquiry_replies()
+    ensures agrees { (s : Setting) (w : World) (line : ℕ) (octets : List ℕ) (h : HeldLeg) (m : Message) → IsReply s w line octets h m active
+        → outcome_of_octets s w line octets ≡ confirmed w h }
+    ensures differs { (s : Setting) (w : World) (line : ℕ) (octets : List ℕ) (h : HeldLeg) (m : Message) (reported : ℕ)
+        → IsReply s w line octets h m reported → reported ≢ active → IsClearedByReply s w h (outcome_of_octets s w line octets) }
+    ensures unasked { (s : Setting) (w : World) (line : ℕ) (octets : List ℕ) (h : HeldLeg) (m : Message) → IsStatus s w line octets h m
+        → (h.leg.state ≡ active → h.leg.enquired ≡ false) → outcome_of_octets s w line octets ≡ unchanged w }
 {}

@@ -1,0 +1,80 @@
+-- The reply of a user to STATUS ENQUIRY after an outage. Source: ITU-T Q.931 (05/98), 5.8.10 and 5.8.11; that a user in
+-- another state than 10 loses its call is this project's profile.
+use Rattle.std.specs.Prelude.{◌≡◌, ◌≢◌, ◌<◌, ℕ, true, false, List, [], ◌∷◌, Option, Some, None}
+use Rattle.std.specs.List.{cons_option}
+use Rattle.circuit_model.specs.declared.channel.Slot.{Slot}
+use Rattle.circuit_model.specs.Extent.{IsExternal}
+use Rattle.q931_codec.specs.CallStates.{active, null}
+use Rattle.q931_codec.specs.Causes.{message_not_compatible_with_call_state}
+use Rattle.q931_codec.specs.Contents.{call_state_in}
+use Rattle.q931_codec.specs.Outgoing.{encoding}
+use Rattle.q931_codec.specs.declared.kind.MessageKind.TheVariants as kind
+use Rattle.q931_codec.specs.declared.message.Message.{Message}
+use Rattle.call_states.specs.declared.leg.HeldLeg.{HeldLeg}
+use Rattle.call_states.specs.declared.leg.Leg.{Leg}
+use Rattle.call_states.specs.declared.leg.Peer.TheVariants as peer
+use Rattle.exchange_events.specs.declared.record.CallRecord.{CallRecord}
+use Rattle.exchange_events.specs.declared.signal.Signal.{Signal}
+use Rattle.exchange_events.specs.Sizes.{Setting}
+use Rattle.exchange_events.specs.Sound.{IsPlanned}
+use Rattle.tone_rules.specs.declared.tones.Tones.{Tones}
+use Rattle.call_profile.specs.Acts.{disconnect, in_disconnect_indication, peer_of, tone_of, with_enquiry, with_progress}
+use Rattle.call_profile.specs.Calls.{For_leg, request_of}
+use Rattle.call_profile.specs.EndedCalls.{record_ended}
+use Rattle.call_profile.specs.LegStanding.{CallsStand}
+use Rattle.call_profile.specs.Legs.{leg_at, with_leg}
+use Rattle.call_profile.specs.Operations.{begun, making_at, with_legs}
+use Rattle.call_profile.specs.Restarts.{MessageOutcome}
+use Rattle.call_profile.specs.World.{World}
+
+-- the octets are a STATUS to this leg, which does not report the null state
+pub record IsStatus (s : Setting) (w : World) (line : ℕ) (octets : List ℕ) (h : HeldLeg) (m : Message) : Type 0 where
+  pub planned : IsPlanned s
+  pub stands : CallsStand s w
+  pub line_exists : line < s.dimensions.external
+  pub received : request_of w.legs line octets ≡ For_leg h m
+  pub status : m.kind ≡ kind.Status
+  pub not_null : call_state_in m.elements ≢ Some null
+
+-- it is the reply to an enquiry, and reports this state
+pub record IsReply (s : Setting) (w : World) (line : ℕ) (octets : List ℕ) (h : HeldLeg) (m : Message) (reported : ℕ) : Type 0 where
+  pub is_status : IsStatus s w line octets h m
+  pub in_active : h.leg.state ≡ active
+  pub asked : h.leg.enquired ≡ true
+  pub reports : call_state_in m.elements ≡ Some reported
+
+-- nothing changes, and nothing is sent or recorded
+abbrev pub unchanged : World → MessageOutcome
+unchanged w = record { making = making_at w; recorded = [] }
+
+-- the enquiry ends, and nothing else changes
+abbrev pub confirmed : World → HeldLeg → MessageOutcome
+confirmed w h = record {
+  making = record { world = with_legs w (with_leg w.legs h.slot (begun w (with_enquiry false h.leg))); sends = []; moves = None };
+  recorded = [];
+}
+
+-- the leg is cleared with cause 101, from the next frame on
+abbrev pub cleared_as_differing : World → Leg → Leg
+cleared_as_differing w leg = begun w (in_disconnect_indication message_not_compatible_with_call_state leg)
+
+-- DISCONNECT with cause 101 to the user of a leg, with a progress indicator if and only if its slot gets a tone
+abbrev pub differing_signal : Tones → HeldLeg → Signal
+differing_signal tones h =
+    let tone = tone_of tones (in_disconnect_indication message_not_compatible_with_call_state h.leg) in
+    record { line = h.slot.line; octets = encoding (with_progress tone (disconnect h.leg message_not_compatible_with_call_state)) }
+
+abbrev pub peer_signals : Tones → Option HeldLeg → List Signal
+peer_signals tones None = []
+peer_signals tones (Some h) = differing_signal tones h ∷ []
+
+-- both legs of the call are cleared, all others are unchanged, each of the two users is sent DISCONNECT, and the call is
+-- recorded
+pub record IsClearedByReply (s : Setting) (w : World) (h : HeldLeg) (o : MessageOutcome) : Type 0 where
+  pub own : leg_at o.making.world.legs h.slot ≡ Some (cleared_as_differing w h.leg)
+  pub other : (y : Slot) (leg : Leg) → h.leg.peer ≡ peer.Leg y → leg_at w.legs y ≡ Some leg → leg_at o.making.world.legs y ≡ Some (cleared_as_differing w leg)
+  pub others : (z : Slot) → IsExternal s.dimensions.external z → z ≢ h.slot → h.leg.peer ≢ peer.Leg z → leg_at o.making.world.legs z ≡ leg_at w.legs z
+  pub sent : o.making.sends ≡ differing_signal s.tones h ∷ peer_signals s.tones (peer_of w.legs h.leg.peer)
+  pub told : CallRecord
+  pub told_is : record_ended w h message_not_compatible_with_call_state ≡ Some told
+  pub recorded : o.recorded ≡ told ∷ []
