@@ -69,6 +69,9 @@ pub mod ResumedLineLemmas
 pub mod LinkStateLemmas
 mod OwedEventLemmas
 mod OwedSlotLemmas
+mod OwedTrackLemmas
+mod OwedFlagLemmas
+mod OwedExactLemmas
 mod ResumedSendLemmas
 mod EnquiryReplyLemmas
 pub mod LinkedLegLemmas

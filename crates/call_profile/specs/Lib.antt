@@ -40,6 +40,7 @@ pub mod WorkedLinks
 pub mod ExpiryBounds
 pub mod Outages
 pub mod Reconciled
+pub mod OwedRestarts
 pub mod EnquiryReplies
 pub mod LostLegs
 pub mod ExpiryRecords

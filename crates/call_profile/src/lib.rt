@@ -14,7 +14,9 @@
 //!   ([`law_of_expiries`]).
 //! - T309 of a leg in state 10 runs if and only if the data link of its line is down ([`law_of_outages`]). In a trace in
 //!   which no link fails it never expires ([`law_of_unfailing_links`]). If it expires, the call is cleared and recorded
-//!   ([`law_of_lost_legs`]). After an outage no call is left on one side alone ([`law_of_reconciliation`]).
+//!   ([`law_of_lost_legs`]). After an outage no call is left on one side alone ([`law_of_reconciliation`]): theorems state
+//!   which RESTARTs are owed ([`law_of_owed_restarts`]) and the effect of a reply to an enquiry
+//!   ([`law_of_enquiry_replies`]).
 //! - A number of several lines gets the lowest idle slot of the first line that has one ([`law_of_hunting`]).
 //! - Further digits are refused with cause 34 only if each called line is down or has no idle slot, and with cause 42
 //!   only if no port is free. They end no call, so nothing is recorded ([`law_of_digits`]).
@@ -50,7 +52,8 @@ pub use leg_laws::{
 };
 pub use legs::{is_addressed_to, retransmitted_from, waiting_from};
 pub use outage_laws::{
-    law_of_lost_legs, law_of_outages, law_of_reconciliation, law_of_unfailing_links,
+    law_of_enquiry_replies, law_of_lost_legs, law_of_outages, law_of_owed_restarts,
+    law_of_reconciliation, law_of_unfailing_links,
 };
 pub use records::{first_frame_of, is_calling, party_of};
 pub use worked::{

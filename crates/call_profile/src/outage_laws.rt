@@ -1,5 +1,5 @@
 //! Theorems on the outage of a data link: on T309, which runs while the link is down, and on what a user is asked or owed.
-ghost use Rattle.std.specs.Prelude.{◌≡◌, ◌≢◌, ℕ, false, All, List, Contains, Some};
+ghost use Rattle.std.specs.Prelude.{◌≡◌, ◌≢◌, ℕ, ◌&&◌, ◌||◌, true, false, All, List, Contains, Some};
 ghost use Rattle.circuit_model.specs.declared.channel.Slot.{Slot};
 ghost use Rattle.circuit_model.specs.Extent.{IsExternal};
 ghost use Rattle.circuit_model.specs.FrameInput.{Input};
@@ -11,6 +11,7 @@ ghost use Rattle.call_states.specs.declared.leg.Leg.{Leg};
 ghost use Rattle.number_plan.specs.declared.target.Found.{Found};
 ghost use Rattle.exchange_events.specs.declared.record.CallRecord.{CallRecord};
 ghost use Rattle.exchange_events.specs.declared.trace.Event.{Event};
+ghost use Rattle.exchange_events.specs.declared.trace.Event.TheVariants.{Frame, LinkDown};
 ghost use Rattle.exchange_events.specs.Sizes.{Setting};
 ghost use Rattle.exchange_events.specs.Sound.{Fits, IsPlanned};
 ghost use Rattle.call_profile.specs.Calls.{outcome_of_octets};
@@ -25,6 +26,7 @@ ghost use Rattle.call_profile.specs.Legs.{is_down, is_owed, leg_at};
 ghost use Rattle.call_profile.specs.LinkChanges.{outcome_of_link};
 ghost use Rattle.call_profile.specs.LostLegs.{IsDisconnected, IsLeftBehind, IsLossRecorded, IsLostFirst, IsUnchanged, IsVacated, NeitherIsLost};
 ghost use Rattle.call_profile.specs.Outages.{down_after_all, HasNoFailure, IsOnLineUp, NoLinkIsDown, OutagesStand};
+ghost use Rattle.call_profile.specs.OwedRestarts.{is_removed, is_untold, OwesNoMore};
 ghost use Rattle.call_profile.specs.Reconciled.{IsReconciled};
 ghost use Rattle.call_profile.specs.Recorded.{HasEnded};
 ghost use Rattle.call_profile.specs.Setup.{called_slot};
@@ -109,4 +111,17 @@ pub fn law_of_enquiry_replies()
         → IsReply s w line octets h m reported → reported ≢ active → IsClearedByReply s w h (outcome_of_octets s w line octets) }
     ensures unasked { (s : Setting) (w : World) (line : ℕ) (octets : List ℕ) (h : HeldLeg) (m : Message) → IsStatus s w line octets h m
         → (h.leg.state ≡ active → h.leg.enquired ≡ false) → outcome_of_octets s w line octets ≡ unchanged w }
+{}
+
+/// After the failure of a data link, a channel without a leg is owed a RESTART if and only if it was owed one, or its leg
+/// was removed by the failure. After a frame, if and only if it was owed one, or T309 removed its leg, or T308 did while the
+/// link of its line was down. No other event adds a channel to these.
+pub fn law_of_owed_restarts()
+    ensures failure { (s : Setting) (w : World) (line : ℕ) → HasLine s w line → OutagesStand s.dimensions.external w.legs → (x : Slot)
+        → IsExternal s.dimensions.external x → is_owed (next s w (LinkDown line)).legs x ≡ (is_owed w.legs x || is_removed w (next s w (LinkDown line)) x) }
+    ensures frame { (s : Setting) (w : World) (input : Input) → CallsStand s w → OutagesStand s.dimensions.external w.legs → (x : Slot)
+        → IsExternal s.dimensions.external x
+        → is_owed (next s w (Frame input)).legs x ≡ (is_owed w.legs x || (is_removed w (next s w (Frame input)) x && is_untold w.legs x (leg_at w.legs x))) }
+    ensures others { (s : Setting) (w : World) (e : Event) → Fits s.dimensions.external e → CallsStand s w → OwesNoMore e → (x : Slot)
+        → IsExternal s.dimensions.external x → is_owed (next s w e).legs x ≡ true → is_owed w.legs x ≡ true }
 {}

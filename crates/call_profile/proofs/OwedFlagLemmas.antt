@@ -1,0 +1,72 @@
+-- Each external slot has a flag of what its user is owed.
+use Rattle.std.proofs.Common.{◌≡◌, ℕ, Bool, true, false, List, [], ◌∷◌, length, refl, ◌∙◌, arith, length-set, if◌then◌else◌}
+use Rattle.circuit_model.specs.Holding.{Connect, Seat as Take_seat, Clear}
+use Rattle.control_memory.specs.Layout.{number_of}
+use Rattle.call_states.specs.Acts.{act_on}
+use Rattle.clearing_rules.specs.UnknownReference.{answer_without_call}
+use Rattle.exchange_events.specs.declared.trace.Event.{Event}
+use Rattle.exchange_events.specs.declared.trace.Event.TheVariants.{Nail, Seat, Free, Message, Frame, LinkUp, LinkDown}
+use Rattle.exchange_events.specs.Sizes.{Setting, Dimensions}
+use Rattle.call_profile.specs.ActCourse.{course_of}
+use Rattle.call_profile.specs.Calls.{Request, For_leg, New_call, On_no_call, Restarts, Unanswered, answer_back, outcome_for, request_of}
+use Rattle.call_profile.specs.Expiring.{expire_slot, slot_looked_at}
+use Rattle.call_profile.specs.IdleSlots.{is_nailed}
+use Rattle.call_profile.specs.LinkChanges.{outcome_of_link, rule_of, with_line}
+use Rattle.call_profile.specs.Operations as op
+use Rattle.call_profile.specs.Operations.{Operation, Making, making_at, making_after, making_after_all}
+use Rattle.call_profile.specs.Restarts.{restart_slot, restart_rule}
+use Rattle.call_profile.specs.Setup.{course_of_setup}
+use Rattle.call_profile.specs.Step.{next, may_nail, may_seat}
+use Rattle.call_profile.specs.World.{World, obey, pass}
+use Rattle.call_profile.proofs.ExpiringLemmas.{each_line}
+use Rattle.call_profile.proofs.RestartedSlotLemmas.{each_below, linked_by}
+
+abbrev flags_of : World → ℕ
+flags_of w = length w.legs.owed
+
+performed_flags : (d : Dimensions) (m : Making) (o : Operation) → flags_of (making_after d m o).world ≡ flags_of m.world
+performed_flags d m (op.Clear x) = refl
+performed_flags d m (op.Pair x y) = refl
+performed_flags d m (op.Seat x room) = refl
+performed_flags d m (op.Sound x kind) = refl
+performed_flags d m (op.Put x leg) = refl
+performed_flags d m (op.Wait x leg p) = refl
+performed_flags d m (op.Expect x leg message) = refl
+performed_flags d m (op.Repeat h octets) = refl
+performed_flags d m (op.Await x leg) = refl
+performed_flags d m (op.Remove x owed) = length-set m.world.legs.owed (number_of x) owed
+performed_flags d m (op.Send line message) = refl
+
+performed_all_flags : (d : Dimensions) (m : Making) (os : List Operation) → flags_of (making_after_all d m os).world ≡ flags_of m.world
+performed_all_flags d m [] = refl
+performed_all_flags d m (o ∷ os) = performed_all_flags d (making_after d m o) os ∙ performed_flags d m o
+
+received_flags : (s : Setting) (w : World) (line : ℕ) (r : Request) → flags_of (outcome_for s w line r).making.world ≡ flags_of w
+received_flags s w line (For_leg h m) = performed_all_flags s.dimensions (making_at w) (course_of s w h m (act_on h.leg.state m)).operations
+received_flags s w line (New_call m) = performed_all_flags s.dimensions (making_at w) (course_of_setup s w line m).operations
+received_flags s w line (On_no_call m) = performed_all_flags s.dimensions (making_at w) (answer_back line (answer_without_call m))
+received_flags s w line (Restarts r) =
+    each_below s.dimensions (restart_rule s.tones r) line w (λ a. flags_of a.making.world ≡ flags_of w) refl
+    (λ a place small same. performed_all_flags s.dimensions a.making (restart_slot s.tones r a.making.world.legs (record { line = line; place = place })) ∙ same) 30 (omega arith)
+received_flags s w line Unanswered = refl
+
+linked_flags : (s : Setting) (w : World) (down : Bool) (line : ℕ) → flags_of (outcome_of_link s.dimensions s.tones down line w).making.world ≡ flags_of w
+linked_flags s w down line = linked_by s.dimensions s.tones down line w (λ v. flags_of v ≡ flags_of w) (λ whole.
+    each_below s.dimensions (rule_of s.tones whole down) line (with_line w line down) (λ a. flags_of a.making.world ≡ flags_of w) refl
+    (λ a place small same. performed_all_flags s.dimensions a.making ((rule_of s.tones whole down).does a.making.world.legs (record { line = line; place = place })) ∙ same) 30 (omega arith))
+
+either_flags : (b : Bool) (v w : World) → flags_of v ≡ flags_of w → flags_of (if b then v else w) ≡ flags_of w
+either_flags true v w same = same
+either_flags false v w same = refl
+
+pub next_flags : (s : Setting) (w : World) (e : Event) → length (next s w e).legs.owed ≡ length w.legs.owed
+next_flags s w (Nail x y) = either_flags (may_nail w x y) (obey s.dimensions w (Connect x y)) w refl
+next_flags s w (Seat x room) = either_flags (may_seat s.dimensions w x) (obey s.dimensions w (Take_seat x room)) w refl
+next_flags s w (Free x) = either_flags (is_nailed w x) (obey s.dimensions w (Clear x)) w refl
+next_flags s w (Message line octets) = received_flags s w line (request_of w.legs line octets)
+next_flags s w (LinkUp line) = linked_flags s w false line
+next_flags s w (LinkDown line) = linked_flags s w true line
+next_flags s w (Frame input) =
+    let f : ℕ = w.holding.next in
+    each_line s f (pass w input) (λ a. flags_of a.making.world ≡ flags_of w) refl
+    (λ a line small same. performed_all_flags s.dimensions a.making (expire_slot s f a.making.world.legs (slot_looked_at f line)) ∙ same) s.dimensions.external (omega arith)

@@ -1,0 +1,11 @@
+use Rattle.call_profile.proofs.OwedExactLemmas.{owed_by_failure, owed_by_frame, owed_no_more}
+use Rattle.call_profile.proofs.outage_laws.law_of_owed_restarts.Goals as goal
+
+pub returns-clause-failure : goal.returns-clause-failure
+returns-clause-failure c = owed_by_failure
+
+pub returns-clause-frame : goal.returns-clause-frame
+returns-clause-frame c s w input stands outages = owed_by_frame s w input stands outages
+
+pub returns-clause-others : goal.returns-clause-others
+returns-clause-others c s w e fits stands other x in_x owed = owed_no_more s w stands e fits other x in_x owed
