@@ -2,12 +2,10 @@
 -- consistent.
 use Rattle.std.proofs.Common.{◌≡◌, ℕ, ◌<◌, ◌++◌, Some, refl, sym, ◌∙◌, ap}
 use Rattle.std.specs.Prelude.{slice_set}
-use Rattle.circuit_model.specs.declared.channel.Slot.{Slot}
 use Rattle.circuit_model.specs.Extent.{IsExternal}
 use Rattle.circuit_model.specs.Holding.{Clear, after, Valid}
 use Rattle.control_memory.specs.Layout.{number_of}
 use Rattle.call_states.specs.declared.leg.HeldLeg.{HeldLeg}
-use Rattle.call_states.specs.declared.leg.Leg.{Leg}
 use Rattle.call_states.specs.declared.leg.Peer.{Peer}
 use Rattle.call_states.specs.declared.leg.Peer.TheVariants as peer
 use Rattle.tone_rules.specs.declared.tones.Tones.{Tones}

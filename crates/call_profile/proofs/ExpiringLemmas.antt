@@ -1,10 +1,9 @@
 -- Whatever expires, each operation that is done for it is permitted, and the legs stay consistent.
-use Rattle.std.proofs.Common.{◌≡◌, ◌≢◌, ℕ, zero, suc, ◌<◌, ◌≤◌, true, inl, List, [], ◌++◌, Option, Some, None, refl, sym, ◌∙◌, subst, arith}
+use Rattle.std.proofs.Common.{◌≡◌, ℕ, zero, suc, ◌<◌, ◌≤◌, true, inl, List, [], ◌++◌, Option, Some, None, refl, sym, ◌∙◌, subst, arith}
 use Rattle.std.specs.Prelude.{option_map}
 use Rattle.circuit_model.specs.declared.channel.Slot.{Slot}
 use Rattle.circuit_model.specs.Extent.{IsExternal}
 use Rattle.q931_codec.specs.declared.kind.MessageKind.TheVariants as kind
-use Rattle.q931_codec.specs.CallStates.{active}
 use Rattle.q931_codec.specs.Causes.{invalid_number_format, no_answer_from_user, no_user_responding, recovery_on_timer_expiry, destination_out_of_order}
 use Rattle.q931_codec.specs.Outgoing.{IsWritable}
 use Rattle.call_timers.specs.declared.expiry.Expiry.{Expiry}
@@ -24,7 +23,7 @@ use Rattle.call_profile.specs.Expiring.{timed_state, release_for, release_comple
 use Rattle.call_profile.specs.KeptMessages.{IsAwaited}
 use Rattle.call_profile.specs.LegStanding.{LegStands, HasPeer, alone}
 use Rattle.call_profile.specs.Legs.{Legs, leg_at, kept_at}
-use Rattle.call_profile.specs.Operations.{Operation, Making, making_at, making_after, making_after_all}
+use Rattle.call_profile.specs.Operations.{Operation, Making, making_at, making_after_all}
 use Rattle.call_profile.specs.Peers.{IsThere, PeerIsThere}
 use Rattle.call_profile.specs.Restarts.{MessageOutcome}
 use Rattle.call_profile.specs.World.{World}

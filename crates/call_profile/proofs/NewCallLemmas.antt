@@ -11,7 +11,7 @@ use Rattle.circuit_model.proofs.Slots.{same_slot-refl, heard_by_idle_is_deaf}
 use Rattle.circuit_model.proofs.Validity.{valid-seat, deaf_is_idle}
 use Rattle.control_memory.specs.Layout.{number_of}
 use Rattle.call_states.specs.declared.pending.Pending.{Pending}
-use Rattle.q931_codec.specs.CallStates.{overlap_sending, outgoing_call_proceeding, active}
+use Rattle.q931_codec.specs.CallStates.{overlap_sending, outgoing_call_proceeding}
 use Rattle.call_states.specs.declared.leg.Leg.{Leg}
 use Rattle.call_states.specs.declared.leg.Peer.TheVariants as peer
 use Rattle.call_states.specs.declared.leg.Side.TheVariants.{Caller, Called}

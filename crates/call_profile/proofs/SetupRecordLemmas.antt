@@ -5,7 +5,7 @@ use Rattle.circuit_model.specs.declared.channel.Slot.{Slot}
 use Rattle.circuit_model.specs.Extent.{IsExternal}
 use Rattle.q931_codec.specs.declared.message.Message.{Message}
 use Rattle.q931_codec.specs.Contents.{called_in, channel_in}
-use Rattle.q931_codec.specs.CallStates.{overlap_sending, outgoing_call_proceeding, active}
+use Rattle.q931_codec.specs.CallStates.{overlap_sending, outgoing_call_proceeding}
 use Rattle.call_states.specs.declared.leg.Peer.TheVariants as peer
 use Rattle.number_plan.specs.declared.target.Found.{Found}
 use Rattle.number_plan.specs.declared.target.Found.TheVariants.{Line, Lines, Room, More, Nothing}
