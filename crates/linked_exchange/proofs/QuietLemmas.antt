@@ -37,7 +37,7 @@ start_without d x = ap (λ (l : Option Leg). option_map (λ leg. record { slot =
 abbrev quiet : World → MessageOutcome
 quiet w = record { making = making_at w; recorded = [] }
 
-slot_quiet : (d : Dimensions) (tones : Tones) (w : World) (x : Slot) → HasNoLegs w → outcome_at_slot d (rule_of tones true) x (quiet w) ≡ quiet w
+slot_quiet : (d : Dimensions) (tones : Tones) (w : World) (x : Slot) → HasNoLegs w → outcome_at_slot d (rule_of tones false true) x (quiet w) ≡ quiet w
 slot_quiet d tones w x none =
     ap (λ h. outcome_then d destination_out_of_order (quiet w) (drop_leg tones w.legs h)) (none x)
     ∙ ap (λ rs. record { making = making_at w; recorded = rs }) (no_records w destination_out_of_order)
@@ -45,8 +45,8 @@ slot_quiet d tones w x none =
 link_quiet : (d : Dimensions) (tones : Tones) (line : ℕ) (w : World) → HasNoLegs w → outcome_of_link d tones true line w ≡ quiet (with_line w line true)
 link_quiet d tones line w none =
     let down = with_line w line true in
-    each_below d (rule_of tones true) line down (λ a. a ≡ quiet down) refl
-    (λ a place small e. ap (outcome_at_slot d (rule_of tones true) (record { line = line; place = place })) e ∙ slot_quiet d tones down (record { line = line; place = place }) none) 30 (omega arith)
+    each_below d (rule_of tones false true) line down (λ a. a ≡ quiet down) refl
+    (λ a place small e. ap (outcome_at_slot d (rule_of tones false true) (record { line = line; place = place })) e ∙ slot_quiet d tones down (record { line = line; place = place }) none) 30 (omega arith)
 
 down_quiet : (s : Setting) (line : ℕ) (w : World) → HasNoLegs w → reply s w (LinkDown line) ≡ Sent [] None []
 down_quiet s line w none = ap link_reply (link_quiet s.dimensions s.tones line w none)
