@@ -1,4 +1,4 @@
--- What holds of each of the operations at a slot holds of those of a line's data link.
+-- A property of each list of operations at a slot is one of both rules of a data link.
 use Rattle.std.proofs.Common.{◌≡◌, Bool, true, false, List, [], ◌∷◌, Some, None, inl, inr, if◌then◌else◌}
 use Rattle.std.specs.Prelude.{◌==◌}
 use Rattle.circuit_model.specs.declared.channel.Slot.{Slot}
