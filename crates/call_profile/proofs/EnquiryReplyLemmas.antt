@@ -1,18 +1,17 @@
 -- The reply of a user to an enquiry: the call goes on, or both its legs are cleared.
-use Rattle.std.proofs.Common.{◌≡◌, ◌≢◌, ℕ, ◌*◌, ◌<◌, inl, inr, Bool, true, false, List, [], ◌∷◌, ◌++◌, length, Option, Some, None, refl, sym, ◌∙◌, ap, subst, arith, length-set, if◌then◌else◌, eqb-true}
-use Rattle.std.specs.Prelude.{◌==◌, option_and_then}
+use Rattle.std.proofs.Common.{◌≡◌, ◌≢◌, ℕ, ◌<◌, inl, inr, Bool, true, false, List, [], ◌∷◌, ◌++◌, Option, Some, None, refl, sym, ◌∙◌, ap, subst, arith, if◌then◌else◌, eqb-true}
+use Rattle.std.specs.Prelude.{◌==◌}
 use Rattle.std.specs.List.{cons_option}
 use Rattle.std.proofs.lemmas.Grind.{common_steps}
 use Rattle.circuit_model.specs.declared.channel.Slot.{Slot}
 use Rattle.circuit_model.specs.Extent.{IsExternal}
 use Rattle.circuit_model.specs.Holding.{Clear as Clear_slot, after}
 use Rattle.circuit_model.proofs.Slots.{true_or_false}
-use Rattle.control_memory.specs.Layout.{number_of}
 use Rattle.q931_codec.specs.CallStates.{active, null}
 use Rattle.q931_codec.specs.Causes.{message_not_compatible_with_call_state}
 use Rattle.q931_codec.specs.Contents.{call_state_in}
 use Rattle.q931_codec.specs.declared.message.Message.{Message}
-use Rattle.call_states.specs.Acts.{act_on, act_of_status, is_among, every_state}
+use Rattle.call_states.specs.Acts.{act_on, act_of_status, is_among}
 use Rattle.call_states.specs.declared.act.Act.{Act}
 use Rattle.call_states.specs.declared.act.Act.TheVariants as act
 use Rattle.call_states.specs.declared.leg.HeldLeg.{HeldLeg}
@@ -25,22 +24,22 @@ use Rattle.exchange_events.specs.declared.record.CallRecord.{CallRecord}
 use Rattle.exchange_events.specs.Sizes.{Setting, Dimensions}
 use Rattle.call_profile.specs.ActCourse.{course_of, course_of_report}
 use Rattle.call_profile.specs.Acts.{clear_with, in_disconnect_indication, peer_of, tone_of, with_peer}
-use Rattle.call_profile.specs.Calls.{For_leg, outcome_by, outcome_for, outcome_of_octets, request_of}
-use Rattle.call_profile.specs.Course.{Course, only, nothing}
-use Rattle.call_profile.specs.EndedCalls.{record_ended, record_calling}
+use Rattle.call_profile.specs.Calls.{outcome_by, outcome_for, outcome_of_octets}
+use Rattle.call_profile.specs.Course.{only, nothing}
+use Rattle.call_profile.specs.EndedCalls.{record_ended}
 use Rattle.call_profile.specs.EnquiryReplies.{IsStatus, IsReply, IsClearedByReply, cleared_as_differing, confirmed, differing_signal, peer_signals, unchanged}
 use Rattle.call_profile.specs.LegStanding.{HasPeer, IsInCall, LegsStand, alone}
 use Rattle.call_profile.specs.Legs.{waiting_from, leg_at, with_entry}
-use Rattle.call_profile.specs.Operations.{Making, Operation, begun, making_at, making_after_all}
+use Rattle.call_profile.specs.Operations.{Making, making_at, making_after_all}
 use Rattle.call_profile.specs.Restarts.{MessageOutcome}
 use Rattle.call_profile.specs.World.{World}
-use Rattle.call_profile.proofs.BesideLemmas.{look, leg_at-with_entry_here, leg_at-with_entry_else}
+use Rattle.call_profile.proofs.BesideLemmas.{leg_at-with_entry_here, leg_at-with_entry_else}
 use Rattle.call_profile.proofs.ClearingLemmas.{held_there, peers_apart}
 use Rattle.call_profile.proofs.LegTableLemmas.{leg_at_both_else, leg_at_both_first, leg_at_both_second}
 use Rattle.call_profile.proofs.LostRecordLemmas.{calling_active, calling_is, ended_caller, ended_called}
 use Rattle.call_profile.proofs.NamedLegLemmas.{received_stands}
 use Rattle.call_profile.proofs.RecordedCallLemmas.{calling_record}
-use Rattle.call_profile.proofs.RecordOfActLemmas.{leg_records, records_of_act, cleared_records, disconnected_silent}
+use Rattle.call_profile.proofs.RecordOfActLemmas.{cleared_records, disconnected_silent}
 use Rattle.call_profile.proofs.ReportLemmas.{state_agrees, state_differs}
 use Rattle.call_profile.proofs.ToneLemmas.{with_tone_sounding_next}
 use Rattle.call_profile.proofs.DroppedLineLemmas.{call_active}

@@ -1,5 +1,5 @@
 -- The operations leave each leg as its data link asks: T309 runs in active exactly where the link is down, and an enquiry is open only where it is up.
-use Rattle.std.proofs.Common.{◌≡◌, ◌≢◌, ℕ, zero, suc, ◌<◌, ◌⊎◌, inl, inr, Bool, true, false, List, [], ◌∷◌, ◌++◌, Option, Some, None, refl, sym, ◌∙◌, ap, subst, eqb-true, set, get_or, get_or-set_other, if◌then◌else◌}
+use Rattle.std.proofs.Common.{◌≡◌, ◌≢◌, ℕ, zero, suc, ◌<◌, ◌⊎◌, inl, inr, Bool, true, false, List, [], ◌∷◌, ◌++◌, Option, Some, None, refl, sym, ◌∙◌, subst, eqb-true, set, get_or, get_or-set_other, if◌then◌else◌}
 use Rattle.std.specs.Prelude.{◌==◌, IfSome, slice_index_or}
 use Rattle.std.proofs.lemmas.Grind.{common_steps}
 use Rattle.std.proofs.Common.{arith}
@@ -39,11 +39,11 @@ use Rattle.call_profile.specs.Legs.{Legs, is_down, leg_at, pending_at, kept_at, 
 use Rattle.call_profile.specs.Operations as op
 use Rattle.call_profile.specs.Operations.{Operation, Making, Await, Put, begun, making_after, making_after_all}
 use Rattle.call_profile.specs.Outages.{enquired_in, AwaitsLink}
-use Rattle.call_profile.specs.Restarts.{restarts_slot, restart_peer, restart_leg, restart_slot}
-use Rattle.call_profile.specs.Setup.{refusal, setup, accept_at, call, call_asked, await_digits, called_slot, caller_slot, target_of, target_dialled}
+use Rattle.call_profile.specs.Restarts.{restarts_slot, restart_peer, restart_slot}
+use Rattle.call_profile.specs.Setup.{setup, accept_at, call, call_asked, await_digits, called_slot, caller_slot, target_of, target_dialled}
 use Rattle.call_profile.specs.World.{World}
 use Rattle.call_profile.proofs.AnsweringLemmas.{ringing}
-use Rattle.call_profile.proofs.BesideLemmas.{leg_at-with_entry_else, same_or_apart}
+use Rattle.call_profile.proofs.BesideLemmas.{same_or_apart}
 use Rattle.call_profile.proofs.ClearingLemmas.{held_there}
 use Rattle.call_profile.proofs.ExpiringLemmas.{at_slot}
 use Rattle.call_profile.proofs.ExpiryStateLemmas.{due_state}

@@ -13,7 +13,6 @@ use Rattle.q931_codec.specs.Causes.{destination_out_of_order}
 use Rattle.q931_codec.specs.CallStates.{active, overlap_sending}
 use Rattle.q931_codec.specs.Contents.{call_state_in}
 use Rattle.call_timers.specs.declared.expiry.Expiry.TheVariants as expiry
-use Rattle.call_timers.specs.declared.timers.Timers.{Timers}
 use Rattle.call_states.proofs.Causes.{cause_fits}
 use Rattle.call_states.specs.Acts.{act_on, clearing_cause, is_among}
 use Rattle.call_states.specs.declared.leg.Leg.{Leg}
@@ -35,7 +34,7 @@ use Rattle.call_profile.specs.Legs.{Legs, is_down, retransmitted_from, leg_at, n
 use Rattle.call_profile.specs.LegStanding.{CallsStand}
 use Rattle.call_profile.specs.LinkChanges.{being_cleared}
 use Rattle.call_profile.specs.Operations.{begun, making_at}
-use Rattle.call_profile.specs.Outages.{AwaitsLink, OutagesStand, NoLinkIsDown, HasNoFailure, IsOnLineUp, enquired_in}
+use Rattle.call_profile.specs.Outages.{OutagesStand, NoLinkIsDown, HasNoFailure, IsOnLineUp, enquired_in}
 use Rattle.call_profile.specs.Restarts.{restart_slot, restart_rule}
 use Rattle.call_profile.specs.Resumed.{resumed, resumed_on}
 use Rattle.call_profile.specs.Setup.{refusal, course_of_setup, called_slot}
@@ -44,7 +43,6 @@ use Rattle.call_profile.specs.World.{World, start, obey, pass}
 use Rattle.call_profile.proofs.DroppedLineLemmas.{others_are_gone, cleared_stay, none_stay, active_wait, other_lines_are_left}
 use Rattle.call_profile.proofs.EntryLemmas.{get_or-bare}
 use Rattle.call_profile.proofs.ExpiringLemmas.{each_line, place_within}
-use Rattle.call_profile.proofs.ExpiryStateLemmas.{due_state}
 use Rattle.call_profile.proofs.LinkedLegLemmas.{Follows, follows_always, Wait, performed_all, restart_may, expire_may, back_may, course_may, setup_may, due_awaits}
 use Rattle.call_profile.proofs.LinkStateLemmas.{next_links, links_after, length-next_links, none_fails, all_up}
 use Rattle.call_profile.proofs.MessageToLegLemmas.{Asked-act_of}

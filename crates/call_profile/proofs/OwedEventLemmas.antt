@@ -1,5 +1,5 @@
 -- A RESTART is owed only on a line whose data link is down: every event.
-use Rattle.std.proofs.Common.{◌≡◌, ◌≢◌, ℕ, zero, suc, ◌<◌, ◌≤◌, ◌⊎◌, inl, inr, Bool, true, false, ◌&&◌, List, [], ◌∷◌, length, Option, Some, None, refl, sym, ◌∙◌, ap, subst, arith, eqb-true, set, get_or-set_same, get_or-set_other, if◌then◌else◌}
+use Rattle.std.proofs.Common.{◌≡◌, ℕ, zero, suc, ◌<◌, ◌≤◌, ◌⊎◌, inl, inr, Bool, true, false, List, [], length, Some, refl, sym, ◌∙◌, ap, subst, arith, eqb-true, set, get_or-set_same, get_or-set_other, if◌then◌else◌}
 use Rattle.std.specs.Prelude.{◌==◌, is_none, slice_index_or}
 use Rattle.std.proofs.lemmas.Grind.{common_steps}
 use Rattle.circuit_model.specs.declared.channel.Slot.{Slot}
@@ -22,9 +22,9 @@ use Rattle.call_profile.specs.Acts.{in_disconnect_indication, with_enquiry}
 use Rattle.call_profile.specs.Calls.{Request, For_leg, New_call, On_no_call, Restarts, Unanswered, answer_back, outcome_for, request_of}
 use Rattle.call_profile.specs.Expiring.{expire_slot, slot_looked_at}
 use Rattle.call_profile.specs.IdleSlots.{is_nailed}
-use Rattle.call_profile.specs.Legs.{Legs, is_down, is_owed, leg_at, with_entry}
+use Rattle.call_profile.specs.Legs.{Legs, is_owed, leg_at, with_entry}
 use Rattle.call_profile.specs.LegStanding.{CallsStand}
-use Rattle.call_profile.specs.LinkChanges.{drop_slot, restart_channel, resume_held, resume_slot, rule_of, with_line, outcome_of_link}
+use Rattle.call_profile.specs.LinkChanges.{drop_slot, restart_channel, resume_held, resume_slot, rule_of, with_line}
 use Rattle.call_profile.specs.Operations.{Operation, Making, begun, making_at, making_after_all}
 use Rattle.call_profile.specs.Restarts.{MessageOutcome, outcome_below, restart_slot, restart_rule}
 use Rattle.call_profile.specs.Setup.{refusal, course_of_setup}

@@ -1,10 +1,9 @@
 -- For which channels exactly a RESTART is owed after a failure of a data link, after a frame, and after any other event.
-use Rattle.std.proofs.Common.{◌≡◌, ℕ, ◌*◌, ◌<◌, ◌⊎◌, inl, inr, Bool, true, false, ◌&&◌, ◌||◌, List, [], ◌∷◌, length, Option, Some, None, refl, sym, ◌∙◌, ap, arith, if◌then◌else◌}
-use Rattle.std.specs.Prelude.{◌==◌, is_none, is_some, slice_index_or}
+use Rattle.std.proofs.Common.{◌≡◌, ℕ, ◌<◌, inl, inr, Bool, true, false, ◌&&◌, ◌||◌, List, Option, Some, None, refl, sym, ◌∙◌, ap, arith, if◌then◌else◌}
+use Rattle.std.specs.Prelude.{is_none, is_some, slice_index_or}
 use Rattle.circuit_model.specs.declared.channel.Slot.{Slot}
 use Rattle.circuit_model.specs.Extent.{IsExternal}
 use Rattle.circuit_model.specs.FrameInput.{Input}
-use Rattle.q931_codec.specs.CallStates.{active, call_present, release_request}
 use Rattle.call_states.specs.Acts.{act_on}
 use Rattle.call_states.specs.declared.leg.Leg.{Leg}
 use Rattle.call_timers.specs.declared.expiry.Expiry.{Expiry}
@@ -18,7 +17,7 @@ use Rattle.call_profile.specs.Calls.{Request, For_leg, New_call, On_no_call, Res
 use Rattle.call_profile.specs.Dropped.{HasLine}
 use Rattle.call_profile.specs.Expiring.{due_of, expire_slot, slot_looked_at}
 use Rattle.call_profile.specs.IdleSlots.{is_nailed}
-use Rattle.call_profile.specs.Legs.{Legs, is_down, is_owed, leg_at}
+use Rattle.call_profile.specs.Legs.{is_owed, leg_at}
 use Rattle.call_profile.specs.LegStanding.{CallsStand}
 use Rattle.call_profile.specs.LinkChanges.{drop_leg, drop_slot, resume_slot, rule_of, with_line}
 use Rattle.call_profile.specs.Operations.{Operation, Making, making_at}

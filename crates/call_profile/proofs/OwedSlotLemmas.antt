@@ -27,16 +27,16 @@ use Rattle.exchange_events.specs.Sizes.{Setting, Dimensions}
 use Rattle.call_profile.specs.ActCourse.{course_of}
 use Rattle.call_profile.specs.Acts.{answered, peer_of, with_enquiry, with_peer, clear_with, on_alerting, on_connect}
 use Rattle.call_profile.specs.Calls.{answer_back}
-use Rattle.call_profile.specs.Course.{Course, only, nothing}
+use Rattle.call_profile.specs.Course.{only, nothing}
 use Rattle.call_profile.specs.Digits.{asked_with, digits_refusal, dial_on, with_pending}
 use Rattle.call_profile.specs.Expiring.{send_again, due_of, on_expiry, expire_slot}
-use Rattle.call_profile.specs.LinkChanges.{whole_line, drop_leg, drop_slot, enquire, restart_channel, resume_held, resume_slot}
+use Rattle.call_profile.specs.LinkChanges.{whole_line, drop_leg, drop_slot, restart_channel, resume_held, resume_slot}
 use Rattle.call_profile.specs.Legs.{Legs, is_down, is_owed, leg_at, pending_at, kept_at, with_entry, without_leg}
 use Rattle.call_profile.specs.Operations as op
 use Rattle.call_profile.specs.Operations.{Operation, Making, Await, Put, begun, making_after, making_after_all}
 use Rattle.call_profile.specs.Peers.{PeerIsThere}
-use Rattle.call_profile.specs.Restarts.{restarts_slot, restart_peer, restart_leg, restart_slot}
-use Rattle.call_profile.specs.Setup.{refusal, setup, accept_at, call, call_asked, await_digits, called_slot, caller_slot, target_of, target_dialled}
+use Rattle.call_profile.specs.Restarts.{restarts_slot, restart_peer, restart_slot}
+use Rattle.call_profile.specs.Setup.{setup, accept_at, call, call_asked, await_digits, called_slot, caller_slot, target_of, target_dialled}
 use Rattle.call_profile.specs.World.{World}
 use Rattle.call_profile.proofs.ClearingLemmas.{Kept}
 use Rattle.call_profile.proofs.CommandLemmas.{both_true}

@@ -1,7 +1,6 @@
 -- For which channels exactly a RESTART is owed after some operations: those for which it was, and those whose leg was removed untold.
-use Rattle.std.proofs.Common.{◌≡◌, ℕ, ◌*◌, ◌<◌, ◌≤◌, ◌⊎◌, inl, inr, Bool, true, false, ◌&&◌, ◌||◌, List, [], ◌∷◌, ◌++◌, length, Option, Some, None, refl, sym, ◌∙◌, ap, subst, arith, set, length-set, get_or-set_same, get_or-set_other, if◌then◌else◌}
-use Rattle.std.specs.Prelude.{◌==◌, is_none, is_some, slice_index_or}
-use Rattle.std.proofs.lemmas.Grind.{common_steps}
+use Rattle.std.proofs.Common.{◌≡◌, ℕ, ◌*◌, ◌⊎◌, inl, inr, Bool, true, false, ◌&&◌, ◌||◌, List, [], ◌∷◌, ◌++◌, length, Option, Some, None, refl, sym, ◌∙◌, ap, subst, arith, set, length-set, get_or-set_same, get_or-set_other, if◌then◌else◌}
+use Rattle.std.specs.Prelude.{slice_index_or}
 use Rattle.circuit_model.specs.declared.channel.Slot.{Slot}
 use Rattle.circuit_model.specs.Extent.{IsExternal}
 use Rattle.circuit_model.proofs.Slots.{true_or_false}
@@ -15,22 +14,21 @@ use Rattle.call_states.specs.declared.leg.HeldLeg.{HeldLeg}
 use Rattle.call_states.specs.declared.leg.Leg.{Leg}
 use Rattle.call_states.specs.declared.leg.Peer.{Peer}
 use Rattle.call_states.specs.declared.leg.Peer.TheVariants as peer
-use Rattle.clearing_rules.specs.declared.scope.Restart.{Restart}
 use Rattle.tone_rules.specs.declared.tones.Tones.{Tones}
 use Rattle.exchange_events.specs.Sizes.{Dimensions}
 use Rattle.call_profile.specs.Acts.{clear_with, peer_of, with_enquiry, with_peer}
 use Rattle.call_profile.specs.Expiring.{on_expiry, send_again, timed_state}
 use Rattle.call_profile.specs.LegStanding.{HasPeer}
 use Rattle.call_profile.specs.Legs.{Legs, is_down, is_owed, kept_at, leg_at, with_entry, without_leg}
-use Rattle.call_profile.specs.LinkChanges.{whole_line, drop_leg, drop_slot}
+use Rattle.call_profile.specs.LinkChanges.{whole_line, drop_leg}
 use Rattle.call_profile.specs.Operations as op
 use Rattle.call_profile.specs.Operations.{Operation, Making, Await, begun, making_after, making_after_all, with_legs}
-use Rattle.call_profile.specs.OwedRestarts.{is_removed, is_untold}
+use Rattle.call_profile.specs.OwedRestarts.{is_removed}
 use Rattle.call_profile.specs.Restarts.{restarts_slot, restart_peer}
 use Rattle.call_profile.specs.World.{World}
 use Rattle.call_profile.proofs.BesideLemmas.{leg_at-with_entry_here, leg_at-with_entry_else, same_or_apart}
 use Rattle.call_profile.proofs.ClearingLemmas.{Kept, held_there}
-use Rattle.call_profile.proofs.LinkLemmas.{at_held, by_drop}
+use Rattle.call_profile.proofs.LinkLemmas.{by_drop}
 use Rattle.call_profile.proofs.ToneLemmas.{with_tone_sounding_next}
 
 -- ---- what is tracked

@@ -1,6 +1,6 @@
 -- What a slot hears in release request is decided by the RELEASE that is kept there, in every run.
 use Rattle.std.proofs.Common.{◌≡◌, ◌≢◌, ℕ, ◌*◌, ◌<◌, inl, inr, Bool, true, false, not, List, length, Option, Some, None, refl, sym, ◌∙◌, ap, subst, arith, eqb-true, [], ◌∷◌, if◌then◌else◌}
-use Rattle.std.specs.Prelude.{is_none, option_map, slice_set, ◌==◌}
+use Rattle.std.specs.Prelude.{is_none, option_map, slice_set}
 use Rattle.std.proofs.lemmas.Grind.{common_steps}
 use Rattle.circuit_model.specs.declared.channel.Slot.{Slot}
 use Rattle.circuit_model.specs.declared.circuit.Circuit.{Circuit}

@@ -1,5 +1,5 @@
 -- What the establishment of a data link leaves of the legs: slot by slot.
-use Rattle.std.proofs.Common.{◌≡◌, ℕ, zero, suc, ◌<◌, ◌≤◌, ◌&&◌, Bool, true, false, inl, inr, Option, Some, None, refl, sym, ◌∙◌, ap, subst, arith, if◌then◌else◌, [], List}
+use Rattle.std.proofs.Common.{◌≡◌, ℕ, zero, suc, ◌<◌, ◌≤◌, ◌&&◌, Bool, true, false, inl, inr, Option, Some, None, refl, sym, ◌∙◌, ap, subst, arith, if◌then◌else◌, []}
 use Rattle.std.specs.Prelude.{nat_lt, ◌==◌, option_map}
 use Rattle.std.proofs.lemmas.Grind.{common_steps}
 use Rattle.circuit_model.specs.declared.channel.Slot.{Slot}

@@ -1,5 +1,5 @@
 -- What is sent when a data link is up again: an enquiry for each leg in active, and a RESTART of each channel that is owed one.
-use Rattle.std.proofs.Common.{◌≡◌, ◌≢◌, ℕ, zero, suc, ◌<◌, ◌≤◌, inl, inr, Bool, true, false, ◌&&◌, List, [], ◌∷◌, Option, Some, None, refl, sym, ◌∙◌, ap, subst, arith, eqb-true, set, get_or-set_other, Contains, if◌then◌else◌}
+use Rattle.std.proofs.Common.{◌≡◌, ℕ, zero, suc, ◌<◌, ◌≤◌, inl, inr, Bool, true, false, ◌&&◌, List, [], ◌∷◌, Option, Some, None, refl, sym, ◌∙◌, ap, subst, arith, eqb-true, get_or-set_other, Contains, if◌then◌else◌}
 use Rattle.std.specs.Prelude.{◌==◌, is_none, is_some, nat_lt, not, option_map, slice_index_or}
 use Rattle.std.proofs.lemmas.Grind.{common_steps}
 use Rattle.std.proofs.lemmas.List.Elements.{Contains-push}
@@ -9,10 +9,7 @@ use Rattle.circuit_model.proofs.Slots.{true_or_false}
 use Rattle.control_memory.specs.Layout.{number_of}
 use Rattle.control_memory.proofs.Steps.{same_number}
 use Rattle.q931_codec.specs.CallStates.{active, overlap_sending}
-use Rattle.q931_codec.specs.Causes.{temporary_failure}
-use Rattle.q931_codec.specs.declared.kind.MessageKind.TheVariants as kind
 use Rattle.call_states.specs.Acts.{is_among}
-use Rattle.call_states.specs.declared.leg.HeldLeg.{HeldLeg}
 use Rattle.call_states.specs.declared.leg.Leg.{Leg}
 use Rattle.call_timers.specs.Expiries.{expiry_in}
 use Rattle.clearing_rules.specs.Restarting.{restart_of}
@@ -21,23 +18,22 @@ use Rattle.tone_rules.specs.declared.tones.Tones.{Tones}
 use Rattle.exchange_events.specs.declared.signal.Signal.{Signal}
 use Rattle.exchange_events.specs.declared.trace.Event.TheVariants.{LinkUp}
 use Rattle.exchange_events.specs.Sizes.{Dimensions, Setting}
-use Rattle.call_profile.specs.Acts.{clear_with, message_to, send_to, with_enquiry}
 use Rattle.call_profile.specs.Dropped.{HasLine}
 use Rattle.call_profile.specs.Legs.{Legs, is_owed, leg_at, is_down}
 use Rattle.call_profile.specs.LinkChanges.{being_cleared, enquire, outcome_of_link, restart_channel, restarts_interface, resume_held, resume_slot, rule_of, whole_line, with_interface, with_line}
-use Rattle.call_profile.specs.Operations.{Operation, Making, Put, making_after, making_after_all, Send}
+use Rattle.call_profile.specs.Operations.{Operation, Making, making_after_all, Send}
 use Rattle.call_profile.specs.Outages.{OutagesStand}
-use Rattle.call_profile.specs.Reconciled.{enquiry_signal, restart_signal, IsRestartSent, IsReconciled, IsEnquired, IsAccounted}
+use Rattle.call_profile.specs.Reconciled.{enquiry_signal, restart_signal, IsRestartSent, IsReconciled, IsAccounted}
 use Rattle.call_profile.specs.Restarts.{MessageOutcome, outcome_below, restarts_slot}
 use Rattle.call_profile.specs.Resumed.{resumed, resumed_on}
 use Rattle.call_profile.specs.World.{World}
 use Rattle.call_profile.proofs.ClearingLemmas.{Kept}
 use Rattle.call_profile.proofs.CommandLemmas.{both_true, is_empty}
-use Rattle.call_profile.proofs.LinkLemmas.{at_held, by_resume, linked_kept}
+use Rattle.call_profile.proofs.LinkLemmas.{at_held, by_resume}
 use Rattle.call_profile.proofs.LinkStateLemmas.{is_down_next}
 use Rattle.call_profile.proofs.LostLegLemmas.{sent_still_all}
 use Rattle.call_profile.proofs.OutageLemmas.{outages_kept}
-use Rattle.call_profile.proofs.RestartedLineLemmas.{was_restarted, lt_false, none_before}
+use Rattle.call_profile.proofs.RestartedLineLemmas.{lt_false, none_before}
 use Rattle.call_profile.proofs.RestartedSlotLemmas.{below_none, below_more}
 use Rattle.call_profile.proofs.ResumedLineLemmas.{AreResumed, resumed_below, mapped, one_more as legs_one_more, start as legs_start, legs_are_resumed}
 use Rattle.call_profile.proofs.BesideLemmas.{same_or_apart}

@@ -1,7 +1,6 @@
 -- The reply of a user to STATUS ENQUIRY after an outage. Source: ITU-T Q.931 (05/98), 5.8.10 and 5.8.11; that a user in
 -- another state than 10 loses its call is this project's profile.
 use Rattle.std.specs.Prelude.{◌≡◌, ◌≢◌, ◌<◌, ℕ, true, false, List, [], ◌∷◌, Option, Some, None}
-use Rattle.std.specs.List.{cons_option}
 use Rattle.circuit_model.specs.declared.channel.Slot.{Slot}
 use Rattle.circuit_model.specs.Extent.{IsExternal}
 use Rattle.q931_codec.specs.CallStates.{active, null}
