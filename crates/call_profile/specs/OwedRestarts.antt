@@ -1,19 +1,21 @@
 -- The channels for which a RESTART is owed after an event. Source: ITU-T Q.931 (05/98), 5.8.9 and 5.5; that a user is owed
 -- it until the data link is up is this project's profile.
-use Rattle.std.specs.Prelude.{◌&&◌, ◌||◌, ◌==◌, Bool, false, is_none, is_some, Option, Some, None}
+use Rattle.std.specs.Prelude.{◌&&◌, ◌||◌, ◌==◌, Bool, false, is_none, is_some, Option, Some, None, ◌≡◌, ℕ, true}
 use Rattle.circuit_model.specs.declared.channel.Slot.{Slot}
 use Rattle.q931_codec.specs.CallStates.{active, release_request}
 use Rattle.call_states.specs.declared.leg.Leg.{Leg}
 use Rattle.exchange_events.specs.declared.trace.Event.{Event}
 use Rattle.exchange_events.specs.declared.trace.Event.TheVariants.{Frame, LinkDown}
-use Rattle.call_profile.specs.Legs.{Legs, is_down, leg_at}
+use Rattle.call_profile.specs.Legs.{Legs, is_down, leg_at, is_owed}
 use Rattle.call_profile.specs.World.{World}
+use Rattle.circuit_model.specs.Extent.{IsExternal}
 
 -- the leg of a slot is removed
 abbrev pub is_removed : World → World → Slot → Bool
 is_removed before afterwards x = is_some (leg_at before.legs x) && is_none (leg_at afterwards.legs x)
 
--- the user of a leg in this state is not told if a timer removes the leg: T309, or T308 while the link of its line is down
+-- the user of a leg in this state is sent nothing if a timer removes the leg: T309, or T308 while the link of its line is
+-- down
 abbrev pub is_untold : Legs → Slot → Option Leg → Bool
 is_untold legs x None = false
 is_untold legs x (Some leg) = (leg.state == active) || ((leg.state == release_request) && is_down legs x.line)
@@ -23,3 +25,20 @@ abbrev pub OwesNoMore : Event → Type 0
 OwesNoMore (LinkDown line) = ⊥
 OwesNoMore (Frame input) = ⊥
 OwesNoMore other = Unit {0}
+
+-- ---- the channels for which a RESTART is owed
+
+-- after the failure of a link: those for which it was owed, and those whose leg was removed
+abbrev pub AreOwedByFailure : ℕ → World → World → Type 0
+AreOwedByFailure external before afterwards =
+    (x : Slot) → IsExternal external x → is_owed afterwards.legs x ≡ (is_owed before.legs x || is_removed before afterwards x)
+
+-- after a frame: those for which it was owed, and those whose leg a timer removed in such a state
+abbrev pub AreOwedByFrame : ℕ → World → World → Type 0
+AreOwedByFrame external before afterwards =
+    (x : Slot) → IsExternal external x
+    → is_owed afterwards.legs x ≡ (is_owed before.legs x || (is_removed before afterwards x && is_untold before.legs x (leg_at before.legs x)))
+
+-- after any other event: at most those for which it was owed
+abbrev pub NoMoreAreOwed : ℕ → World → World → Type 0
+NoMoreAreOwed external before afterwards = (x : Slot) → IsExternal external x → is_owed afterwards.legs x ≡ true → is_owed before.legs x ≡ true

@@ -1,6 +1,6 @@
--- What the end of an outage leaves of each channel of a line: no call is left on one side alone. Source: ITU-T Q.931
+-- What the end of an outage leaves of each channel of a line: no call is left on one side only. Source: ITU-T Q.931
 -- (05/98), 5.8.9, 5.8.10 and 5.5.
-use Rattle.std.specs.Prelude.{◌≡◌, ◌≢◌, true, false, is_some, Contains, Option, Some, None}
+use Rattle.std.specs.Prelude.{◌≡◌, ◌≢◌, true, false, is_some, Contains, Option, Some, None, ℕ}
 use Rattle.circuit_model.specs.declared.channel.Slot.{Slot}
 use Rattle.q931_codec.specs.CallStates.{active}
 use Rattle.q931_codec.specs.Outgoing.{encoding}
@@ -13,9 +13,11 @@ use Rattle.clearing_rules.specs.declared.scope.Restart.{Restart}
 use Rattle.exchange_events.specs.declared.signal.Signal.{Signal}
 use Rattle.call_profile.specs.Acts.{message_to}
 use Rattle.call_profile.specs.Legs.{is_owed, leg_at}
-use Rattle.call_profile.specs.LinkChanges.{being_cleared}
+use Rattle.call_profile.specs.LinkChanges.{being_cleared, outcome_of_link}
 use Rattle.call_profile.specs.Operations.{Making}
 use Rattle.call_profile.specs.World.{World}
+use Rattle.circuit_model.specs.Extent.{IsExternal}
+use Rattle.exchange_events.specs.Sizes.{Setting}
 
 -- a RESTART to the user of a line
 abbrev pub restart_signal : Slot → Restart → Signal
@@ -34,12 +36,12 @@ pub record IsPaid (before : World) (m : Making) (x : Slot) : Type 0 where
   pub none_owed : is_owed m.world.legs x ≡ false
   pub sent : is_owed before.legs x ≡ true → IsRestartSent m x
 
--- a leg in active: its user was asked for its call state
+-- a leg in active: its user was sent STATUS ENQUIRY
 pub record IsEnquired (m : Making) (x : Slot) (leg : Leg) : Type 0 where
   pub flag : leg.enquired ≡ true
   pub sent : Contains m.sends (enquiry_signal x leg)
 
--- a channel with a leg: in active its user was asked; while it is being cleared its timer runs; in every other state it is
+-- a channel with a leg: in active its user was sent STATUS ENQUIRY; while it is being cleared its timer runs; in every other state it is
 -- unchanged, since its call was set up while the link was down
 pub record IsAccounted (before : World) (m : Making) (x : Slot) (leg : Leg) : Type 0 where
   pub in_active : leg.state ≡ active → IsEnquired m x leg
@@ -50,3 +52,9 @@ pub record IsAccounted (before : World) (m : Making) (x : Slot) (leg : Leg) : Ty
 abbrev pub IsReconciled : World → Making → Slot → Option Leg → Type 0
 IsReconciled before m x None = IsPaid before m x
 IsReconciled before m x (Some leg) = IsAccounted before m x leg
+
+-- each channel of a line whose data link is established
+abbrev pub AreReconciled : Setting → World → ℕ → Type 0
+AreReconciled s before line =
+    let m = (outcome_of_link s.dimensions s.tones false line before).making in
+    (x : Slot) → IsExternal s.dimensions.external x → x.line ≡ line → IsReconciled before m x (leg_at m.world.legs x)

@@ -10,7 +10,7 @@ use Rattle.call_profile.specs.Legs.{leg_at}
 use Rattle.call_profile.specs.Operations.{begun}
 use Rattle.call_profile.specs.World.{World}
 
--- a leg of the line: in active it waits for the link no longer, and its user is asked for its call state; in overlap
+-- a leg of the line: in active it waits for the link no longer, and its user is sent STATUS ENQUIRY; in overlap
 -- sending it is cleared with cause 41; in every other state it is unchanged
 abbrev pub resumed : World → Leg → Leg
 resumed w leg =

@@ -57,7 +57,7 @@ state_enquired = sends_reply (to 1 (0x08 ∷ 0x02 ∷ 0x00 ∷ 0x01 ∷ 0x75 ∷
 abbrev pub reset_while_dialling : Reply
 reset_while_dialling = reply hasty_lines (world_in 9 begun_on_both) (LinkUp 0)
 
--- ---- what the exchange gave up is restarted, or asked for
+-- ---- RESTART and STATUS ENQUIRY after an outage
 
 -- RESTART of the whole line, and of one channel (the last octet of channel identification is the channel's number)
 abbrev pub restart_of_line : ℕ → Signal
@@ -97,7 +97,7 @@ asked_to_release = to 1 (0x08 ∷ 0x02 ∷ 0x00 ∷ 0x01 ∷ 0x4D ∷ 0x08 ∷ 0
 abbrev pub alerted_then_up : Reply
 alerted_then_up = reply hasty_lines (next hasty_lines (world_in 9 alerted) (LinkDown 1)) (LinkUp 1)
 
--- the same beside a conversation, which is asked for: only the channel of the lost call is restarted
+-- the same with a conversation, whose user is sent STATUS ENQUIRY: only the channel of the lost call is restarted
 abbrev pub beside_conversation : List Event
 beside_conversation =
     answered

@@ -14,7 +14,7 @@
 //!   ([`law_of_expiries`]).
 //! - T309 of a leg in state 10 runs if and only if the data link of its line is down ([`law_of_outages`]). In a trace in
 //!   which no link fails it never expires ([`law_of_unfailing_links`]). If it expires, the call is cleared and recorded
-//!   ([`law_of_lost_legs`]). After an outage no call is left on one side alone ([`law_of_reconciliation`]): theorems state
+//!   ([`law_of_lost_legs`]). After an outage no call is left on one side only ([`law_of_reconciliation`]): theorems state
 //!   which RESTARTs are owed ([`law_of_owed_restarts`]) and the effect of a reply to an enquiry
 //!   ([`law_of_enquiry_replies`]).
 //! - A number of several lines gets the lowest idle slot of the first line that has one ([`law_of_hunting`]).

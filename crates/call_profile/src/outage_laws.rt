@@ -1,5 +1,5 @@
 //! Theorems on the outage of a data link: on T309, which runs while the link is down, and on what a user is asked or owed.
-ghost use Rattle.std.specs.Prelude.{◌≡◌, ◌≢◌, ℕ, ◌&&◌, ◌||◌, true, false, All, List, Contains, Some};
+ghost use Rattle.std.specs.Prelude.{◌≡◌, ◌≢◌, ℕ, false, All, List, Contains, Some};
 ghost use Rattle.circuit_model.specs.declared.channel.Slot.{Slot};
 ghost use Rattle.circuit_model.specs.Extent.{IsExternal};
 ghost use Rattle.circuit_model.specs.FrameInput.{Input};
@@ -22,22 +22,21 @@ ghost use Rattle.call_profile.specs.ExpiryBounds.{NoneIsLost, UntimedStay, Conve
 ghost use Rattle.call_profile.specs.ExpiryRecords.{IsFrameRecord, IsInFrame, ComeByLine};
 ghost use Rattle.call_profile.specs.Fabrics.{world_of_run};
 ghost use Rattle.call_profile.specs.LegStanding.{CallsStand};
-ghost use Rattle.call_profile.specs.Legs.{is_down, is_owed, leg_at};
-ghost use Rattle.call_profile.specs.LinkChanges.{outcome_of_link};
+ghost use Rattle.call_profile.specs.Legs.{is_down, is_owed};
 ghost use Rattle.call_profile.specs.LostLegs.{IsDisconnected, IsLeftBehind, IsLossRecorded, IsLostFirst, IsUnchanged, IsVacated, NeitherIsLost};
 ghost use Rattle.call_profile.specs.Outages.{down_after_all, HasNoFailure, IsOnLineUp, NoLinkIsDown, OutagesStand};
-ghost use Rattle.call_profile.specs.OwedRestarts.{is_removed, is_untold, OwesNoMore};
-ghost use Rattle.call_profile.specs.Reconciled.{IsReconciled};
+ghost use Rattle.call_profile.specs.OwedRestarts.{AreOwedByFailure, AreOwedByFrame, NoMoreAreOwed, OwesNoMore};
+ghost use Rattle.call_profile.specs.Reconciled.{AreReconciled};
 ghost use Rattle.call_profile.specs.Recorded.{HasEnded};
 ghost use Rattle.call_profile.specs.Setup.{called_slot};
 ghost use Rattle.call_profile.specs.Step.{next};
 ghost use Rattle.call_profile.specs.World.{World, start};
 
-/// T309 of a leg in state 10 runs if and only if the data link of its line is down. The user of a leg is asked for its
-/// call state only in state 10 while that link is up. A user is owed a RESTART only while the link of its line is down.
-/// Every event, and so every run, preserves this. A data link is down if and only if its last change was a failure. A leg
-/// on a line whose link is up is not due. If no link is down, T309 of no leg expires in any frame. In a trace in which no
-/// link fails, none is ever down, and T309 never expires.
+/// T309 of a leg in state 10 runs if and only if the data link of its line is down. An enquiry of a leg in state 10 is
+/// open only while that link is up. A user is owed a RESTART only while the link of its line is down. Every event, and so
+/// every run, preserves this. A data link is down if and only if its last change was a failure. A leg on a line whose link
+/// is up is not due. If no link is down, T309 of no leg expires in any frame. In a trace in which no link fails, none is
+/// ever down, and T309 never expires.
 pub fn law_of_outages()
     ensures begins { (s : Setting) → OutagesStand s.dimensions.external (start s.dimensions).legs }
     ensures kept { (s : Setting) (w : World) (e : Event) → Fits s.dimensions.external e → CallsStand s w
@@ -89,14 +88,12 @@ pub fn law_of_lost_legs()
         → IsUnchanged s w input x leg }
 {}
 
-/// After the establishment of a data link, no call is left on one side alone. A channel of the line without a leg is owed
-/// no RESTART, and if it was owed one, a RESTART that covers it was sent. The user of each leg in state 10 was asked for
-/// its call state. A leg that is being cleared, in state 12 or 19, has its timer running. A leg in any other state is
-/// unchanged: its call was set up while the link was down. No call is offered on a channel that is owed a RESTART.
+/// After the establishment of a data link, no call is left on one side only. A channel of the line without a leg is owed no
+/// RESTART, and if it was owed one, a RESTART that covers it was sent. The user of each leg in state 10 was sent STATUS
+/// ENQUIRY. A leg that is being cleared, in state 12 or 19, has its timer running. A leg in any other state is unchanged:
+/// its call was set up while the link was down. No call is offered on a channel that is owed a RESTART.
 pub fn law_of_reconciliation()
-    ensures channels { (s : Setting) (w : World) (line : ℕ) → HasLine s w line → OutagesStand s.dimensions.external w.legs → (x : Slot)
-        → IsExternal s.dimensions.external x → x.line ≡ line
-        → IsReconciled w (outcome_of_link s.dimensions s.tones false line w).making x (leg_at (outcome_of_link s.dimensions s.tones false line w).making.world.legs x) }
+    ensures channels { (s : Setting) (w : World) (line : ℕ) → HasLine s w line → OutagesStand s.dimensions.external w.legs → AreReconciled s w line }
     ensures offered { (s : Setting) (w : World) → OutagesStand s.dimensions.external w.legs → (x : Slot) (t : Found) (y : Slot)
         → IsExternal s.dimensions.external y → called_slot w x t ≡ Some y → is_owed w.legs y ≡ false }
 {}
@@ -113,15 +110,14 @@ pub fn law_of_enquiry_replies()
         → (h.leg.state ≡ active → h.leg.enquired ≡ false) → outcome_of_octets s w line octets ≡ unchanged w }
 {}
 
-/// After the failure of a data link, a channel without a leg is owed a RESTART if and only if it was owed one, or its leg
-/// was removed by the failure. After a frame, if and only if it was owed one, or T309 removed its leg, or T308 did while the
-/// link of its line was down. No other event adds a channel to these.
+/// After the failure of a data link, a channel is owed a RESTART if and only if it was owed one, or its leg was removed by
+/// the failure. After a frame, if and only if it was owed one, or T309 removed its leg, or T308 did while the link of its
+/// line was down. No other event adds a channel to these.
 pub fn law_of_owed_restarts()
-    ensures failure { (s : Setting) (w : World) (line : ℕ) → HasLine s w line → OutagesStand s.dimensions.external w.legs → (x : Slot)
-        → IsExternal s.dimensions.external x → is_owed (next s w (LinkDown line)).legs x ≡ (is_owed w.legs x || is_removed w (next s w (LinkDown line)) x) }
-    ensures frame { (s : Setting) (w : World) (input : Input) → CallsStand s w → OutagesStand s.dimensions.external w.legs → (x : Slot)
-        → IsExternal s.dimensions.external x
-        → is_owed (next s w (Frame input)).legs x ≡ (is_owed w.legs x || (is_removed w (next s w (Frame input)) x && is_untold w.legs x (leg_at w.legs x))) }
-    ensures others { (s : Setting) (w : World) (e : Event) → Fits s.dimensions.external e → CallsStand s w → OwesNoMore e → (x : Slot)
-        → IsExternal s.dimensions.external x → is_owed (next s w e).legs x ≡ true → is_owed w.legs x ≡ true }
+    ensures failure { (s : Setting) (w : World) (line : ℕ) → HasLine s w line → OutagesStand s.dimensions.external w.legs
+        → AreOwedByFailure s.dimensions.external w (next s w (LinkDown line)) }
+    ensures frame { (s : Setting) (w : World) (input : Input) → CallsStand s w → OutagesStand s.dimensions.external w.legs
+        → AreOwedByFrame s.dimensions.external w (next s w (Frame input)) }
+    ensures others { (s : Setting) (w : World) (e : Event) → Fits s.dimensions.external e → CallsStand s w → OwesNoMore e
+        → NoMoreAreOwed s.dimensions.external w (next s w e) }
 {}
