@@ -234,7 +234,7 @@ module _ (d : Dimensions) (tones : Tones) (m : Making) (x : Slot) (kept : Kept d
 
 -- ---- a slot
 
--- a fact of the operations where no leg holds the slot, and of those of the leg that holds it, is a fact of the operations at the slot
+-- what holds of the operations if no leg holds the slot, and of the operations of each leg that may hold it, holds of the operations at the slot
 module _ (legs : Legs) (x : Slot) (does : Option HeldLeg → List Operation) (P : List Operation → Type 0) (none : leg_at legs x ≡ None → P (does None))
     (some : (leg : Leg) → leg_at legs x ≡ Some leg → P (does (Some (record { slot = x; leg = leg })))) where
   held_by : (o : Option Leg) → leg_at legs x ≡ o → P (does (option_map (λ (leg : Leg). let held : HeldLeg = record { slot = x; leg = leg } in held) o))

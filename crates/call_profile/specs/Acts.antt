@@ -42,7 +42,7 @@ in_state state leg = record leg { state = state }
 abbrev pub in_release_request : Leg → Leg
 in_release_request leg = record leg { state = release_request; peer = peer.Alone }
 
--- the user of an active leg is asked for its call state, or has reported it
+-- the user of an active leg was sent STATUS ENQUIRY, or has reported its state
 abbrev pub with_enquiry : Bool → Leg → Leg
 with_enquiry enquired leg = record leg { enquired = enquired }
 

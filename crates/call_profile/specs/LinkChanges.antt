@@ -53,7 +53,7 @@ drop_rule tones = record { does = drop_slot tones; cause = destination_out_of_or
 
 -- ---- the data link is up (5.8.8, 5.8.9)
 
--- in active T309 stops, and the user is asked for its call state (5.8.10)
+-- in active T309 stops, and the user is sent STATUS ENQUIRY (5.8.10)
 abbrev pub enquire : HeldLeg → List Operation
 enquire h = Put h.slot (with_enquiry true h.leg) ∷ send_to h (message_to h.leg kind.StatusEnquiry) ∷ []
 

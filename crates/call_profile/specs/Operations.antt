@@ -37,7 +37,7 @@ pub data Operation : Type 0 where
   -- data link of its line
   Await : (x : Slot) (leg : Leg) → Operation
   -- the slot is held by no leg, with no pending number and no stored message; the flag states whether its user is owed a
-  -- RESTART for it, since nothing has told it that the leg is gone
+  -- RESTART for it, since it was sent nothing about it
   Remove : (x : Slot) (owed : Bool) → Operation
   -- a message goes to the user of a line
   Send : (line : ℕ) (message : OutgoingMessage) → Operation

@@ -51,7 +51,7 @@ AwaitsLink leg = (leg.state ≡ active) × (leg.resent ≡ true)
 abbrev pub enquired_in : List ℕ
 enquired_in = active ∷ being_cleared
 
--- the user of a leg is asked for its call state only in active while the link of the line is up, until the leg is removed
+-- an enquiry of a leg in active is open only while the link of the line is up; the flag stays until the leg is removed
 pub record MayEnquire (down : Bool) (leg : Leg) : Type 0 where
   pub states : is_among enquired_in leg.state ≡ true
   pub up : leg.state ≡ active → down ≡ false
