@@ -39,5 +39,5 @@ counting_all legs notes = shown_all Pending counting legs notes
 abbrev pub keeping_all : List (Option Leg) → List SlotData → List (Option (List ℕ))
 keeping_all legs notes = shown_all (List ℕ) keeping legs notes
 
-abbrev pub legs_kept : List (Option Leg) → List SlotData → List Bool → Legs
-legs_kept legs notes down = record { held = legs; pending = counting_all legs notes; kept = keeping_all legs notes; down = down }
+abbrev pub legs_kept : List (Option Leg) → List SlotData → List Bool → List Bool → Legs
+legs_kept legs notes owed down = record { held = legs; pending = counting_all legs notes; kept = keeping_all legs notes; owed = owed; down = down }
