@@ -1,12 +1,14 @@
 //! The operations of each act on the leg of a message and on its peer.
-ghost use Rattle.std.specs.Prelude.{◌≡◌, ◌≢◌, ◌<◌, ◌≤◌, ◌+◌, ◌*◌, [], ◌∷◌, None, Some, IfSome, length};
+ghost use Rattle.std.specs.Prelude.{◌≡◌, ◌≢◌, ◌<◌, ◌≤◌, ◌+◌, ◌*◌, [], ◌∷◌, None, Some, IfSome, length, if◌then◌else◌};
 ghost use Rattle.circuit_model.specs.Extent.{IsExternal};
 ghost use Rattle.circuit_map.specs.Connections.{SameSizes, hears_at};
 ghost use Rattle.q931_codec.specs.Outgoing.{outgoing_of};
 ghost use Rattle.call_states.specs.Acts.{cause_of_act};
 ghost use Rattle.call_states.specs.declared.act.Act.TheVariants as asked;
-ghost use Rattle.call_profile.specs.ActCourse.{course_of};
-ghost use Rattle.call_profile.specs.Acts.{with_progress, peer_of, with_peer, disconnect, in_disconnect_indication, in_release_request, in_state, tone_of, on_alerting, on_connect, on_disconnect, on_release, remove_leg, clear_with};
+ghost use Rattle.q931_codec.specs.CallStates.{active};
+ghost use Rattle.call_profile.specs.ActCourse.{course_of, course_of_report};
+ghost use Rattle.call_profile.specs.Course.{nothing};
+ghost use Rattle.call_profile.specs.Acts.{with_progress, with_enquiry, peer_of, with_peer, disconnect, in_disconnect_indication, in_release_request, in_state, tone_of, on_alerting, on_connect, on_disconnect, on_release, remove_leg, clear_with};
 ghost use Rattle.call_control.specs.AtWork.{IsAtWork, EachAtWork};
 ghost use Rattle.call_profile.specs.Calls.{making_by, outcome_by, course_on};
 ghost use Rattle.call_profile.specs.Legs.{leg_at};
@@ -24,7 +26,7 @@ use circuit_model::{Kind, Slot};
 use control_memory::PathMap;
 use exchange_events::Outbox;
 use number_plan::Plan;
-use q931_codec::causes::RESPONSE_TO_STATUS_ENQUIRY;
+use q931_codec::causes::{MESSAGE_NOT_COMPATIBLE_WITH_CALL_STATE, RESPONSE_TO_STATUS_ENQUIRY};
 use q931_codec::states::{
     ACTIVE, CALL_DELIVERED, CALL_RECEIVED, DISCONNECT_INDICATION, INCOMING_CALL_PROCEEDING,
     RELEASE_REQUEST,
@@ -114,6 +116,7 @@ impl<P: PathMap> CallControl<P> {
             Act::Proceeding => self.put(held.slot, in_state(INCOMING_CALL_PROCEEDING, held.leg)),
             Act::Alerting => self.on_alerting(out, tones, held, peer),
             Act::Answer => self.on_connect(out, held, peer),
+            Act::Report(reported) => self.on_report(out, tones, held, peer, reported),
             Act::Disconnect(cause) => {
                 self.on_disconnect(out, held);
                 self.clear_peer(out, tones, peer, cause);
@@ -123,7 +126,7 @@ impl<P: PathMap> CallControl<P> {
                 self.clear_peer(out, tones, peer, cause);
             }
             Act::ReleaseComplete(cause) => {
-                self.remove_leg(held);
+                self.remove_leg(held, false);
                 self.clear_peer(out, tones, peer, cause);
             }
         }
@@ -162,7 +165,7 @@ impl<P: PathMap> CallControl<P> {
         requires silent { hears_at self.old.map held.slot ≡ None }
         requires room { length out.old.sends + 1 < max_sends }
         requires fresh { out.old.moved ≡ None }
-        ensures makes { Performs (with_peer peer (on_connect held)) self.old.map self.old.legs out.old self.new.map self.new.legs out.new }
+        ensures makes { Performs (with_peer peer (on_connect self.old.legs held)) self.old.map self.old.legs out.old self.new.map self.new.legs out.new }
         ensures few { IfSome out.new.moved (λ moves. (moves.0 ≤ self.old.map.bound) × (moves.1 ≤ self.old.map.bound)) }
         ensures sizes { SameSizes self.old.map self.new.map }
     {
@@ -170,8 +173,8 @@ impl<P: PathMap> CallControl<P> {
             return;
         };
         out.moved = Some(self.connect(caller.slot, held.slot));
-        self.put(held.slot, in_state(ACTIVE, held.leg));
-        self.put(caller.slot, in_state(ACTIVE, caller.leg));
+        self.put_answered(held.slot, in_state(ACTIVE, held.leg));
+        self.put_answered(caller.slot, in_state(ACTIVE, caller.leg));
         send_bare(out, held, MessageKind::ConnectAcknowledge);
         send_bare(out, caller, MessageKind::Connect);
     }
@@ -221,20 +224,53 @@ impl<P: PathMap> CallControl<P> {
         ensures moved { out.new.moved ≡ out.old.moved }
         ensures sizes { SameSizes self.old.map self.new.map }
     {
-        self.remove_leg(held);
+        self.remove_leg(held, false);
         send_bare(out, held, MessageKind::ReleaseComplete);
     }
 
-    /// RELEASE COMPLETE, or a restart: removes the leg, and every circuit at its slot.
-    pub(crate) fn remove_leg(&mut self, held: HeldLeg)
+    // STATUS at a leg in state 10: what a user reports counts if it was asked for its state. In another state than 10 it
+    // does not have the call as the exchange has it, and both legs are cleared.
+    fn on_report(
+        &mut self,
+        out: &mut Outbox,
+        tones: &Tones,
+        held: HeldLeg,
+        peer: Option<HeldLeg>,
+        reported: u8,
+    )
+        requires there { IsThere self.old.map.external held }
+        requires count { length self.old.legs.held ≡ 30 * self.old.map.external }
+        requires state { held.leg.state ≡ active }
+        requires peer { peer ≡ peer_of self.old.legs held.leg.peer }
+        requires peer_there { PeerIsThere self.old.map.external held peer }
+        requires room { length out.old.sends + 1 < max_sends }
+        ensures makes { (s : Setting) (w : World) → s.tones ≡ tones.now → w.legs ≡ self.old.legs
+            → Performs (if held.leg.enquired then course_of_report s w held reported else nothing).operations self.old.map self.old.legs out.old self.new.map self.new.legs out.new }
+        ensures moved { out.new.moved ≡ out.old.moved }
+        ensures sizes { SameSizes self.old.map self.new.map }
+    {
+        if !held.leg.enquired {
+            return;
+        }
+        if reported == ACTIVE {
+            self.put(held.slot, with_enquiry(false, held.leg));
+            return;
+        }
+        self.clear_leg(out, tones, held, MESSAGE_NOT_COMPATIBLE_WITH_CALL_STATE);
+        self.clear_peer(out, tones, peer, MESSAGE_NOT_COMPATIBLE_WITH_CALL_STATE);
+    }
+
+    /// RELEASE COMPLETE, a restart or an outage: removes the leg, and every circuit at its slot. Stores whether its user
+    /// is owed a RESTART for it.
+    pub(crate) fn remove_leg(&mut self, held: HeldLeg, owed: bool)
         requires external { IsExternal self.old.map.external held.slot }
         requires count { length self.old.legs.held ≡ 30 * self.old.map.external }
-        ensures makes { PerformsQuietly (remove_leg held) self.old.map self.old.legs self.new.map self.new.legs }
+        ensures makes { PerformsQuietly (remove_leg owed held) self.old.map self.old.legs self.new.map self.new.legs }
         ensures count { length self.new.legs.held ≡ length self.old.legs.held }
         ensures sizes { SameSizes self.old.map self.new.map }
     {
         self.clear(held.slot);
-        self.remove(held.slot);
+        self.remove(held.slot, owed);
     }
 
     /// Clears the other leg of a call with a cause, if there is one.
@@ -288,6 +324,13 @@ fn in_state(state: u8, leg: Leg) -> Leg
     ensures { result ≡ in_state state leg }
 {
     Leg { state, ..leg }
+}
+
+/// Returns the leg whose user is asked for its call state, or has reported it.
+pub(crate) fn with_enquiry(enquired: bool, leg: Leg) -> Leg
+    ensures { result ≡ with_enquiry enquired leg }
+{
+    Leg { enquired, ..leg }
 }
 
 /// Returns the leg without its peer in release request.

@@ -3,16 +3,17 @@ ghost use Rattle.std.specs.Prelude.{◌≡◌, IfSome};
 ghost use Rattle.circuit_model.specs.Extent.{IsExternal};
 ghost use Rattle.call_profile.specs.Acts.{peer_of};
 ghost use Rattle.call_profile.specs.CallRecords.{conversation_begin};
-ghost use Rattle.call_profile.specs.EndedCalls.{record_calling, record_ended, record_of_act};
+ghost use Rattle.call_profile.specs.EndedCalls.{cause_of_act_at, record_calling, record_ended, record_of_act};
 ghost use Rattle.call_control.specs.Standing.{Holds};
 ghost use Rattle.exchange_events.specs.Sizes.{Dimensions};
 ghost use Rattle.call_profile.specs.World.{World};
 
 use crate::operations::CallControl;
 use call_profile::{first_frame_of, is_calling, party_of};
-use call_states::{Act, HeldLeg, Side};
+use call_states::{Act, HeldLeg, Leg, Side};
 use control_memory::PathMap;
 use exchange_events::CallRecord;
+use q931_codec::causes::MESSAGE_NOT_COMPATIBLE_WITH_CALL_STATE;
 use q931_codec::states::ACTIVE;
 
 impl<P: PathMap> CallControl<P> {
@@ -29,7 +30,7 @@ impl<P: PathMap> CallControl<P> {
         requires peer { peer ≡ peer_of self.now.legs held.leg.peer }
         ensures { (d : Dimensions) (w : World) → Holds d self.now.map self.now.legs w → result ≡ record_of_act w held act }
     {
-        self.record_ended(held, peer, act.cause()?)
+        self.record_ended(held, peer, cause_of_act_at(&held.leg, act)?)
     }
 
     /// Returns the record of a leg's call, if its clearing has not begun.
@@ -81,5 +82,18 @@ impl<P: PathMap> CallControl<P> {
             Some(circuit) => first_frame_of(circuit),
             None => self.map.next_frame(),
         }
+    }
+}
+
+// Returns the cause with which an act clears the call of a leg, if it clears it. What a user reports matters only if it
+// was asked.
+fn cause_of_act_at(leg: &Leg, act: Act) -> Option<u8>
+    ensures { result ≡ cause_of_act_at leg.now act }
+{
+    match act {
+        Act::Report(reported) if leg.enquired && reported != ACTIVE => {
+            Some(MESSAGE_NOT_COMPATIBLE_WITH_CALL_STATE)
+        }
+        _ => act.cause(),
     }
 }

@@ -120,7 +120,7 @@ impl<P: PathMap> CallControl<P> {
             Expiry::Alerting => self.clear_both(out, tones, held, peer, NO_ANSWER_FROM_USER),
             Expiry::Outage => self.outage_over(out, tones, held, peer),
             Expiry::Disconnect => self.ask_for_release(out, held),
-            Expiry::ReleaseOver => self.remove_leg(held),
+            Expiry::ReleaseOver => self.release_over(held),
         }
     }
 
@@ -182,9 +182,21 @@ impl<P: PathMap> CallControl<P> {
         ensures sizes { SameSizes self.old.map self.new.map }
     {
         let call = self.record_ended(held, peer, DESTINATION_OUT_OF_ORDER);
-        self.remove_leg(held);
+        self.remove_leg(held, true);
         self.clear_peer(out, tones, peer, DESTINATION_OUT_OF_ORDER);
         record_also(&mut out.records, call);
+    }
+
+    // The user did not reply to RELEASE, which was sent twice: removes the leg. Its user is owed a RESTART if the data link
+    // of its line is down.
+    fn release_over(&mut self, held: HeldLeg)
+        requires external { IsExternal self.old.map.external held.slot }
+        requires count { length self.old.legs.held ≡ 30 * self.old.map.external }
+        ensures makes { PerformsQuietly (release_over self.old.legs held) self.old.map self.old.legs self.new.map self.new.legs }
+        ensures sizes { SameSizes self.old.map self.new.map }
+    {
+        let owed = self.legs.is_down(held.slot.line);
+        self.remove_leg(held, owed);
     }
 
     // Clears the called leg with cause 102, recovery on timer expiry, and the caller with `cause`.
@@ -227,7 +239,7 @@ impl<P: PathMap> CallControl<P> {
         ensures records { out.new.records ≡ out.old.records }
         ensures sizes { SameSizes self.old.map self.new.map }
     {
-        self.remove_leg(held);
+        self.remove_leg(held, false);
         let message = with_cause(
             &held.leg,
             MessageKind::ReleaseComplete,

@@ -125,14 +125,14 @@ impl<P: PathMap> CallControl<P> {
         requires count { length self.old.legs.held ≡ 30 * self.old.map.external }
         requires room { length out.old.sends ≤ 60 }
         requires own { caller.reference < 2 ^ 15 }
-        ensures makes { Performs (call_room caller.first caller.reference caller.slot room)
+        ensures makes { Performs (call_room caller.first self.old.legs caller.reference caller.slot room)
             self.old.map self.old.legs out.old self.new.map self.new.legs out.new }
         ensures few { IfSome out.new.moved (λ moves. (moves.0 ≤ self.old.map.bound) × (moves.1 ≤ self.old.map.bound)) }
         ensures sizes { SameSizes self.old.map self.new.map }
     {
         let x = caller.slot;
         let calling = caller_leg(ACTIVE, caller.reference, Peer::Room(room));
-        self.put(x, calling);
+        self.put_answered(x, calling);
         out.moved = Some(self.seat(x, room));
         send_proceeding(out, caller, &calling);
         send(out, x.line, &message_to(&calling, MessageKind::Connect));
@@ -167,6 +167,7 @@ fn caller_leg(state: u8, reference: u16, peer: Peer) -> Leg
         cause: 0,
         since: 0,
         resent: false,
+        enquired: false,
     }
 }
 
@@ -182,6 +183,7 @@ fn called_leg(reference: u16, caller: Slot) -> Leg
         cause: 0,
         since: 0,
         resent: false,
+        enquired: false,
     }
 }
 

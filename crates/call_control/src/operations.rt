@@ -4,21 +4,22 @@ ghost use Rattle.circuit_model.specs.declared.channel.Slot.{Slot};
 ghost use Rattle.circuit_model.specs.Extent.{IsExternal};
 ghost use Rattle.circuit_model.specs.Holding.{Connect, Seat as Take_seat, Clear};
 ghost use Rattle.circuit_map.specs.Connections.{SameSizes, hears_at, hears_after};
-ghost use Rattle.q931_codec.specs.CallStates.{overlap_sending};
+ghost use Rattle.q931_codec.specs.CallStates.{overlap_sending, active};
 ghost use Rattle.q931_codec.specs.Outgoing.{IsWritable, outgoing_of};
 ghost use Rattle.call_states.specs.Acts.{is_among};
 ghost use Rattle.call_states.specs.Status.{FitsMessages};
 ghost use Rattle.exchange_events.specs.Limits.{max_sends};
+ghost use Rattle.call_profile.specs.Acts.{answered};
 ghost use Rattle.call_profile.specs.KeptMessages.{awaiting_answer};
 ghost use Rattle.call_profile.specs.IdleSlots.{idle};
-ghost use Rattle.call_profile.specs.Legs.{waiting_from, leg_at, with_leg, with_waiting, without_leg};
-ghost use Rattle.call_profile.specs.Operations.{Put, Wait, Expect, moves_for, moves_of_seat, with_tone};
+ghost use Rattle.call_profile.specs.Legs.{waiting_from, retransmitted_from, leg_at, with_leg, with_waiting, without_leg};
+ghost use Rattle.call_profile.specs.Operations.{Put, Wait, Expect, Await, moves_for, moves_of_seat, with_tone};
 ghost use Rattle.call_profile.specs.Permitted.{CanSeat};
 ghost use Rattle.call_control.specs.Standing.{Holds, Performs, PerformsQuietly};
 ghost use Rattle.exchange_events.specs.Sizes.{Dimensions};
 ghost use Rattle.call_profile.specs.World.{World, obey};
 
-use call_profile::waiting_from;
+use call_profile::{retransmitted_from, waiting_from};
 use call_states::{Leg, Pending};
 use circuit_map::CircuitMap;
 use circuit_model::{Kind, Slot};
@@ -161,13 +162,47 @@ impl<P: PathMap> CallControl<P> {
         });
     }
 
-    /// Removes the leg at a slot, with a pending number and a stored message there.
-    pub(crate) fn remove(&mut self, x: Slot)
+    /// Places a leg in state 10 at a slot from the next frame on, and replaces any other. T309 starts if the data link of
+    /// its line is down.
+    pub(crate) fn put_answered(&mut self, x: Slot, leg: Leg)
         requires external { IsExternal self.old.map.external x }
         requires count { length self.old.legs.held ≡ 30 * self.old.map.external }
-        ensures legs { self.new.legs ≡ without_leg self.old.legs x }
+        requires told { FitsMessages leg }
+        requires state { leg.state ≡ active }
+        ensures count { length self.new.legs.held ≡ length self.old.legs.held }
+        ensures down { self.new.legs.down ≡ self.old.legs.down }
+        ensures map { self.new.map ≡ self.old.map }
+        ensures makes { PerformsQuietly (answered self.old.legs x leg ∷ []) self.old.map self.old.legs self.new.map self.new.legs }
+    {
+        if self.legs.is_down(x.line) {
+            self.await_link(x, leg);
+        } else {
+            self.put(x, leg);
+        }
+    }
+
+    /// Places a leg in state 10 at a slot, and replaces any other. T309 starts in the next frame.
+    pub(crate) fn await_link(&mut self, x: Slot, leg: Leg)
+        requires external { IsExternal self.old.map.external x }
+        requires count { length self.old.legs.held ≡ 30 * self.old.map.external }
+        requires told { FitsMessages leg }
+        requires state { leg.state ≡ active }
+        ensures legs { self.new.legs ≡ with_leg self.old.legs x (retransmitted_from self.old.map.next leg) }
+        ensures map { self.new.map ≡ self.old.map }
+        ensures makes { PerformsQuietly (Await x leg ∷ []) self.old.map self.old.legs self.new.map self.new.legs }
+    {
+        let leg = retransmitted_from(self.map.next_frame(), leg);
+        self.legs.put(x, leg);
+    }
+
+    /// Removes the leg at a slot, with a pending number and a stored message there. Stores whether its user is owed a
+    /// RESTART for it.
+    pub(crate) fn remove(&mut self, x: Slot, owed: bool)
+        requires external { IsExternal self.old.map.external x }
+        requires count { length self.old.legs.held ≡ 30 * self.old.map.external }
+        ensures legs { self.new.legs ≡ without_leg self.old.legs x owed }
         ensures map { self.new.map ≡ self.old.map }
     {
-        self.legs.remove(x);
+        self.legs.remove(x, owed);
     }
 }

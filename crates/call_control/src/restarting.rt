@@ -26,6 +26,17 @@ use exchange_events::{Outbox, Records};
 use q931_codec::causes::TEMPORARY_FAILURE;
 use tone_rules::Tones;
 
+/// The removal of legs by a restart or a failure of the data link.
+#[derive(Clone, Copy)]
+pub(crate) struct Removal {
+    /// The slots whose legs are removed.
+    pub(crate) asked: Restart,
+    /// The cause that the rest of each call is cleared with.
+    pub(crate) cause: u8,
+    /// Whether the users of removed legs are owed a RESTART.
+    pub(crate) owed: bool,
+}
+
 impl<P: PathMap> CallControl<P> {
     /// Restarts the requested slots of a line, lowest first, and then acknowledges. Returns the records of the calls
     /// that this ends, in the same order.
@@ -79,55 +90,58 @@ impl<P: PathMap> CallControl<P> {
             return;
         };
         let held = HeldLeg { slot: x, leg };
-        self.restart_leg(out, tones, records, asked, held, TEMPORARY_FAILURE);
+        let removal = Removal {
+            asked,
+            cause: TEMPORARY_FAILURE,
+            owed: false,
+        };
+        self.restart_leg(out, tones, records, held, removal);
     }
 
     /// Removes the leg of a restarted slot, and the other leg of its call if its slot is restarted too. Otherwise clears
-    /// that with `cause`. Records the call.
+    /// that with the cause of the removal. Records the call.
     pub(crate) fn restart_leg(
         &mut self,
         out: &mut Outbox,
         tones: &Tones,
         records: &mut Records,
-        asked: Restart,
         held: HeldLeg,
-        cause: u8,
+        removal: Removal,
     )
         requires work { (d : Dimensions) × (w : World) × Holds d self.old.map self.old.legs w × LegsStand d.external tones.now w }
         requires external { IsExternal self.old.map.external held.slot }
         requires at { leg_at self.old.legs held.slot ≡ Some held.leg }
-        requires cause { cause < 128 }
+        requires cause { removal.cause < 128 }
         requires room { (length out.old.sends < max_sends) × (length records.old < max_records) }
-        ensures makes { Performs (restart_leg tones.now cause asked self.old.legs (Some held))
+        ensures makes { Performs (restart_leg tones.now removal.cause removal.owed removal.asked self.old.legs (Some held))
             self.old.map self.old.legs out.old self.new.map self.new.legs out.new }
         ensures records { (d : Dimensions) (w : World) → Holds d self.old.map self.old.legs w
-            → records.new ≡ records.old ++ cons_option (record_ended w held cause) [] }
+            → records.new ≡ records.old ++ cons_option (record_ended w held removal.cause) [] }
         ensures few { (length out.new.sends ≤ length out.old.sends + 1) × (length records.new ≤ length records.old + 1) }
         ensures moved { out.new.moved ≡ out.old.moved }
         ensures sizes { SameSizes self.old.map self.new.map }
     {
         let peer = self.peer_of(held.leg.peer);
-        let call = self.record_ended(held, peer, cause);
+        let call = self.record_ended(held, peer, removal.cause);
         record_also(records, call);
-        self.remove_leg(held);
-        self.restart_peer(out, tones, asked, held.slot.line, peer, cause);
+        self.remove_leg(held, removal.owed);
+        self.restart_peer(out, tones, held.slot.line, peer, removal);
     }
 
-    // Removes the other leg of a call if its slot is restarted too, and clears it with `cause` otherwise.
+    // Removes the other leg of a call if its slot is restarted too. Otherwise clears it with the cause of the removal.
     fn restart_peer(
         &mut self,
         out: &mut Outbox,
         tones: &Tones,
-        asked: Restart,
         line: u8,
         peer: Option<HeldLeg>,
-        cause: u8,
+        removal: Removal,
     )
         requires there { IfSome peer (λ other. IsThere self.old.map.external other) }
         requires count { length self.old.legs.held ≡ 30 * self.old.map.external }
-        requires cause { cause < 128 }
+        requires cause { removal.cause < 128 }
         requires room { length out.old.sends < max_sends }
-        ensures makes { Performs (with_peer peer (restart_peer tones.now cause asked line))
+        ensures makes { Performs (with_peer peer (restart_peer tones.now removal.cause removal.owed removal.asked line))
             self.old.map self.old.legs out.old self.new.map self.new.legs out.new }
         ensures few { length out.new.sends ≤ length out.old.sends + 1 }
         ensures moved { out.new.moved ≡ out.old.moved }
@@ -136,10 +150,10 @@ impl<P: PathMap> CallControl<P> {
         let Some(other) = peer else {
             return;
         };
-        if restarts_slot(asked, line, other.slot) {
-            self.remove_leg(other);
+        if restarts_slot(removal.asked, line, other.slot) {
+            self.remove_leg(other, removal.owed);
         } else {
-            self.clear_peer(out, tones, peer, cause);
+            self.clear_peer(out, tones, peer, removal.cause);
         }
     }
 }

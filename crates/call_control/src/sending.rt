@@ -40,6 +40,7 @@ pub(crate) fn send_bare(out: &mut Outbox, held: HeldLeg, kind: MessageKind)
     requires named { IsNamed kind }
     ensures sends { out.new.sends ≡ out.old.sends ++ record { line = held.slot.line; octets = encoding (message_to held.leg kind) } ∷ [] }
     ensures moved { out.new.moved ≡ out.old.moved }
+    ensures records { out.new.records ≡ out.old.records }
 {
     send(out, held.slot.line, &message_to(&held.leg, kind));
 }
