@@ -8,13 +8,13 @@ typedef enum {
 // A leg holds a slot of its line. The reference of a called leg was chosen here, a caller's by the
 // user; `other` is the slot of the other leg, where that is the peer. A leg has the cause with which it was cleared,
 // waits since a frame, and may have been sent its last message again. An active one waits where `resent` is set: its data
-// link is down.
+// link is down. Once that is up, its user is asked for its state, and may not have answered yet.
 typedef struct {
     uint8_t state, called;
     enum { ALONE, LEG, ROOM } peer;
     uint16_t reference;
     Slot other;
-    uint8_t cause, resent;
+    uint8_t cause, resent, asked;
     uint32_t since;
 } Leg;
 
@@ -24,6 +24,11 @@ static Leg legs[EXTERNAL][PLACES];
 // called legs have, from 1 on. These never have more than thirty, which are the lowest.
 static uint8_t caller_at[EXTERNAL][1 << 15], called_at[EXTERNAL][PLACES + 1];
 static uint32_t references[EXTERNAL];
+
+static uint32_t down; // the lines whose data links are down
+
+// The places of each line whose users still have to be told, by RESTART, that the leg is gone.
+static uint32_t owed[EXTERNAL];
 
 static Leg *leg(Slot x) { return &legs[x.line][x.place]; }
 
@@ -67,6 +72,12 @@ static void enter(Slot x, State state) {
     wait(x);
 }
 
+// The call is answered; an active leg waits from now on if its data link is down.
+static void enter_active(Slot x) {
+    enter(x, ACTIVE);
+    if (down >> x.line & 1) wait_again(x);
+}
+
 // What was sent last to a leg that was called, or is to release: its part of the report.
 enum { MOST_KEPT = 200 };
 static struct { uint8_t text[MOST_KEPT], length; } kept[EXTERNAL][PLACES];
@@ -95,6 +106,7 @@ static void remove_leg(Slot x) {
     clear(x);
     take_out(taken, x);
     take_out(held, x);
+    owed[x.line] &= ~(1u << x.place);
     if (l->called) {
         called_at[x.line][l->reference] = 0;
         references[x.line] &= ~(1u << (l->reference - 1));
@@ -153,8 +165,8 @@ static void alert(Slot x) {
 
 static void answer(Slot x) {
     Slot y = leg(x)->other;
-    enter(x, ACTIVE);
-    enter(y, ACTIVE);
+    enter_active(x);
+    enter_active(y);
     clear(y);
     put(" moved ");
     pair(y, x);
@@ -188,8 +200,6 @@ static void gone(Slot x, Cause cause) {
     remove_leg(x);
     clear_peer(l, cause);
 }
-
-static uint32_t down; // the lines whose data links are down
 
 // ---- SETUP
 
@@ -321,6 +331,7 @@ static void call_line(uint16_t reference, const Route *r, const Element said[SAI
 static void call_room(uint16_t reference, const Route *r, int is_new) {
     Slot x = r->caller;
     add_leg(x, (Leg){ ACTIVE, 0, ROOM, reference, x });
+    enter_active(x);
     put(" moved ");
     sit(x, r->to->target);
     put_proceeding(x, is_new);
@@ -372,6 +383,16 @@ static void take_digits(Slot x, const Message *m) {
 
 // ---- Messages to a leg
 
+// What a user says that was asked for its state: in another one than active it has lost the call.
+static void take_state(Slot x, State told) {
+    Leg l = *leg(x);
+    leg(x)->asked = 0;
+    if (told == ACTIVE) return;
+    end_call(x, WRONG_STATE);
+    clear_leg(x, WRONG_STATE);
+    clear_peer(l, WRONG_STATE);
+}
+
 // Answers whether the state of a leg allows the message, and then does its act.
 static int is_done(Slot x, const Message *m) {
     State state = leg(x)->state;
@@ -407,6 +428,7 @@ static int is_done(Slot x, const Message *m) {
     case STATUS:
         e = find(*m, CALL_STATE);
         if (e.length && (e.at[0] & 0x3F) == NULL_STATE) gone(x, TEMPORARY_FAILURE);
+        else if (e.length && state == ACTIVE && leg(x)->asked) take_state(x, e.at[0] & 0x3F);
         return 1;
     case STATUS_ENQUIRY: put_status(x, TO_ENQUIRY); return 1;
     default: return 0;
@@ -489,19 +511,42 @@ static void link_down(unsigned line) {
     down |= 1u << line;
     for (uint32_t left = held[line]; left; left &= left - 1) {
         Slot x = { line, __builtin_ctz(left) };
-        if (leg(x)->state != ACTIVE) restart_leg(x, ALL_SLOTS, OUT_OF_ORDER);
-        else if (!leg(x)->resent) wait_again(x);
+        switch (leg(x)->state) {
+        case ACTIVE:
+            leg(x)->asked = 0;
+            if (!leg(x)->resent) wait_again(x);
+            break;
+        case DISCONNECT_INDICATION: case RELEASE_REQUEST: break; // their timers end them
+        default:
+            restart_leg(x, ALL_SLOTS, OUT_OF_ORDER);
+            owed[line] |= 1u << x.place;
+        }
     }
+}
+
+static void put_restart(unsigned line, const Slot *x) {
+    uint8_t indicator = x ? 0x80 : 0x86;
+    put_message(line, 0, 0, RESTART);
+    if (x) put_channel(x->place);
+    put_element(RESTART_INDICATOR, &indicator, 1);
 }
 
 static void link_up(unsigned line) {
     put(" message");
+    int whole = owed[line] && !held[line];
     down &= ~(1u << line);
-    for (uint32_t left = held[line]; left; left &= left - 1) {
+    for (uint32_t left = held[line] | owed[line]; left; left &= left - 1) {
         Slot x = { line, __builtin_ctz(left) };
-        if (leg(x)->state == OVERLAP_SENDING) clear_leg(x, TEMPORARY_FAILURE);
-        if (leg(x)->state != ACTIVE) continue;
-        enter(x, ACTIVE);
-        put_status(x, UNSPECIFIED);
+        if (!(held[line] >> x.place & 1)) {
+            if (!whole) put_restart(line, &x);
+        } else if (leg(x)->state == OVERLAP_SENDING) {
+            clear_leg(x, TEMPORARY_FAILURE);
+        } else if (leg(x)->state == ACTIVE) {
+            enter(x, ACTIVE);
+            leg(x)->asked = 1;
+            put_to(x, leg(x), STATUS_ENQUIRY);
+        }
     }
+    if (whole) put_restart(line, NULL);
+    owed[line] = 0;
 }

@@ -39,11 +39,13 @@ static void run_out(Slot x) {
     Leg l = *leg(x);
     if (l.state == RELEASE_REQUEST && l.resent) {
         remove_leg(x);
+        if (down >> x.line & 1) owed[x.line] |= 1u << x.place;
         return;
     }
     if (l.state == ACTIVE) {
         end_call(x, OUT_OF_ORDER);
         remove_leg(x);
+        owed[x.line] |= 1u << x.place;
         clear_other(l, OUT_OF_ORDER);
         return;
     }
