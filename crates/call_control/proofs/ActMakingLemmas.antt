@@ -1,5 +1,6 @@
 -- What a row of calls makes of a world in the making, from what each of them does.
-use Rattle.std.proofs.Common.{◌≡◌, ℕ, ◌++◌, List, [], ◌∷◌, Option, Some, refl, ◌∙◌, ap, subst}
+use Rattle.std.proofs.Common.{◌≡◌, ℕ, ◌++◌, Bool, true, false, List, [], ◌∷◌, Option, Some, refl, sym, ◌∙◌, ap, subst}
+use Rattle.std.specs.Prelude.{not, slice_index_or, if◌then◌else◌}
 use Rattle.circuit_model.specs.declared.channel.Slot.{Slot}
 use Rattle.circuit_model.specs.declared.circuit.Kind.{Kind}
 use Rattle.circuit_model.specs.Holding.{Connect, Clear as Clear_slot}
@@ -12,10 +13,11 @@ use Rattle.call_states.specs.declared.leg.Leg.{Leg}
 use Rattle.tone_rules.specs.declared.tones.Tones.{Tones}
 use Rattle.call_states.specs.declared.leg.HeldLeg.{HeldLeg}
 use Rattle.exchange_events.specs.declared.signal.Signal.{Signal}
-use Rattle.call_profile.specs.Acts.{with_progress, message_to, disconnect, in_state, in_disconnect_indication, tone_of, with_peer, clear_with, on_alerting, on_connect}
+use Rattle.call_profile.specs.Acts.{with_progress, message_to, disconnect, in_state, in_disconnect_indication, tone_of, with_peer, clear_with, answered, on_alerting, on_connect}
+use Rattle.call_profile.specs.Course.{Course}
 use Rattle.call_profile.specs.Legs.{Legs, waiting_from, with_leg}
-use Rattle.call_profile.specs.Operations.{Making, Clear, Pair, Sound, Put, making_after, making_after_all, moves_for, with_tone}
-use Rattle.call_control.specs.Standing.{Holds, Makes}
+use Rattle.call_profile.specs.Operations.{Making, Clear, Pair, Sound, Put, Await, making_after, making_after_all, moves_for, with_tone}
+use Rattle.call_control.specs.Standing.{Holds, Makes, PerformsQuietly}
 use Rattle.exchange_events.specs.Sizes.{Dimensions}
 use Rattle.call_profile.specs.World.{World, obey}
 use Rattle.call_control.proofs.MakingLemmas.{makes_clear, makes_put, makes_sound, makes_send}
@@ -83,21 +85,44 @@ alerted_makes d tones map first put sounds legs once twice thrice sends then_sen
 abbrev pub told : HeldLeg → MessageKind → Signal
 told h k = record { line = h.slot.line; octets = encoding (message_to h.leg k) }
 
+-- a leg is answered, by what that makes of map and legs
+pub answered_done : (d : Dimensions) (map map' : Connections) (legs legs' : Legs) (sends : List Signal) (moved : Option (ℕ × ℕ)) (down : Legs) (x : Slot) (leg named : Leg) → leg ≡ named → down.down ≡ legs.down
+    → PerformsQuietly (answered legs x leg ∷ []) map legs map' legs' → (m : Making) → Makes d map legs sends moved m → Makes d map' legs' sends moved (making_after d m (answered down x named))
+answered_done d map map' legs legs' sends moved down x leg named is same performs m made =
+    let quiet = performs d m (record { holds = made.holds; sent = refl; moves = refl }) in
+    let there : Makes d map' legs' m.sends m.moves (making_after d m (answered down x named)) =
+    subst (λ (l : Leg). Makes d map' legs' m.sends m.moves (making_after d m (answered down x l))) is
+    (subst (λ (ls : List Bool). Makes d map' legs' m.sends m.moves (making_after d m (if slice_index_or ls x.line false then Await x leg else Put x leg))) (sym same) quiet) in
+    record { holds = there.holds; sent = made.sent ∙ there.sent; moves = made.moves ∙ there.moves }
+
 -- the called user has answered
 pub answered_makes : (d : Dimensions) (map connected put same : Connections) (legs once twice thrice : Legs) (sends one_sent two_sent : List Signal) (moved then_moved : Option (ℕ × ℕ)) (moves : ℕ × ℕ) (o : Option HeldLeg) (h c : HeldLeg)
     → o ≡ Some c
     → ((m : Making) → Makes d map legs m.sends m.moves m → Makes d connected once m.sends (Some moves) (making_after_all d m (Clear c.slot ∷ Pair c.slot h.slot ∷ [])))
-    → put ≡ connected → same ≡ put → twice ≡ with_leg once h.slot (waiting_from connected.next (in_state active h.leg)) → thrice ≡ with_leg twice c.slot (waiting_from put.next (in_state active c.leg))
+    → ((m : Making) → Makes d connected once m.sends m.moves m → Makes d put twice m.sends m.moves (making_after d m (answered legs h.slot (in_state active h.leg))))
+    → ((m : Making) → Makes d put twice m.sends m.moves m → Makes d same thrice m.sends m.moves (making_after d m (answered legs c.slot (in_state active c.leg))))
     → one_sent ≡ sends ++ told h kind.ConnectAcknowledge ∷ [] → two_sent ≡ one_sent ++ told c kind.Connect ∷ [] → then_moved ≡ Some moves
-    → (m : Making) → Makes d map legs sends moved m → Makes d same thrice two_sent then_moved (making_after_all d m (with_peer o (on_connect h)))
-answered_makes d map connected put same legs once twice thrice sends one_sent two_sent moved then_moved moves o h c is connects first_map same_map twice_is thrice_is one_is two_is moved_is m made =
+    → (m : Making) → Makes d map legs sends moved m → Makes d same thrice two_sent then_moved (making_after_all d m (with_peer o (on_connect legs h)))
+answered_makes d map connected put same legs once twice thrice sends one_sent two_sent moved then_moved moves o h c is connects first second one_is two_is moved_is m made =
     let one = connects m (record { holds = made.holds; sent = refl; moves = refl }) in
     let m1 : Making = making_after_all d m (Clear c.slot ∷ Pair c.slot h.slot ∷ []) in
-    let m2 : Making = making_after d m1 (Put h.slot (in_state active h.leg)) in
-    let called = makes_put d connected put once twice m.sends m.sends (Some moves) (Some moves) m1 one h.slot (in_state active h.leg) first_map twice_is in
-    let both = makes_put d put same twice thrice m.sends m.sends (Some moves) (Some moves) m2 called c.slot (in_state active c.leg) same_map thrice_is in
+    let called = first m1 (record { holds = one.holds; sent = refl; moves = refl }) in
+    let m2 : Making = making_after d m1 (answered legs h.slot (in_state active h.leg)) in
+    let both = second m2 (record { holds = called.holds; sent = refl; moves = refl }) in
     rw is (record {
       holds = both.holds;
-      sent = two_is ∙ ap (λ (list : List Signal). list ++ told c kind.Connect ∷ []) (one_is ∙ ap (λ (list : List Signal). list ++ told h kind.ConnectAcknowledge ∷ []) made.sent);
-      moves = moved_is ∙ both.moves;
+      sent = two_is ∙ ap (λ (list : List Signal). list ++ told c kind.Connect ∷ []) (one_is ∙ ap (λ (list : List Signal). list ++ told h kind.ConnectAcknowledge ∷ []) (made.sent ∙ one.sent ∙ called.sent ∙ both.sent));
+      moves = moved_is ∙ one.moves ∙ called.moves ∙ both.moves;
     })
+
+-- the user was asked
+pub enquired_by : (enquired : Bool) → not enquired ≡ false → enquired ≡ true
+enquired_by true is = refl
+enquired_by false is = absurd cc
+
+-- the course that is chosen
+pub when_true : (b : Bool) → b ≡ true → (this that : Course) (P : Course → Type 0) → P this → P (if b then this else that)
+when_true b is this that P p = rw is p
+
+pub when_false : (b : Bool) → b ≡ false → (this that : Course) (P : Course → Type 0) → P that → P (if b then this else that)
+when_false b is this that P p = rw is p

@@ -6,9 +6,9 @@ use Rattle.circuit_model.specs.Circuits.{heard_by, unless_naming}
 use Rattle.circuit_model.specs.Extent.{IsExternal}
 use Rattle.circuit_map.specs.Connections.{Connections, hears_at}
 use Rattle.q931_codec.specs.declared.message.Message.{Message}
-use Rattle.call_states.specs.Acts.{act_on, clearing_cause, is_null}
+use Rattle.call_states.specs.Acts.{act_on, clearing_cause}
 use Rattle.call_states.proofs.Causes.{cause_fits}
-use Rattle.q931_codec.specs.CallStates.{overlap_sending}
+use Rattle.q931_codec.specs.CallStates.{active, overlap_sending}
 use Rattle.q931_codec.specs.Contents.{call_state_in}
 use Rattle.call_states.specs.declared.act.Act.TheVariants as act
 use Rattle.call_states.specs.declared.leg.HeldLeg.{HeldLeg}
@@ -43,7 +43,12 @@ silent_on_map map w same (Some c) deaf = same c.slot ∙ deaf
 -- a leg that is asked for more digits is in overlap sending
 pub digits_state : (state : ℕ) (m : Message) → act_on state m ≡ act.Digits → state ≡ overlap_sending
 digits_state state m dials =
-    eqb-true state overlap_sending (subst (Asked state) dials (Asked-act_of state m.kind (clearing_cause m.elements) (is_null (call_state_in m.elements)) (cause_fits m.elements)))
+    eqb-true state overlap_sending (subst (Asked state) dials (Asked-act_of state m.kind (clearing_cause m.elements) (call_state_in m.elements) (cause_fits m.elements)))
+
+-- a leg whose user reports its state is in active
+pub reporting_state : (state reported : ℕ) (m : Message) → act_on state m ≡ act.Report reported → state ≡ active
+reporting_state state reported m reports =
+    eqb-true state active (subst (Asked state) reports (Asked-act_of state m.kind (clearing_cause m.elements) (call_state_in m.elements) (cause_fits m.elements)))
 
 -- a line has a place for each of its thirty legs
 pub row_inside : (s : Setting) (map : Connections) (legs : Legs) (w : World) (line : ℕ) → IsAtWork s map legs w → line < map.external → 30 * line + 30 ≤ length legs.held
@@ -78,7 +83,7 @@ module _ (s : Setting) (map : Connections) (legs : Legs) (w : World) (work : IsA
   -- the caller of a leg that is asked to be alerted hears nothing
   pub known_waiting : (m : Message) → act_on h.leg.state m ≡ act.Alerting → (o : Option HeldLeg) → o ≡ peer_of legs h.leg.peer → IsSilent map o
   known_waiting m alerts o is =
-      let asks = subst (Asked h.leg.state) alerts (Asked-act_of h.leg.state m.kind (clearing_cause m.elements) (is_null (call_state_in m.elements)) (cause_fits m.elements)) in
+      let asks = subst (Asked h.leg.state) alerts (Asked-act_of h.leg.state m.kind (clearing_cause m.elements) (call_state_in m.elements) (cause_fits m.elements)) in
       let deaf = caller_silent s.dimensions.external s.tones w h work.stands.legs in_world at_world asks in
       let same : peer_of w.legs h.leg.peer ≡ o = sym (is ∙ ap (λ ls. peer_of ls h.leg.peer) work.holds.legs_are) in
       silent_on_map map w work.holds.circuits.holds.heard o (subst (λ (p : Option HeldLeg). IfSome p (λ c. heard_by w.holding.circuits c.slot ≡ None)) same deaf)

@@ -60,7 +60,7 @@ IsWithin external side.More = Unit {0}
 -- the operations of a call whose called side was chosen
 abbrev pub accept_side : Bool → World → ℕ → Pending → Slot → CalledSide → List Operation
 accept_side first w own asked x (side.Line y) = call_line first own asked x y (lowest_free_reference w.legs y.line)
-accept_side first w own asked x (side.Room room) = call_room first own x room
+accept_side first w own asked x (side.Room room) = call_room first w.legs own x room
 accept_side first w own asked x side.More = await_digits first own asked x
 
 -- if the called side is a room, the caller can join it

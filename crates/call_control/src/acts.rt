@@ -1,5 +1,5 @@
 //! The operations of each act on the leg of a message and on its peer.
-ghost use Rattle.std.specs.Prelude.{◌≡◌, ◌≢◌, ◌<◌, ◌≤◌, ◌+◌, ◌*◌, [], ◌∷◌, None, Some, IfSome, length, if◌then◌else◌};
+ghost use Rattle.std.specs.Prelude.{ℕ, ◌≡◌, ◌≢◌, ◌<◌, ◌≤◌, ◌+◌, ◌*◌, [], ◌∷◌, None, Some, IfSome, length, if◌then◌else◌};
 ghost use Rattle.circuit_model.specs.Extent.{IsExternal};
 ghost use Rattle.circuit_map.specs.Connections.{SameSizes, hears_at};
 ghost use Rattle.q931_codec.specs.Outgoing.{outgoing_of};
@@ -97,6 +97,7 @@ impl<P: PathMap> CallControl<P> {
         requires cause { IfSome (cause_of_act act) (λ cause. cause < 128) }
         requires silent { act ≡ asked.Answer → hears_at self.old.map held.slot ≡ None }
         requires waiting { act ≡ asked.Alerting → IsSilent self.old.map peer }
+        requires talking { (reported : ℕ) → act ≡ asked.Report reported → held.leg.state ≡ active }
         requires fresh { (out.old.sends ≡ []) × (out.old.moved ≡ None) }
         ensures makes { (s : Setting) (w : World) → s.tones ≡ tones.now → w.legs ≡ self.old.legs
             → Performs (course_of s w held message.now act).operations self.old.map self.old.legs out.old self.new.map self.new.legs out.new }

@@ -10,13 +10,13 @@ ghost use Rattle.exchange_events.specs.Sizes.{Setting, Dimensions};
 ghost use Rattle.q931_codec.specs.Causes.{destination_out_of_order, no_user_responding};
 ghost use Rattle.call_profile.specs.Acts.{message_to, peer_of};
 ghost use Rattle.call_profile.specs.EndedCalls.{record_ended, record_of_expiry, expired_records};
-ghost use Rattle.call_profile.specs.Expiring.{timed_state, send_again, give_up, ask_for_release, setup_over, clear_both, outage_over, on_expiry, outcome_of_lines};
+ghost use Rattle.call_profile.specs.Expiring.{timed_state, release_over, send_again, give_up, ask_for_release, setup_over, clear_both, outage_over, on_expiry, outcome_of_lines};
 ghost use Rattle.call_profile.specs.KeptMessages.{awaiting_answer};
 ghost use Rattle.call_profile.specs.Legs.{kept_at};
 ghost use Rattle.call_profile.specs.Peers.{IsThere, PeerIsThere};
 ghost use Rattle.call_profile.specs.World.{World};
 ghost use Rattle.call_control.specs.AtWork.{IsInOrder, EachInOrder};
-ghost use Rattle.call_control.specs.Standing.{Expires, Holds, HasMade, Performs};
+ghost use Rattle.call_control.specs.Standing.{PerformsQuietly, Expires, Holds, HasMade, Performs};
 
 use crate::acts::in_release_request;
 use crate::operations::CallControl;

@@ -34,8 +34,8 @@ returns-in-Room-clause-makes g c d w holds =
     let caller = c.args.caller in
     let asked = asked_of c.args.asked.now in
     makes_same d c.call_room.new.self.map c.call_room.new.self.legs c.call_room.new.out.sends c.call_room.new.out.moved (making_at w)
-    (call_room caller.first caller.reference caller.slot c.in-Room.room) (accept_side caller.first w caller.reference asked caller.slot c.args.called)
-    (ap (accept_side caller.first w caller.reference asked caller.slot) c.in-Room.is)
+    (call_room caller.first now.legs caller.reference caller.slot c.in-Room.room) (accept_side caller.first w caller.reference asked caller.slot c.args.called)
+    (ap (accept_side caller.first w caller.reference asked caller.slot) c.in-Room.is ∙ (λ i. call_room caller.first (sym holds.legs_are i) caller.reference caller.slot c.in-Room.room))
     (c.call_room.ensures.makes d (making_at w) (makes_begun d now.map now.legs c.args.out.now.sends c.args.out.now.moved w holds c.requires.fresh))
 
 pub returns-in-More-clause-makes : goal.returns-in-More-clause-makes

@@ -1,4 +1,4 @@
-use Rattle.std.proofs.Common.{◌≡◌, ◌<◌, ◌≤◌, true, List, length, sym, ◌∙◌, subst, arith}
+use Rattle.std.proofs.Common.{◌≡◌, ◌<◌, ◌≤◌, true, false, List, length, sym, ◌∙◌, subst, arith}
 use Rattle.circuit_model.specs.declared.channel.Slot.{Slot}
 use Rattle.tone_rules.specs.declared.tones.Tones.{Tones}
 use Rattle.exchange_events.specs.declared.record.CallRecord.{CallRecord}
@@ -18,7 +18,7 @@ use Rattle.call_control.proofs.operations.CallControl.link_down.Goals as goal
 
 pub loop-place-init : goal.loop-place-init
 loop-place-init g c = (
-  λ s w tones work. none_ruled s.dimensions (rule_of s.tones true) c.args.line (with_line w c.args.line true) _ _ _ _ _
+  λ s w tones work. none_ruled s.dimensions (rule_of s.tones false true) c.args.line (with_line w c.args.line true) _ _ _ _ _
       (subst (λ (ls : Legs). Holds s.dimensions c.args.self.now.map ls (with_line w c.args.line true)) (sym c.set_link.ensures) (linked_holds s.dimensions c.args.self.now.map c.args.self.now.legs w c.args.line true work.holds))
       c.requires.fresh.0 c.requires.fresh.1 c.new-records.ensures,
   subst (λ (list : List Signal). length list ≤ 0) (sym c.requires.fresh.0) (omega arith),
@@ -35,12 +35,12 @@ drop_slot-requires-clause-work g c =
     let work = c.requires.work.3 in
     let small : c.loop-place.place ≤ 30 = omega (arith, c.loop-place-test.true) in
     let below : c.args.line < s.dimensions.external = subst (λ (d : Dimensions). c.args.line < d.external) work.holds.sizes c.requires.line in
-    let a = outcome_below s.dimensions (rule_of s.tones true) c.args.line (with_line w c.args.line true) c.loop-place.place in (
+    let a = outcome_below s.dimensions (rule_of s.tones false true) c.args.line (with_line w c.args.line true) c.loop-place.place in (
       s.dimensions,
       a.making.world,
       (c.loop-place.invariant.0 s w tones work).0.holds,
       subst (λ (t : Tones). LegsStand s.dimensions.external t a.making.world) tones
-          (ruled_kept s.dimensions s.tones true c.args.line w below (work.circuits, work.stand) c.loop-place.place small).1,
+          (ruled_kept s.dimensions s.tones false true c.args.line w below (work.circuits, work.stand) c.loop-place.place small).1,
     )
 
 pub loop-place-preserved : goal.loop-place-preserved
@@ -51,13 +51,13 @@ loop-place-preserved g c =
           let small : c.loop-place.place < 30 = omega (arith, c.loop-place-test.true) in
           let below : c.args.line < s.dimensions.external = subst (λ (d : Dimensions). c.args.line < d.external) work.holds.sizes c.requires.line in
           let first = so_far.0 s w tones work in
-          let a = outcome_below s.dimensions (rule_of s.tones true) c.args.line (with_line w c.args.line true) c.loop-place.place in
-          let kept = ruled_kept s.dimensions s.tones true c.args.line w below (work.circuits, work.stand) c.loop-place.place (omega (arith, small)) in
+          let a = outcome_below s.dimensions (rule_of s.tones false true) c.args.line (with_line w c.args.line true) c.loop-place.place in
+          let kept = ruled_kept s.dimensions s.tones false true c.args.line w below (work.circuits, work.stand) c.loop-place.place (omega (arith, small)) in
           let after = c.drop_slot.new in
           let at : Slot = record { line = c.args.line; place = c.loop-place.place } in
           let makes = subst (λ (t : Tones). Makes s.dimensions after.self.map after.self.legs after.out.sends after.out.moved
           (making_after_all s.dimensions a.making (drop_slot t a.making.world.legs at))) (sym tones) (done.makes s.dimensions a.making first.0) in
-          step_ruled s.dimensions (rule_of s.tones true) c.args.line (with_line w c.args.line true) c.loop-place.place _ _ _ _ c.loop-place.records _ (dropped_records a.making.world at) first.1
+          step_ruled s.dimensions (rule_of s.tones false true) c.args.line (with_line w c.args.line true) c.loop-place.place _ _ _ _ c.loop-place.records _ (dropped_records a.making.world at) first.1
           makes
           (drop_slot_told s.dimensions s.tones a.making at kept (below, small))
           (done.records s.dimensions a.making.world first.0.holds),
@@ -71,9 +71,9 @@ pub returns-clause-makes : goal.returns-clause-makes
 returns-clause-makes g c s w tones work =
     let end : c.loop-place.place ≡ 30 = omega (arith, c.loop-place-test.false, c.loop-place.auto.place-end) in
     subst (λ n. Makes s.dimensions c.loop-place.self.map c.loop-place.self.legs c.loop-place.out.sends c.loop-place.out.moved
-    (outcome_below s.dimensions (rule_of s.tones true) c.args.line (with_line w c.args.line true) n).making) end (c.loop-place.invariant.0 s w tones work).0
+    (outcome_below s.dimensions (rule_of s.tones false true) c.args.line (with_line w c.args.line true) n).making) end (c.loop-place.invariant.0 s w tones work).0
 
 pub returns-clause-records : goal.returns-clause-records
 returns-clause-records g c s w tones work =
     let end : c.loop-place.place ≡ 30 = omega (arith, c.loop-place-test.false, c.loop-place.auto.place-end) in
-    subst (λ n. c.loop-place.records ≡ (outcome_below s.dimensions (rule_of s.tones true) c.args.line (with_line w c.args.line true) n).recorded) end (c.loop-place.invariant.0 s w tones work).1
+    subst (λ n. c.loop-place.records ≡ (outcome_below s.dimensions (rule_of s.tones false true) c.args.line (with_line w c.args.line true) n).recorded) end (c.loop-place.invariant.0 s w tones work).1

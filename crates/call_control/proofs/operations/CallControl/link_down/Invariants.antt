@@ -1,4 +1,4 @@
-use Rattle.std.proofs.Common.{◌≡◌, ◌≤◌, true, None, length}
+use Rattle.std.proofs.Common.{◌≡◌, ◌≤◌, true, false, None, length}
 use Rattle.circuit_map.specs.Connections.{SameSizes}
 use Rattle.call_control.specs.AtWork.{IsInOrder}
 use Rattle.call_profile.specs.LinkChanges.{rule_of, with_line}
@@ -11,8 +11,8 @@ use Rattle.call_control.proofs.operations.CallControl.link_down.Given as goal
 abbrev pub invariant-loop-place : goal.invariant-loop-place
 invariant-loop-place g l =
     ((s : Setting) (w : World) → s.tones ≡ l.tones → IsInOrder s l.fn.self.map l.fn.self.legs w
-    → Makes s.dimensions l.self.map l.self.legs l.out.sends l.out.moved (outcome_below s.dimensions (rule_of s.tones true) l.line (with_line w l.line true) l.place).making
-    × (l.records ≡ (outcome_below s.dimensions (rule_of s.tones true) l.line (with_line w l.line true) l.place).recorded))
+    → Makes s.dimensions l.self.map l.self.legs l.out.sends l.out.moved (outcome_below s.dimensions (rule_of s.tones false true) l.line (with_line w l.line true) l.place).making
+    × (l.records ≡ (outcome_below s.dimensions (rule_of s.tones false true) l.line (with_line w l.line true) l.place).recorded))
     × (length l.out.sends ≤ l.place)
     × (length l.records ≤ l.place)
     × (l.out.moved ≡ None)

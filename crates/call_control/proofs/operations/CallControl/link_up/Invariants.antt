@@ -11,8 +11,8 @@ use Rattle.call_control.proofs.operations.CallControl.link_up.Given as goal
 abbrev pub invariant-loop-place : goal.invariant-loop-place
 invariant-loop-place g l =
     ((s : Setting) (w : World) → s.tones ≡ l.tones → IsInOrder s l.fn.self.map l.fn.self.legs w
-    → Makes s.dimensions l.self.map l.self.legs l.out.sends l.out.moved (outcome_below s.dimensions (rule_of s.tones false) l.line (with_line w l.line false) l.place).making
-    × ([] ≡ (outcome_below s.dimensions (rule_of s.tones false) l.line (with_line w l.line false) l.place).recorded))
+    → Makes s.dimensions l.self.map l.self.legs l.out.sends l.out.moved (outcome_below s.dimensions (rule_of s.tones l.whole false) l.line (with_line w l.line false) l.place).making
+    × ([] ≡ (outcome_below s.dimensions (rule_of s.tones l.whole false) l.line (with_line w l.line false) l.place).recorded))
     × (length l.out.sends ≤ l.place)
     × (l.out.moved ≡ None)
     × SameSizes l.fn.self.map l.self.map

@@ -12,8 +12,8 @@ loop-place-init c = (so_far_none (is_owed c.args.self.now) c.args.line, so_far_n
 pub loop-place-preserved : goal.loop-place-preserved
 loop-place-preserved c =
     let within : c.loop-place.place < 30 = c.loop-place-test.true in (
-    so_far_more (is_owed c.args.self.now) c.args.line c.loop-place.place c.loop-place.owed within c.loop-place.invariant.0 c.is_owed-owed.result c.is_owed-owed.ensures,
-    so_far_more (is_held c.args.self.now) c.args.line c.loop-place.place c.loop-place.held within c.loop-place.invariant.1 c.is_some-held.result (c.is_some-held.ensures ∙ ap is_some c.get.ensures.found),
+      so_far_more (is_owed c.args.self.now) c.args.line c.loop-place.place c.loop-place.owed within c.loop-place.invariant.0 c.is_owed-owed.result c.is_owed-owed.ensures,
+      so_far_more (is_held c.args.self.now) c.args.line c.loop-place.place c.loop-place.held within c.loop-place.invariant.1 c.is_some-held.result (c.is_some-held.ensures ∙ ap is_some c.get.ensures.found),
     )
 
 pub returns-then-owed : goal.returns-then-owed
