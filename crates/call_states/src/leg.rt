@@ -54,7 +54,7 @@ pub struct Leg {
     /// link of its line: T309 runs (5.8.9).
     pub resent: bool,
     /// Whether its user was sent STATUS ENQUIRY after an outage of the data link, and has not reported its state since
-    /// (5.8.10). It counts in state 10 alone.
+    /// (5.8.10). It counts only in state 10.
     pub enquired: bool,
 }
 
