@@ -51,7 +51,8 @@ ua_silent final now s = cases (is_solicited final s.link)
 
 dm_silent : (st : State) (final : Bool) (now : ℕ) (s : Step) → IsSilent s.link (on_dm st final now s)
 unfolding on_dm
-dm_silent state.TeiAssigned final now s = inl refl
+dm_silent state.TeiAssigned true now s = inl refl
+dm_silent state.TeiAssigned false now s = inl (establishes_quiet true now s).next
 dm_silent state.AwaitingEstablishment true now s = tt
 dm_silent state.AwaitingEstablishment false now s = inl refl
 dm_silent state.MultipleFrameEstablished true now s = inl refl

@@ -408,7 +408,8 @@ ua_processed c final at s none = cases (is_solicited final s.link)
 
 dm_processed : (c : Control) (st : State) (final : Bool) (at : ℕ) (s : Step) → acknowledged_by c s.link ≡ 0 → Processed c s (on_dm st final at s)
 unfolding on_dm
-dm_processed c state.TeiAssigned final at s none = unnumbered_processed c s s none (quiet_none s)
+dm_processed c state.TeiAssigned true at s none = unnumbered_processed c s s none (quiet_none s)
+dm_processed c state.TeiAssigned false at s none = unnumbered_processed c s _ none (establishes_quiet true at s)
 dm_processed c state.AwaitingEstablishment true at s none = released_processed c at s s.out (λ q r. sent_none q r s.out)
 dm_processed c state.AwaitingEstablishment false at s none = unnumbered_processed c s s none (quiet_none s)
 dm_processed c state.MultipleFrameEstablished true at s none = unnumbered_processed c s s none (quiet_none s)

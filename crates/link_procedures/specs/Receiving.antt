@@ -46,7 +46,9 @@ answer_indication final l = if is_solicited final l then begun_indication (is_ne
 abbrev pub on_ua : Bool → ℕ → Step → Outcome
 on_ua final at s = record { link = answered final at s.link; out = s.out; indication = answer_indication final s.link }
 
+-- an unsolicited DM with F 0 in state 4 starts the establishment (5.5.4, figure B.4)
 unfoldable pub on_dm : State → Bool → ℕ → Step → Outcome
+on_dm state.TeiAssigned false at s = quietly (establishes true at s)
 on_dm state.AwaitingEstablishment true at s = releases at s
 on_dm state.MultipleFrameEstablished false at s = quietly (establishes false at s)
 on_dm state.TimerRecovery final at s = quietly (establishes false at s)

@@ -135,6 +135,10 @@ impl Link {
         ensures few { length out.new ≤ length out.old + 1 }
     {
         match (self.state, last) {
+            (State::TeiAssigned, false) => {
+                self.establish(true, at, out);
+                None
+            }
             (State::AwaitingEstablishment, true) => {
                 self.release(at);
                 Some(Indication::Released)

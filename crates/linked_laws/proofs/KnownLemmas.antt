@@ -154,6 +154,12 @@ establishes_owed : (asked : Bool) (at : ℕ) (s : Step) → (establishes asked a
 unfolding establishes
 establishes_owed asked at s = refl
 
+assigned_same : (at : ℕ) (s : Step) → s.link.state ≡ state.TeiAssigned → Same s.link (establishes true at s).link
+assigned_same at s e = record {
+  up = awaited_down (establishes true at s).link (establishes_state true at s) (establishes_asked true at s) ∙ sym (assigned_down s.link e);
+  owed = establishes_owed true at s;
+}
+
 again_same : (at : ℕ) (s : Step) → is_up s.link ≡ true → Same s.link (establishes false at s).link
 again_same at s on = both_up s.link _ on (awaited_up (establishes false at s).link (establishes_state false at s) (establishes_asked false at s)) (establishes_owed false at s)
 
@@ -258,7 +264,8 @@ ua_informs final at s = cases (is_solicited final s.link) refl
 
 dm_informs : (st : State) (final : Bool) (at : ℕ) (s : Step) → s.link.state ≡ st → Informs s.link (on_dm st final at s)
 unfolding on_dm
-dm_informs state.TeiAssigned final at s e = stay_informs s.link s (stays_here s.link)
+dm_informs state.TeiAssigned true at s e = stay_informs s.link s (stays_here s.link)
+dm_informs state.TeiAssigned false at s e = quiet_informs s.link _ (assigned_same at s e)
 dm_informs state.AwaitingEstablishment true at s e = released_informs s.link at s.out
 dm_informs state.AwaitingEstablishment false at s e = stay_informs s.link s (stays_here s.link)
 dm_informs state.MultipleFrameEstablished true at s e = stay_informs s.link s (stays_here s.link)
@@ -309,12 +316,6 @@ received_informs f at s = control_informs f.command f.control at s
 enquires_same : (retries at : ℕ) (s : Step) → is_up s.link ≡ true → Same s.link (enquires_at retries at s).link
 unfolding enquires_at enquires
 enquires_same retries at s on = both_up s.link _ on (recovery_up (enquires_at retries at s).link refl) refl
-
-assigned_same : (at : ℕ) (s : Step) → s.link.state ≡ state.TeiAssigned → Same s.link (establishes true at s).link
-assigned_same at s e = record {
-  up = awaited_down (establishes true at s).link (establishes_state true at s) (establishes_asked true at s) ∙ sym (assigned_down s.link e);
-  owed = establishes_owed true at s;
-}
 
 expiry_informs : (st : State) (at : ℕ) (s : Step) → s.link.state ≡ st → Informs s.link (on_expiry st at s)
 unfolding on_expiry calls_or_releases

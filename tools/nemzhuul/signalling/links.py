@@ -136,7 +136,9 @@ class Link:
     def _dm(self, frame: LinkFrame, now: float) -> Indication | None:
         if self.state == ESTABLISHING and frame.pf:
             return self._end(now)
-        if self.state == RECOVERY or (self.state == ESTABLISHED and not frame.pf):
+        if self.state == ASSIGNED and not frame.pf:
+            self._establish(now, asked=True)
+        elif self.state == RECOVERY or (self.state == ESTABLISHED and not frame.pf):
             self._establish(now, asked=False)
         return None
 

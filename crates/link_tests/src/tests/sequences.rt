@@ -21,6 +21,8 @@ const SABME: &[u8] = b"\x00\x01\x7F";
 
 const UA_FINAL: &[u8] = b"\x00\x01\x73";
 
+const UA_OF_USER: &[u8] = b"\x02\x01\x73";
+
 const UP: Option<Indication> = Some(Indication::Established);
 
 const DOWN: Option<Indication> = Some(Indication::Released);
@@ -136,7 +138,7 @@ static RECOVERING: [Line; 8] = [
     (16_000, Act::Turn, &[ENQUIRY], None),
     (24_000, Act::Turn, &[ENQUIRY], None),
     (32_000, Act::Turn, &[CALL], None),
-    (32_001, Act::Frame(b"\x02\x01\x73"), &[], UP),
+    (32_001, Act::Frame(UA_OF_USER), &[], UP),
     (32_002, Act::Message(b"b"), &[b"\x02\x01\x00\x00b"], None),
 ];
 
@@ -148,6 +150,15 @@ static IDLE: [Line; 6] = [
     (96_000, Act::Turn, &[ENQUIRY], None),
     (104_000, Act::Turn, &[ENQUIRY], None),
     (112_000, Act::Turn, &[CALL], None),
+];
+
+// An unsolicited DM with F 0 starts the establishment, and T200.
+static REQUESTED: [Line; 5] = [
+    (1, Act::Frame(b"\x02\x01\x1F"), &[], None),
+    (2, Act::Frame(b"\x02\x01\x0F"), &[CALL], None),
+    (8_001, Act::Turn, &[], None),
+    (8_002, Act::Turn, &[CALL], None),
+    (8_003, Act::Frame(UA_OF_USER), &[], UP),
 ];
 
 fn receive(link: &mut Link, octets: &[u8], at: u32, out: &mut Outbox) -> Option<Indication> {
@@ -199,6 +210,7 @@ fn follows_the_sequences(rt: HostRuntime) {
     assert!(rt; holds(&CALLING));
     assert!(rt; holds(&RECOVERING));
     assert!(rt; holds(&IDLE));
+    assert!(rt; holds(&REQUESTED));
 }
 
 // Whether 300 messages are sent in sequence, each with the next number modulo 128.

@@ -159,7 +159,7 @@ static TABLE: [Row; 37] = [
     Row {
         octets: b"\x02\x01\x0F",
         cells: &[
-            (TEI_ASSIGNED, &[], None),
+            (AWAITING, &[SABME], None),
             (AWAITING, &[], None),
             (AWAITING, &[], None),
             (AWAITING, &[SABME], None),
