@@ -1,5 +1,5 @@
 -- Each step of one of two links preserves what its epochs and its windows say of the messages delivered.
-use Rattle.std.proofs.Common.{◌≡◌, ℕ, ◌+◌, ◌≤◌, Bool, true, false, List, [], ◌∷◌, ◌++◌, length, refl, sym, ap, ◌∙◌, subst, inl, inr, arith, append-nil, Option, if◌then◌else◌}
+use Rattle.std.proofs.Common.{◌≡◌, ℕ, suc, ◌+◌, ◌≤◌, Bool, true, false, List, [], ◌∷◌, ◌++◌, length, refl, sym, ap, ◌∙◌, subst, inl, inr, arith, append-nil, Option, if◌then◌else◌}
 use Rattle.std.specs.Prelude.{◌==◌, not, nat_le}
 use Rattle.std.proofs.lemmas.Bool.{eq-eqb, leb-true, or_parts}
 use Rattle.std.proofs.lemmas.List.Elements.{All-nil}
@@ -13,8 +13,8 @@ use Rattle.link_procedures.specs.declared.state.State.TheVariants as state
 use Rattle.link_procedures.specs.declared.state.Timers.{Timers}
 use Rattle.link_procedures.specs.Links.{DataLink, Step, step, initial, is_multiple_frame, is_established, is_recovering, is_awaiting, is_up}
 use Rattle.link_procedures.specs.Sending.{command, response, enquires, flushes}
-use Rattle.link_procedures.specs.Establishment.{Outcome, quietly, establishes, begun, begun_indication, begins, is_uncertain, released, overflowed, overflows, queued, submitted}
-use Rattle.link_procedures.specs.Receiving.{answers, on_sabme, on_ua, is_new, answered, answer_indication, on_supervisory, on_information, on_control, received}
+use Rattle.link_procedures.specs.Establishment.{Outcome, quietly, establishes, lost, begun, begun_indication, begins, is_uncertain, released, releases_first, overflowed, overflows, queued, submitted}
+use Rattle.link_procedures.specs.Receiving.{answers, on_sabme, on_ua, on_solicited, is_new, on_supervisory, on_information, on_control, received}
 use Rattle.link_procedures.specs.Timing.{is_due, calling_again, calls_or_releases, enquires_at, first_retries, on_expiry, settled, turned}
 use Rattle.link_procedures.specs.AnyPeer.{IsShort}
 use Rattle.link_procedures.proofs.AnyPeerLemmas.{flushes_flushed}
@@ -394,12 +394,12 @@ sabme_goes p now es fs (Calling g) b n ts bs d e full h = subst (Comes p (octets
 
 -- UA
 
-ua_calling : (now : ℕ) (s : Step) → is_awaiting s.link.state ≡ true → on_ua true now s ≡ begins (is_new s.link) now s
-unfolding answered answer_indication
+ua_calling : (now : ℕ) (s : Step) → is_awaiting s.link.state ≡ true → on_ua true now s ≡ on_solicited now s
+unfolding on_ua
 ua_calling now s e = rw e refl
 
 ua_passed : (now : ℕ) (s : Step) → is_awaiting s.link.state ≡ false → on_ua true now s ≡ quietly s
-unfolding answered answer_indication
+unfolding on_ua
 ua_passed now s e = rw e refl
 
 passed_goes : (p : Pair) (f : Frame) (es fs : List (List (List ℕ))) (a b : Side) (t : Token) (ts bs : List Token) (d e : Direction) → Joint (stepped p (step p.first []) p.back p.submitted p.returned) es fs a b ts (t ∷ bs) d e → Comes p (octets bs) f es fs (quietly (step p.first []))
@@ -407,18 +407,50 @@ passed_goes p f es fs a b t ts bs d e h =
     let k = drops_goes p (step p.first []) p.back (octets bs) p.submitted p.returned es fs a b t ts bs d e refl h in
     returned_nothing p (step p.first []) (octets bs) [] es fs refl (a, b, ts, bs, k.0, k.1, k.2)
 
-ua_goes : (p : Pair) (now : ℕ) (es fs : List (List (List ℕ))) (a b : Side) (u : ℕ) (ts bs : List Token) (d e : Direction) → (is_up p.first ≡ true → Full d) → Joint (stepped p (step p.first []) p.back p.submitted p.returned) es fs a b ts (Answers u ∷ bs) d e → Comes p (octets bs) (response (control.Ua true)) es fs (on_ua true now (step p.first []))
-ua_goes p now es fs (Off g) b u ts bs d e full h = subst (Comes p (octets bs) (response (control.Ua true)) es fs) (sym (ua_passed now (step p.first []) (off_waits p.first h.first))) (passed_goes p (response (control.Ua true)) es fs (Off g) b (Answers u) ts bs d e h)
-ua_goes p now es fs (On g q) b u ts bs d e full h = subst (Comes p (octets bs) (response (control.Ua true)) es fs) (sym (ua_passed now (step p.first []) (running_waits p.first.state h.first))) (passed_goes p (response (control.Ua true)) es fs (On g q) b (Answers u) ts bs d e h)
-ua_goes p now es fs (Calling g) b u ts bs d e full h = subst (Comes p (octets bs) (response (control.Ua true)) es fs) (sym (ua_calling now (step p.first []) (calling_waits p.first h.first)))
-    (let s : Step = step p.first [] in
+ua_begins : (p : Pair) (now : ℕ) (es fs : List (List (List ℕ))) (g : ℕ) (b : Side) (u : ℕ) (ts bs : List Token) (d e : Direction) → (is_up p.first ≡ true → Full d) → Joint (stepped p (step p.first []) p.back p.submitted p.returned) es fs (Calling g) b ts (Answers u ∷ bs) d e → Comes p (octets bs) (response (control.Ua true)) es fs (begins (is_new p.first) now (step p.first []))
+ua_begins p now es fs g b u ts bs d e full h =
+    let s : Step = step p.first [] in
     let b' : Bool = is_new p.first in
     let hand : HandHolds (hands (On (g + 1) u) b ts bs) = next_keeps (hands (Calling g) b ts (Answers u ∷ bs)) (HandSecond HandArrive) h.hand in
     let k = begins_goes p b' now s [] (octets bs) p.submitted p.returned es fs (Calling g) b u ts [] bs d e h.lanes.two.good.0 refl (λ m. refl) (λ w x. tt)
     (λ x. let o = or_parts p.first.asked (is_uncertain p.first.queue) x in let up = up_unasked p.first h.first o.0 in (up, certain_is p.first.queue o.1, full up))
     (hand_none (On (g + 1) u) b ts bs hand) refl h.second h.there refl (pass_answer p.first p.second (Calling g) b u ts bs d e es fs p.arrived p.returned h.lanes) in
     returned_nothing p (step (begun b' now p.first) []) (octets bs) (message_of (response (control.Ua true)) (begun_indication b')) (after_indication (begun_indication b') es) fs (no_message (response (control.Ua true)) b')
-    (On (g + 1) u, b, ts ++ [], bs, k.0, e, k.1))
+    (On (g + 1) u, b, ts ++ [], bs, k.0, e, k.1)
+
+none_left : (n m : ℕ) → n + suc m ≤ 1 → n + m ≡ 0
+none_left n m few = omega (arith, few)
+
+-- layer 3 is informed of a loss, and another SABME is sent: UA was the only frame of the handshake on the wires
+ua_releases : (p : Pair) (now : ℕ) (es fs : List (List (List ℕ))) (g : ℕ) (b : Side) (u : ℕ) (ts bs : List Token) (d e : Direction) → Joint (stepped p (step p.first []) p.back p.submitted p.returned) es fs (Calling g) b ts (Answers u ∷ bs) d e → Comes p (octets bs) (response (control.Ua true)) es fs (releases_first now (step p.first []))
+ua_releases p now es fs g b u ts bs d e h =
+    let s : Step = step p.first [] in
+    let t : Step = establishes true now (step (lost p.first) []) in
+    let f = establishes_is true now (step (lost p.first) []) in
+    let k = drops_goes p s p.back (octets bs) p.submitted p.returned es fs (Calling g) b (Answers u) ts bs d e refl h in
+    let over : is_over (hands (Calling g) b ts bs) ≡ true = eq-eqb (sabmes (signals ts) + uas (signals bs)) 0 (none_left (sabmes (signals ts)) (uas (signals bs)) h.hand.one.alive) in
+    let hand : HandHolds (hand_calls_again (hands (Calling g) b ts bs) (Calling g)) = subst HandHolds (if_over (is_over (hands (Calling g) b ts bs)) _ _ over) (happens_keeps (hands (Calling g) b ts bs) Expire k.2.hand) in
+    let down = asked_down t.link f.0 f.1 in
+    returned_nothing p t (octets bs) [] ([] ∷ es) fs refl (
+      Calling g,
+      b,
+      ts ++ Calls (g + 1) ∷ [],
+      bs,
+      k.0,
+      k.1,
+      call_goes p s t (octets bs) p.submitted p.returned es ([] ∷ es) fs (Calling g) b ts bs k.0 k.1 (λ y. clash (is_up t.link) y down)
+          (down_tale t.link k.0 ([] ∷ es) p.arrived down (inr k.2.lanes.first.told)) hand f.0 f.4 k.2,
+    )
+
+solicited_goes : (p : Pair) (now : ℕ) (es fs : List (List (List ℕ))) (g : ℕ) (b : Side) (u : ℕ) (ts bs : List Token) (d e : Direction) → (is_up p.first ≡ true → Full d) → Joint (stepped p (step p.first []) p.back p.submitted p.returned) es fs (Calling g) b ts (Answers u ∷ bs) d e → Comes p (octets bs) (response (control.Ua true)) es fs (on_solicited now (step p.first []))
+unfolding on_solicited
+solicited_goes p now es fs g b u ts bs d e full h = by_test (Comes p (octets bs) (response (control.Ua true)) es fs) p.first.owed _ _
+    (λ x. ua_releases p now es fs g b u ts bs d e h) (λ x. ua_begins p now es fs g b u ts bs d e full h)
+
+ua_goes : (p : Pair) (now : ℕ) (es fs : List (List (List ℕ))) (a b : Side) (u : ℕ) (ts bs : List Token) (d e : Direction) → (is_up p.first ≡ true → Full d) → Joint (stepped p (step p.first []) p.back p.submitted p.returned) es fs a b ts (Answers u ∷ bs) d e → Comes p (octets bs) (response (control.Ua true)) es fs (on_ua true now (step p.first []))
+ua_goes p now es fs (Off g) b u ts bs d e full h = subst (Comes p (octets bs) (response (control.Ua true)) es fs) (sym (ua_passed now (step p.first []) (off_waits p.first h.first))) (passed_goes p (response (control.Ua true)) es fs (Off g) b (Answers u) ts bs d e h)
+ua_goes p now es fs (On g q) b u ts bs d e full h = subst (Comes p (octets bs) (response (control.Ua true)) es fs) (sym (ua_passed now (step p.first []) (running_waits p.first.state h.first))) (passed_goes p (response (control.Ua true)) es fs (On g q) b (Answers u) ts bs d e h)
+ua_goes p now es fs (Calling g) b u ts bs d e full h = subst (Comes p (octets bs) (response (control.Ua true)) es fs) (sym (ua_calling now (step p.first []) (calling_waits p.first h.first))) (solicited_goes p now es fs g b u ts bs d e full h)
 
 -- an I or S frame
 

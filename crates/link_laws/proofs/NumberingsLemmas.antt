@@ -1,7 +1,7 @@
 -- Each step of one of two links is a sequence of events of the handshake.
 use Rattle.std.proofs.Common.{◌≡◌, ◌≢◌, ℕ, zero, suc, ◌+◌, ◌<◌, ◌≤◌, Bool, true, false, List, [], ◌∷◌, ◌++◌, length, refl, sym, ap, ◌∙◌, subst, arith, if◌then◌else◌, append_assoc, append-nil, ◌&&◌, ◌||◌, Some, None, Option}
 use Rattle.std.specs.Prelude.{◌==◌, nat_le, slice_index_or, not}
-use Rattle.std.proofs.lemmas.Bool.{eq-eqb, eqb-false, leb-true, leb-false, or_left, and_from}
+use Rattle.std.proofs.lemmas.Bool.{eq-eqb, eqb-false, leb-true, leb-false, or_left}
 use Rattle.std.proofs.lemmas.List.Elements.{All-nil, All-push}
 use Rattle.std.proofs.lemmas.List.{length_push}
 use Rattle.link_procedures.specs.declared.state.Running.{Running}
@@ -20,8 +20,8 @@ use Rattle.link_procedures.specs.declared.state.State.TheVariants as state
 use Rattle.link_procedures.specs.declared.state.Timers.{Timers}
 use Rattle.link_procedures.specs.Links.{SendQueue, emptied, DataLink, Step, step, is_valid, is_multiple_frame, is_established, is_recovering, is_awaiting, is_up}
 use Rattle.link_procedures.specs.Sending.{command, response, sends, acknowledges, receive_ready, acknowledging, enquires, rejects, is_free, after_frame, next_frame, sends_next, sends_waiting, flushes, acknowledges_pending, finished}
-use Rattle.link_procedures.specs.Establishment.{Outcome, establishes, established, lost, begun, is_uncertain, released, releases, overflowed, overflows, queued, submitted}
-use Rattle.link_procedures.specs.Receiving.{on_sabme, on_ua, answered, is_solicited, is_new, retimed, acknowledge, has_moved, supervised_by, recovering_by, busy_by, supervisory_applied, on_valid, answers_enquiry, on_supervisory, in_sequence, acknowledges_later, by_number, numbered_by, by_acknowledgement, on_information, on_control, received}
+use Rattle.link_procedures.specs.Establishment.{Outcome, quietly, establishes, established, lost, begun, begins, is_uncertain, released, releases, releases_first, overflowed, overflows, queued, submitted}
+use Rattle.link_procedures.specs.Receiving.{on_sabme, on_ua, on_solicited, is_new, retimed, acknowledge, has_moved, supervised_by, recovering_by, busy_by, supervisory_applied, on_valid, answers_enquiry, on_supervisory, in_sequence, acknowledges_later, by_number, numbered_by, by_acknowledgement, on_information, on_control, received}
 use Rattle.link_procedures.specs.Timing.{is_due, calls_again, enquiring, enquires_at, calls_or_releases, on_expiry, first_retries, turned}
 use Rattle.link_procedures.specs.AnyPeer.{IsShort, IsLink, IsQueue}
 use Rattle.link_procedures.proofs.AnyPeerLemmas.{acknowledges_quiet, enquires_quiet, rejects_quiet, establishes_quiet, busied_quiet, valid_quiet, acknowledgement_quiet, next_flushed, enquires_at_quiet, may_send_is, may_send_free, number_is, received_processed, submitted_taken, turned_turned, initial_link}
@@ -416,13 +416,13 @@ running_waits state.AwaitingEstablishment e = clash false e refl
 running_waits state.MultipleFrameEstablished e = refl
 running_waits state.TimerRecovery e = refl
 
-ua_passed : (l : DataLink) (now : ℕ) → is_awaiting l.state ≡ false → (answered true now l).state ≡ l.state
-unfolding answered
-ua_passed l now e = by_test (λ (m : DataLink). m.state ≡ l.state) (is_solicited true l) _ _ (λ d. clash (is_awaiting l.state) (both_true (is_awaiting l.state) _ d).0 e) (λ d. refl)
+ua_passed : (now : ℕ) (s : Step) → is_awaiting s.link.state ≡ false → on_ua true now s ≡ quietly s
+unfolding on_ua
+ua_passed now s e = rw e refl
 
-ua_taken : (l : DataLink) (now : ℕ) → is_awaiting l.state ≡ true → is_multiple_frame (answered true now l).state ≡ true
-unfolding answered
-ua_taken l now e = by_test (λ (m : DataLink). is_multiple_frame m.state ≡ true) (is_solicited true l) _ _ (λ d. begun_runs (is_new l) now l) (λ d. clash (is_awaiting l.state && true) (and_from (is_awaiting l.state) true e refl) d)
+ua_calling : (now : ℕ) (s : Step) → is_awaiting s.link.state ≡ true → on_ua true now s ≡ on_solicited now s
+unfolding on_ua
+ua_calling now s e = rw e refl
 
 sabme_assigned : (now : ℕ) (s : Step) → (is_multiple_frame (on_sabme state.TeiAssigned true now s).link.state ≡ true) × ((on_sabme state.TeiAssigned true now s).out ≡ s.out ++ encoding Network (response (control.Ua true)) ∷ [])
 unfolding on_sabme
@@ -466,23 +466,37 @@ sabme_arrives p w now rest n ts del h e carries (On g t) first side =
     ((received_processed (command (control.Sabme true)) now s tt).ranges h.one)
     (HandSecond HandArrive ∷ [], ap (λ b. hand_mirror (hand_arrives (hand_mirror w) b)) e ∙ ap (λ a. hand_mirror (sabme_comes (hand_mirror w) n ts a)) first) carries
 
+-- the handshake with a UA that arrives at a side
+ua_comes_to : (w : Handshake) (u : ℕ) (ts : List Signal) (a : Side) → w.back ≡ Ua u ∷ ts → w.first ≡ a → shake (HandSecond HandArrive ∷ []) w ≡ hand_mirror (ua_comes (hand_mirror w) u ts a)
+ua_comes_to w u ts a e first = ap (λ b. hand_mirror (hand_arrives (hand_mirror w) b)) e ∙ ap (λ a. hand_mirror (ua_comes (hand_mirror w) u ts a)) first
+
+-- UA establishes the link, or layer 3 is informed of a loss, and another SABME is sent: the new numbering ends at once
+solicited_leads : (p : Pair) (w : Handshake) (now : ℕ) (rest : List (List ℕ)) (u g : ℕ) (ts : List Signal) (del : List (List ℕ)) → Both p w → w.back ≡ Ua u ∷ ts → Carries rest ts → w.first ≡ Calling g → IsLink (on_solicited now (step p.first [])).link → Leads w (stepped p (finished now (as_step (on_solicited now (step p.first [])))) rest p.submitted del)
+unfolding on_solicited establishes
+solicited_leads p w now rest u g ts del h e carries first = by_test (λ (o : Outcome). IsLink o.link → Leads w (stepped p (finished now (as_step o)) rest p.submitted del)) p.first.owed _ _
+    (λ d link. ends p w now (as_step (releases_first now (step p.first []))) rest ts (Calling (g + 1)) (encoding Network (command (control.Sabme true)) ∷ []) (Sabme (g + 1 + 1) ∷ []) p.submitted del h refl
+    (reading_of_encoding Network (command (control.Sabme true)) tt, tt) refl link
+    (HandSecond HandArrive ∷ HandFirst Call ∷ [], ap (λ x. shake (HandFirst Call ∷ []) x) (ua_comes_to w u ts (Calling g) e first)) carries)
+    (λ d link. ends p w now (as_step (begins (is_new p.first) now (step p.first []))) rest ts (On (g + 1) u) [] [] p.submitted del h refl tt (begun_runs (is_new p.first) now p.first) link
+    (HandSecond HandArrive ∷ [], ua_comes_to w u ts (Calling g) e first ∙ ap (λ there. record { first = On (g + 1) u; second = w.second; there = there; back = ts }) (sym (append-nil w.there))) carries)
+
 ua_arrives : (p : Pair) (w : Handshake) (now : ℕ) (rest : List (List ℕ)) (u : ℕ) (ts : List Signal) (del : List (List ℕ)) → Both p w → w.back ≡ Ua u ∷ ts → Carries rest ts → (a : Side) → w.first ≡ a → IsSide p.first a → Leads w (stepped p (finished now (as_step (received (response (control.Ua true)) now (step p.first [])))) rest p.submitted del)
 unfolding on_control
 ua_arrives p w now rest u ts del h e carries (Off g) first side =
     let s : Step = step p.first [] in
-    ends p w now (as_step (on_ua true now s)) rest ts (Off g) [] [] p.submitted del h refl tt (ua_passed p.first now (ap (λ st. is_awaiting st) side ∙ assigned_waits) ∙ side)
-    ((received_processed (response (control.Ua true)) now s tt).ranges h.one)
-    (HandSecond HandArrive ∷ [], ap (λ b. hand_mirror (hand_arrives (hand_mirror w) b)) e ∙ ap (λ a. hand_mirror (ua_comes (hand_mirror w) u ts a)) first ∙ ap (λ there. record { first = Off g; second = w.second; there = there; back = ts }) (sym (append-nil w.there))) carries
+    subst (λ (o : Outcome). Leads w (stepped p (finished now (as_step o)) rest p.submitted del)) (sym (ua_passed now s (ap (λ st. is_awaiting st) side ∙ assigned_waits)))
+    (ends p w now s rest ts (Off g) [] [] p.submitted del h refl tt side h.one
+    (HandSecond HandArrive ∷ [], ua_comes_to w u ts (Off g) e first ∙ ap (λ there. record { first = Off g; second = w.second; there = there; back = ts }) (sym (append-nil w.there))) carries)
 ua_arrives p w now rest u ts del h e carries (Calling g) first side =
     let s : Step = step p.first [] in
-    ends p w now (as_step (on_ua true now s)) rest ts (On (g + 1) u) [] [] p.submitted del h refl tt (ua_taken p.first now (ap (λ st. is_awaiting st) side ∙ awaiting_waits))
-    ((received_processed (response (control.Ua true)) now s tt).ranges h.one)
-    (HandSecond HandArrive ∷ [], ap (λ b. hand_mirror (hand_arrives (hand_mirror w) b)) e ∙ ap (λ a. hand_mirror (ua_comes (hand_mirror w) u ts a)) first ∙ ap (λ there. record { first = On (g + 1) u; second = w.second; there = there; back = ts }) (sym (append-nil w.there))) carries
+    let is = ua_calling now s (ap (λ st. is_awaiting st) side ∙ awaiting_waits) in
+    subst (λ (o : Outcome). Leads w (stepped p (finished now (as_step o)) rest p.submitted del)) (sym is)
+    (solicited_leads p w now rest u g ts del h e carries first (subst (λ (o : Outcome). IsLink o.link) is ((received_processed (response (control.Ua true)) now s tt).ranges h.one)))
 ua_arrives p w now rest u ts del h e carries (On g t) first side =
     let s : Step = step p.first [] in
-    ends p w now (as_step (on_ua true now s)) rest ts (On g t) [] [] p.submitted del h refl tt (ap (λ st. is_multiple_frame st) (ua_passed p.first now (running_waits p.first.state side)) ∙ side)
-    ((received_processed (response (control.Ua true)) now s tt).ranges h.one)
-    (HandSecond HandArrive ∷ [], ap (λ b. hand_mirror (hand_arrives (hand_mirror w) b)) e ∙ ap (λ a. hand_mirror (ua_comes (hand_mirror w) u ts a)) first ∙ ap (λ there. record { first = On g t; second = w.second; there = there; back = ts }) (sym (append-nil w.there))) carries
+    subst (λ (o : Outcome). Leads w (stepped p (finished now (as_step o)) rest p.submitted del)) (sym (ua_passed now s (running_waits p.first.state side)))
+    (ends p w now s rest ts (On g t) [] [] p.submitted del h refl tt side h.one
+    (HandSecond HandArrive ∷ [], ua_comes_to w u ts (On g t) e first ∙ ap (λ there. record { first = On g t; second = w.second; there = there; back = ts }) (sym (append-nil w.there))) carries)
 
 signal_arrives : (p : Pair) (w : Handshake) (now : ℕ) (f : Frame) (rest : List (List ℕ)) (sig : Signal) (ts : List Signal) → Both p w → w.back ≡ sig ∷ ts → IsSignal (Some f) sig → Carries rest ts → Leads w (takes p now rest (Some f))
 signal_arrives p w now f rest (Sabme n) ts h e is carries = subst (λ o. Leads w (takes p now rest o)) (sym is) (sabme_arrives p w now rest n ts _ h e carries w.first refl h.follows.first)

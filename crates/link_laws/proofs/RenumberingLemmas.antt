@@ -1,5 +1,5 @@
 -- Which frames begin a new numbering without an indication.
-use Rattle.std.proofs.Common.{◌≡◌, ℕ, ◌<◌, Bool, true, false, refl, ◌∙◌, inl, inr, arith, if◌then◌else◌, ◌&&◌, None}
+use Rattle.std.proofs.Common.{◌≡◌, ℕ, ◌<◌, Bool, true, false, refl, ◌∙◌, inl, inr, arith, if◌then◌else◌, ◌&&◌}
 use Rattle.std.specs.Prelude.{◌==◌}
 use Rattle.std.proofs.lemmas.Bool.{ltb-false, or_parts}
 use Rattle.link_frames.specs.declared.frame.Supervisory.{Supervisory}
@@ -11,7 +11,7 @@ use Rattle.link_procedures.specs.declared.state.State.{State}
 use Rattle.link_procedures.specs.declared.state.State.TheVariants as state
 use Rattle.link_procedures.specs.Links.{SendQueue, DataLink, Step, step, is_multiple_frame, renumbered}
 use Rattle.link_procedures.specs.Establishment.{established, begun, begun_indication, is_uncertain}
-use Rattle.link_procedures.specs.Receiving.{on_sabme, on_disc, on_ua, on_dm, on_rejection, is_solicited, is_new, answered, answer_indication, busy_by, answers_enquiry, on_supervisory, in_sequence, acknowledges_later, out_of_sequence, by_number, by_acknowledgement, taken, on_information, on_control, received}
+use Rattle.link_procedures.specs.Receiving.{on_sabme, on_disc, on_ua, on_dm, on_rejection, is_solicited, is_new, on_solicited, busy_by, answers_enquiry, on_supervisory, in_sequence, acknowledges_later, out_of_sequence, by_number, by_acknowledgement, taken, on_information, on_control, received}
 use Rattle.link_procedures.proofs.AnyPeerLemmas.{establishes_quiet, answers_enquiry_quiet, valid_quiet, acknowledgement_quiet, out_quiet}
 use Rattle.link_laws.specs.Renumbering.{GoesOn, GoesOnSilently, IsSilent}
 
@@ -42,12 +42,10 @@ disc_silent state.MultipleFrameEstablished poll now s = tt
 disc_silent state.TimerRecovery poll now s = tt
 
 ua_silent : (final : Bool) (now : ℕ) (s : Step) → IsSilent s.link (on_ua final now s)
-unfolding answered answer_indication
-ua_silent final now s = cases (is_solicited final s.link)
-  where
-    cases : (b : Bool) → GoesOnSilently s.link (if b then begun (is_new s.link) now s.link else s.link) (if b then begun_indication (is_new s.link) else None)
-    cases true = begun_silent (is_new s.link) now s.link (λ e. certain_is s.link.queue (or_parts s.link.asked (is_uncertain s.link.queue) e).1)
-    cases false = inl refl
+unfolding on_ua on_solicited
+ua_silent final now s = by_test (IsSilent s.link) (is_solicited final s.link) _ _
+    (λ x. by_test (IsSilent s.link) s.link.owed _ _ (λ y. tt) (λ y. begun_silent (is_new s.link) now s.link (λ e. certain_is s.link.queue (or_parts s.link.asked (is_uncertain s.link.queue) e).1)))
+    (λ x. inl refl)
 
 dm_silent : (st : State) (final : Bool) (now : ℕ) (s : Step) → IsSilent s.link (on_dm st final now s)
 unfolding on_dm

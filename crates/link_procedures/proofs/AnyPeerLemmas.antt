@@ -19,12 +19,12 @@ use Rattle.link_procedures.specs.declared.state.Timers.{Timers}
 use Rattle.link_procedures.specs.declared.state.Indication.TheVariants as indication
 use Rattle.link_procedures.specs.Links.{initial, SendQueue, DataLink, Step, step, next_number, distance, is_valid, acknowledged, returned, emptied, renumbered, may_send, is_multiple_frame, is_established, is_recovering, is_awaiting, is_up}
 use Rattle.link_procedures.specs.Sending.{command, response, sends, acknowledges, receive_ready, enquires, rejects, one_more_sent, is_free, after_frame, next_frame, sends_next, sends_waiting, flushes, acknowledges_pending, finished}
-use Rattle.link_procedures.specs.Establishment.{Outcome, quietly, establishes, established, lost, begun, begun_indication, is_uncertain, released, releases, overflows, queued, submitted}
-use Rattle.link_procedures.specs.Receiving.{answers, on_sabme, on_disc, is_solicited, is_new, answered, answer_indication, on_ua, on_dm, on_rejection, retimed, acknowledge, has_moved, supervised_by, recovering_by, busy_by, supervisory_applied, on_valid, answers_enquiry, on_supervisory, in_sequence, acknowledges_later, out_of_sequence, by_number, numbered_by, by_acknowledgement, taken, on_information, on_control, received}
+use Rattle.link_procedures.specs.Establishment.{Outcome, quietly, establishes, established, lost, begun, begun_indication, is_uncertain, released, releases, releases_first, overflows, queued, submitted}
+use Rattle.link_procedures.specs.Receiving.{answers, on_sabme, on_disc, is_solicited, is_new, on_solicited, on_ua, on_dm, on_rejection, retimed, acknowledge, has_moved, supervised_by, recovering_by, busy_by, supervisory_applied, on_valid, answers_enquiry, on_supervisory, in_sequence, acknowledges_later, out_of_sequence, by_number, numbered_by, by_acknowledgement, taken, on_information, on_control, received}
 use Rattle.link_procedures.specs.Timing.{is_due, calls_again, enquires_at, calls_or_releases, on_expiry, first_retries, turned}
 use Rattle.link_procedures.specs.declared.state.Running.{Running}
 use Rattle.link_procedures.specs.declared.state.Running.TheVariants.{T200, T203}
-use Rattle.link_procedures.specs.AnyPeer.{IsShort, IsQueue, IsLink, accepted, acknowledged_by, Keeps, IsLossTold, IsAdded, IsLossOwed, AddsOrOwes, KeepsOrSettles, IsInWindow, Acknowledges, IsFormed, HasSent, IsSequenced, IsInSequence}
+use Rattle.link_procedures.specs.AnyPeer.{IsShort, IsQueue, IsLink, accepted, acknowledged_by, Keeps, IsLossTold, IsAdded, IsLossOwed, AddsOrOwes, KeepsOrSettles, IsReleasedOrOwed, IsReleasedFirst, IsInWindow, Acknowledges, IsFormed, HasSent, IsSequenced, IsInSequence}
 
 by_test : {A : Type 0} (P : A → Type 0) (b : Bool) (x y : A) → (b ≡ true → P x) → (b ≡ false → P y) → P (if b then x else y)
 by_test P true x y f g = f refl
@@ -398,13 +398,21 @@ disc_processed c state.AwaitingEstablishment poll at s none = replied_processed 
 disc_processed c state.MultipleFrameEstablished poll at s none = released_processed c at s _ (ua_sent poll s)
 disc_processed c state.TimerRecovery poll at s none = released_processed c at s _ (ua_sent poll s)
 
+-- layer 3 is informed of an earlier loss, and another SABME is sent
+first_processed : (c : Control) (at : ℕ) (s : Step) → Processed c s (releases_first at s)
+unfolding establishes lost emptied
+first_processed c at s = record {
+  losses = inr (refl, refl, tt);
+  ranges = λ h. let q = h.queue in record { queue = empty_queue _ refl refl q.number; next = h.next; counter = omega arith };
+  sent = λ h. sent_one _ s.link.received s.out (command (control.Sabme true)) tt tt tt;
+  sequence = inl refl;
+}
+
 ua_processed : (c : Control) (final : Bool) (at : ℕ) (s : Step) → acknowledged_by c s.link ≡ 0 → Processed c s (on_ua final at s)
-unfolding answered answer_indication
-ua_processed c final at s none = cases (is_solicited final s.link)
-  where
-    cases : (b : Bool) → Processed c s (record { link = if b then begun (is_new s.link) at s.link else s.link; out = s.out; indication = if b then begun_indication (is_new s.link) else None })
-    cases true = begun_processed c (is_new s.link) at s s.out none (λ q r. sent_none q r s.out)
-    cases false = replied_processed c s s.out none (λ q r. sent_none q r s.out)
+unfolding on_ua on_solicited
+ua_processed c final at s none = by_test (Processed c s) (is_solicited final s.link) _ _
+    (λ e. by_test (Processed c s) s.link.owed _ _ (λ d. first_processed c at s) (λ d. begun_processed c (is_new s.link) at s s.out none (λ q r. sent_none q r s.out)))
+    (λ e. replied_processed c s s.out none (λ q r. sent_none q r s.out))
 
 dm_processed : (c : Control) (st : State) (final : Bool) (at : ℕ) (s : Step) → acknowledged_by c s.link ≡ 0 → Processed c s (on_dm st final at s)
 unfolding on_dm
@@ -431,6 +439,68 @@ control_processed command (control.Information poll ns nr information) at s n = 
 
 pub received_processed : (f : Frame) (at : ℕ) (s : Step) → IsNumbered f.control → Processed f.control s (received f at s)
 received_processed f at s n = control_processed f.command f.control at s n
+
+-- ---- an earlier loss
+
+runs_not : (st : State) → is_awaiting st ≡ true → is_multiple_frame st ≡ false
+unfolding is_awaiting is_multiple_frame is_established is_recovering
+runs_not state.TeiAssigned e = absurd (cc)
+runs_not state.AwaitingEstablishment e = refl
+runs_not state.MultipleFrameEstablished e = absurd (cc)
+runs_not state.TimerRecovery e = absurd (cc)
+
+sabme_first : (st : State) (poll : Bool) (at : ℕ) (s : Step) → s.link.owed ≡ true → is_awaiting st ≡ true → IsReleasedOrOwed (on_sabme st poll at s)
+unfolding on_sabme is_awaiting
+sabme_first state.TeiAssigned poll at s owed e = absurd (cc)
+sabme_first state.AwaitingEstablishment poll at s owed e = inr (refl, owed)
+sabme_first state.MultipleFrameEstablished poll at s owed e = absurd (cc)
+sabme_first state.TimerRecovery poll at s owed e = absurd (cc)
+
+disc_first : (st : State) (poll : Bool) (at : ℕ) (s : Step) → s.link.owed ≡ true → is_awaiting st ≡ true → IsReleasedOrOwed (on_disc st poll at s)
+unfolding on_disc is_awaiting
+disc_first state.TeiAssigned poll at s owed e = absurd (cc)
+disc_first state.AwaitingEstablishment poll at s owed e = inr (refl, owed)
+disc_first state.MultipleFrameEstablished poll at s owed e = absurd (cc)
+disc_first state.TimerRecovery poll at s owed e = absurd (cc)
+
+ua_first : (final : Bool) (at : ℕ) (s : Step) → s.link.owed ≡ true → IsReleasedOrOwed (on_ua final at s)
+unfolding on_ua on_solicited
+ua_first final at s owed = by_test IsReleasedOrOwed (is_solicited final s.link) _ _
+    (λ e. by_test IsReleasedOrOwed s.link.owed _ _ (λ d. inl refl) (λ d. not_both s.link.owed owed d))
+    (λ e. inr (refl, owed))
+
+dm_first : (st : State) (final : Bool) (at : ℕ) (s : Step) → s.link.owed ≡ true → is_awaiting st ≡ true → IsReleasedOrOwed (on_dm st final at s)
+unfolding on_dm is_awaiting
+dm_first state.TeiAssigned final at s owed e = absurd (cc)
+dm_first state.AwaitingEstablishment true at s owed e = inl refl
+dm_first state.AwaitingEstablishment false at s owed e = inr (refl, owed)
+dm_first state.MultipleFrameEstablished final at s owed e = absurd (cc)
+dm_first state.TimerRecovery final at s owed e = absurd (cc)
+
+rejection_first : (st : State) (at : ℕ) (s : Step) → s.link.owed ≡ true → is_awaiting st ≡ true → IsReleasedOrOwed (quietly (on_rejection st at s))
+unfolding on_rejection is_awaiting
+rejection_first state.TeiAssigned at s owed e = absurd (cc)
+rejection_first state.AwaitingEstablishment at s owed e = inr (refl, owed)
+rejection_first state.MultipleFrameEstablished at s owed e = absurd (cc)
+rejection_first state.TimerRecovery at s owed e = absurd (cc)
+
+control_first : (command : Bool) (c : Control) (at : ℕ) (s : Step) → s.link.owed ≡ true → is_awaiting s.link.state ≡ true → IsReleasedOrOwed (on_control command c at s)
+unfolding on_control on_supervisory on_information
+control_first command (control.Sabme poll) at s owed e = sabme_first s.link.state poll at s owed e
+control_first command (control.Disc poll) at s owed e = disc_first s.link.state poll at s owed e
+control_first command (control.Ua final) at s owed e = ua_first final at s owed
+control_first command (control.Dm final) at s owed e = dm_first s.link.state final at s owed e
+control_first command control.Frmr at s owed e = rejection_first s.link.state at s owed e
+control_first command control.Invalid at s owed e = rejection_first s.link.state at s owed e
+control_first command control.Ui at s owed e = inr (refl, owed)
+control_first command control.Xid at s owed e = inr (refl, owed)
+control_first command (control.Supervisory kind pf nr) at s owed e = by_test (λ (t : Step). IsReleasedOrOwed (quietly t)) (is_multiple_frame s.link.state) _ _
+    (λ d. not_both (is_multiple_frame s.link.state) d (runs_not s.link.state e)) (λ d. inr (refl, owed))
+control_first command (control.Information poll ns nr information) at s owed e = by_test IsReleasedOrOwed (is_multiple_frame s.link.state) _ _
+    (λ d. not_both (is_multiple_frame s.link.state) d (runs_not s.link.state e)) (λ d. inr (refl, owed))
+
+pub received_first : (f : Frame) (at : ℕ) (s : Step) → IsReleasedFirst s.link (received f at s)
+received_first f at s owed e = control_first f.command f.control at s owed e
 
 -- ---- I frames
 
@@ -701,7 +771,7 @@ pub turned_turned : (t : Timers) (at : ℕ) (s : Step) → IsLink s.link → Tur
 unfolding turned
 turned_turned t at s l = by_test (Turned s) s.link.owed _ _
     (λ e. record {
-      losses = record { owing = λ on. (refl, refl, tt); informed = λ off. not_both s.link.owed e off };
+      losses = record { owing = λ on. (refl, refl, refl); informed = λ off. not_both s.link.owed e off };
       untaken = released_taken;
       next = refl;
       ranges = λ h. record { queue = h.queue; next = h.next; counter = h.counter };

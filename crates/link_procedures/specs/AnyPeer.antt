@@ -7,7 +7,7 @@ use Rattle.link_frames.specs.declared.frame.Frame.{Frame}
 use Rattle.link_frames.specs.Reading.{reading}
 use Rattle.link_procedures.specs.declared.state.Indication.{Indication}
 use Rattle.link_procedures.specs.declared.state.Indication.TheVariants as indication
-use Rattle.link_procedures.specs.Links.{SendQueue, DataLink, Step, distance, is_valid, is_multiple_frame, is_up, max_queue_len}
+use Rattle.link_procedures.specs.Links.{SendQueue, DataLink, Step, distance, is_valid, is_multiple_frame, is_awaiting, is_up, max_queue_len}
 use Rattle.link_procedures.specs.Establishment.{Outcome}
 
 -- the octets of a message of layer 3 that a link can carry
@@ -57,9 +57,17 @@ IsLossIndication _ = ⊥
 abbrev pub IsLossTold : Outcome → Type 0
 IsLossTold o = (o.link.queue.waiting ≡ []) × (o.link.owed ≡ false) × IsLossIndication o.indication
 
--- layer 3 is informed of an earlier loss
+-- layer 3 is informed of an earlier loss by a release
 abbrev pub IsDebtSettled : DataLink → Outcome → Type 0
-IsDebtSettled before o = (o.link.queue.waiting ≡ before.queue.waiting) × (o.link.owed ≡ false) × IsLossIndication o.indication
+IsDebtSettled before o = (o.link.queue.waiting ≡ before.queue.waiting) × (o.link.owed ≡ false) × (o.indication ≡ Some indication.Released)
+
+-- layer 3 is informed of an earlier loss by a release, or of nothing yet
+abbrev pub IsReleasedOrOwed : Outcome → Type 0
+IsReleasedOrOwed o = (o.indication ≡ Some indication.Released) ⊎ ((o.indication ≡ None) × (o.link.owed ≡ true))
+
+-- a link in state 5 that has lost messages is released for layer 3 before it is established
+abbrev pub IsReleasedFirst : DataLink → Outcome → Type 0
+IsReleasedFirst before o = before.owed ≡ true → is_awaiting before.state ≡ true → IsReleasedOrOwed o
 
 -- the message waits after the others
 abbrev pub IsAdded : List ℕ → DataLink → DataLink → Type 0

@@ -59,6 +59,10 @@ released at l = record (lost l) { state = state.TeiAssigned; asked = true; timer
 abbrev pub releases : ℕ → Step → Outcome
 releases at s = indicating indication.Released (step (released at s.link) s.out)
 
+-- layer 3 is informed of an earlier loss before an establishment: the link is released for it, and another SABME is sent
+abbrev pub releases_first : ℕ → Step → Outcome
+releases_first at s = indicating indication.Released (establishes true at (step (lost s.link) s.out))
+
 -- ---- a message of layer 3
 
 -- all messages are discarded; layer 3 will be informed

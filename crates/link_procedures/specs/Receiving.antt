@@ -11,7 +11,7 @@ use Rattle.link_procedures.specs.declared.state.Indication.{Indication}
 use Rattle.link_procedures.specs.declared.state.Indication.TheVariants as indication
 use Rattle.link_procedures.specs.Links.{DataLink, Step, step, is_valid, acknowledged, returned, is_established, is_recovering, is_multiple_frame, is_awaiting, t200, t203}
 use Rattle.link_procedures.specs.Sending.{response, sends, acknowledges, rejects}
-use Rattle.link_procedures.specs.Establishment.{Outcome, quietly, establishes, begun, begun_indication, begins, is_uncertain, releases}
+use Rattle.link_procedures.specs.Establishment.{Outcome, quietly, establishes, begins, is_uncertain, releases, releases_first}
 
 -- ---- SABME, DISC, UA and DM (5.5, 5.7)
 
@@ -37,14 +37,12 @@ is_solicited final l = is_awaiting l.state && final
 abbrev pub is_new : DataLink → Bool
 is_new l = l.asked || is_uncertain l.queue
 
-unfoldable pub answered : Bool → ℕ → DataLink → DataLink
-answered final at l = if is_solicited final l then begun (is_new l) at l else l
+-- the link is established, unless layer 3 has to be informed of a loss first
+unfoldable pub on_solicited : ℕ → Step → Outcome
+on_solicited at s = if s.link.owed then releases_first at s else begins (is_new s.link) at s
 
-unfoldable pub answer_indication : Bool → DataLink → Option Indication
-answer_indication final l = if is_solicited final l then begun_indication (is_new l) else None
-
-abbrev pub on_ua : Bool → ℕ → Step → Outcome
-on_ua final at s = record { link = answered final at s.link; out = s.out; indication = answer_indication final s.link }
+unfoldable pub on_ua : Bool → ℕ → Step → Outcome
+on_ua final at s = if is_solicited final s.link then on_solicited at s else quietly s
 
 -- an unsolicited DM with F 0 in state 4 starts the establishment (5.5.4, figure B.4)
 unfoldable pub on_dm : State → Bool → ℕ → Step → Outcome

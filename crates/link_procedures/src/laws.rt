@@ -9,7 +9,7 @@ ghost use Rattle.link_procedures.specs.Sending.{finished};
 ghost use Rattle.link_procedures.specs.Establishment.{submitted};
 ghost use Rattle.link_procedures.specs.Receiving.{received};
 ghost use Rattle.link_procedures.specs.Timing.{turned};
-ghost use Rattle.link_procedures.specs.AnyPeer.{IsShort, IsLink, Keeps, KeepsOrTells, AddsOrOwes, KeepsOrSettles, SendsFrames, IsInSequence, DeliversNothing};
+ghost use Rattle.link_procedures.specs.AnyPeer.{IsShort, IsLink, Keeps, KeepsOrTells, AddsOrOwes, KeepsOrSettles, IsReleasedFirst, SendsFrames, IsInSequence, DeliversNothing};
 
 /// At most seven messages are sent and not acknowledged, at most 64 wait, and the numbers are below 128.
 pub fn law_of_windows()
@@ -22,12 +22,13 @@ pub fn law_of_windows()
 
 /// A message leaves the queue only if a valid N(R) acknowledges it, or with all others. In the second case layer 3 is
 /// informed, in the same step or in the next turn. A link that is up takes each message. If 64 messages wait already, it
-/// loses all in this way.
+/// loses all in this way. Such a loss is indicated by a release (`turned`), and before an establishment (`first`).
 pub fn law_of_losses()
     ensures received { (f : Frame) (at : ℕ) (s : Step) → IsNumbered f.control → KeepsOrTells f.control s.link (received f at s) }
     ensures submitted { (m : List ℕ) (at : ℕ) (s : Step) → AddsOrOwes m s.link (submitted m at s).link }
     ensures finished { (at : ℕ) (s : Step) → Keeps 0 s.link (finished at s).link }
     ensures turned { (t : Timers) (at : ℕ) (s : Step) → IsLink s.link → KeepsOrSettles s.link (turned t at s) }
+    ensures first { (f : Frame) (at : ℕ) (s : Step) → IsReleasedFirst s.link (received f at s) }
 {}
 
 /// The peer reads each string of octets that is sent as one frame. An I frame carries the message of its number, which

@@ -25,7 +25,7 @@ impl Link {
         match &frame.control {
             Control::Sabme(poll) => self.on_sabme(*poll, at, out),
             Control::Disc(poll) => self.on_disc(*poll, at, out),
-            Control::Ua(last) => self.on_ua(*last, at),
+            Control::Ua(last) => self.on_ua(*last, at, out),
             Control::Dm(last) => self.on_dm(*last, at, out),
             Control::Frmr | Control::Invalid => {
                 self.on_rejection(at, out);
@@ -113,17 +113,37 @@ impl Link {
         }
     }
 
-    #[tactic(auto, unfolding(crate::specs::Receiving::answered, crate::specs::Receiving::answer_indication))]
-    fn on_ua(&mut self, last: bool, at: u32) -> Option<Indication>
-        ensures link { self.new ≡ spec.answered last at self.old }
-        ensures indication { result ≡ spec.answer_indication last self.old }
+    #[tactic(auto, unfolding(crate::specs::Receiving::on_ua))]
+    fn on_ua(&mut self, last: bool, at: u32, out: &mut Outbox) -> Option<Indication>
+        requires { length out.old + 1 ≤ 80 }
+        ensures link { self.new ≡ (spec.on_ua last at (step self.old out.old)).link }
+        ensures out { out.new ≡ (spec.on_ua last at (step self.old out.old)).out }
+        ensures indication { result ≡ (spec.on_ua last at (step self.old out.old)).indication }
+        ensures few { length out.new ≤ length out.old + 1 }
     {
-        let is_new = self.asked || self.queue.sent() > 0;
         if self.state.is_awaiting() && last {
-            self.begin_for(is_new, at)
+            self.on_solicited(at, out)
         } else {
             None
         }
+    }
+
+    // Begins multiple frame operation, or informs layer 3 of an earlier loss and sends another SABME.
+    #[tactic(auto, unfolding(crate::specs::Receiving::on_solicited))]
+    fn on_solicited(&mut self, at: u32, out: &mut Outbox) -> Option<Indication>
+        requires { length out.old + 1 ≤ 80 }
+        ensures link { self.new ≡ (spec.on_solicited at (step self.old out.old)).link }
+        ensures out { out.new ≡ (spec.on_solicited at (step self.old out.old)).out }
+        ensures indication { result ≡ (spec.on_solicited at (step self.old out.old)).indication }
+        ensures few { length out.new ≤ length out.old + 1 }
+    {
+        let is_new = self.asked || self.queue.sent() > 0;
+        if !self.owed {
+            return self.begin_for(is_new, at);
+        }
+        self.lose();
+        self.establish(true, at, out);
+        Some(Indication::Released)
     }
 
     #[tactic(auto, unfolding(crate::specs::Receiving::on_dm))]

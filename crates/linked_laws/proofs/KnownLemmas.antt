@@ -13,8 +13,8 @@ use Rattle.link_procedures.specs.declared.state.Indication.{Indication}
 use Rattle.link_procedures.specs.declared.state.Indication.TheVariants as indication
 use Rattle.link_procedures.specs.Links.{DataLink, Step, step, initial, is_valid, is_multiple_frame, is_established, is_recovering, is_awaiting, is_up}
 use Rattle.link_procedures.specs.Sending.{acknowledges, enquires, rejects, is_free, sends_next, sends_waiting, flushes, acknowledges_pending, finished}
-use Rattle.link_procedures.specs.Establishment.{Outcome, quietly, establishes, established, lost, begun, begun_indication, is_uncertain, released, releases, overflowed, overflows, queued, submitted}
-use Rattle.link_procedures.specs.Receiving.{on_sabme, on_disc, is_solicited, is_new, answered, answer_indication, on_ua, on_dm, on_rejection, retimed, acknowledge, has_moved, supervised_by, recovered, recovering_by, busy_by, supervisory_applied, on_valid, answers_enquiry, on_supervisory, in_sequence, acknowledges_later, out_of_sequence, by_number, by_acknowledgement, taken, on_information, on_control, received}
+use Rattle.link_procedures.specs.Establishment.{Outcome, quietly, establishes, established, lost, begun, begun_indication, is_uncertain, released, releases, releases_first, overflowed, overflows, queued, submitted}
+use Rattle.link_procedures.specs.Receiving.{on_sabme, on_disc, is_solicited, is_new, on_solicited, on_ua, on_dm, on_rejection, retimed, acknowledge, has_moved, supervised_by, recovered, recovering_by, busy_by, supervisory_applied, on_valid, answers_enquiry, on_supervisory, in_sequence, acknowledges_later, out_of_sequence, by_number, by_acknowledgement, taken, on_information, on_control, received}
 use Rattle.link_procedures.specs.Timing.{is_due, calls_again, enquires_at, calls_or_releases, first_retries, on_expiry, settled, turned}
 use Rattle.linked_laws.specs.Layers.{is_taken_for_up, Owes}
 
@@ -33,10 +33,30 @@ pub record Stays (l m : DataLink) : Type 0 where
   pub asked : m.asked ≡ l.asked
   pub owed : m.owed ≡ l.owed
 
+is_awaited : (st : State) → is_awaiting st ≡ true → st ≡ state.AwaitingEstablishment
+unfolding is_awaiting
+is_awaited state.TeiAssigned e = absurd (cc)
+is_awaited state.AwaitingEstablishment e = refl
+is_awaited state.MultipleFrameEstablished e = absurd (cc)
+is_awaited state.TimerRecovery e = absurd (cc)
+
+awaited_down : (l : DataLink) → l.state ≡ state.AwaitingEstablishment → l.asked ≡ true → is_up l ≡ false
+unfolding is_up is_multiple_frame is_established is_recovering is_awaiting
+awaited_down l e on = ap (λ st. is_multiple_frame st || (is_awaiting st && not l.asked)) e ∙ ap (λ a. not a) on
+
+awaiting_waits : is_awaiting state.AwaitingEstablishment ≡ true
+unfolding is_awaiting
+awaiting_waits = refl
+
+-- a link in state 5, layer 3 initiated
+pub requested_down : (l : DataLink) → (is_awaiting l.state ≡ true) × (l.asked ≡ true) → is_up l ≡ false
+requested_down l h = awaited_down l (is_awaited l.state h.0) h.1
+
 -- the link is up if and only if it was, and owes the same
 pub record Same (l m : DataLink) : Type 0 where
   pub up : is_up m ≡ is_up l
   pub owed : m.owed ≡ l.owed
+  pub owes : Owes l → Owes m
 
 stays_here : (l : DataLink) → Stays l l
 stays_here l = record { state = refl; asked = refl; owed = refl }
@@ -49,13 +69,14 @@ unfolding is_up
 same_of l m h = record {
   up = ap (λ st. is_multiple_frame st || (is_awaiting st && not m.asked)) h.state ∙ ap (λ a. is_multiple_frame l.state || (is_awaiting l.state && not a)) h.asked;
   owed = h.owed;
+  owes = λ o e. let k = o (sym h.owed ∙ e) in (ap (λ st. is_awaiting st) h.state ∙ k.0, h.asked ∙ k.1);
 }
 
 both_up : (l m : DataLink) → is_up l ≡ true → is_up m ≡ true → m.owed ≡ l.owed → Same l m
-both_up l m on now owed = record { up = now ∙ sym on; owed = owed }
+both_up l m on now owed = record { up = now ∙ sym on; owed = owed; owes = λ o e. not_both (is_up l) on (requested_down l (o (sym owed ∙ e))) }
 
 same_both : (l m n : DataLink) → Same l m → Same m n → Same l n
-same_both l m n h k = record { up = k.up ∙ h.up; owed = k.owed ∙ h.owed }
+same_both l m n h k = record { up = k.up ∙ h.up; owed = k.owed ∙ h.owed; owes = λ o. k.owes (h.owes o) }
 
 or_true : (a b : Bool) → a ≡ true → (a || b) ≡ true
 or_true a b e = ap (λ c. c || b) e
@@ -134,10 +155,6 @@ awaited_up : (l : DataLink) → l.state ≡ state.AwaitingEstablishment → l.as
 unfolding is_up is_multiple_frame is_established is_recovering is_awaiting
 awaited_up l e off = ap (λ st. is_multiple_frame st || (is_awaiting st && not l.asked)) e ∙ ap (λ a. not a) off
 
-awaited_down : (l : DataLink) → l.state ≡ state.AwaitingEstablishment → l.asked ≡ true → is_up l ≡ false
-unfolding is_up is_multiple_frame is_established is_recovering is_awaiting
-awaited_down l e on = ap (λ st. is_multiple_frame st || (is_awaiting st && not l.asked)) e ∙ ap (λ a. not a) on
-
 assigned_down : (l : DataLink) → l.state ≡ state.TeiAssigned → is_up l ≡ false
 unfolding is_up is_multiple_frame is_established is_recovering is_awaiting
 assigned_down l e = ap (λ st. is_multiple_frame st || (is_awaiting st && not l.asked)) e
@@ -154,10 +171,14 @@ establishes_owed : (asked : Bool) (at : ℕ) (s : Step) → (establishes asked a
 unfolding establishes
 establishes_owed asked at s = refl
 
+called_waits : (at : ℕ) (s : Step) → (is_awaiting (establishes true at s).link.state ≡ true) × ((establishes true at s).link.asked ≡ true)
+called_waits at s = (ap (λ st. is_awaiting st) (establishes_state true at s) ∙ awaiting_waits, establishes_asked true at s)
+
 assigned_same : (at : ℕ) (s : Step) → s.link.state ≡ state.TeiAssigned → Same s.link (establishes true at s).link
 assigned_same at s e = record {
   up = awaited_down (establishes true at s).link (establishes_state true at s) (establishes_asked true at s) ∙ sym (assigned_down s.link e);
   owed = establishes_owed true at s;
+  owes = λ o d. called_waits at s;
 }
 
 again_same : (at : ℕ) (s : Step) → is_up s.link ≡ true → Same s.link (establishes false at s).link
@@ -201,7 +222,7 @@ known_same : (l m : DataLink) → Same l m → is_taken_for_up m ≡ is_taken_fo
 known_same l m h = ap (λ u. u || m.owed) h.up ∙ ap (λ o. is_up l || o) h.owed
 
 pub owes_same : (l m : DataLink) → Same l m → Owes l → Owes m
-owes_same l m h owes e = h.up ∙ owes (sym h.owed ∙ e)
+owes_same l m h = h.owes
 
 quiet_informs : (l : DataLink) (s : Step) → Same l s.link → Informs l (quietly s)
 quiet_informs l s h = record { known = known_same l s.link h; owes = owes_same l s.link h }
@@ -238,13 +259,6 @@ disc_informs state.AwaitingEstablishment poll at s = stay_informs s.link _ (stay
 disc_informs state.MultipleFrameEstablished poll at s = released_informs s.link at _
 disc_informs state.TimerRecovery poll at s = released_informs s.link at _
 
-is_awaited : (st : State) → is_awaiting st ≡ true → st ≡ state.AwaitingEstablishment
-unfolding is_awaiting
-is_awaited state.TeiAssigned e = absurd (cc)
-is_awaited state.AwaitingEstablishment e = refl
-is_awaited state.MultipleFrameEstablished e = absurd (cc)
-is_awaited state.TimerRecovery e = absurd (cc)
-
 left_true : (a b : Bool) → (a && b) ≡ true → a ≡ true
 left_true true b e = refl
 left_true false b e = e
@@ -253,14 +267,26 @@ left_off : (a b : Bool) → (a || b) ≡ false → a ≡ false
 left_off true b e = e
 left_off false b e = refl
 
+lost_owed : (l : DataLink) → (lost l).owed ≡ false
+unfolding lost
+lost_owed l = refl
+
+-- layer 3 is informed of an earlier loss, and another SABME is sent
+first_informs : (at : ℕ) (s : Step) → Informs s.link (releases_first at s)
+first_informs at s =
+    let b : Step = step (lost s.link) s.out in
+    let m = (establishes true at b).link in
+    let none = establishes_owed true at b ∙ lost_owed s.link in
+    record { known = ap (λ u. u || m.owed) (requested_down m (called_waits at b)) ∙ none; owes = λ owes. even m none }
+
 ua_informs : (final : Bool) (at : ℕ) (s : Step) → Informs s.link (on_ua final at s)
-unfolding answered answer_indication
-ua_informs final at s = cases (is_solicited final s.link) refl
-  where
-    cases : (b : Bool) → is_solicited final s.link ≡ b → Informs s.link (record { link = if b then begun (is_new s.link) at s.link else s.link; out = s.out; indication = if b then begun_indication (is_new s.link) else None })
-    cases true e = begun_informs s.link (is_new s.link) at s.out
-        (λ old. awaited_up s.link (is_awaited s.link.state (left_true (is_awaiting s.link.state) final e)) (left_off s.link.asked (is_uncertain s.link.queue) old))
-    cases false e = stay_informs s.link s (stays_here s.link)
+unfolding on_ua on_solicited
+ua_informs final at s = by_test (Informs s.link) (is_solicited final s.link) _ _
+    (λ e. by_test (Informs s.link) s.link.owed _ _
+    (λ d. first_informs at s)
+    (λ d. begun_informs s.link (is_new s.link) at s.out
+    (λ old. awaited_up s.link (is_awaited s.link.state (left_true (is_awaiting s.link.state) final e)) (left_off s.link.asked (is_uncertain s.link.queue) old))))
+    (λ e. stay_informs s.link s (stays_here s.link))
 
 dm_informs : (st : State) (final : Bool) (at : ℕ) (s : Step) → s.link.state ≡ st → Informs s.link (on_dm st final at s)
 unfolding on_dm
@@ -333,7 +359,7 @@ settled_up l = refl
 pub turned_informs : (t : Timers) (at : ℕ) (s : Step) → Owes s.link → Informs s.link (turned t at s)
 unfolding turned
 turned_informs t at s owes = by_test (Informs s.link) s.link.owed _ _
-    (λ e. record { known = ap (λ u. u || false) (settled_up s.link ∙ owes e); owes = λ h. even (settled s.link) refl })
+    (λ e. record { known = ap (λ u. u || false) (settled_up s.link ∙ requested_down s.link (owes e)); owes = λ h. even (settled s.link) refl })
     (λ e. by_test (Informs s.link) (is_due t at s.link.timer) _ _ (λ d. expiry_informs s.link.state at s refl) (λ d. stay_informs s.link s (stays_here s.link)))
 
 -- ---- a message, and the end of a step
@@ -342,15 +368,16 @@ turned_informs t at s owes = by_test (Informs s.link) s.link.owed _ _
 pub record Keeps (l m : DataLink) : Type 0 where
   pub known : is_taken_for_up m ≡ is_taken_for_up l
   pub owes : Owes l → Owes m
+  pub owing : l.owed ≡ true → m.owed ≡ true
 
 same_keeps : (l m : DataLink) → Same l m → Keeps l m
-same_keeps l m h = record { known = known_same l m h; owes = owes_same l m h }
+same_keeps l m h = record { known = known_same l m h; owes = owes_same l m h; owing = λ e. h.owed ∙ e }
 
 pub keeps_here : (l : DataLink) → Keeps l l
-keeps_here l = record { known = refl; owes = λ h. h }
+keeps_here l = record { known = refl; owes = λ h. h; owing = λ e. e }
 
 pub keeps_both : (l m n : DataLink) → Keeps l m → Keeps m n → Keeps l n
-keeps_both l m n h k = record { known = k.known ∙ h.known; owes = λ e. k.owes (h.owes e) }
+keeps_both l m n h k = record { known = k.known ∙ h.known; owes = λ e. k.owes (h.owes e); owing = λ e. k.owing (h.owing e) }
 
 next_stays : (at : ℕ) (s : Step) → Stays s.link (sends_next at s).link
 unfolding sends_next
@@ -374,18 +401,18 @@ unfolding finished
 finished_keeps at s = same_keeps s.link _ (same_of s.link _ (stays_both s.link (flushes at s).link _ (flushes_stays at s) (pending_stays (flushes at s))))
 
 -- all messages are lost, and the link is down
-lost_keeps : (l m : DataLink) → is_up l ≡ true → is_up m ≡ false → m.owed ≡ true → Keeps l m
-lost_keeps l m on off owed = record {
-  known = ap (λ u. u || m.owed) off ∙ (owed ∙ sym (or_true (is_up l) l.owed on));
-  owes = λ h e. off;
+lost_keeps : (l m : DataLink) → is_up l ≡ true → (is_awaiting m.state ≡ true) × (m.asked ≡ true) → m.owed ≡ true → Keeps l m
+lost_keeps l m on waits owed = record {
+  known = ap (λ u. u || m.owed) (requested_down m waits) ∙ (owed ∙ sym (or_true (is_up l) l.owed on));
+  owes = λ h e. waits;
+  owing = λ e. owed;
 }
 
 overflows_keeps : (at : ℕ) (s : Step) → is_up s.link ≡ true → Keeps s.link (overflows at s).link
 unfolding overflows
 overflows_keeps at s on = by_test (λ (t : Step). Keeps s.link t.link) (is_awaiting s.link.state) _ _
-    (λ e. let m = record (overflowed s.link) { asked = true } in lost_keeps s.link m on (awaited_down m (is_awaited s.link.state e) refl) refl)
-    (λ e. let b = step (overflowed s.link) s.out in
-    lost_keeps s.link (establishes true at b).link on (awaited_down (establishes true at b).link (establishes_state true at b) (establishes_asked true at b)) (establishes_owed true at b))
+    (λ e. lost_keeps s.link (record (overflowed s.link) { asked = true }) on (e, refl) refl)
+    (λ e. let b = step (overflowed s.link) s.out in lost_keeps s.link (establishes true at b).link on (called_waits at b) (establishes_owed true at b))
 
 is_on : (b : Bool) → not b ≡ false → b ≡ true
 is_on true e = refl

@@ -1,5 +1,5 @@
 -- Call control and the link of a line know the same, in each run.
-use Rattle.std.proofs.Common.{◌≡◌, ℕ, zero, suc, ◌+◌, Bool, true, false, List, [], ◌∷◌, ◌++◌, map, All, refl, sym, ap, ◌∙◌, subst, arith, Some, None, eq-eqb, if◌then◌else◌}
+use Rattle.std.proofs.Common.{◌≡◌, ◌⊎◌, inl, inr, ℕ, zero, suc, ◌+◌, Bool, true, false, List, [], ◌∷◌, ◌++◌, map, All, refl, sym, ap, ◌∙◌, subst, arith, Some, None, eq-eqb, if◌then◌else◌}
 use Rattle.std.specs.Prelude.{Option, slice_index_or, ◌==◌, ◌||◌, not}
 use Rattle.std.proofs.lemmas.List.Elements.{All-head, All-tail}
 use Rattle.exchange_events.specs.declared.trace.Event.{Event}
@@ -12,6 +12,9 @@ use Rattle.link_procedures.specs.declared.state.Timers.{Timers}
 use Rattle.link_procedures.specs.Links.{DataLink, Step, step, initial, is_up}
 use Rattle.link_procedures.specs.Sending.{finished}
 use Rattle.link_procedures.specs.Establishment.{Outcome, quietly, submitted}
+use Rattle.link_procedures.specs.Timing.{turned}
+use Rattle.link_procedures.specs.AnyPeer.{IsReleasedOrOwed}
+use Rattle.link_procedures.proofs.AnyPeerLemmas.{received_first}
 use Rattle.link_table.specs.Tables.{IsLinkOf, new_link}
 use Rattle.link_table.specs.Rest.{IsAtRest}
 use Rattle.link_table.proofs.RestLemmas.{finished_rest, initial_rest}
@@ -22,9 +25,9 @@ use Rattle.link_table.specs.Steps.{line_of_turn}
 use Rattle.linked_exchange.specs.Steps.{Joint, LinkedInput, Happens, Receives, Turns, derived, frames_so_far, next_joint, reply_to, sends_of, world_after}
 use Rattle.linked_exchange.specs.Runs.{links_down, start_joint, joint_after_all, derived_all, derived_trace}
 use Rattle.linked_exchange.proofs.PlainLemmas.{trace_fits, trace_world}
-use Rattle.linked_laws.specs.Layers.{is_taken_for_up, Owes, BeginsLinked, LeavesLinkIn, AreInputs, LayersAgree, OwesIfDown}
+use Rattle.linked_laws.specs.Layers.{is_taken_for_up, Owes, BeginsLinked, LeavesLinkIn, AreInputs, LayersAgree, OwesIfDown, OwesStill, ReleasesFirst}
 use Rattle.linked_laws.specs.Peers.{messages_to}
-use Rattle.linked_laws.proofs.KnownLemmas.{Informs, received_informs, turned_informs, Keeps, keeps_here, keeps_both, finished_keeps, submitted_keeps, initial_owes, initial_known}
+use Rattle.linked_laws.proofs.KnownLemmas.{up_after, requested_down, Informs, received_informs, turned_informs, Keeps, keeps_here, keeps_both, finished_keeps, submitted_keeps, initial_owes, initial_known}
 use Rattle.linked_laws.proofs.LineLemmas.{all_to}
 use Rattle.linked_laws.proofs.StepLemmas.{outcome_read, outcome_in, line_after, next_free, step_at}
 use Rattle.linked_laws.proofs.EventLemmas.{step_down}
@@ -46,6 +49,25 @@ step_informs : (line : ℕ) (timers : Timers) (j : Joint) (l : DataLink) (i : Li
 step_informs line timers j l (Happens e) owes = quiet_informs l
 step_informs line timers j l (Receives n octets) owes = either_informs l (n == line) _ (read_informs l (frames_so_far j) (reading User octets))
 step_informs line timers j l Turns owes = either_informs l (line_of_turn (frames_so_far j) == line) _ (turned_informs timers (frames_so_far j) (step l []) owes)
+
+-- ---- a link that owes the indication of a loss
+
+turned_first : (t : Timers) (at : ℕ) (s : Step) → s.link.owed ≡ true → IsReleasedOrOwed (turned t at s)
+unfolding turned
+turned_first t at s owed = rw owed (inl refl)
+
+either_first : (b : Bool) (l : DataLink) (o : Outcome) → l.owed ≡ true → IsReleasedOrOwed o → IsReleasedOrOwed (if b then o else quietly (step l []))
+either_first true l o owed h = h
+either_first false l o owed h = inr (refl, owed)
+
+read_first : (l : DataLink) (at : ℕ) (f : Option Frame) → Owes l → l.owed ≡ true → IsReleasedOrOwed (outcome_read l at f)
+read_first l at None owes owed = inr (refl, owed)
+read_first l at (Some f) owes owed = received_first f at (step l []) owed (owes owed).0
+
+step_first : (line : ℕ) (timers : Timers) (j : Joint) (l : DataLink) (i : LinkedInput) → Owes l → l.owed ≡ true → IsReleasedOrOwed (outcome_in line timers j l i)
+step_first line timers j l (Happens e) owes owed = inr (refl, owed)
+step_first line timers j l (Receives n octets) owes owed = either_first (n == line) l _ owed (read_first l (frames_so_far j) (reading User octets) owes owed)
+step_first line timers j l Turns owes owed = either_first (line_of_turn (frames_so_far j) == line) l _ owed (turned_first timers (frames_so_far j) (step l []) owed)
 
 all_keeps : (ms : List (List ℕ)) (at : ℕ) (s : Step) → Keeps s.link (all_to ms at s).link
 all_keeps [] at s = keeps_here s.link
@@ -152,4 +174,34 @@ module _ (s : Setting) (timers : Timers) (linked : List Bool) (line : ℕ) (is :
   pub owes_if_down : OwesIfDown line (joint_after_all s timers (start_joint s linked) is)
   owes_if_down l e =
       let j = joint_after_all s timers (start_joint s linked) is in
-      subst (λ (k : DataLink). k.owed ≡ true → is_up k ≡ false) (same_link (slice_index_or j.links.links line None) run_known.link l run_known.linked e) run_known.owes
+      subst (λ (k : DataLink). k.owed ≡ true → is_up k ≡ false) (same_link (slice_index_or j.links.links line None) run_known.link l run_known.linked e) (λ d. requested_down run_known.link (run_known.owes d))
+
+  pub releases_first : ReleasesFirst s timers line (joint_after_all s timers (start_joint s linked) is)
+  releases_first l i e owed leaves = told (step_first line timers j l i owes owed)
+    where
+      j : Joint
+      j = joint_after_all s timers (start_joint s linked) is
+
+      same : run_known.link ≡ l
+      same = same_link (slice_index_or j.links.links line None) run_known.link l run_known.linked e
+
+      owes : Owes l
+      owes = subst (λ (k : DataLink). Owes k) same run_known.owes
+
+      rest : IsAtRest l
+      rest = subst (λ (k : DataLink). IsAtRest k) same run_known.rest
+
+      o : Outcome
+      o = outcome_in line timers j l i
+
+      still : o.link.owed ≡ true → OwesStill line (next_joint s timers j i)
+      still owing m d =
+          let at = (world_after s timers j i).holding.next in
+          let b : Step = step o.link o.out in
+          let ms = messages_to line (sends_of (reply_to s j.world (derived timers j i))) in
+          let kept = keeps_both o.link (all_to ms at b).link (finished at (all_to ms at b)).link (all_keeps ms at b) (finished_keeps at (all_to ms at b)) in
+          subst (λ (k : DataLink). k.owed ≡ true) (same_link (slice_index_or (next_joint s timers j i).links.links line None) (line_after s timers line j l i).link m (step_at s timers line j l i e rest run_known.free).link d) (kept.owing owing)
+
+      told : IsReleasedOrOwed o → (down_after_all line true (derived timers j i) ≡ true) × ((down_after_all line false (derived timers j i) ≡ true) ⊎ OwesStill line (next_joint s timers j i))
+      told (inl d) = (step_down line timers j l e i leaves false ∙ ap (λ n. not (up_after false n)) d, inl (step_down line timers j l e i leaves true ∙ ap (λ n. not (up_after true n)) d))
+      told (inr d) = (step_down line timers j l e i leaves false ∙ ap (λ n. not (up_after false n)) d.0, inr (still d.1))

@@ -1,7 +1,8 @@
 //! Theorems on an exchange with data links: what its call control knows of them, and what they deliver.
 //!
 //! - [`layers_agree`]: a line is down for call control if and only if its link is not up, unless the link has lost messages
-//!   of which call control is not informed yet (`down`). Such a link is not up (`owing`).
+//!   of which call control is not informed yet (`down`). Such a link is not up (`owing`). The release of it comes before an
+//!   establishment (`first`).
 //! - [`in_order_on_a_line`]: the theorem [`in_order_or_told`](link_laws::in_order_or_told) holds of each line of a running
 //!   exchange and its user. The messages of call control and of the user are delivered at most once and in order, and only
 //!   the last ones before an indication can be lost.
@@ -21,17 +22,20 @@ ghost use Rattle.link_frames.specs.Writing.{encoding};
 ghost use Rattle.link_procedures.specs.declared.state.Timers.{Timers};
 ghost use Rattle.linked_exchange.specs.Steps.{LinkedInput};
 ghost use Rattle.linked_exchange.specs.Runs.{joint_after_all, start_joint};
-ghost use Rattle.linked_laws.specs.Layers.{AreInputs, LayersAgree, OwesIfDown};
+ghost use Rattle.linked_laws.specs.Layers.{AreInputs, LayersAgree, OwesIfDown, ReleasesFirst};
 ghost use Rattle.linked_laws.specs.Peers.{AlwaysOn, HasArrived, IsInOrderOrTold};
 ghost use Rattle.linked_laws.specs.Sides.{as_user};
 
 /// After any inputs, a line is down for call control if and only if its link is not up and owes call control no
-/// indication of a loss. A link that owes one is not up. The line begins with a link, and no other input changes it.
+/// indication of a loss. A link that owes one is not up. The next change of the line that call control is informed of is a
+/// release, and until then the link owes it (`first`). The line begins with a link, and no other input changes it.
 pub fn layers_agree()
     ensures down { (s : Setting) (timers : Timers) (linked : List Bool) (line : ℕ) (is : List LinkedInput)
         → AreInputs s linked line is → LayersAgree line (joint_after_all s timers (start_joint s linked) is) }
     ensures owing { (s : Setting) (timers : Timers) (linked : List Bool) (line : ℕ) (is : List LinkedInput)
         → AreInputs s linked line is → OwesIfDown line (joint_after_all s timers (start_joint s linked) is) }
+    ensures first { (s : Setting) (timers : Timers) (linked : List Bool) (line : ℕ) (is : List LinkedInput)
+        → AreInputs s linked line is → ReleasesFirst s timers line (joint_after_all s timers (start_joint s linked) is) }
 {}
 
 /// On a line with a data link, for every loss and across establishments, each message is delivered at most once and in

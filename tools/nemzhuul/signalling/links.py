@@ -131,7 +131,11 @@ class Link:
     def _ua(self, frame: LinkFrame, now: float) -> Indication | None:
         if self.state != ESTABLISHING or not frame.pf:
             return None
-        return self._begin(now, self.asked or self.sent > 0)
+        if not self.owed:
+            return self._begin(now, self.asked or self.sent > 0)
+        self._lose()
+        self._establish(now, asked=True)
+        return Indication(DOWN)
 
     def _dm(self, frame: LinkFrame, now: float) -> Indication | None:
         if self.state == ESTABLISHING and frame.pf:

@@ -255,14 +255,19 @@ fn wraps_numbers(rt: HostRuntime) {
     assert!(rt; takes_all_numbers());
 }
 
+// Establishes a link, of which 64 messages wait.
+fn fill(link: &mut Link, out: &mut Outbox) {
+    receive(link, SABME, 0, out);
+    for _ in 0..MAX_QUEUE_LEN {
+        submit(link, b"m", 0, out);
+    }
+}
+
 // Whether a link with 64 waiting messages loses them with the next one, and informs layer 3 once.
 fn tells_a_full_queue() -> bool {
     let mut link = Link::new(0);
     let mut out = Outbox::new();
-    receive(&mut link, SABME, 0, &mut out);
-    for _ in 0..MAX_QUEUE_LEN {
-        submit(&mut link, b"m", 0, &mut out);
-    }
+    fill(&mut link, &mut out);
     if link.state() != State::MultipleFrameEstablished || !link.is_up() {
         return false;
     }
@@ -274,7 +279,26 @@ fn tells_a_full_queue() -> bool {
     link.turned(&USUAL, 1, &mut out) == DOWN && link.turned(&USUAL, 2, &mut out).is_none()
 }
 
+// Whether UA before the turn of such a link brings the release, and another SABME. Only the next UA establishes the link.
+fn releases_a_full_queue_first() -> bool {
+    let mut link = Link::new(0);
+    let mut out = Outbox::new();
+    fill(&mut link, &mut out);
+    submit(&mut link, b"m", 0, &mut out);
+    if receive(&mut link, UA_OF_USER, 1, &mut out) != DOWN
+        || !is_sent(&out, &[CALL])
+        || link.is_up()
+    {
+        return false;
+    }
+    out.clear();
+    link.turned(&USUAL, 2, &mut out).is_none()
+        && receive(&mut link, UA_OF_USER, 3, &mut out) == UP
+        && link.is_up()
+}
+
 #[test]
 fn loses_a_full_queue(rt: HostRuntime) {
     assert!(rt; tells_a_full_queue());
+    assert!(rt; releases_a_full_queue_first());
 }

@@ -6,3 +6,6 @@ returns-clause-down c = layers.layers_agree
 
 pub returns-clause-owing : goal.returns-clause-owing
 returns-clause-owing c = layers.owes_if_down
+
+pub returns-clause-first : goal.returns-clause-first
+returns-clause-first c = layers.releases_first
