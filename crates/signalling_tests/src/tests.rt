@@ -2,5 +2,6 @@
 mod call_table;
 mod clearing;
 mod elements;
+mod links;
 mod messages;
 mod number_plans;
