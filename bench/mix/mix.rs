@@ -1,4 +1,4 @@
-//! The yardstick of `run`: the job of crates/bench_mix in plain Rust, with nothing proved.
+//! The yardstick of `run`: the job of `bench_parts mix` in plain Rust, with nothing proved.
 //!
 //! A bridge of 60 members in four rooms is mixed as many times as the one word says: each member hears
 //! the A-law code (ITU-T G.711) of the sum of the others of its room. It takes the same steps as the
