@@ -8,6 +8,7 @@ mod lone;
 mod opened;
 mod segments;
 mod traces;
+mod wires;
 mod work;
 
 ghost use Rattle.std.specs.Prelude.{◌≡◌, ◌≤◌, length};

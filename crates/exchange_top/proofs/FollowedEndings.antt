@@ -14,10 +14,10 @@ use Rattle.exchange_top.specs.Following.{AreAnswered, FollowsTo, HasReturned, Ha
 use Rattle.exchange_top.specs.Handling.{HasHandled, IsEngineAfter, engine_returned, exchange_of, handler_dues}
 use Rattle.exchange_top.specs.Outcomes.{HandsOut}
 use Rattle.exchange_top.proofs.Handled.{few_handled}
-use Rattle.line_follower.specs.Following.{Dues, HasFollowed, IsSettled}
-use Rattle.line_follower.specs.declared.following.Following.{Following}
-use Rattle.line_follower.specs.declared.following.Following.TheVariants as ended
-use Rattle.line_follower.proofs.Endings.{IsToo, followed_too, settled_too}
+use Rattle.line_wire.specs.Following.{Dues, HasFollowed, IsSettled}
+use Rattle.line_wire.specs.declared.following.Following.{Following}
+use Rattle.line_wire.specs.declared.following.Following.TheVariants as ended
+use Rattle.line_wire.proofs.Endings.{IsToo, followed_too, settled_too}
 
 -- ---- a handler of a trace
 

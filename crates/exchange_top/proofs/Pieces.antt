@@ -13,10 +13,10 @@ use Rattle.followed_events.specs.InTurn.{EachInTurn, follows_in_turn, story_in_t
 use Rattle.followed_events.proofs.PlainInTurn.{one_in_turn}
 use Rattle.followed_events.proofs.TurnLines.{follows_long}
 use Rattle.report_check.specs.Refusals.{refusal}
-use Rattle.line_follower.specs.Following.{AreFirst, At_end, At_line, HasFollowed, IsRefused}
-use Rattle.line_follower.specs.declared.following.Following.{Following}
-use Rattle.line_follower.specs.declared.following.Following.TheVariants as followed
-use Rattle.line_follower.proofs.Pieces.{IsInInput, in_input}
+use Rattle.line_wire.specs.Following.{AreFirst, At_end, At_line, HasFollowed, IsRefused}
+use Rattle.line_wire.specs.declared.following.Following.{Following}
+use Rattle.line_wire.specs.declared.following.Following.TheVariants as followed
+use Rattle.line_wire.proofs.Pieces.{IsInInput, in_input}
 use Rattle.exchange_top.specs.Following.{Course, IsEndRefused, IsLineRefused, IsWhole, course, dues_of}
 use Rattle.exchange_top.specs.Pieces.{EndedCall, HasFollowedBytes, HaveFollowed, NoneFailed, StartedCall}
 

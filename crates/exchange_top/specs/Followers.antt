@@ -6,9 +6,9 @@ use Rattle.std.specs.declared.dyn_box.DynBox.{DynBox}
 use Rattle.std.specs.declared.vec.Vec.{Vec}
 use Rattle.exchange_events.specs.declared.record.CallRecord.{CallRecord}
 use Rattle.frame_engine.specs.declared.carrier.Carrier.{Ghosts as CarrierKind}
-use Rattle.line_follower.specs.Following.{CountsReads, CountsWrites, Dues, HasFollowed, status_of}
-use Rattle.line_follower.specs.Progress.{HasStopped, IsUnderway, OwesText}
-use Rattle.line_follower.specs.declared.following.Following.{Following}
+use Rattle.line_wire.specs.Following.{CountsReads, CountsWrites, Dues, HasFollowed, status_of}
+use Rattle.line_wire.specs.Progress.{HasStopped, IsUnderway, OwesText}
+use Rattle.line_wire.specs.declared.following.Following.{Following}
 use Rattle.line_wire.specs.declared.wire.Wire.{Ghosts as WireKind}
 use Rattle.meters.specs.Changing.{handed_in, steps_text}
 use Rattle.meters.specs.declared.meter.Meter.{Ghosts as MeterKind}

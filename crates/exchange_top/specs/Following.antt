@@ -14,9 +14,9 @@ use Rattle.trace_text.specs.declared.said.Sizes.{Sizes}
 use Rattle.trace_text.specs.TraceGrammar.{IsTrace, sizes_in}
 use Rattle.trace_text.specs.TraceWords.{lines}
 use Rattle.run_verifier.specs.Verdicts.{IsValid}
-use Rattle.line_follower.specs.Following.{Dues, HasFollowed, IsSettled}
-use Rattle.line_follower.specs.declared.following.Following.{Following}
-use Rattle.line_follower.specs.declared.following.Following.TheVariants as followed
+use Rattle.line_wire.specs.Following.{Dues, HasFollowed, IsSettled}
+use Rattle.line_wire.specs.declared.following.Following.{Following}
+use Rattle.line_wire.specs.declared.following.Following.TheVariants as followed
 use Rattle.call_processor.specs.Frames.{Carrying}
 use Rattle.exchange_top.specs.Outcomes.{HandsOut}
 use Rattle.report_check.specs.Refusals.{refusal}

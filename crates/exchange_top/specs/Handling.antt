@@ -7,10 +7,10 @@ use Rattle.lone_exchange.specs.declared.exchange.LoneExchange.{LoneExchange}
 use Rattle.lone_exchange.specs.At.{Carrying}
 use Rattle.trace_text.specs.declared.said.Sizes.{Sizes}
 use Rattle.trace_text.specs.TraceGrammar.{sizes_in, so_far}
-use Rattle.line_follower.specs.declared.following.Following.{Following}
-use Rattle.line_follower.specs.declared.following.Following.TheVariants as followed
+use Rattle.line_wire.specs.declared.following.Following.{Following}
+use Rattle.line_wire.specs.declared.following.Following.TheVariants as followed
 use Rattle.trace_text.specs.TraceLines.{line_limits}
-use Rattle.line_follower.specs.Following.{Dues}
+use Rattle.line_wire.specs.Following.{Dues}
 use Rattle.linked_exchange.specs.declared.exchange.LinkedExchange.{LinkedExchange}
 use Rattle.linked_text.specs.declared.said.LinkHappening.{LinkHappening}
 use Rattle.linked_text.specs.LinkEffects.{IsInTurnRead, in_turn, linked_in, plain_told}

@@ -4,8 +4,8 @@ use Rattle.std.specs.Io.KnownBytes.{IsAtEnd}
 use Rattle.frame_engine.specs.declared.carrier.Carrier.{Ghosts as CarrierKind}
 use Rattle.meters.specs.declared.meter.Meter.{Ghosts as MeterKind}
 use Rattle.line_wire.specs.Passing.{HasPassed}
-use Rattle.line_follower.specs.declared.following.Following.{Following}
-use Rattle.line_follower.specs.declared.following.Following.TheVariants as followed
+use Rattle.line_wire.specs.declared.following.Following.{Following}
+use Rattle.line_wire.specs.declared.following.Following.TheVariants as followed
 use Rattle.exchange_top.specs.Following.{FollowsTo, follow_parties}
 
 -- no read, no write and no allocation failed

@@ -1,14 +1,13 @@
 // The lines of a wire, which an exchange processes in sequence.
 ghost use Rattle.std.specs.Prelude.{◌≡◌, ◌⊎◌, ◌<◌, ◌≤◌, ◌+◌, [], length, drop, IfOk, IfErr, OnOk};
-ghost use Rattle.line_follower.specs.Following.{CountsReads, CountsWrites, HasNoFeed};
-ghost use Rattle.line_follower.specs.declared.following.Following.TheVariants as ended;
+ghost use Rattle.line_wire.specs.Following.{CountsReads, CountsWrites, HasNoFeed};
+ghost use Rattle.line_wire.specs.declared.following.Following.TheVariants as ended;
 ghost use Rattle.exchange_top.specs.Followers.{Ends, EndsIn, EndsWith, GoesOn, GoesToEnd, HandlesLine, IsOwing, IsPending, IsUnder, IsUnread, OwesLine, ReliesBy, StopsLine, StopsOwing};
 
 use crate::follower::TraceFollower;
 use followed_events::Fabric;
 use frame_engine::Carrier;
-use line_follower::{Following, Stop, first_fed, flush, move_to_front, read_after, write_all};
-use line_wire::Wire;
+use line_wire::{Following, Stop, Wire, first_fed, flush, move_to_front, read_after, write_all};
 use meters::Meter;
 use std::alloc::Global;
 use std::thread::Threads;

@@ -1,6 +1,6 @@
 //! A trace whose lines are processed in sequence.
 ghost use Rattle.std.specs.Prelude.{◌≡◌, ◌<◌, ◌≤◌, ◌++◌, length, OnOk, OnErr, IsErrOf};
-ghost use Rattle.line_follower.specs.declared.handler.Stop.TheVariants.{OutOfMemory, Refused};
+ghost use Rattle.line_wire.specs.declared.handler.Stop.TheVariants.{OutOfMemory, Refused};
 ghost use Rattle.report_check.specs.Refusals.{refusal};
 
 use crate::call_context::Metering;
@@ -10,7 +10,7 @@ use crate::stepping::advance;
 use control_memory::PathMap;
 use followed_events::{Fabric, ready, ready_linked};
 use frame_engine::Carrier;
-use line_follower::Stop;
+use line_wire::Stop;
 use linked_exchange::LinkedExchange;
 use linked_lines::LinkedEvent;
 use linked_text::{LinkHappening, LinkHeading};

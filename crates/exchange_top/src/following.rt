@@ -1,7 +1,7 @@
 //! The call that follows a trace.
 ghost use Rattle.std.specs.Prelude.{◌≡◌, []};
 ghost use Rattle.std.specs.Option.{option_map};
-ghost use Rattle.line_follower.specs.Following.{CountsReads, CountsWrites};
+ghost use Rattle.line_wire.specs.Following.{CountsReads, CountsWrites};
 ghost use Rattle.report_check.specs.Checking.{slots_of};
 ghost use Rattle.exchange_top.specs.Commands.{moves_of};
 ghost use Rattle.exchange_top.specs.Followers.{FollowEnds, ReliesBy, parties_by};
@@ -15,8 +15,7 @@ use control_memory::PathMap;
 use fabric_map::FabricMap;
 use followed_events::Fabric;
 use frame_engine::Carrier;
-use line_follower::Following;
-use line_wire::Wire;
+use line_wire::{Following, Wire};
 use linked_exchange::LinkedExchange;
 use linked_text::LinkHeading;
 use lone_exchange::LoneExchange;

@@ -1,2 +1,4 @@
 pub mod Memory
 pub mod Passing
+pub mod Following
+pub mod Progress

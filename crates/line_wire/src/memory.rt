@@ -10,7 +10,7 @@ use std::alloc::{AllocError, Global};
 use std::marker::Model;
 
 /// A wire in memory. At each of its first reads, it records the number of octets written until then.
-#[derive(Debug, Drop)]
+#[derive(Drop)]
 pub struct MemWire {
     given: Vec<u8>,
     source: MemSource,

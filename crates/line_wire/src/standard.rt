@@ -6,7 +6,6 @@ ghost use Rattle.line_wire.specs.Passing.{HasPassed};
 
 use crate::wire::Wire;
 use ex_io::{Failed, Sink, Source};
-use std::fmt::{self, Debug, Formatter, Write};
 use std::snapshot::Snapshot;
 
 /// A wire over a source and a sink. Each read is a read of the source, and each write is a write of the sink.
@@ -40,15 +39,6 @@ impl<S: Source, K: Sink> StdWire<S, K> {
             given,
             had,
         }
-    }
-}
-
-impl<S: Debug, K: Debug> Debug for StdWire<S, K> {
-    fn fmt<W: Write>(&self, f: &mut Formatter<W>) -> fmt::Result {
-        f.debug_struct("StdWire")
-            .field("source", &self.source)
-            .field("sink", &self.sink)
-            .finish()
     }
 }
 

@@ -1,9 +1,9 @@
 use Rattle.std.proofs.Common.{arith, ◌≤◌, ◌∙◌, ◌++◌, ◌+◌, ◌-◌, ℕ, List, length, take, drop, sym, subst, length-drop}
 use Rattle.std.proofs.lemmas.List.{length-take-le}
-use Rattle.line_follower.specs.Following.{HasNoFeed}
+use Rattle.line_wire.specs.Following.{HasNoFeed}
 use Rattle.trace_text.specs.TraceWords.{lines}
-use Rattle.line_follower.specs.declared.following.Following.TheVariants as ended
-use Rattle.line_follower.proofs.Steps.{first_underway, IsUnderway_held_next, IsUnderway_read_more, IsUnderway_read_none, settled_of, unwritten_answer}
+use Rattle.line_wire.specs.declared.following.Following.TheVariants as ended
+use Rattle.line_wire.proofs.Steps.{first_underway, IsUnderway_held_next, IsUnderway_read_more, IsUnderway_read_none, settled_of, unwritten_answer}
 use Rattle.exchange_top.proofs.FollowedEndings.{answered}
 use Rattle.exchange_top.proofs.follow_loop.follow_to_end.Goals as goal
 

@@ -1,6 +1,6 @@
 use Rattle.std.proofs.Common.{◌≡◌, ◌≤◌, ◌+◌, ◌-◌, ◌*◌, ℕ, [], List, length, take}
-use Rattle.line_follower.specs.Following.{HasNoFeed}
-use Rattle.line_follower.specs.Progress.{IsUnderway}
+use Rattle.line_wire.specs.Following.{HasNoFeed}
+use Rattle.line_wire.specs.Progress.{IsUnderway}
 use Rattle.exchange_top.specs.Handling.{handler_dues}
 use Rattle.exchange_top.proofs.follow_loop.follow_to_end.Given as goal
 

@@ -1,8 +1,8 @@
 use Rattle.std.proofs.Common.{◌++◌, ◌∙◌, refl, sym}
 use Rattle.exchange_top.specs.Handling.{handler_dues}
-use Rattle.line_follower.specs.declared.following.Following.TheVariants as ended
-use Rattle.line_follower.proofs.Endings.{followed_too, same_too}
-use Rattle.line_follower.proofs.Steps.{cut_due, cut_text, reads_same, writes_same}
+use Rattle.line_wire.specs.declared.following.Following.TheVariants as ended
+use Rattle.line_wire.proofs.Endings.{followed_too, same_too}
+use Rattle.line_wire.proofs.Steps.{cut_due, cut_text, reads_same, writes_same}
 use Rattle.exchange_top.proofs.follow_loop.follow_with.Goals as goal
 
 pub returns-in-WriteFailed-clause-followed : goal.returns-in-WriteFailed-clause-followed

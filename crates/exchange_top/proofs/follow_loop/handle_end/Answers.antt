@@ -1,7 +1,7 @@
 use Rattle.std.proofs.Common.{rules}
-use Rattle.line_follower.specs.Following.{At_end}
+use Rattle.line_wire.specs.Following.{At_end}
 use Rattle.trace_text.specs.TraceWords.{lines}
-use Rattle.line_follower.proofs.Steps.{all_first}
+use Rattle.line_wire.proofs.Steps.{all_first}
 use Rattle.exchange_top.proofs.follow_loop.handle_end.Goals as goal
 
 pub finish-requires-clause-at : goal.finish-requires-clause-at

@@ -1,6 +1,6 @@
 use Rattle.std.proofs.Common.{rules, ◌∷◌, [], ◌++◌}
 use Rattle.exchange_top.specs.Handling.{handler_dues}
-use Rattle.line_follower.proofs.Steps.{if_err_is, owes_more, owes_none, unwritten}
+use Rattle.line_wire.proofs.Steps.{if_err_is, owes_more, owes_none, unwritten}
 use Rattle.exchange_top.proofs.follow_loop.handle_line.Goals as goal
 
 pub returns-in_err-handle_next-clause-stopped : goal.returns-in_err-handle_next-clause-stopped

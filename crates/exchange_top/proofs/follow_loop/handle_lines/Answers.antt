@@ -1,7 +1,7 @@
 use Rattle.std.proofs.Common.{rules, arith, ◌∙◌, ◌∷◌, ℕ, List, length, ap, inr, length-append}
 use Rattle.trace_text.specs.TraceWords.{lines}
 use Rattle.exchange_top.specs.Handling.{handler_dues}
-use Rattle.line_follower.proofs.Steps.{behind_line, has_fed, if_err_is, stopped_next, underway_more, underway_same}
+use Rattle.line_wire.proofs.Steps.{behind_line, has_fed, if_err_is, stopped_next, underway_more, underway_same}
 use Rattle.exchange_top.proofs.follow_loop.handle_lines.Goals as goal
 
 pub handle_line-requires-clause-at : goal.handle_line-requires-clause-at

@@ -1,5 +1,5 @@
 use Rattle.std.proofs.Common.{◌≡◌, ◌≤◌, ◌<◌, ◌⊎◌, ℕ, List, length, drop, ◌-◌}
-use Rattle.line_follower.specs.Progress.{IsUnderway}
+use Rattle.line_wire.specs.Progress.{IsUnderway}
 use Rattle.exchange_top.specs.Handling.{handler_dues}
 use Rattle.exchange_top.proofs.follow_loop.handle_lines.Given as goal
 

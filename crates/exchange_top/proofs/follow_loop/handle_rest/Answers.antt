@@ -1,7 +1,7 @@
 use Rattle.std.proofs.Common.{rules, ◌≢◌, ◌⊎◌, ◌<◌, [], length, inl, inr}
 use Rattle.std.proofs.lemmas.Result.{IfErr-weaker}
 use Rattle.exchange_top.specs.Handling.{handler_dues}
-use Rattle.line_follower.proofs.Steps.{answered_all, has_unfed, ok_weaker, stopped_next}
+use Rattle.line_wire.proofs.Steps.{answered_all, has_unfed, ok_weaker, stopped_next}
 use Rattle.exchange_top.proofs.follow_loop.handle_rest.Goals as goal
 
 pub returns-clause-done : goal.returns-clause-done

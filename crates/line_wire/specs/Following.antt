@@ -2,8 +2,8 @@
 use Rattle.std.specs.Prelude.{◌≡◌, ◌≢◌, ◌⊎◌, ◌≤◌, ◌<◌, ℕ, List, [], ◌∷◌, ◌++◌, length, All}
 use Rattle.ex_io.specs.Ends.{Rose}
 use Rattle.trace_text.specs.TraceWords.{AreEnded, lines}
-use Rattle.line_follower.specs.declared.following.Following.{Following}
-use Rattle.line_follower.specs.declared.following.Following.TheVariants as ended
+use Rattle.line_wire.specs.declared.following.Following.{Following}
+use Rattle.line_wire.specs.declared.following.Following.TheVariants as ended
 
 -- ---- the relations of a handler
 

@@ -3,7 +3,7 @@ use Rattle.std.proofs.Common.{◌≡◌, ◌⊎◌, ◌<◌, ℕ, Bool, true, fa
 use Rattle.std.specs.List.{onto_first}
 use Rattle.trace_text.specs.TraceWords.{AreEnded, lines}
 use Rattle.trace_text.proofs.LineLemmas.{first_step, lines_behind}
-use Rattle.line_follower.specs.Following.{AreFirst, EndsLong, max_line}
+use Rattle.line_wire.specs.Following.{AreFirst, EndsLong, max_line}
 
 -- ---- the last of some lines
 

@@ -1,9 +1,9 @@
 -- The endings of lines that are followed, by other words for what is due.
 use Rattle.std.proofs.Common.{◌⊎◌, ◌≡◌, ℕ, List, [], ◌++◌, inl, inr}
 use Rattle.trace_text.specs.TraceWords.{AreEnded}
-use Rattle.line_follower.specs.Following.{AreFirst, At_end, At_line, Dues, EndsLong, HasFollowed, IsDue, IsRefused, IsSettled}
-use Rattle.line_follower.specs.declared.following.Following.{Following}
-use Rattle.line_follower.specs.declared.following.Following.TheVariants as ended
+use Rattle.line_wire.specs.Following.{AreFirst, At_end, At_line, Dues, EndsLong, HasFollowed, IsDue, IsRefused, IsSettled}
+use Rattle.line_wire.specs.declared.following.Following.{Following}
+use Rattle.line_wire.specs.declared.following.Following.TheVariants as ended
 
 -- what is due in the first words is due in the others
 pub record IsToo (first other : Dues) : Type 0 where

@@ -1,7 +1,7 @@
 //! The result of a handler that stops.
 
 /// The cause for which a handler of lines stops before the end of its input.
-#[derive(Clone, Copy, Debug, PartialEq, Eq)]
+#[derive(Clone, Copy, PartialEq, Eq)]
 pub enum Stop {
     /// The line, or the end of the input, is refused.
     Refused,

@@ -1,9 +1,9 @@
 -- The state of the loop between two lines. Source: this project.
 use Rattle.std.specs.Prelude.{◌≡◌, ℕ, List, [], ◌∷◌, ◌++◌, length}
 use Rattle.trace_text.specs.TraceWords.{AreEnded, lines}
-use Rattle.line_follower.specs.Following.{Due, Dues}
-use Rattle.line_follower.specs.declared.following.Following.{Following}
-use Rattle.line_follower.specs.declared.following.Following.TheVariants as ended
+use Rattle.line_wire.specs.Following.{Due, Dues}
+use Rattle.line_wire.specs.declared.following.Following.{Following}
+use Rattle.line_wire.specs.declared.following.Following.TheVariants as ended
 
 -- these lines of the input were processed, `count` of them, and everything that is due for them was written except `text`
 pub record OwesText (stands : List ℕ → List ℕ → Type 0) (answers : Due) (heard : List ℕ) (done : List (List ℕ)) (text : List ℕ) (count : ℕ) : Type 0 where

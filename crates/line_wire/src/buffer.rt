@@ -1,10 +1,10 @@
 //! The parts of a loop over the lines of a wire.
 ghost use Rattle.std.specs.Prelude.{◌≡◌, ◌<◌, ◌≤◌, ◌++◌, ◌+◌, ◌-◌, ◌∷◌, [], ℕ, List, length, take, drop, IfOk, OnOk, OnErr, MatchOption};
 ghost use Rattle.ex_io.specs.Ends.{Rose};
-ghost use Rattle.line_follower.specs.Following.{HasNoFeed};
+ghost use Rattle.line_wire.specs.Following.{HasNoFeed};
 
+use crate::wire::Wire;
 use ex_io::Failed;
-use line_wire::Wire;
 use memchr::memchr;
 
 /// Returns the octets before the first line feed, and the octets after it. `None` if there is no line feed.

@@ -1,9 +1,9 @@
 //! The endings of a followed input.
 ghost use Rattle.std.specs.Prelude.{◌≡◌};
-ghost use Rattle.line_follower.specs.Following.{status_of};
+ghost use Rattle.line_wire.specs.Following.{status_of};
 
 /// The cause for which a call ended that processes the lines of an input.
-#[derive(Clone, Copy, Debug, PartialEq, Eq)]
+#[derive(Clone, Copy, PartialEq, Eq)]
 pub enum Following {
     /// All lines were processed.
     Completed,

@@ -3,10 +3,10 @@ use Rattle.std.proofs.Common.{◌≡◌, ◌≢◌, ◌⊎◌, ℕ, ◌+◌, ◌
 use Rattle.std.proofs.lemmas.List.{take-append-drop}
 use Rattle.std.proofs.Math.Seq.{drop-append_seam}
 use Rattle.trace_text.specs.TraceWords.{AreEnded, lines}
-use Rattle.line_follower.specs.Following.{AreFirst, At_line, CountsReads, CountsWrites, Due, Dues, EndsLong, HasFollowed, HasNoFeed, IsDue, IsSettled}
-use Rattle.line_follower.specs.Progress.{HasStopped, OwesText, IsUnderway}
-use Rattle.line_follower.specs.declared.following.Following.{Following}
-use Rattle.line_follower.specs.declared.following.Following.TheVariants as ended
+use Rattle.line_wire.specs.Following.{AreFirst, At_line, CountsReads, CountsWrites, Due, Dues, EndsLong, HasFollowed, HasNoFeed, IsDue, IsSettled}
+use Rattle.line_wire.specs.Progress.{HasStopped, OwesText, IsUnderway}
+use Rattle.line_wire.specs.declared.following.Following.{Following}
+use Rattle.line_wire.specs.declared.following.Following.TheVariants as ended
 use Rattle.std.specs.Prelude.{⊤, IfErr, OnErr, OnOk, Ok, Err}
 use Rattle.std.specs.declared.result.Result.{Result}
 use Rattle.trace_text.proofs.LineLemmas.{ended_both, fed_line, lines_behind, unfed_line}

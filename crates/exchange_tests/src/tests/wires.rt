@@ -1,10 +1,8 @@
 // Alternate reads and writes of a wire.
 ghost use Rattle.std.specs.Prelude.{◌≡◌, ◌≤◌, ◌++◌, ℕ, List};
 
-use crate::memory::MemWire;
-use crate::standard::StdWire;
-use crate::wire::Wire;
 use ex_io::{MemSink, MemSource};
+use line_wire::{MemWire, StdWire, Wire};
 use std::alloc::{AllocError, Global};
 use std::test::Fail;
 
