@@ -1,3 +1,5 @@
 pub mod Ends
 pub mod Memory
 pub mod Standard
+pub mod Streams
+pub mod Inputs

@@ -6,7 +6,7 @@ use crate::ends::Failed;
 use std::marker::Model;
 
 // An error count. It stops at the greatest value of a `u64`.
-#[derive(Debug, Drop)]
+#[derive(Drop)]
 pub(crate) struct Faults {
     count: u64,
 }

@@ -11,7 +11,7 @@ use std::alloc::{AllocError, Global};
 use std::marker::Model;
 
 // The calls that fail, and the number of calls so far.
-#[derive(Debug, Drop)]
+#[derive(Drop)]
 struct Script {
     fails: Vec<u32>,
     calls: u64,
@@ -36,7 +36,7 @@ impl Script {
 }
 
 /// A source in memory. One read returns at most `piece` bytes. The listed reads fail.
-#[derive(Debug, Drop)]
+#[derive(Drop)]
 pub struct MemSource {
     bytes: Vec<u8>,
     taken: usize,
@@ -120,7 +120,7 @@ impl Source for MemSource {
 
 /// A sink in memory of `room` bytes. One write takes at most `piece` bytes. The listed writes fail, and so does a write
 /// to a full sink.
-#[derive(Debug, Drop)]
+#[derive(Drop)]
 pub struct MemSink {
     bytes: Vec<u8>,
     room: usize,

@@ -15,7 +15,7 @@ use std::marker::Model;
 ///
 /// Each read is one read of the reader, without a buffer. Each error of the reader counts. An interrupted call also
 /// counts, and occurs only in a program that handles signals.
-#[derive(Debug, Drop)]
+#[derive(Drop)]
 pub struct StdSource<R = Stdin> {
     reader: R,
     faults: Faults,
@@ -72,7 +72,7 @@ impl<R: Read> Source for StdSource<R> {
 ///
 /// Each write is one write of the writer, without a buffer, so there is nothing to flush. Each error of the writer
 /// counts, and so does a write that takes none of the given bytes.
-#[derive(Debug, Drop)]
+#[derive(Drop)]
 pub struct StdSink<W = Stdout> {
     writer: W,
     faults: Faults,

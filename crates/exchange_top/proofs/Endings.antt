@@ -16,21 +16,21 @@ use Rattle.command_words.specs.declared.command.Command.{Command}
 use Rattle.command_words.specs.declared.command.Command.TheVariants.{Run, Generate, Check}
 use Rattle.line_list.specs.declared.listing.Listing.{Listing}
 use Rattle.line_list.specs.declared.listing.Listing.TheVariants as listing
-use Rattle.report_check.specs.declared.ending.Ending.{Ending}
-use Rattle.report_check.specs.declared.ending.Ending.TheVariants as ended
+use Rattle.run_verifier.specs.declared.ending.Ending.{Ending}
+use Rattle.run_verifier.specs.declared.ending.Ending.TheVariants as ended
 use Rattle.exchange_top.specs.Outcomes.{Fabric, HandsOut, IsIdle, IsRunWhole, IsRunWritten, Parties, Runs, SumsUp, parties}
-use Rattle.report_check.specs.Checking.{Checks, Said, Not_read, No_memory, Finds, IsChecked, IsUnchecked, Too_much, No_trace, max_checked}
-use Rattle.report_check.specs.Inputs.{IsInputWithin}
-use Rattle.report_check.specs.Statuses.{status_of}
-use Rattle.report_check.specs.Streams.{AppendsFront, ConsumesAtMost, IsUntouched, IsWritten, Stream}
+use Rattle.run_verifier.specs.Checking.{Checks, Said, Not_read, No_memory, Finds, IsChecked, IsUnchecked, Too_much, No_trace, max_checked}
+use Rattle.ex_io.specs.Inputs.{IsInputWithin}
+use Rattle.run_verifier.specs.Statuses.{status_of}
+use Rattle.ex_io.specs.Streams.{AppendsFront, ConsumesAtMost, IsUntouched, IsWritten, Stream}
 use Rattle.followed_events.specs.Story.{story}
-use Rattle.report_check.specs.Summary.{summary_text}
+use Rattle.exchange_top.specs.Summary.{summary_text}
 use Rattle.exchange_top.specs.Telling.{MeterStory, meter_story}
-use Rattle.report_check.specs.Refusals.{Says, Told_so, Untold, line_of}
+use Rattle.run_verifier.specs.Refusals.{Says, Told_so, Untold, line_of}
 use Rattle.exchange_top.specs.Commands.{max_read, max_read_by, IsCheck, IsCheckOn, IsReading, IsRun, IsGeneration, IsNoCommand, fabric_of}
 use Rattle.exchange_top.specs.Endings.{IsTraceRead, IsTraceGenerated, IsFound, For_run, For_check, Reported, Summed, Found_valid, In_line, In_report, In_generation, In_summary, At_once, In_run, In_generated, Before_summary, HasEnded, IsDue, Arguments_decide, Trace_decides, Line_decides, Seed_decides, Report_decides, EndsAs}
 use Rattle.trace_text.proofs.TraceReadings.{never_both}
-use Rattle.report_check.proofs.Dues.{status_of_finds_one}
+use Rattle.run_verifier.proofs.Dues.{status_of_finds_one}
 use Rattle.exchange_top.proofs.Underway.{party}
 
 -- ---- words ask for one thing

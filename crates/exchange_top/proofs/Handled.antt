@@ -25,7 +25,7 @@ use Rattle.followed_events.specs.Told.{MovesFewIn, MovesFewSaid, setting_said, w
 use Rattle.followed_events.specs.InTurn.{MovesFewInTurn, events_by, events_in_turn, follows_in_turn, setting_in_turn, story_in_turn}
 use Rattle.exchange_top.specs.Following.{HaveMovedFew, IsInterrupted, IsLineRefused, No_line, Read, Unread, course}
 use Rattle.exchange_top.specs.Handling.{AreDriven, HasHandled, IsDriven, IsDrivenBy, IsLinkedDriven, IsSaid}
-use Rattle.report_check.specs.Refusals.{refusal}
+use Rattle.run_verifier.specs.Refusals.{refusal}
 use Rattle.exchange_top.specs.Telling.{AreToldFront}
 use Rattle.followed_events.proofs.FollowedSteps.{setting_by}
 use Rattle.followed_events.proofs.LinkedSteppingLemmas.{early_few}

@@ -37,7 +37,7 @@ use Rattle.exchange_top.specs.Following.{IsEndRefused, IsInterrupted, IsLineRefu
 use Rattle.exchange_top.specs.Handling.{AreDriven, HasFinished, HasRead, IsDriven, IsDrivenBy, IsLinkedDriven, exchange_of}
 use Rattle.followed_events.specs.LinkedStepping.{HasLinkedHappened, IsLinkedDue, IsLinkedGiven, IsLinkedHeard, IsLinkedRunning, content_of, effect_in, steps_at}
 use Rattle.followed_events.specs.Stepping.{HasHappened, IsEventDue, IsHeard, IsRunning, calls_at}
-use Rattle.report_check.specs.Refusals.{refusal}
+use Rattle.run_verifier.specs.Refusals.{refusal}
 use Rattle.exchange_top.specs.Telling.{AreTold, AreToldFront}
 use Rattle.followed_events.proofs.FollowedSteps.{due_by, setting_by}
 use Rattle.exchange_top.proofs.Handled.{Handled, driven_by, few_same, handled_more, interrupted_more, linked_driven, line_is, more, refused_long, refused_more, split_driven}

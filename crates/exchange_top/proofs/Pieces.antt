@@ -12,7 +12,7 @@ use Rattle.linked_text.specs.LinkLines.{Content}
 use Rattle.followed_events.specs.InTurn.{EachInTurn, follows_in_turn, story_in_turn}
 use Rattle.followed_events.proofs.PlainInTurn.{one_in_turn}
 use Rattle.followed_events.proofs.TurnLines.{follows_long}
-use Rattle.report_check.specs.Refusals.{refusal}
+use Rattle.run_verifier.specs.Refusals.{refusal}
 use Rattle.line_wire.specs.Following.{AreFirst, At_end, At_line, HasFollowed, IsRefused}
 use Rattle.line_wire.specs.declared.following.Following.{Following}
 use Rattle.line_wire.specs.declared.following.Following.TheVariants as followed

@@ -26,7 +26,7 @@ use Rattle.exchange_top.specs.Changes.{AreChangesDone}
 use Rattle.exchange_top.specs.Outcomes.{IsRunInterrupted, IsRunUnwritten}
 use Rattle.exchange_top.specs.Running.{GrewFew, GrowthIsTold, IsAdded, grown_calls, grown_lines}
 use Rattle.followed_events.specs.Story.{story}
-use Rattle.report_check.specs.Streams.{AppendsFront}
+use Rattle.ex_io.specs.Streams.{AppendsFront}
 use Rattle.exchange_top.specs.Telling.{AreLeft, AreMeteredBeyond, AreTold, AreToldFront, meter_story}
 use Rattle.exchange_top.proofs.Stories.{grown_are_events, grown_length, grown_records, grown_steps, lines_of-grown_steps_text, lines-append, lines-at, story_grown, story_records}
 use Rattle.exchange_top.proofs.Tellings.{beyond_none, both_beyond, none_beyond}

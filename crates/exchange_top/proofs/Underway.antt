@@ -18,7 +18,7 @@ use Rattle.segment_run.specs.Segment.{IsChief, Ran, RanWhole, new_events}
 use Rattle.segment_run.specs.Segments.{IsDoneBelow}
 use Rattle.segment_run.proofs.OrderLemmas.{IsDoneBelow_none as none_done, IsDoneBelow_one_more, cut_short, IsLawful_all_done, first_chief, order_grown}
 use Rattle.line_list.specs.declared.listing.Listing.{Listing}
-use Rattle.report_check.specs.declared.ending.Ending.TheVariants as ended
+use Rattle.run_verifier.specs.declared.ending.Ending.TheVariants as ended
 use Rattle.exchange_top.specs.Outcomes.{AreOfSegments, No_segments, Some_segments, IsFlushed, IsRunInterrupted, IsRunUnwritten, IsRunWritten, MovesFew, Parties}
 use Rattle.meters.specs.Changing.{Step, changes_at, lines_of, records_of}
 use Rattle.followed_events.specs.Story.{story}
@@ -27,7 +27,7 @@ use Rattle.call_profile.specs.CallsTold.{calls_told}
 use Rattle.exchange_top.specs.declared.run.RunError.{RunError}
 use Rattle.exchange_top.specs.declared.run.RunError.TheVariants.{Memory, Write}
 use Rattle.exchange_top.specs.Running.{GrewFew, ending_of, engine_of, fabric_at}
-use Rattle.report_check.specs.Streams.{AppendsFront}
+use Rattle.ex_io.specs.Streams.{AppendsFront}
 use Rattle.exchange_top.proofs.Answered.{few_grown}
 use Rattle.exchange_top.proofs.Pending.{front_pending, whole_pending}
 use Rattle.exchange_top.proofs.Stories.{lines-append, lines-at, story_records}

@@ -8,8 +8,8 @@ use Rattle.trace_text.specs.TraceGrammar.{max_bytes}
 use Rattle.command_words.specs.Words.{command_of}
 use Rattle.command_words.specs.declared.command.Command.{Command}
 use Rattle.command_words.specs.declared.command.Command.TheVariants.{Run, Generate, Check}
-use Rattle.report_check.specs.Checking.{max_checked, slots_of}
-use Rattle.report_check.specs.Inputs.{max_bytes_read}
+use Rattle.run_verifier.specs.Checking.{max_checked, slots_of}
+use Rattle.ex_io.specs.Inputs.{max_bytes_read}
 use Rattle.exchange_top.specs.Outcomes.{Fabric}
 
 -- ---- the commands

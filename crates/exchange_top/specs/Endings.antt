@@ -7,16 +7,16 @@ use Rattle.trace_text.specs.TraceGrammar.{IsTrace, IsRefused, max_bytes}
 use Rattle.generated_trace.specs.Generated.{IsTrafficOf}
 use Rattle.run_verifier.specs.Verdicts.{IsInvalidAt, IsValid}
 use Rattle.line_list.specs.declared.listing.Listing.TheVariants as listing
-use Rattle.report_check.specs.declared.ending.Ending.{Ending}
-use Rattle.report_check.specs.declared.ending.Ending.TheVariants as ended
-use Rattle.report_check.specs.Checking.{Finds, IsChecked, IsUnchecked, max_checked, slots_of}
+use Rattle.run_verifier.specs.declared.ending.Ending.{Ending}
+use Rattle.run_verifier.specs.declared.ending.Ending.TheVariants as ended
+use Rattle.run_verifier.specs.Checking.{Finds, IsChecked, IsUnchecked, max_checked, slots_of}
 use Rattle.exchange_top.specs.Commands.{IsCheck, IsCheckOn, IsGeneration, IsNoCommand, IsReading, IsRun, IsRunOn, fabric_of, texts}
-use Rattle.report_check.specs.Inputs.{IsInputWithin, IsWholeInput}
+use Rattle.ex_io.specs.Inputs.{IsInputWithin, IsWholeInput}
 use Rattle.exchange_top.specs.Outcomes.{IsIdle, IsHandedOut, IsRunInterrupted, IsRunUnwritten, IsRunWhole, IsRunWritten, Part, Parties, Whole}
-use Rattle.report_check.specs.Refusals.{invalid_line, line_of, refusal, valid_line, words_refusal}
-use Rattle.report_check.specs.Statuses.{status_of}
-use Rattle.report_check.specs.Streams.{HasFailed, IsUntouched, IsWritten, IsWrittenInPart, Stream}
-use Rattle.report_check.specs.Summary.{summary_text}
+use Rattle.run_verifier.specs.Refusals.{invalid_line, line_of, refusal, valid_line, words_refusal}
+use Rattle.run_verifier.specs.Statuses.{status_of}
+use Rattle.ex_io.specs.Streams.{HasFailed, IsUntouched, IsWritten, IsWrittenInPart, Stream}
+use Rattle.exchange_top.specs.Summary.{summary_text}
 
 -- ---- the command of a call
 

@@ -19,7 +19,7 @@ use Rattle.line_wire.specs.declared.following.Following.{Following}
 use Rattle.line_wire.specs.declared.following.Following.TheVariants as followed
 use Rattle.call_processor.specs.Frames.{Carrying}
 use Rattle.exchange_top.specs.Outcomes.{HandsOut}
-use Rattle.report_check.specs.Refusals.{refusal}
+use Rattle.run_verifier.specs.Refusals.{refusal}
 use Rattle.exchange_top.specs.Telling.{MeterStory, meter_story}
 use Rattle.linked_text.specs.LinkEffects.{plain_told}
 use Rattle.linked_text.specs.LinkLines.{Content}

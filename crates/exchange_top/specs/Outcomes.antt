@@ -23,14 +23,15 @@ use Rattle.line_list.specs.declared.listing.Listing.{Listing}
 use Rattle.meters.specs.Changing.{Step, lines_of, records_of}
 use Rattle.call_processor.specs.Borrowed.{Borrowed}
 use Rattle.ex_io.specs.declared.ends.Sink.{Ghosts as SinkMembers}
+use Rattle.ex_io.specs.declared.ends.Source.{Ghosts as SourceMembers}
 use Rattle.frame_engine.specs.declared.carrier.Carrier.{Ghosts as CarrierMembers}
 use Rattle.exchange_top.specs.declared.call.CallEnd.{CallEnd}
 use Rattle.exchange_top.specs.declared.call.Outcome.{Outcome}
-use Rattle.report_check.specs.declared.ending.Ending.{Ending}
-use Rattle.report_check.specs.declared.ending.Ending.TheVariants as ended
+use Rattle.run_verifier.specs.declared.ending.Ending.{Ending}
+use Rattle.run_verifier.specs.declared.ending.Ending.TheVariants as ended
 use Rattle.exchange_top.specs.declared.call_context.Metering.{Metering}
 use Rattle.followed_events.specs.Story.{story}
-use Rattle.report_check.specs.Streams.{HasFailed, IsWritten, IsWrittenInPart, Stream, output}
+use Rattle.ex_io.specs.Streams.{HasFailed, IsWritten, IsWrittenInPart, Stream, stream}
 use Rattle.exchange_top.specs.Telling.{AreLeft, AreTold, MeterStory, metered, metered_together}
 use Rattle.call_profile.specs.CallsTold.{calls_told}
 
@@ -64,6 +65,13 @@ NotesAll {M} stands text plays l slots trace order =
     (old spare new new_spare : List M) → AreLeft stands text old spare new new_spare (story plays l slots trace order) → AreTold stands text old new (calls_told slots trace order) × (new_spare ≡ spare)
 
 -- ---- the parts that every ending has in common
+
+-- a source that a call borrows, and a sink
+abbrev pub input : {S : Type 0} → SourceMembers S → Borrowed S → Stream
+input members source = stream members.left members.faults source.entry.now source.exit.now
+
+abbrev pub output : {K : Type 0} → SinkMembers K → Borrowed K → Stream
+output members sink = stream members.written members.faults sink.entry.now sink.exit.now
 
 -- the engine that a call returns has these dimensions, and carries the frames of the exchange state
 abbrev pub HandsOut : {E : Type 0} → (E → Dimensions) → Carrying E → Option E → Dimensions → World → Type 0

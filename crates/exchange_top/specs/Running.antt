@@ -20,13 +20,12 @@ use Rattle.line_list.specs.Lines.{Line, calls_of, line_of, listed, text_of}
 use Rattle.std.specs.declared.option.Option.{Option}
 use Rattle.exchange_top.specs.declared.run.RunError.{RunError}
 use Rattle.exchange_top.specs.declared.run.RunError.TheVariants.{Memory, Write}
-use Rattle.report_check.specs.declared.ending.Ending.{Ending}
-use Rattle.report_check.specs.declared.ending.Ending.TheVariants as ended
+use Rattle.run_verifier.specs.declared.ending.Ending.{Ending}
+use Rattle.run_verifier.specs.declared.ending.Ending.TheVariants as ended
 use Rattle.exchange_top.specs.declared.segments.SegmentResources.{SegmentResources}
 use Rattle.exchange_top.specs.declared.call_context.Metering.{Metering}
 use Rattle.exchange_top.specs.Commands.{fabric_of}
-use Rattle.exchange_top.specs.Outcomes.{Fabric, Part, Runs, parties}
-use Rattle.report_check.specs.Streams.{output}
+use Rattle.exchange_top.specs.Outcomes.{Fabric, Part, Runs, output, parties}
 use Rattle.exchange_events.specs.declared.record.CallRecord.{CallRecord}
 use Rattle.report_text.specs.RunReport.{event_lines}
 use Rattle.exchange_top.specs.Telling.{Telling, metered_together}

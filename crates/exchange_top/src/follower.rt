@@ -1,7 +1,7 @@
 //! A trace whose lines are processed in sequence.
 ghost use Rattle.std.specs.Prelude.{◌≡◌, ◌<◌, ◌≤◌, ◌++◌, length, OnOk, OnErr, IsErrOf};
 ghost use Rattle.line_wire.specs.declared.handler.Stop.TheVariants.{OutOfMemory, Refused};
-ghost use Rattle.report_check.specs.Refusals.{refusal};
+ghost use Rattle.run_verifier.specs.Refusals.{refusal};
 
 use crate::call_context::Metering;
 use crate::changing::change_once;
@@ -16,7 +16,7 @@ use linked_lines::LinkedEvent;
 use linked_text::{LinkHappening, LinkHeading};
 use lone_exchange::LoneExchange;
 use meters::Meter;
-use report_check::refusal;
+use run_verifier::refusal;
 use std::alloc::{AllocError, Global};
 use std::thread::Threads;
 use trace_text::{Happening, Limits, LineError, Reason};

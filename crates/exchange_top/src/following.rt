@@ -2,7 +2,7 @@
 ghost use Rattle.std.specs.Prelude.{◌≡◌, []};
 ghost use Rattle.std.specs.Option.{option_map};
 ghost use Rattle.line_wire.specs.Following.{CountsReads, CountsWrites};
-ghost use Rattle.report_check.specs.Checking.{slots_of};
+ghost use Rattle.run_verifier.specs.Checking.{slots_of};
 ghost use Rattle.exchange_top.specs.Commands.{moves_of};
 ghost use Rattle.exchange_top.specs.Followers.{FollowEnds, ReliesBy, parties_by};
 ghost use Rattle.exchange_top.specs.Handling.{engine_returned, exchange_of};

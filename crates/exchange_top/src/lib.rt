@@ -45,6 +45,7 @@ mod linked_stepping;
 mod run;
 mod segments;
 mod stepping;
+mod summaries;
 mod telling;
 
 pub use call::{Outcome, exchange};
@@ -53,4 +54,4 @@ pub use following::{FollowOutcome, follow};
 pub use laws::{
     followed_traces_are_runs, law_of_pieces, law_of_unchanged_meters, strict_runs_move_nothing,
 };
-pub use report_check::{Ending, law_of_divisions};
+pub use run_verifier::{Ending, law_of_divisions};

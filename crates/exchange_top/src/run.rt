@@ -6,7 +6,7 @@ ghost use Rattle.exchange_core.specs.Working.{order_of};
 ghost use Rattle.seat_history.specs.Seats.{first_seat};
 ghost use Rattle.shared_exchange.specs.Sharing.{IsSeated};
 ghost use Rattle.call_processor.specs.Frames.{IsReady};
-ghost use Rattle.report_check.specs.declared.ending.Ending.TheVariants.{WriteFailed};
+ghost use Rattle.run_verifier.specs.declared.ending.Ending.TheVariants.{WriteFailed};
 ghost use Rattle.exchange_top.specs.Running.{RunsOn, board_on, ending_of, run_part};
 
 use crate::call_context::{CallContext, Metering, PendingText};

@@ -7,3 +7,5 @@ pub mod NextLemmas
 pub mod EndLemmas
 pub mod DecisionLemmas
 pub mod AnswerLemmas
+pub mod Divisions
+pub mod Dues

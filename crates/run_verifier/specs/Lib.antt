@@ -3,3 +3,6 @@ pub mod Faults
 pub mod Turns
 pub mod Replaying
 pub mod Verifying
+pub mod Statuses
+pub mod Refusals
+pub mod Checking

@@ -1,8 +1,9 @@
-//! Theorems on verdicts.
+//! Theorems on verdicts, and on the input that has a trace and its report.
 ghost use Rattle.std.specs.Prelude.{◌≡◌, ◌+◌, ◌≤◌, ◌++◌, ◌↔◌, ◌⊎◌, ℕ, List, [], ◌∷◌, length};
 ghost use Rattle.exchange_events.specs.declared.trace.Trace.{Trace};
 ghost use Rattle.exchange_events.specs.Orders.{IsLawfulPrefix};
 ghost use Rattle.exchange_events.specs.Sound.{IsSound};
+ghost use Rattle.run_verifier.specs.Checking.{IsDivided};
 ghost use Rattle.run_verifier.specs.Verdicts.{IsGood, IsInvalidAt, IsValid, MayFollow, report_due};
 
 /// A report determines the order of its events: two lawful prefixes of an order with the same report are equal.
@@ -37,4 +38,9 @@ pub fn law_of_lines()
 pub fn law_of_turns()
     ensures { (trace : Trace) (order : List ℕ) (n : ℕ)
         → IsLawfulPrefix trace (order ++ n ∷ []) ↔ (IsLawfulPrefix trace order × MayFollow trace order n) }
+{}
+
+/// An input is divided into a trace and a report in only one way.
+pub fn law_of_divisions()
+    ensures { (bytes trace report also other : List ℕ) → IsDivided bytes trace report → IsDivided bytes also other → (trace ≡ also) × (report ≡ other) }
 {}

@@ -15,15 +15,28 @@
 //!
 //! A lone exchange (`lone_exchange`) with the engine of three stages processes the events again, one by one, in the
 //! thread of the caller.
+//!
+//! - [`check`] reads a trace and a report, divided by a line `report`. It writes `valid`, or the first line of the report
+//!   that is wrong or missing, or the refusal of an input without a trace (`ends`). No more of the input is read than the
+//!   limit and one piece (`stops`), and no ending hides an error of the source or of the sink (`reads`, `writes`).
+//! - An input is divided into a trace and a report in only one way ([`law_of_divisions`]).
+//! - An [`Ending`] is the cause for which a call ended, and has an exit status. [`refusal`] returns the line that refuses
+//!   an input, and [`say`] writes the line that ends a call.
 #![tactic(auto)]
 
+mod checking;
+mod ending;
 mod laws;
+mod refusals;
 mod replay;
 mod replaying;
 mod turns;
 mod verdict;
 mod verifying;
 
-pub use laws::{law_of_lines, law_of_orders, law_of_turns, law_of_verdicts};
+pub use checking::check;
+pub use ending::Ending;
+pub use laws::{law_of_divisions, law_of_lines, law_of_orders, law_of_turns, law_of_verdicts};
+pub use refusals::{refusal, say};
 pub use verdict::{Verdict, VerifyFault};
 pub use verifying::verify;

@@ -5,7 +5,7 @@ use thiserror::Error;
 use trace_text::{Reason, TraceFault};
 
 /// The verdict on the report of a trace.
-#[derive(Clone, Copy, Debug, PartialEq, Eq)]
+#[derive(Clone, Copy, PartialEq, Eq)]
 pub enum Verdict {
     /// The report of all events in a lawful order.
     Valid,

@@ -1,5 +1,5 @@
 use Rattle.std.proofs.Common.{refl, ap, ◌∙◌, Err, Some, inl, inr}
-use Rattle.report_check.specs.declared.ending.Ending.TheVariants as ended
+use Rattle.run_verifier.specs.declared.ending.Ending.TheVariants as ended
 use Rattle.exchange_top.proofs.Endings.{ends_at_once, ends_check, ends_line, ConsumesAtMost_none, stops_by}
 use Rattle.exchange_top.proofs.Sums.{keeps}
 use Rattle.exchange_top.proofs.Tellings.{none_left}

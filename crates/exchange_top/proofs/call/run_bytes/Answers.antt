@@ -1,5 +1,5 @@
 use Rattle.std.proofs.Common.{◌∙◌, ap, Err}
-use Rattle.report_check.specs.declared.ending.Ending.TheVariants as ended
+use Rattle.run_verifier.specs.declared.ending.Ending.TheVariants as ended
 use Rattle.exchange_top.specs.Endings.{For_run}
 use Rattle.exchange_top.proofs.Endings.{ends_at_once, ends_line, ends_run}
 use Rattle.exchange_top.proofs.Sums.{keeps}

@@ -1,7 +1,7 @@
 use Rattle.std.proofs.Common.{◌≡◌, ap, inl, inr, map, [], subst}
 use Rattle.std.specs.List.{concat}
-use Rattle.report_check.specs.Summary.{summary_text}
-use Rattle.report_check.specs.declared.ending.Ending.TheVariants as ended
+use Rattle.exchange_top.specs.Summary.{summary_text}
+use Rattle.run_verifier.specs.declared.ending.Ending.TheVariants as ended
 use Rattle.generated_trace.specs.Generated.{IsTrafficOf}
 use Rattle.generated_trace.proofs.Told.{changes_none}
 use Rattle.line_list.specs.declared.listing.Listing.TheVariants as listing

@@ -1,5 +1,5 @@
 use Rattle.std.proofs.Common.{refl}
-use Rattle.report_check.specs.declared.ending.Ending.TheVariants as ended
+use Rattle.run_verifier.specs.declared.ending.Ending.TheVariants as ended
 use Rattle.exchange_top.proofs.Endings.{runs_so}
 use Rattle.exchange_top.proofs.Tellings.{none_beyond}
 use Rattle.exchange_top.proofs.Underway.{IsRunInterrupted_none}

@@ -1,7 +1,7 @@
 use Rattle.std.proofs.Common.{◌≡◌, refl, rules, true, false}
 use Rattle.fabric_map.specs.Map.{max_moves}
 use Rattle.strict_map.specs.Strict.{max_moves as max_strict_moves}
-use Rattle.report_check.specs.declared.ending.Ending.TheVariants as ended
+use Rattle.run_verifier.specs.declared.ending.Ending.TheVariants as ended
 use Rattle.exchange_top.specs.Commands.{fabric_of}
 use Rattle.exchange_top.specs.Outcomes.{Fabric}
 use Rattle.exchange_top.proofs.Endings.{runs_on, runs_so}

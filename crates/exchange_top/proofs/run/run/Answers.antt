@@ -1,10 +1,10 @@
 use Rattle.std.proofs.Common.{◌++◌, length, refl, ap, ◌∙◌}
 use Rattle.exchange_core.specs.Boards.{Board}
 use Rattle.exchange_core.specs.Working.{order_of}
-use Rattle.report_check.specs.declared.ending.Ending.TheVariants as ended
+use Rattle.run_verifier.specs.declared.ending.Ending.TheVariants as ended
 use Rattle.exchange_top.specs.Outcomes.{Runs, parties}
 use Rattle.exchange_top.specs.Running.{ending_of, engine_of, fabric_at}
-use Rattle.report_check.specs.Streams.{stream}
+use Rattle.ex_io.specs.Streams.{stream}
 use Rattle.exchange_top.specs.Telling.{meter_story}
 use Rattle.exchange_top.proofs.Endings.{runs_so}
 use Rattle.exchange_top.proofs.Sums.{fits_order, moved}

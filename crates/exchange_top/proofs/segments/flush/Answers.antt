@@ -1,7 +1,7 @@
 use Rattle.std.proofs.Common.{subst}
 use Rattle.std.specs.Io.KnownBytes.{Appends}
 use Rattle.line_list.specs.Lines.{text_of}
-use Rattle.report_check.specs.Streams.{AppendsFront}
+use Rattle.ex_io.specs.Streams.{AppendsFront}
 use Rattle.exchange_top.proofs.Pending.{front_behind, on_err}
 use Rattle.exchange_top.proofs.segments.flush.Goals as goal
 

@@ -5,7 +5,7 @@ use Rattle.exchange_events.specs.declared.trace.Trace.{Trace}
 use Rattle.exchange_events.specs.Sound.{IsSound}
 use Rattle.call_processor.specs.Frames.{IsReady, IsReadyAt}
 use Rattle.segment_run.proofs.OrderLemmas.{few_segments}
-use Rattle.report_check.specs.declared.ending.Ending.TheVariants as ended
+use Rattle.run_verifier.specs.declared.ending.Ending.TheVariants as ended
 use Rattle.exchange_top.specs.Running.{AreOfAnswers}
 use Rattle.exchange_top.proofs.Endings.{runs_so}
 use Rattle.exchange_top.proofs.Pending.{at_some}
