@@ -31,7 +31,7 @@ class Documents(unittest.TestCase):
         self.assertEqual((len(reader.numbers), len(reader.tones), len(reader.timers), len(reader.events)), (2, 1, 1, 1))
 
     def test_signatures(self) -> None:
-        sources = [*(TOP / "crates" / "exchange_top" / "src").glob("*.rt"), TOP / "crates" / "ex_io" / "src" / "ends.rt"]
+        sources = [path for name in ("exchange_run", "exchange_follow", "ex_io") for path in (TOP / "crates" / name / "src").glob("*.rt")]
         held = squeezed(" ".join(path.read_text() for path in sources))
         (shown,) = blocks("docs/FORMATS.md", "rust")
         calls = re.findall(r"(?:pub )?fn .*?-> [^;{]*?(?=;|\npub|\ntrait)", shown, re.DOTALL)

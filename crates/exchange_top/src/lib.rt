@@ -34,24 +34,10 @@
 //! than a command needs (`stops`, `unread`).
 #![tactic(auto)]
 
-mod call;
-mod call_context;
-mod changing;
-mod follow_loop;
-mod follower;
-mod following;
 mod laws;
-mod linked_stepping;
-mod run;
-mod segments;
-mod stepping;
-mod summaries;
-mod telling;
 
-pub use call::{Outcome, exchange};
+pub use exchange_follow::{FollowOutcome, follow, law_of_pieces};
+pub use exchange_run::{Outcome, exchange, law_of_unchanged_meters, strict_runs_move_nothing};
 pub use followed_events::{plain_lines_are_followed, traces_are_followed};
-pub use following::{FollowOutcome, follow};
-pub use laws::{
-    followed_traces_are_runs, law_of_pieces, law_of_unchanged_meters, strict_runs_move_nothing,
-};
+pub use laws::followed_traces_are_runs;
 pub use run_verifier::{Ending, law_of_divisions};

@@ -11,3 +11,4 @@ pub mod LinkedEvents
 pub mod LinkedSteppingLemmas
 pub mod FollowedStories
 pub mod PlainInTurn
+pub mod Tellings

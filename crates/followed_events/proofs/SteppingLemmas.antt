@@ -133,5 +133,13 @@ pub on_err : {T E P : Type 0} (r : Result T E) → P → OnErr r P
 on_err (Ok x) p = tt
 on_err (Err e) p = p
 
+pub on_ok_then : {T E P Q : Type 0} (r : Result T E) → OnOk r P → (P → Q) → OnOk r Q
+on_ok_then (Ok x) p then = then p
+on_ok_then (Err e) p then = tt
+
+pub on_err_then : {T E P Q : Type 0} (r : Result T E) → OnErr r P → (P → Q) → OnErr r Q
+on_err_then (Ok x) p then = tt
+on_err_then (Err e) p then = then p
+
 pub err_is : {T E : Type 0} (a b : E) → IsErrOf (let failed : Result T E = Err a in failed) b → a ≡ b
 err_is a b same = grind (arith, same)

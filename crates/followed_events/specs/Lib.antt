@@ -7,3 +7,4 @@ pub mod States
 pub mod Stepping
 pub mod LinkedStepping
 pub mod Statements
+pub mod Parties

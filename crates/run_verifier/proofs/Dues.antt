@@ -8,7 +8,8 @@ use Rattle.run_verifier.specs.Verdicts.{IsInvalidAt, IsValid}
 use Rattle.run_verifier.proofs.VerdictLemmas.{never_both as never_verdicts}
 use Rattle.run_verifier.specs.declared.ending.Ending.{Ending}
 use Rattle.run_verifier.specs.declared.ending.Ending.TheVariants as ended
-use Rattle.run_verifier.specs.Checking.{Finds, IsChecked, IsUnchecked, Too_much, No_trace, slots_of}
+use Rattle.run_verifier.specs.Checking.{Finds, IsChecked, IsUnchecked, Too_much, No_trace}
+use Rattle.run_verifier.specs.Fabrics.{slots_of}
 use Rattle.run_verifier.specs.Statuses.{status_of}
 use Rattle.run_verifier.proofs.Divisions.{one_division}
 

@@ -1,5 +1,5 @@
 -- A report that is read with its trace, and the verdict on it. Source: this project.
-use Rattle.std.specs.Prelude.{ℕ, Bool, true, false, List, [], ◌∷◌, ◌++◌, ◌≡◌, ◌≢◌, ◌⊎◌, ◌<◌, ◌≤◌, All, codes, length}
+use Rattle.std.specs.Prelude.{ℕ, Bool, List, [], ◌∷◌, ◌++◌, ◌≡◌, ◌≢◌, ◌<◌, ◌≤◌, All, codes, length}
 use Rattle.exchange_events.specs.declared.trace.Trace.{Trace}
 use Rattle.trace_text.specs.declared.fault.Reason.{Reason}
 use Rattle.trace_text.specs.declared.fault.Reason.TheVariants as reason
@@ -7,6 +7,7 @@ use Rattle.trace_text.specs.TraceGrammar.{IsTrace, IsRefused}
 use Rattle.trace_text.specs.TraceWords.{AreEnded, lines}
 use Rattle.run_verifier.specs.Verdicts.{IsInvalidAt, IsValid}
 use Rattle.ex_io.specs.Inputs.{IsInputWithin}
+use Rattle.run_verifier.specs.Fabrics.{slots_of}
 use Rattle.run_verifier.specs.Refusals.{Says, line_of}
 use Rattle.ex_io.specs.Streams.{HasFailed, IsUntouched, Stream}
 use Rattle.run_verifier.specs.declared.ending.Ending.{Ending}
@@ -52,11 +53,6 @@ pub data IsUnchecked (bytes : List ℕ) (number : ℕ) (why : Reason) : Type 0 w
   No_trace : length bytes ≤ max_checked → (trace report : List ℕ) → IsDivided bytes trace report → IsRefused trace number why → IsUnchecked bytes number why
 
 -- ---- the verdict
-
--- the number of internal slots of a strict fabric, and of the other
-abbrev pub slots_of : Bool → ℕ
-slots_of true = 59
-slots_of false = 30
 
 -- the finding on an input, by the ending of the call that reports it
 abbrev pub Finds : Bool → List ℕ → Ending → Type 0

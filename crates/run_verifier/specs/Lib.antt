@@ -3,6 +3,7 @@ pub mod Faults
 pub mod Turns
 pub mod Replaying
 pub mod Verifying
+pub mod Fabrics
 pub mod Statuses
 pub mod Refusals
 pub mod Checking

@@ -1,7 +1,8 @@
 //! A report that is read with its trace, and verified against it.
 ghost use Rattle.std.specs.Prelude.{◌≡◌, ◌⊎◌, IfOk};
 ghost use Rattle.run_verifier.specs.declared.ending.Ending.TheVariants.{ReadFailed, Refused, WriteFailed};
-ghost use Rattle.run_verifier.specs.Checking.{Checks, Finds, IsDivided, IsFirstLine, max_checked, slots_of};
+ghost use Rattle.run_verifier.specs.Checking.{Checks, Finds, IsDivided, IsFirstLine, max_checked};
+ghost use Rattle.run_verifier.specs.Fabrics.{slots_of};
 ghost use Rattle.ex_io.specs.Inputs.{max_bytes_read};
 ghost use Rattle.run_verifier.specs.Refusals.{invalid_line, line_of};
 ghost use Rattle.ex_io.specs.Streams.{ConsumesAtMost, stream};

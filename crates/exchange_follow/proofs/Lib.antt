@@ -1,0 +1,5 @@
+pub mod Changed
+pub mod Handled
+pub mod HandledSteps
+pub mod FollowedEndings
+pub mod Pieces

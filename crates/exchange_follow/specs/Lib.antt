@@ -1,0 +1,4 @@
+pub mod Following
+pub mod Handling
+pub mod Followers
+pub mod Pieces

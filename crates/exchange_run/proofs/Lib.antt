@@ -1,0 +1,10 @@
+pub mod Reports
+pub mod Pending
+pub mod Answered
+pub mod Stories
+pub mod Underway
+pub mod Steps
+pub mod Making
+pub mod Kept
+pub mod Endings
+pub mod Sums
