@@ -1,3 +1,4 @@
+pub mod Passing
 pub mod Changed
 pub mod Handled
 pub mod HandledSteps

@@ -13,6 +13,8 @@ use Rattle.trace_text.specs.TraceLines.{line_limits}
 use Rattle.line_wire.specs.Following.{Dues}
 use Rattle.linked_exchange.specs.declared.exchange.LinkedExchange.{LinkedExchange}
 use Rattle.linked_text.specs.declared.said.LinkHappening.{LinkHappening}
+use Rattle.linked_text.specs.declared.said.LinkHappening.TheVariants as effect
+use Rattle.trace_text.specs.declared.heading.Happening.TheVariants as happening
 use Rattle.linked_text.specs.LinkEffects.{IsInTurnRead, in_turn, linked_in, plain_told}
 use Rattle.linked_text.specs.LinkLines.{Content, LinkSoFar}
 use Rattle.followed_events.specs.InTurn.{EachInTurn, setting_in_turn, story_in_turn, world_in_turn}
@@ -54,6 +56,12 @@ pub record HasRead {P E : Type 0} (carries : Carrying E) (frames : E → ℕ) (s
   pub short : length line ≤ 65535
   pub few : count < 4294967294
   pub read : IsInTurnRead line_limits before line hap heading
+
+-- a further line ends a segment: it has no effect but to be counted
+pub record OnlyCounts (heading : LinkSoFar) (count : ℕ) (line : List ℕ) : Type 0 where
+  pub short : length line ≤ 65535
+  pub few : count < 4294967294
+  pub read : IsInTurnRead line_limits heading line (effect.Plain happening.SegmentEnd) heading
 
 -- the engine of an exchange after these lines
 pub record IsEngineAfter {P E : Type 0} (carries : Carrying E) (frames : E → ℕ) (sizes : E → Dimensions) (slots : ℕ) (moves : ℕ → ℕ) (ls : List (List ℕ))

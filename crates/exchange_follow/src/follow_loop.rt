@@ -1,5 +1,5 @@
 // The lines of a wire, which an exchange processes in sequence.
-ghost use Rattle.std.specs.Prelude.{◌≡◌, ◌⊎◌, ◌<◌, ◌≤◌, ◌+◌, [], length, drop, IfOk, IfErr, OnOk};
+ghost use Rattle.std.specs.Prelude.{◌≡◌, ◌⊎◌, ◌<◌, ◌≤◌, ◌+◌, ◌++◌, ◌∷◌, [], length, drop, IfOk, IfErr, OnOk, MatchOption};
 ghost use Rattle.line_wire.specs.Following.{CountsReads, CountsWrites, HasNoFeed};
 ghost use Rattle.line_wire.specs.declared.following.Following.TheVariants as ended;
 ghost use Rattle.exchange_follow.specs.Followers.{Ends, EndsIn, EndsWith, GoesOn, GoesToEnd, HandlesLine, IsOwing, IsPending, IsUnder, IsUnread, OwesLine, ReliesBy, StopsLine, StopsOwing};
@@ -52,12 +52,14 @@ fn handle_next<P: Fabric, C: Carrier, R: Threads + Sync>(
     }
 }
 
-// Processes a line, and writes the text if it is long enough.
+// Processes a line in any form, and writes the text if it is long enough. It is a separate function because it clears
+// the large local values of a line with an effect.
 //
 // # Errors
 //
 // The cause for which the call of `follow_lines` ends. The text is still to be written, unless a write failed.
-fn handle_line<W: Wire, P: Fabric, C: Carrier, R: Threads + Sync>(
+#[inline(never)]
+fn handle_any_line<W: Wire, P: Fabric, C: Carrier, R: Threads + Sync>(
     wire: &mut W,
     handler: &mut TraceFollower<'_, P, C, R>,
     line: &[u8],
@@ -87,6 +89,55 @@ fn handle_line<W: Wire, P: Fabric, C: Carrier, R: Threads + Sync>(
     match flush(wire, text) {
         Ok(()) => Ok(()),
         Err(_) => Err(Following::WriteFailed),
+    }
+}
+
+// Processes a line, and writes the text if it is long enough.
+//
+// # Errors
+//
+// The cause for which the call of `follow_lines` ends. The text is still to be written, unless a write failed.
+#[inline(always)]
+fn handle_line<W: Wire, P: Fabric, C: Carrier, R: Threads + Sync>(
+    wire: &mut W,
+    handler: &mut TraceFollower<'_, P, C, R>,
+    line: &[u8],
+    text: &mut Vec<u8>,
+) -> Result<(), Following>
+    requires at { IsOwing ⟦<dyn Meter as Meter>⟧ C.Carrier P.Fabric.own (W.stands wire.old) handler.old text.old }
+    requires one { HasNoFeed line.now }
+
+    ensures done { OnOk result (OwesLine ⟦<dyn Meter as Meter>⟧ C.Carrier P.Fabric.own
+        (W.stands wire.old) (W.stands wire.new) handler.old handler.new line.now text.old text.new) }
+    ensures short { OnOk result (length line.now ≤ 65535) }
+    ensures counted { OnOk result (handler.new.lines ≡ handler.old.lines + 1) }
+    ensures few { OnOk result (handler.new.lines ≤ 4294967294) }
+    ensures steady { OnOk result (W.write_faults wire.new ≡ W.write_faults wire.old) }
+
+    ensures stopped { IfErr result (λ why. StopsOwing ⟦<dyn Meter as Meter>⟧ C.Carrier P.Fabric.own
+        why (W.stands wire.old) (W.stands wire.new) handler.old handler.new line.now text.old text.new) }
+    ensures writes { IfErr result (λ why. CountsWrites why (W.write_faults wire.old) (W.write_faults wire.new)) }
+    ensures reads { W.read_faults wire.new ≡ W.read_faults wire.old }
+    ensures no_read { IfErr result (λ why. CountsReads why 0 0) }
+    ensures end { W.ended wire.old → W.ended wire.new }
+{
+    // Most lines of a trace of messages are `sync`.
+    if handler.only_counts(line) {
+        handler.lines += 1;
+        return Ok(());
+    }
+    handle_any_line(wire, handler, line, text)
+}
+
+// Returns the octets before the first line feed, and the octets after it. `None` if there is no line feed.
+#[inline(always)]
+fn next_line(bytes: &[u8]) -> Option<(&[u8], &[u8])>
+    ensures { MatchOption result (HasNoFeed bytes.now)
+        (λ cut. (bytes.now ≡ cut.0.now ++ 10 ∷ cut.1.now) × HasNoFeed cut.0.now) }
+{
+    match bytes {
+        [b's', b'y', b'n', b'c', b'\n', others @ ..] => Some((&bytes[..4], others)),
+        _ => first_fed(bytes),
     }
 }
 
@@ -123,7 +174,7 @@ fn handle_lines<W: Wire, P: Fabric, C: Carrier, R: Threads + Sync>(
     ensures no_read { IfErr result (λ why. CountsReads why 0 0) }
 {
     let mut rest = bytes;
-    while let Some((line, others)) = first_fed(rest) {
+    while let Some((line, others)) = next_line(rest) {
         handle_line(wire, handler, line, text)?;
         rest = others;
     }

@@ -1,5 +1,5 @@
 //! A trace whose lines are processed in sequence.
-ghost use Rattle.std.specs.Prelude.{◌≡◌, ◌<◌, ◌≤◌, ◌++◌, length, OnOk, OnErr, IsErrOf};
+ghost use Rattle.std.specs.Prelude.{◌≡◌, ◌<◌, ◌≤◌, ◌++◌, codes, length, IsTrue, OnOk, OnErr, IsErrOf};
 ghost use Rattle.line_wire.specs.declared.handler.Stop.TheVariants.{OutOfMemory, Refused};
 ghost use Rattle.run_verifier.specs.Refusals.{refusal};
 
@@ -50,6 +50,7 @@ pub struct TraceFollower<'a, P: PathMap + Drop, C: Carrier, R> {
 
 impl<'a, P: Fabric, C: Carrier, R: Threads + Sync> TraceFollower<'a, P, C, R> {
     ghost use Rattle.exchange_follow.specs.Followers.{FinishesLines, HandlesLine, IsAtLine, IsFollowing, RefusesEnd, RefusesLine, StrandsAt, StrandsEnd, StrandsIn, TakesLine};
+    ghost use Rattle.exchange_follow.specs.Handling.{OnlyCounts};
     ghost use Rattle.followed_events.specs.LinkedStepping.{effect_in};
 
     // Processes the effect of a line.
@@ -107,6 +108,18 @@ impl<'a, P: Fabric, C: Carrier, R: Threads + Sync> TraceFollower<'a, P, C, R> {
                 out,
             ),
         }
+    }
+
+    /// Returns whether a line is `sync` in the common form, after the header and not past the last line. Such a line has
+    /// no effect but to be counted.
+    #[inline(always)]
+    pub fn only_counts(&self, line: &[u8]) -> bool
+        ensures { IsTrue result → OnlyCounts self.now.heading self.now.lines line.now }
+    {
+        if !is_sync(line) || self.lines >= MAX_LINES {
+            return false;
+        }
+        self.heading.plain().sizes().is_some()
     }
 
     /// Processes the next line, given without its line feed, and appends the octets that are due for it.
@@ -179,6 +192,14 @@ impl<'a, P: Fabric, C: Carrier, R: Threads + Sync> TraceFollower<'a, P, C, R> {
             Err(_) => Err(Stop::OutOfMemory),
         }
     }
+}
+
+// Returns whether a line is `sync` in the common form.
+#[inline(always)]
+fn is_sync(line: &[u8]) -> bool
+    ensures { IsTrue result → line.now ≡ codes "sync" }
+{
+    matches!(line, [b's', b'y', b'n', b'c'])
 }
 
 // Appends the refusal of the line with this number to a text. If an allocation fails, the text is unchanged.
