@@ -229,7 +229,7 @@ impl<P: PathMap> CallControl<P> {
         send_bare(out, held, MessageKind::ReleaseComplete);
     }
 
-    // STATUS at a leg in state 10: what a user reports counts if it was asked for its state. In another state than 10 it
+    // STATUS at a leg in state 10: what a user reports counts if it had a STATUS ENQUIRY. In another state than 10 it
     // does not have the call as the exchange has it, and both legs are cleared.
     fn on_report(
         &mut self,
@@ -327,7 +327,7 @@ fn in_state(state: u8, leg: Leg) -> Leg
     Leg { state, ..leg }
 }
 
-/// Returns the leg whose user is asked for its call state, or has reported it.
+/// Returns the leg whose user has a STATUS ENQUIRY to answer, or has answered it.
 pub(crate) fn with_enquiry(enquired: bool, leg: Leg) -> Leg
     ensures { result ≡ with_enquiry enquired leg }
 {

@@ -112,7 +112,7 @@ impl<P: PathMap> CallControl<P> {
         }
     }
 
-    // Starts T309 for a leg in state 10, unless it runs. Its user is asked for its state when the link is up.
+    // Starts T309 for a leg in state 10, unless it runs. Its user gets STATUS ENQUIRY when the link is up.
     fn start_waiting(&mut self, held: HeldLeg)
         requires there { IsThere self.old.map.external held }
         requires count { length self.old.legs.held ≡ 30 * self.old.map.external }

@@ -15,7 +15,7 @@ struct Row {
 }
 
 // The call table: a message of each type, with its cause if it has one.
-const TABLE: [Row; 23] = [
+const TABLE: [Row; 24] = [
     Row {
         octets: b"\x08\x02\x80\x01\x02",
         acts: &[(&[6], Act::Proceeding)],
@@ -79,14 +79,18 @@ const TABLE: [Row; 23] = [
         octets: b"\x08\x02\x00\x01\x5A\x08\x02\x80\xAC",
         acts: &[(EVERY, Act::ReleaseComplete(44))],
     },
-    // A STATUS with the null state, with another state, and with none.
+    // A STATUS with the null state, with states 10 and 1, and with none.
     Row {
         octets: b"\x08\x02\x00\x01\x7D\x08\x02\x80\x9E\x14\x01\x00",
         acts: &[(EVERY, Act::ReleaseComplete(41))],
     },
     Row {
         octets: b"\x08\x02\x00\x01\x7D\x08\x02\x80\x9E\x14\x01\x0A",
-        acts: &[(EVERY, Act::Nothing)],
+        acts: &[(&[10], Act::Report(10)), (EVERY, Act::Nothing)],
+    },
+    Row {
+        octets: b"\x08\x02\x00\x01\x7D\x08\x02\x80\x9E\x14\x01\x01",
+        acts: &[(&[10], Act::Report(1)), (EVERY, Act::Nothing)],
     },
     Row {
         octets: b"\x08\x02\x00\x01\x7D",
@@ -127,6 +131,7 @@ fn leg(state: u8, side: Side) -> Leg {
         cause: 0,
         since: 0,
         resent: false,
+        enquired: false,
     }
 }
 
