@@ -49,7 +49,9 @@ fn act_of(state: u8, kind: MessageKind, cause: u8, reported: Option<u8>) -> Act
         MessageKind::ReleaseComplete if before_release_request || releasing => Act::ReleaseComplete(
             cause,
         ),
-        MessageKind::Status if before_release_request || releasing => act_of_status(state, reported),
+        MessageKind::Status if before_release_request || releasing => act_of_status(
+            state, reported,
+        ),
         MessageKind::StatusEnquiry if before_release_request || releasing => Act::Enquiry,
         MessageKind::Progress
         | MessageKind::Notify
