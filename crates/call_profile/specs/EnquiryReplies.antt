@@ -46,7 +46,7 @@ pub record IsReply (s : Setting) (w : World) (line : ℕ) (octets : List ℕ) (h
 abbrev pub unchanged : World → MessageOutcome
 unchanged w = record { making = making_at w; recorded = [] }
 
--- the enquiry ends, and nothing else changes
+-- the enquiry ends; no other leg changes, and nothing is sent or recorded
 abbrev pub confirmed : World → HeldLeg → MessageOutcome
 confirmed w h = record {
   making = record { world = with_legs w (with_leg w.legs h.slot (begun w (with_enquiry false h.leg))); sends = []; moves = None };

@@ -1,6 +1,6 @@
 -- The exchange state after a change of a line's data link. Source: ITU-T Q.931 (05/98), 5.8.8 (data link reset), 5.8.9
--- (data link failure), 5.8.10 (status enquiry) and 5.5 (restart); the clearing of the rest of a call is this project's
--- profile.
+-- (data link failure), 5.8.10 (status enquiry) and 5.5 (restart); the clearing of the rest of a call, and that a call
+-- that is being cleared goes on, are this project's profile.
 use Rattle.std.specs.Prelude.{ℕ, ◌==◌, ◌&&◌, not, Bool, true, false, List, [], ◌∷◌, Option, Some, None, is_some, if◌then◌else◌}
 use Rattle.std.specs.List.{list_any}
 use Rattle.circuit_model.specs.declared.channel.Slot.{Slot}

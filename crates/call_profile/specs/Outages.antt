@@ -56,8 +56,8 @@ pub record MayEnquire (down : Bool) (leg : Leg) : Type 0 where
   pub states : is_among enquired_in leg.state ≡ true
   pub up : leg.state ≡ active → down ≡ false
 
--- each line has a data link, and each slot a flag of what its user is owed; T309 of a leg in active runs if and only if the link of its line is down, an enquiry is open
--- only while it is up, and a RESTART is owed only while it is down
+-- each line has a data link, and each slot a flag of what its user is owed; T309 of a leg in active runs if and only if
+-- the link of its line is down, an enquiry is open only while it is up, and a RESTART is owed only while it is down
 pub record OutagesStand (external : ℕ) (legs : Legs) : Type 0 where
   pub links : length legs.down ≡ external
   pub flags : length legs.owed ≡ 30 * external

@@ -1,5 +1,5 @@
--- What the end of an outage leaves of each channel of a line: no call is left on one side only. Source: ITU-T Q.931
--- (05/98), 5.8.9, 5.8.10 and 5.5.
+-- What the establishment of a data link leaves of each channel of its line. Source: ITU-T Q.931 (05/98), 5.8.8 to 5.8.10
+-- and 5.5.
 use Rattle.std.specs.Prelude.{◌≡◌, ◌≢◌, true, false, is_some, Contains, Option, Some, None, ℕ}
 use Rattle.circuit_model.specs.declared.channel.Slot.{Slot}
 use Rattle.q931_codec.specs.CallStates.{active}
@@ -41,8 +41,8 @@ pub record IsEnquired (m : Making) (x : Slot) (leg : Leg) : Type 0 where
   pub flag : leg.enquired ≡ true
   pub sent : Contains m.sends (enquiry_signal x leg)
 
--- a channel with a leg: in active its user was sent STATUS ENQUIRY; while it is being cleared its timer runs; in every other state it is
--- unchanged, since its call was set up while the link was down
+-- a channel with a leg: in active its user was sent STATUS ENQUIRY; while it is being cleared it has a timer; in every
+-- other state it is unchanged
 pub record IsAccounted (before : World) (m : Making) (x : Slot) (leg : Leg) : Type 0 where
   pub in_active : leg.state ≡ active → IsEnquired m x leg
   pub in_clearing : is_among being_cleared leg.state ≡ true → is_some (expiry_in leg.state leg.resent) ≡ true

@@ -89,9 +89,9 @@ pub fn law_of_frame_records()
         → ComeByLine (outcome_of_frame s w input).recorded }
 {}
 
-/// After the failure of a data link, each leg of the line in state 10 waits for the link, since the first failure. Each
-/// that is being cleared, in state 12 or 19, is unchanged, and each other leg of the line is removed. At the other lines, a leg whose peer was removed is in disconnect indication with
-/// cause 27, and each other leg is unchanged.
+/// After the failure of a data link, each leg of the line in state 10 waits for the link, and a wait that runs goes on.
+/// Each that is being cleared, in state 12 or 19, is unchanged, and each other leg of the line is removed. At the other
+/// lines, a leg whose peer was removed is in disconnect indication with cause 27, and each other leg is unchanged.
 pub fn law_of_link_failures()
     ensures gone { (s : Setting) (w : World) (line : ℕ) → HasLine s w line → OthersAreGone s.dimensions.external line w (next s w (LinkDown line)) }
     ensures stays { (s : Setting) (w : World) (line : ℕ) → HasLine s w line → ClearedStay s.dimensions.external line w (next s w (LinkDown line)) }

@@ -34,8 +34,8 @@ ghost use Rattle.call_profile.specs.World.{World, start};
 
 /// T309 of a leg in state 10 runs if and only if the data link of its line is down. An enquiry of a leg in state 10 is
 /// open only while that link is up. A user is owed a RESTART only while the link of its line is down. Every event, and so
-/// every run, preserves this. A data link is down if and only if its last change was a failure. A leg on a line whose link
-/// is up is not due. If no link is down, T309 of no leg expires in any frame. In a trace in which no link fails, none is
+/// every run, preserves this. A data link is down if and only if its last change was a failure. T309 of a leg on a
+/// line whose link is up is not due. If no link is down, T309 of no leg expires in any frame. In a trace in which no link fails, none is
 /// ever down, and T309 never expires.
 pub fn law_of_outages()
     ensures begins { (s : Setting) → OutagesStand s.dimensions.external (start s.dimensions).legs }
@@ -88,18 +88,18 @@ pub fn law_of_lost_legs()
         → IsUnchanged s w input x leg }
 {}
 
-/// After the establishment of a data link, no call is left on one side only. A channel of the line without a leg is owed no
-/// RESTART, and if it was owed one, a RESTART that covers it was sent. The user of each leg in state 10 was sent STATUS
-/// ENQUIRY. A leg that is being cleared, in state 12 or 19, has its timer running. A leg in any other state is unchanged:
-/// its call was set up while the link was down. No call is offered on a channel that is owed a RESTART.
+/// The establishment of a data link accounts for each channel of the line. One without a leg is owed no RESTART, and if
+/// it was owed one, a RESTART that covers it was sent. The user of each leg in state 10 was sent STATUS ENQUIRY. A leg
+/// that is being cleared, in state 12 or 19, has a timer. A leg in any other state is unchanged. No call is offered on a
+/// channel that is owed a RESTART.
 pub fn law_of_reconciliation()
     ensures channels { (s : Setting) (w : World) (line : ℕ) → HasLine s w line → OutagesStand s.dimensions.external w.legs → AreReconciled s w line }
     ensures offered { (s : Setting) (w : World) → OutagesStand s.dimensions.external w.legs → (x : Slot) (t : Found) (y : Slot)
         → IsExternal s.dimensions.external y → called_slot w x t ≡ Some y → is_owed w.legs y ≡ false }
 {}
 
-/// The reply to an enquiry with state 10 ends the enquiry, and changes nothing else. With another state that is not null,
-/// both legs of the call are cleared with cause 101, both users are sent DISCONNECT, and the call is recorded. At a leg
+/// The reply to an enquiry with state 10 ends the enquiry. No other leg changes, and nothing is sent or recorded. With
+/// another state that is not null, both legs of the call are cleared with cause 101, both users are sent DISCONNECT, and the call is recorded. At a leg
 /// whose user was not asked, a STATUS that does not report the null state changes nothing.
 pub fn law_of_enquiry_replies()
     ensures agrees { (s : Setting) (w : World) (line : ℕ) (octets : List ℕ) (h : HeldLeg) (m : Message) → IsReply s w line octets h m active
