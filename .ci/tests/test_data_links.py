@@ -173,7 +173,7 @@ class DataLinks(Attached):
             time.sleep(0.05)
         user = self.user()
         user.establish()
-        user.gets("080280017D0802829F14010A")
+        user.gets("0802800175")
         endpoint.send("M 080280014508028090")
         user.gets("080280014508028290")
         user.connection.close()

@@ -45,8 +45,8 @@ class Links(InFolder):
                     self.assertIn(int(cleared[0].split()[2]), range(48_000, 48_032))
                 # In state 5, after 2 s, the link is up when the user answers the SABME of the exchange.
                 replies = [line.split(" ", 1)[1] for line in report[-3:-1]]
-                status = "" if is_cleared else " 0:02010000080280017D0802829F14010A"
-                wanted = ["link 0:000173", f"link up{status}"] if seconds == 2 else [f"link up 0:000173{status}", "link"]
+                sent = " 0:02010000" + ("0802000046790186" if is_cleared else "0802800175")  # RESTART or STATUS ENQUIRY
+                wanted = ["link 0:000173", f"link up{sent}"] if seconds == 2 else [f"link up 0:000173{sent}", "link"]
                 self.assertEqual(replies, wanted)
                 called = [(int(line.split()[2]) + 1) // 8000 for line in report if " send 0:02017F" in line]
                 self.assertEqual(called, [second for second in (1, 2, 3, 4, 6, 7, 8, 9) if second <= seconds])
