@@ -1,7 +1,8 @@
 """Simulated users, who write random traces of calls: they send events to `tst follow` and act on its replies.
 
 Timers are short, so that they expire. Numbers lead to lists of lines, and commands fill lines, so hunts pass full lines
-and find none. On crowded lines new paths move others. In some traces data links go down and come up.
+and find none. On crowded lines new paths move others. In some traces data links go down and come up. Then users report
+their call states, the right one or another, and obey RESTART.
 """
 
 from __future__ import annotations
@@ -25,6 +26,8 @@ from nemzhuul.signalling.q931 import (
     PROGRESS,
     RELEASE,
     RELEASE_COMPLETE,
+    RESTART,
+    RESTART_ACKNOWLEDGE,
     SETUP,
     SETUP_ACKNOWLEDGE,
     STATUS,
@@ -54,6 +57,7 @@ REPLIES: dict[int | None, tuple[int | None, ...]] = {
     ALERTING: (CONNECT, None, None, None),
     CALL_PROCEEDING: (ALERTING, ALERTING, CONNECT, None),
 }
+CALL_STATES = ("14010A", "14010A", "14010A", "14010A", "140101", "140104", "14010C", "140100", "")  # that users report
 
 
 class Leg(NamedTuple):
@@ -73,6 +77,12 @@ class Sent(NamedTuple):
     @property
     def kind(self) -> int:
         return int(self.octets[8:10], 16)
+
+    @property
+    def channel(self) -> str | None:
+        """The digits of the channel, if the message has one."""
+        _, is_there, rest = self.octets[10:].partition("1803A983")
+        return rest[:2] if is_there else None
 
 
 class Setting:
@@ -109,6 +119,8 @@ class Users:
     def __init__(self, setting: Setting, draw: random.Random) -> None:
         self.setting, self.draw = setting, draw
         self.legs: dict[Leg, int | None] = {}  # the kind of the last message
+        self.channels: dict[Leg, str] = {}
+        self.due: list[str] = []  # replies to STATUS ENQUIRY and RESTART that are still to be sent
         self.answers = draw.random()  # how likely a user with an alert answers
         self.pauses = draw.choice((0, 0.02, 0.05))
         self.frames = 0  # frames of a run that are left
@@ -144,6 +156,8 @@ class Users:
             return self.waiting.pop(0)
         if draw.random() < self.outages:
             return self.link()
+        if self.due and draw.random() < 0.3:
+            return self.due.pop(0)
         if self.frames == 0 and draw.random() < self.pauses:
             self.frames = draw.randint(30, 90)
         if self.frames:
@@ -161,12 +175,14 @@ class Users:
         return draw.choices(acts, (9, 5, 2, 2, 4))[0]() or self.setup()
 
     def link(self) -> str:
-        """A data link goes down, or mostly up if it is down."""
-        line = self.draw.randrange(self.setting.external)
+        """A data link goes down, or mostly up if it is down. At times frames follow in which timers expire."""
+        is_of_these = self.down and self.draw.random() < 0.5
+        line = self.draw.choice(sorted(self.down)) if is_of_these else self.draw.randrange(self.setting.external)
         if (line in self.down) != (self.draw.random() < 0.2):
             self.down.discard(line)
             return f"up {line}"
         self.down.add(line)
+        self.frames = max(self.frames, self.draw.choice((0, 0, 30, 100)))
         return f"down {line}"
 
     def slot(self) -> str:
@@ -232,10 +248,27 @@ class Users:
         for sent in messages:
             word = int(sent.octets[4:8], 16)
             leg = Leg(sent.line, word & 0x7FFF, 1 - (word >> 15))
-            if sent.kind == RELEASE_COMPLETE:
+            if sent.kind == RESTART:
+                self.obey(sent)
+            elif sent.kind == STATUS_ENQUIRY:
+                self.report(leg)
+            elif sent.kind == RELEASE_COMPLETE:
                 self.legs.pop(leg, None)
             elif sent.kind != STATUS and leg.reference:
                 self.legs[leg] = sent.kind
+                if sent.channel:
+                    self.channels[leg] = sent.channel
+
+    def obey(self, restart: Sent) -> None:
+        """Drops the calls of the channels that are restarted."""
+        for leg in [leg for leg in self.legs if leg.line == restart.line and restart.channel in (None, self.channels.get(leg))]:
+            del self.legs[leg]
+        self.due.append(f"M {restart.line} 08028000{RESTART_ACKNOWLEDGE:02X}{restart.octets[10:]}")
+
+    def report(self, leg: Leg) -> None:
+        """Mostly has a user reply to STATUS ENQUIRY."""
+        if self.draw.random() < 0.8:
+            self.due.append(self.message(leg, STATUS, "0802809E" + self.draw.choice(CALL_STATES)))
 
 
 def sent_in(reply: str) -> Iterator[Sent]:
