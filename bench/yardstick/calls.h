@@ -27,7 +27,7 @@ static uint32_t references[EXTERNAL];
 
 static uint32_t down; // the lines whose data links are down
 
-// The places of each line whose users still have to get RESTART, because the leg is gone.
+// The places of each line whose users are owed a RESTART, since nothing was sent when their legs were removed.
 static uint32_t owed[EXTERNAL];
 
 static Leg *leg(Slot x) { return &legs[x.line][x.place]; }

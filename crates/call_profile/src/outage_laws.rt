@@ -35,8 +35,8 @@ ghost use Rattle.call_profile.specs.World.{World, start};
 /// T309 of a leg in state 10 runs if and only if the data link of its line is down. An enquiry of a leg in state 10 is
 /// open only while that link is up. A user is owed a RESTART only while the link of its line is down. Every event, and so
 /// every run, preserves this. A data link is down if and only if its last change was a failure. T309 of a leg on a
-/// line whose link is up is not due. If no link is down, T309 of no leg expires in any frame. In a trace in which no link fails, none is
-/// ever down, and T309 never expires.
+/// line whose link is up is not due. If no link is down, T309 of no leg expires in any frame. In a trace in which no
+/// link fails, none is ever down, and T309 never expires.
 pub fn law_of_outages()
     ensures begins { (s : Setting) → OutagesStand s.dimensions.external (start s.dimensions).legs }
     ensures kept { (s : Setting) (w : World) (e : Event) → Fits s.dimensions.external e → CallsStand s w
@@ -99,8 +99,8 @@ pub fn law_of_reconciliation()
 {}
 
 /// The reply to an enquiry with state 10 ends the enquiry. No other leg changes, and nothing is sent or recorded. With
-/// another state that is not null, both legs of the call are cleared with cause 101, both users are sent DISCONNECT, and the call is recorded. At a leg
-/// whose user was not asked, a STATUS that does not report the null state changes nothing.
+/// another state that is not null, both legs of the call are cleared with cause 101, both users are sent DISCONNECT, and
+/// the call is recorded. At a leg whose user was not asked, a STATUS that does not report the null state changes nothing.
 pub fn law_of_enquiry_replies()
     ensures agrees { (s : Setting) (w : World) (line : ℕ) (octets : List ℕ) (h : HeldLeg) (m : Message) → IsReply s w line octets h m active
         → outcome_of_octets s w line octets ≡ confirmed w h }
