@@ -11,7 +11,10 @@ use Rattle.q931_codec.specs.Contents.{complete_in}
 use Rattle.q931_codec.specs.Causes.{destination_out_of_order, invalid_number_format, no_channel_available, switching_equipment_congestion, unallocated_number}
 use Rattle.q931_codec.specs.Outgoing.{encoding}
 use Rattle.call_states.specs.declared.leg.Leg.{Leg}
+use Rattle.call_states.specs.declared.leg.HeldLeg.{HeldLeg}
 use Rattle.call_states.specs.declared.pending.Pending.{Pending}
+use Rattle.call_profile.specs.ActCourse.{course_of_report}
+use Rattle.call_profile.specs.Course.{Course, nothing}
 use Rattle.exchange_events.specs.declared.signal.Signal.{Signal}
 use Rattle.circuit_map.specs.Connections.{Connections}
 use Rattle.call_control.specs.declared.setup_checks.CalledSide.{CalledSide}
@@ -19,7 +22,7 @@ use Rattle.call_control.specs.declared.setup_checks.CalledSide.TheVariants as si
 use Rattle.call_profile.specs.IdleSlots.{idle, lowest_called, hunted}
 use Rattle.call_profile.specs.Legs.{Legs, lowest_free_reference}
 use Rattle.call_profile.specs.Operations.{Operation}
-use Rattle.exchange_events.specs.Sizes.{Dimensions}
+use Rattle.exchange_events.specs.Sizes.{Dimensions, Setting}
 use Rattle.exchange_events.specs.Sound.{line_exists}
 use Rattle.call_profile.specs.Setup.{Check, is_cut_off, await_digits, call_line, call_proceeding, call_room, number_checks, called_checks}
 use Rattle.call_profile.specs.Permitted.{CanSeat}
@@ -56,6 +59,10 @@ abbrev pub IsWithin : ℕ → CalledSide → Type 0
 IsWithin external (side.Line y) = IsExternal external y
 IsWithin external (side.Room room) = Unit {0}
 IsWithin external side.More = Unit {0}
+
+-- the course of a state that the user of a leg reports: none unless it had a STATUS ENQUIRY
+abbrev pub course_of_status : Setting → World → HeldLeg → ℕ → Course
+course_of_status s w h reported = if h.leg.enquired then course_of_report s w h reported else nothing
 
 -- the operations of a call whose called side was chosen
 abbrev pub accept_side : Bool → World → ℕ → Pending → Slot → CalledSide → List Operation

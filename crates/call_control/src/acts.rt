@@ -1,13 +1,13 @@
 //! The operations of each act on the leg of a message and on its peer.
-ghost use Rattle.std.specs.Prelude.{ℕ, ◌≡◌, ◌≢◌, ◌<◌, ◌≤◌, ◌+◌, ◌*◌, [], ◌∷◌, None, Some, IfSome, length, if◌then◌else◌};
+ghost use Rattle.std.specs.Prelude.{ℕ, ◌≡◌, ◌≢◌, ◌<◌, ◌≤◌, ◌+◌, ◌*◌, [], ◌∷◌, None, Some, IfSome, length};
 ghost use Rattle.circuit_model.specs.Extent.{IsExternal};
 ghost use Rattle.circuit_map.specs.Connections.{SameSizes, hears_at};
 ghost use Rattle.q931_codec.specs.Outgoing.{outgoing_of};
 ghost use Rattle.call_states.specs.Acts.{cause_of_act};
 ghost use Rattle.call_states.specs.declared.act.Act.TheVariants as asked;
 ghost use Rattle.q931_codec.specs.CallStates.{active};
-ghost use Rattle.call_profile.specs.ActCourse.{course_of, course_of_report};
-ghost use Rattle.call_profile.specs.Course.{nothing};
+ghost use Rattle.call_profile.specs.ActCourse.{course_of};
+ghost use Rattle.call_control.specs.Choices.{course_of_status};
 ghost use Rattle.call_profile.specs.Acts.{with_progress, with_enquiry, peer_of, with_peer, disconnect, in_disconnect_indication, in_release_request, in_state, tone_of, on_alerting, on_connect, on_disconnect, on_release, remove_leg, clear_with};
 ghost use Rattle.call_control.specs.AtWork.{IsAtWork, EachAtWork};
 ghost use Rattle.call_profile.specs.Calls.{making_by, outcome_by, course_on};
@@ -246,7 +246,7 @@ impl<P: PathMap> CallControl<P> {
         requires peer_there { PeerIsThere self.old.map.external held peer }
         requires room { length out.old.sends + 1 < max_sends }
         ensures makes { (s : Setting) (w : World) → s.tones ≡ tones.now → w.legs ≡ self.old.legs
-            → Performs (if held.leg.enquired then course_of_report s w held reported else nothing).operations self.old.map self.old.legs out.old self.new.map self.new.legs out.new }
+            → Performs (course_of_status s w held reported).operations self.old.map self.old.legs out.old self.new.map self.new.legs out.new }
         ensures moved { out.new.moved ≡ out.old.moved }
         ensures sizes { SameSizes self.old.map self.new.map }
     {
