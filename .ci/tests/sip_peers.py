@@ -7,16 +7,17 @@ import hashlib
 import re
 import socket
 import struct
-from collections.abc import Mapping, Sequence
+from collections.abc import Callable, Mapping, Sequence
 from dataclasses import dataclass, field
+from typing import Protocol
 from unittest import mock
 
 from support import IDLE, InFolder
 from nemzhuul.live.wire import Address
 from nemzhuul.signalling.q931 import (
-    CALL_PROCEEDING,
     CALLED_PARTY_NUMBER,
     CALLING_PARTY_NUMBER,
+    CALL_PROCEEDING,
     CONNECT,
     CONNECT_ACKNOWLEDGE,
     SETUP,
@@ -27,9 +28,10 @@ from nemzhuul.signalling.q931 import (
     read_message,
     write_message,
 )
-from nemzhuul.sip.gateway import Gateway, Settings
-from nemzhuul.sip.messages import Place
-from nemzhuul.sip.trunks import read_users
+from nemzhuul.sip.gateway import Gateway
+from nemzhuul.sip.options import Settings
+from nemzhuul.sip.messages import SocketAddress
+from nemzhuul.sip.users import read_users
 
 PLACES = 30
 PERIOD = 160  # frames
@@ -130,16 +132,28 @@ class Talk:
     answer: Sip = field(default_factory=lambda: Sip("", []))
 
 
+class Side(Protocol):
+    """The gateway, as a telephone sees it."""
+
+    @property
+    def address(self) -> SocketAddress: ...
+
+    def pump(self) -> None:
+        """Has the gateway do all that there is to do."""
+
+    def addCleanup(self, function: Callable[[], object], /) -> None: ...
+
+
 class Telephone:
     """A telephone: a socket for SIP, one for speech, and what came."""
 
     count = 0
 
-    def __init__(self, office: Office, digits: str, password: str = "") -> None:
-        self.office, self.digits, self.password = office, digits, password
+    def __init__(self, test: Side, digits: str, password: str = "") -> None:
+        self.test, self.digits, self.password = test, digits, password
         self.sip, self.media = udp(), udp()
-        office.addCleanup(self.sip.close)
-        office.addCleanup(self.media.close)
+        test.addCleanup(self.sip.close)
+        test.addCleanup(self.media.close)
         self.sequence = 0
 
     @property
@@ -149,8 +163,8 @@ class Telephone:
     # ---- SIP
 
     def send(self, text: bytes) -> None:
-        self.sip.sendto(text, self.office.gateway.transport.place)
-        self.office.pump()
+        self.sip.sendto(text, self.test.address)
+        self.test.pump()
 
     def get(self) -> Sip | None:
         """The next message that has come."""
@@ -248,7 +262,7 @@ class Telephone:
                 return found
 
 
-class Office(InFolder):
+class GatewayTest(InFolder):
     """A gateway, and the line of the exchange that it is attached to."""
 
     LINES: Sequence[str] = USERS
@@ -268,10 +282,14 @@ class Office(InFolder):
         self.listener.bind(path)
         self.listener.listen()
         users = read_users("users", self.LINES)
-        settings = Settings([Address(f"unix:{path}", path)], users, Place(HOST, 0), lead=self.LEAD)
+        settings = Settings([Address(f"unix:{path}", path)], users, SocketAddress(HOST, 0), lead=self.LEAD)
         self.gateway = Gateway(settings, self.clock)
         self.addCleanup(self.gateway.close)
         self.accept()
+
+    @property
+    def address(self) -> SocketAddress:
+        return self.gateway.transport.address
 
     def accept(self) -> None:
         self.line, _ = self.listener.accept()

@@ -5,12 +5,12 @@ from __future__ import annotations
 import re
 
 import support
-from sip_peers import HOST, PERIOD, Office, authorization, description, port_of, udp
+from sip_peers import HOST, PERIOD, GatewayTest, authorization, description, port_of, udp
 from support import IDLE
 from nemzhuul.signalling.q931 import (
     ALERTING,
-    CALL_PROCEEDING,
     CALLED_PARTY_NUMBER,
+    CALL_PROCEEDING,
     CONNECT,
     CONNECT_ACKNOWLEDGE,
     DISCONNECT,
@@ -25,7 +25,7 @@ from nemzhuul.signalling.q931 import (
 EVERY_OCTET = bytes(range(256)) * 5  # eight periods
 
 
-class Calls(Office):
+class Calls(GatewayTest):
     """The calls of a telephone, and to one."""
 
     # ---- signalling

@@ -7,12 +7,12 @@ import struct
 from unittest import mock
 
 import support
-from sip_peers import HOST, PERIOD, USERS, Office, Talk, Telephone, description, port_of
+from sip_peers import HOST, PERIOD, USERS, GatewayTest, Talk, Telephone, description, port_of
 from support import IDLE
 from nemzhuul.signalling.q931 import (
     ALERTING,
-    CALL_PROCEEDING,
     CALLED_PARTY_NUMBER,
+    CALL_PROCEEDING,
     CONNECT,
     CONNECT_ACKNOWLEDGE,
     DISCONNECT,
@@ -29,13 +29,13 @@ from nemzhuul.signalling.q931 import (
 from nemzhuul.sip.causes import CAUSE_OF_STATUS, STATUS_OF_CAUSE
 from nemzhuul.sip.dtmf import key_tone
 from nemzhuul.sip.lines import MAX_CALLS
-from nemzhuul.sip.trunks import read_users
+from nemzhuul.sip.users import read_users
 
 TONE_IN_BAND = Element(PROGRESS_INDICATOR, b"\x81\x88")
 DAY = 100  # seconds after which each timer of a call has ended
 
 
-class Cleared(Office):
+class Cleared(GatewayTest):
     """A test at whose end the gateway has no call, no transaction and no dialog left."""
 
     def tearDown(self) -> None:
@@ -397,7 +397,7 @@ class Trunks(Cleared):
         self.assertEqual(telephone.statuses()[0], 100)
 
 
-class Lead(Office):
+class Lead(GatewayTest):
     LEAD = 20
 
     def test_the_lead(self) -> None:

@@ -8,7 +8,7 @@ from collections.abc import Callable
 from functools import partial
 
 import support
-from sip_peers import HOST, PERIOD, Office, Talk, Telephone, authorization, description, port_of, udp
+from sip_peers import HOST, PERIOD, GatewayTest, Talk, Telephone, authorization, description, port_of, udp
 from support import slow
 from nemzhuul.signalling.q931 import CALL_PROCEEDING, CONNECT, DISCONNECT, RELEASE_COMPLETE, SETUP, channel_identification
 from nemzhuul.sip.limits import MAX_DATAGRAMS
@@ -19,7 +19,7 @@ MAX_SECONDS = 0.25  # of the processor, for a datagram, with the frames and resp
 SCRAPS = (b"\r\n", b"\r\n ", b";", b",", b'"', b"<", b">", b"\0", b"\xff", b"%", b"%41", b":", b"sip:", b"a" * 300, b"9" * 40, b"-1")
 
 
-class Hostile(Office):
+class Hostile(GatewayTest):
     def setUp(self) -> None:
         super().setUp()
         self.drawn = random.Random(76)

@@ -9,10 +9,14 @@ import socket
 import subprocess
 import time
 import unittest
+from collections.abc import Sequence
+from typing import AnyStr
 
 import support
-from sip_peers import HOST, description, port_of, read_sip, udp
+from sip_peers import HOST, Side, Sip, Telephone, description, port_of, read_sip, udp
 from support import EXAMPLES, InFolder, command, environment, needs_program, slow, stream, tool
+from nemzhuul.sip.messages import SocketAddress
+from nemzhuul.sip.transactions import listening_socket
 
 USERS = "101 one-secret\n102 two-secret\n"
 TRIES = 3  # of sipp
@@ -43,7 +47,7 @@ class Started(InFolder):
         self.addCleanup(self.stop, work)
         return work
 
-    def stop(self, work: subprocess.Popen[bytes]) -> None:
+    def stop(self, work: subprocess.Popen[AnyStr]) -> None:
         """Ends a process, which may have to end its own ones."""
         work.terminate()
         try:
@@ -70,12 +74,15 @@ class Started(InFolder):
 
     def gateway(self, *words: str) -> int:
         """Starts tools/sip, and returns its port."""
-        all_words = command("sip", "--listen", f"{HOST}:0", *words)
-        self.work = subprocess.Popen(all_words, cwd=self.folder, env=environment(), stderr=subprocess.PIPE, text=True)
+        return self.listening(command("sip", "--listen", f"{HOST}:0", *words))
+
+    def listening(self, words: Sequence[str]) -> int:
+        """Starts a command that is or has a gateway, and returns its port."""
+        self.work = subprocess.Popen(words, cwd=self.folder, env=environment(), stderr=subprocess.PIPE, text=True)
         self.errors = stream(self.work.stderr)
         self.addCleanup(self.errors.close)
         self.addCleanup(self.work.wait)
-        self.addCleanup(self.work.kill)
+        self.addCleanup(self.stop, self.work)
         found = re.fullmatch(r"sip: listens on 127\.0\.0\.1:([0-9]+)\n", self.until("sip: listens on"))
         assert found
         return int(found[1])
@@ -132,9 +139,75 @@ class Command(Started):
         status, _, said = tool("sip", "--users", "wrong", "unix:x", folder=self.folder)
         self.assertEqual((status, said.startswith("sip: wrong: line 1 is not"), "secret" in said), (1, True, False))
         self.assertEqual(tool("sip", folder=self.folder)[0], 2)
+
+    def test_refused_commands_of_attach(self) -> None:
+        """With wrong options of the gateway, or an address that it cannot have, the exchange does not start."""
+        (self.folder / "wrong").write_text("101 one secret\n")
         (self.folder / "settings").write_text("exchange 1 1 0 1\n")
         status, _, said = tool("attach", "--sip", "wrong", "settings", folder=self.folder)
         self.assertEqual((status, said.startswith("attach: wrong: line 1 is not"), "secret" in said), (1, True, False))
+        used = udp()
+        self.addCleanup(used.close)
+        cases = (
+            ("--sip-listen 127.0.0.1:0", "--sip-listen and --sip-allow need --sip USERS: without passwords, run tools/sip itself"),
+            ("--sip users --line 0 unix:line", "--sip has no line: each line has an address or a data link"),
+            (f"--sip users --sip-listen {HOST}:{port_of(used)}", f"{HOST}:{port_of(used)} cannot be listened on: Address already in use"),
+            ("--sip users --sip-listen 192.0.2.1:5060", "192.0.2.1:5060 cannot be listened on: Cannot assign requested address"),
+            ("--sip users --sip-listen 0.0.0.0:5060", "0.0.0.0 is not an address that a telephone can send to: name one of this machine"),
+        )
+        for words, said in cases:
+            with self.subTest(words=words):
+                self.assertEqual(tool("attach", *words.split(), "settings", folder=self.folder), (1, b"", f"attach: {said}\n"))
+        for words in ("--sip", "--sip users --sip-listen here", "--sip users --sip-allow here"):
+            with self.subTest(words=words):
+                self.assertEqual(tool("attach", *words.split(), "settings", folder=self.folder)[0], 2)
+
+
+class LiveTelephone(Telephone):
+    """A telephone of a gateway that is another process."""
+
+    def __init__(self, test: Side, digits: str, password: str) -> None:
+        super().__init__(test, digits, password)
+        self.sip.settimeout(support.PATIENCE)
+
+    def get(self) -> Sip:
+        return read_sip(self.sip.recv(65_536))
+
+    def gets(self, status: int) -> Sip:
+        """The next response with a status."""
+        while (message := self.get()).status != status:
+            pass
+        return message
+
+
+@needs_program
+class OfAttach(Started):
+    """The gateway that tools/attach starts."""
+
+    def pump(self) -> None:
+        """The gateway works by itself."""
+
+    @property
+    def address(self) -> SocketAddress:
+        return SocketAddress(HOST, self.at)
+
+    def test_it_runs_the_gateway(self) -> None:
+        """A telephone calls a room, and no file of the exchange has a password. The gateway ends with the exchange."""
+        (self.folder / "settings").write_text("exchange 1 1 1 1\nnumber 30 room 0\n")
+        files = [word for name in ("log", "report", "records", "pcap") for word in (f"--{name}", name)]
+        self.at = self.listening(command("attach", "--sip", "users", "--sip-listen", f"{HOST}:0", *files, "settings"))
+        self.until("sip: unix:")
+        telephone = LiveTelephone(self, "101", "one-secret")
+        talk = telephone.calls("30")
+        telephone.acknowledges(talk, telephone.gets(200))
+        telephone.within("BYE", talk)
+        telephone.gets(200)
+        said = self.end()
+        self.assertIn("INVITE 1", said)
+        for text in (said, *((self.folder / name).read_bytes().decode("latin-1") for name in ("log", "report", "records", "pcap"))):
+            self.assertTrue(text)
+            self.assertNotIn("secret", text)
+        listening_socket(self.address).close()
 
 
 class Exchanged(Started):

@@ -13,7 +13,7 @@ from sip_peers import HOST, PERIOD, description, port_of, udp
 from support import IDLE
 from nemzhuul.sip import jitter, rtp, sdp
 from nemzhuul.sip.dtmf import PAUSE, TONE, Tones, key_tone
-from nemzhuul.sip.jitter import Buffer, depths_of
+from nemzhuul.sip.jitter import JitterBuffer, depths_of
 from nemzhuul.sip.mu_law import A_OF_MU, MU_OF_A, linear_of_mu, mu_of_linear
 from nemzhuul.sip.rtp import MAX_PACKETS, Ports, Stream, payload_of
 from nemzhuul.sound import alaw
@@ -30,7 +30,7 @@ class Buffers(unittest.TestCase):
     SOUND = random.Random(1).randbytes(100 * PERIOD)
 
     def setUp(self) -> None:
-        self.buffer = Buffer(depths_of(50))
+        self.buffer = JitterBuffer(depths_of(50))
 
     def run_with(self, arrivals: dict[int, list[tuple[bytes, int]]], periods: int = 120) -> bytes:
         """Plays periods, before each of which some packets arrive."""
@@ -51,7 +51,7 @@ class Buffers(unittest.TestCase):
         self.assertEqual((self.buffer.slips, self.buffer.lost, self.buffer.late, self.buffer.dropped), (0, 0, 0, 0))
 
     def test_another_depth(self) -> None:
-        self.buffer = Buffer(depths_of(100))
+        self.buffer = JitterBuffer(depths_of(100))
         self.assertEqual(self.run_with(self.in_time()).index(self.SOUND), 4 * PERIOD)
 
     def test_packets_out_of_order(self) -> None:
@@ -83,18 +83,20 @@ class Buffers(unittest.TestCase):
         self.assertTrue(self.SOUND in self.run_with(arrivals))
 
     def test_drift(self) -> None:
-        """A sender whose clock is off by 500 ppm costs single octets, no gap, and at most ten slips a second."""
-        for faster in (1.0005, 0.9995):
-            with self.subTest(faster=faster):
-                self.buffer = Buffer(depths_of(50))
+        """A sender whose clock is off costs single octets, no gap, and at most ten slips a second, in any period of frames."""
+        seconds = 120
+        for faster, count in ((1.0005, PERIOD), (0.9995, PERIOD), (1.0005, 8), (0.995, 8)):
+            with self.subTest(faster=faster, count=count):
+                self.buffer = JitterBuffer(depths_of(50))
                 sent = 0
-                for at in range(6_000):
-                    while sent < at * faster + 1:
+                for at in range(0, seconds * 8_000, count):
+                    while sent < at / PERIOD * faster + 1:
                         self.buffer.put(bytes(PERIOD), START + sent * PERIOD & jitter.WHOLE, 7)
                         sent += 1
-                    self.buffer.play(PERIOD)
-                self.assertEqual((self.buffer.gaps, self.buffer.lost, self.buffer.dropped), (0, 0, 0))
-                self.assertTrue(200 < self.buffer.slips <= 1_200, self.buffer.slips)
+                    self.buffer.play(count)
+                self.assertTrue(100 < self.buffer.slips <= 10 * seconds, self.buffer.slips)
+                if faster > 0.999:
+                    self.assertEqual((self.buffer.gaps, self.buffer.lost, self.buffer.dropped), (0, 0, 0))
 
     def test_jitter(self) -> None:
         """Packets up to 20 ms late leave no gap and no slip."""
@@ -160,7 +162,7 @@ class Streams(unittest.TestCase):
         self.stream.agree(sdp.read_sdp(description(port_of(self.end), kinds, more, host)), HOST)
 
     def gives(self, packet: bytes) -> bytes:
-        self.end.sendto(packet, self.stream.place)
+        self.end.sendto(packet, self.stream.address)
         self.stream.receive()
         return self.stream.play(PERIOD)
 
@@ -170,7 +172,7 @@ class Streams(unittest.TestCase):
     def test_mu_law_is_converted(self) -> None:
         self.agree("0")
         sound = bytes(range(256))[:PERIOD]
-        self.stream.hear(sound)
+        self.stream.take_octets(sound)
         packet = self.end.recv(2_048)
         self.assertEqual((packet[1], packet[12:]), (0x80, sound.translate(MU_OF_A)))
         self.assertEqual(self.gives(self.packet(sound, 0)), sound.translate(A_OF_MU))
@@ -195,7 +197,7 @@ class Streams(unittest.TestCase):
         """In a period, not more packets are read than belong to some seconds."""
         self.agree()
         for at in range(MAX_PACKETS + 20):
-            self.end.sendto(self.packet(bytes(PERIOD), stamp=at * PERIOD), self.stream.place)
+            self.end.sendto(self.packet(bytes(PERIOD), stamp=at * PERIOD), self.stream.address)
         self.stream.receive()
         self.assertEqual(self.stream.received, MAX_PACKETS)
 
@@ -203,7 +205,7 @@ class Streams(unittest.TestCase):
         """The packets of one event are one tone."""
         self.agree()
         for end in (0, 0, 0x80, 0x80):
-            self.end.sendto(self.packet(bytes([5, end, 0, 160]), 101, stamp=5), self.stream.place)
+            self.end.sendto(self.packet(bytes([5, end, 0, 160]), 101, stamp=5), self.stream.address)
         self.stream.receive()
         self.assertEqual(bytes(self.stream.tones.waiting), key_tone("5"))
         self.gives(self.packet(bytes([99, 0, 0, 160]), 101, stamp=6))
@@ -211,10 +213,10 @@ class Streams(unittest.TestCase):
 
     def test_hold(self) -> None:
         self.agree("8", ("a=inactive",))
-        self.stream.hear(bytes(PERIOD))
+        self.stream.take_octets(bytes(PERIOD))
         self.assertEqual((self.gives(self.packet(bytes(PERIOD))), self.stream.sent), (b"", 0))
         self.agree("8", (), "0.0.0.0")
-        self.stream.hear(bytes(PERIOD))
+        self.stream.take_octets(bytes(PERIOD))
         self.assertEqual((self.gives(self.packet(bytes(PERIOD))), self.stream.sent), (b"", 0))
 
     def test_no_module_of_speech_has_a_clock(self) -> None:

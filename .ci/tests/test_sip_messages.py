@@ -10,7 +10,7 @@ from dataclasses import replace
 import support
 from sip_peers import Clock, authorization, description
 from nemzhuul.command_line import Refused, WrongWords
-from nemzhuul.commands.sip import read_settings
+from nemzhuul.sip.options import read_settings
 from nemzhuul.sip import sdp
 from nemzhuul.sip.causes import cause_of, status_of
 from nemzhuul.sip.digest import FAILURE_SECONDS, MAX_FAILURES, MAX_NONCES, NONCE_SECONDS, Authenticator
@@ -18,19 +18,19 @@ from nemzhuul.sip.limits import MAX_DATAGRAMS, Networks, Rates
 from nemzhuul.sip.messages import (
     MAX_DATAGRAM,
     Malformed,
-    Place,
     Received,
+    SocketAddress,
     q850_cause,
-    read_address,
     read_message,
+    read_name_address,
     read_uri,
     request,
     response,
 )
 from nemzhuul.sip.registrar import Registrar, Target
-from nemzhuul.sip.trunks import read_users
+from nemzhuul.sip.users import read_users
 
-SOURCE = Place("127.0.0.1", 5070)
+SOURCE = SocketAddress("127.0.0.1", 5070)
 VIA = "SIP/2.0/UDP 127.0.0.1:5070;branch=z9hG4bKx"
 FIELDS = {
     "Via": VIA,
@@ -114,9 +114,9 @@ class Messages(unittest.TestCase):
             self.assertNotIn("hunter2", str(caught.exception))
 
     def test_uris(self) -> None:
-        self.assertEqual(read_uri("SIPS:a%31:pw@[::1]:5061;x=y?z=1").place, Place("::1", 5061))
+        self.assertEqual(read_uri("SIPS:a%31:pw@[::1]:5061;x=y?z=1").address, SocketAddress("::1", 5061))
         self.assertEqual(read_uri("sip:a%31;b:pw@h").user, "a1")
-        self.assertEqual(read_address("sip:1@h;tag=t").tag, "t")
+        self.assertEqual(read_name_address("sip:1@h;tag=t").tag, "t")
         for uri in ("sip:", "sip:@", "http:h", "sip:1@h:99999", "sip:<1>@h"):
             with self.subTest(uri=uri), self.assertRaises(Malformed):
                 read_uri(uri)
@@ -158,18 +158,18 @@ class Messages(unittest.TestCase):
 
 
 class Descriptions(unittest.TestCase):
-    PLACE = Place("127.0.0.1", 20_000)
+    PLACE = SocketAddress("127.0.0.1", 20_000)
 
     def test_an_offer(self) -> None:
         body = description(4000, "0 8 101", ["a=rtpmap:101 telephone-event/8000", "a=ptime:30", "a=sendonly", "m=video 5000 RTP/AVP 96"])
         media = sdp.read_sdp(body)
-        self.assertEqual((media.place, media.kind, media.keys, media.ptime), (Place("127.0.0.1", 4000), sdp.PCMU, 101, 30))
+        self.assertEqual((media.address, media.kind, media.keys, media.ptime), (SocketAddress("127.0.0.1", 4000), sdp.PCMU, 101, 30))
         self.assertEqual((media.wants_octets, media.gives_octets), (False, True))
         answer = sdp.answer(media, self.PLACE, 2).decode()
         self.assertIn("m=audio 20000 RTP/AVP 0 101\r\n", answer)
         self.assertIn("a=recvonly\r\n", answer)
         self.assertIn("m=video 0 RTP/AVP 96\r\n", answer)
-        self.assertEqual(sdp.read_sdp(sdp.offer(self.PLACE)).place, self.PLACE)
+        self.assertEqual(sdp.read_sdp(sdp.offer(self.PLACE)).address, self.PLACE)
 
     def test_hold(self) -> None:
         for line, host, both in (
@@ -247,7 +247,7 @@ class Users(unittest.TestCase):
             self.assertFalse(self.authenticator.is_ignored(self.proof(password="guess")))
             self.assertIsNone(self.user_of(self.proof(password="guess")))
         self.assertTrue(self.authenticator.is_ignored(self.proof()))
-        self.assertFalse(self.authenticator.is_ignored(replace(self.proof(), source=Place("127.0.0.9", 5060))))
+        self.assertFalse(self.authenticator.is_ignored(replace(self.proof(), source=SocketAddress("127.0.0.9", 5060))))
         self.assertFalse(self.authenticator.is_ignored(self.proof(user="102")))
         self.clock.time += FAILURE_SECONDS + 1
         self.assertFalse(self.authenticator.is_ignored(self.proof()))
@@ -281,12 +281,12 @@ class Users(unittest.TestCase):
             self.register(number=6, Contact="<mailto:x>")
 
     def test_peers(self) -> None:
-        self.assertEqual(self.registrar.find("200"), Target("sip:200@127.0.0.1:5080", Place("127.0.0.1", 5080)))
-        self.assertEqual(self.registrar.find("9007"), Target("sip:9007@127.0.0.2:5060", Place("127.0.0.2", 5060)))
-        self.assertEqual(self.registrar.find("9107"), Target("sip:9107@127.0.0.3:5060", Place("127.0.0.3", 5060)))
+        self.assertEqual(self.registrar.find("200"), Target("sip:200@127.0.0.1:5080", SocketAddress("127.0.0.1", 5080)))
+        self.assertEqual(self.registrar.find("9007"), Target("sip:9007@127.0.0.2:5060", SocketAddress("127.0.0.2", 5060)))
+        self.assertEqual(self.registrar.find("9107"), Target("sip:9107@127.0.0.3:5060", SocketAddress("127.0.0.3", 5060)))
         self.assertEqual((self.registrar.find("2001"), self.registrar.find(""), self.registrar.find("9x")), (1, 1, 1))
-        self.assertTrue(self.users.is_peer(Place("127.0.0.1", 5080)))
-        self.assertFalse(self.users.is_peer(Place("127.0.0.1", 5081)))
+        self.assertTrue(self.users.is_peer(SocketAddress("127.0.0.1", 5080)))
+        self.assertFalse(self.users.is_peer(SocketAddress("127.0.0.1", 5081)))
 
     def test_refused_users_files(self) -> None:
         """A line that is refused is not printed: it may be a password."""
@@ -303,17 +303,17 @@ class Users(unittest.TestCase):
 class Limits(unittest.TestCase):
     def test_networks(self) -> None:
         networks = Networks(["192.168.1.0/24"])
-        self.assertTrue(all(map(networks.holds, ("127.0.0.1", "127.9.9.9", "192.168.1.255"))))
-        self.assertFalse(any(map(networks.holds, ("192.168.2.1", "8.8.8.8", "::1", "localhost", ""))))
+        self.assertTrue(all(map(networks.is_allowed, ("127.0.0.1", "127.9.9.9", "192.168.1.255"))))
+        self.assertFalse(any(map(networks.is_allowed, ("192.168.2.1", "8.8.8.8", "::1", "localhost", ""))))
         self.assertFalse(any(map(networks.may_send_to, ("192.168.2.1", "8.8.8.8", "0.0.0.0", "255.255.255.255"))))
 
     def test_rates(self) -> None:
         clock = Clock()
         rates = Rates(clock)
-        self.assertTrue(all(rates.takes("127.0.0.1") for _ in range(MAX_DATAGRAMS)))
-        self.assertEqual((rates.takes("127.0.0.1"), rates.takes("127.0.0.2")), (False, True))
+        self.assertTrue(all(rates.admits("127.0.0.1") for _ in range(MAX_DATAGRAMS)))
+        self.assertEqual((rates.admits("127.0.0.1"), rates.admits("127.0.0.2")), (False, True))
         clock.time += 1
-        self.assertTrue(rates.takes("127.0.0.1"))
+        self.assertTrue(rates.admits("127.0.0.1"))
 
     def test_options(self) -> None:
         settings = read_settings(["--no-passwords", "--buffer", "80", "--lead", "0", "--allow", "10.0.0.0/8", "unix:line"])

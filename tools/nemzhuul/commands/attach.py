@@ -31,8 +31,7 @@ from nemzhuul.programs.program import NAMED, PROGRAM, REMEDY, UNPROVED, misfit, 
 from nemzhuul.signalling.captures import CaptureWriter
 from nemzhuul.signalling.lapd import frame_text
 from nemzhuul.signalling.q931 import SETUP, message_text
-from nemzhuul.sip.beside import telephones
-from nemzhuul.sip.trunks import read_users_file
+from nemzhuul.sip.gateway_process import OPTIONS as SIP_OPTIONS, GatewayProcess
 from nemzhuul.traces.events import FRAMES_PER_SECOND, Arrival, Frame, Link, LinkArrival, Trace
 from nemzhuul.traces.reading import NUMERAL, TraceReader, is_said, lines_of, take_lines
 
@@ -41,7 +40,9 @@ runs the exchange that the file SETTINGS begins (a trace without messages and fr
 endpoint at a time attaches to each line with an ADDRESS: unix:PATH or tcp:HOST:PORT. It ends at signal INT, TERM or HUP.
     --link L unix:PATH  gives line L a data link (LAPD), whose frames are datagrams of a SOCK_SEQPACKET socket, each
                      with two octets of check sequence at its end
-    --sip USERS      runs tools/sip with this users file for all lines without an address, at 127.0.0.1:5060
+    --sip USERS      runs tools/sip with this users file as the endpoint of all lines without an address
+    --sip-listen HOST:PORT  has it listen there (127.0.0.1:5060)
+    --sip-allow NETWORK  has it hear this network too, such as 192.168.1.0/24
     --burst MS       makes the frames of this time at once, 1 to 1000 ms (20)
     --log FILE       writes the trace of all that happens, which `tst follow <FILE` runs again
     --resume LOG     goes on where the exchange with this log ended in any way, and appends to it. Calls go on, and so do
@@ -80,7 +81,7 @@ class Options:
     def __init__(self, words: Sequence[str]) -> None:
         self.addresses: dict[int, Address] = {}  # of the endpoints, by line
         self.links: dict[int, Address] = {}  # of the data links
-        self.users = ""  # path for tools/sip
+        self.sip: list[str] = []  # options of tools/sip
         self.frames = FRAMES_PER_SECOND // 50  # of a burst
         self.seconds: int | None = None
         self.files: dict[str, str | None] = dict.fromkeys((*OUTPUTS, "program"))
@@ -89,7 +90,9 @@ class Options:
         left = list(words)
         while left and left[0].startswith("--"):
             self.option(left.pop(0)[2:], left)
-        if len(left) != 1 or not (self.addresses or self.links or self.users):
+        if self.sip and "--users" not in self.sip:
+            raise Refused("--sip-listen and --sip-allow need --sip USERS: without passwords, run tools/sip itself")
+        if len(left) != 1 or not (self.addresses or self.links or self.sip):
             raise WrongWords
         self.settings = self.read_settings(left[0])
         self.check_files(left[0])
@@ -115,9 +118,8 @@ class Options:
             self.frames = int_of(given[0], 1, 1000) * FRAMES_PER_SECOND // 1000
         elif name == "seconds":
             self.seconds = int_of(given[0], 1, 999_999_999)
-        elif name == "sip":
-            read_users_file(given[0])
-            self.users = given[0]
+        elif name in SIP_OPTIONS:
+            self.sip += [SIP_OPTIONS[name], *given]
         elif name == "resume" and self.files["log"] is None:
             (self.files["log"],) = given
             self.is_resumed = True
@@ -461,14 +463,26 @@ def comment(number: int, octets: bytes, is_sent: bool) -> bytes:
     return f"# line {number} {'gets' if is_sent else 'sends'} {frame_text(octets, not is_sent)}".encode("ascii", "backslashreplace")
 
 
+def gateway_of(options: Options, ends: contextlib.ExitStack) -> GatewayProcess | None:
+    """The gateway of the lines that have no address, if there is to be one."""
+    if not options.sip:
+        return None
+    free = set(range(options.trace.sizes.external)) - {*options.addresses, *options.linked}
+    if not free:
+        raise Refused("--sip has no line: each line has an address or a data link")
+    gateway = GatewayProcess(options.sip, sorted(free), ends)
+    options.addresses.update(gateway.addresses)
+    return gateway
+
+
 def main(*words: str) -> str:
     options = Options(words)
     with contextlib.ExitStack() as ends:
-        if options.users:
-            free = set(range(options.trace.sizes.external)) - {*options.addresses, *options.linked}
-            ends.enter_context(telephones(options.users, options.addresses, sorted(free)))
+        gateway = gateway_of(options, ends)
         live = Live(options, ends)
         live.start()
+        if gateway is not None:
+            gateway.start()
         live.run()
         live.end()
     return ""

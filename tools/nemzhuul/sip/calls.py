@@ -13,9 +13,9 @@ from typing import NamedTuple, Optional, Protocol
 
 from nemzhuul.signalling.q931 import (
     ALERTING,
-    CALL_PROCEEDING,
     CALLED_PARTY_NUMBER,
     CALLING_PARTY_NUMBER,
+    CALL_PROCEEDING,
     CHANNEL_IDENTIFICATION,
     CONNECT,
     CONNECT_ACKNOWLEDGE,
@@ -37,8 +37,8 @@ from nemzhuul.signalling.q931 import (
 from nemzhuul.sip import sdp
 from nemzhuul.sip.causes import (
     INCOMPATIBLE,
-    NO_RESOURCE,
     NORMAL,
+    NO_RESOURCE,
     TEMPORARY_FAILURE,
     TIMER_EXPIRY,
     UNALLOCATED,
@@ -86,7 +86,7 @@ class LineSide(Protocol):
 
 
 @dataclass(frozen=True)
-class Office:
+class CallContext:
     """What the calls of a gateway share."""
 
     transport: Transport
@@ -104,15 +104,15 @@ class Office:
             media = sdp.read_sdp(body)
         except sdp.Unacceptable:
             return None
-        host = media.place.host
+        host = media.address.host
         return media if host == ANYWHERE or self.networks.may_send_to(host) else None
 
 
 class Call:
     """A call of the gateway, on one of its lines."""
 
-    def __init__(self, office: Office, line: LineSide) -> None:
-        self.office, self.line = office, line
+    def __init__(self, context: CallContext, line: LineSide) -> None:
+        self.context, self.line = context, line
         self.leg: Optional[Incoming | Outgoing] = None
         self.reference: Reference | None = None
         self.channel: int | None = None
@@ -126,15 +126,15 @@ class Call:
 
     def begin(self, server: Server) -> None:
         """A SIP user calls: the call reaches the exchange, or is refused at once."""
-        self.leg = leg = Incoming(self.office.transport, self.office.dialogs, self, server)
+        self.leg = leg = Incoming(self.context.transport, self.context.dialogs, self, server)
         came = server.request
         digits = dialled(came.uri)
-        media = self.office.read_media(came.body) if came.body else None
+        media = self.context.read_media(came.body) if came.body else None
         if digits is None:
             leg.refuse(404, UNALLOCATED)
         elif media is None and came.body:
             leg.refuse(488)
-        elif not self.has_stream():
+        elif not self.open_stream():
             leg.refuse(503, NO_RESOURCE)
         else:
             self.agree(media)
@@ -144,10 +144,10 @@ class Call:
         """Takes an offer, or makes one if the user has made none."""
         assert self.stream is not None
         if media is None:
-            self.body = sdp.offer(self.stream.place)
+            self.body = sdp.offer(self.stream.address)
         else:
             self.stream.agree(media, self.host())
-            self.body = sdp.answer(media, self.stream.place)
+            self.body = sdp.answer(media, self.stream.address)
 
     def set_up(self, caller: str, digits: str) -> None:
         self.reference = self.line.new_reference()
@@ -164,7 +164,7 @@ class Call:
             self.send(ALERTING)
 
     def answers(self, body: bytes) -> None:
-        media = self.office.read_media(body)
+        media = self.context.read_media(body)
         if media is None or self.stream is None:
             self.end_incompatible()
             return
@@ -191,16 +191,16 @@ class Call:
             return None
         self.version += 1
         if not body:
-            return sdp.offer(self.stream.place, self.version)
-        media = self.office.read_media(body)
+            return sdp.offer(self.stream.address, self.version)
+        media = self.context.read_media(body)
         if media is None:
             return None
         self.stream.agree(media, self.host())
-        return sdp.answer(media, self.stream.place, self.version)
+        return sdp.answer(media, self.stream.address, self.version)
 
     def acknowledges(self, body: bytes) -> None:
         """The answer to an offer of this side, in ACK."""
-        media = self.office.read_media(body)
+        media = self.context.read_media(body)
         if media is None or self.stream is None:
             self.end_incompatible()
         else:
@@ -213,20 +213,20 @@ class Call:
 
     # ---- from the exchange
 
-    def is_called(self, message: Message) -> None:
+    def take_setup(self, message: Message) -> None:
         """SETUP of the exchange."""
         self.reference = Reference(False, message.reference)
         self.channel = message.channel.number if message.channel else None
         self.line.calls[self.reference] = self
-        found = self.office.registrar.find(message.digits or "")
-        if isinstance(found, int) or not self.has_stream() or self.stream is None:
+        found = self.context.registrar.find(message.digits or "")
+        if isinstance(found, int) or not self.open_stream() or self.stream is None:
             self.send(RELEASE_COMPLETE, cause(found if isinstance(found, int) else NO_RESOURCE))
             self.end()
             return
         self.state = INCOMING_PROCEEDING
         self.send(CALL_PROCEEDING)
-        leg = self.leg = Outgoing(self.office.transport, self.office.dialogs, self, found)
-        leg.invite(calling_digits(message) or "anonymous", sdp.offer(self.stream.place))
+        leg = self.leg = Outgoing(self.context.transport, self.context.dialogs, self, found)
+        leg.invite(calling_digits(message) or "anonymous", sdp.offer(self.stream.address))
 
     def take(self, message: Message) -> None:
         """A further message of the exchange. One that does not fit the call state is ignored."""
@@ -287,7 +287,7 @@ class Call:
         elif leg.state == CONFIRMED:
             leg.bye(value)
         else:
-            self.office.counts[f"refused {value}"] += 1
+            self.context.counts[f"refused {value}"] += 1
             leg.refuse(status_of(value), value)
 
     # ---- the half of Q.931
@@ -326,7 +326,7 @@ class Call:
 
     def wait(self, seconds: float, act: Callable[[], object]) -> None:
         self.stop_timer()
-        self.timer = self.office.timers.after(seconds, act)
+        self.timer = self.context.timers.after(seconds, act)
 
     def stop_timer(self) -> None:
         if self.timer is not None:
@@ -345,17 +345,17 @@ class Call:
 
     # ---- its octets
 
-    def has_stream(self) -> bool:
+    def open_stream(self) -> bool:
         """Opens a stream; false if no port is free."""
         try:
-            self.stream = Stream(self.office.ports, self.office.depths)
+            self.stream = Stream(self.context.ports, self.context.depths)
         except OSError:
             return False
         return True
 
     def host(self) -> str:
         """The address that the call is signalled from."""
-        return self.leg.first_place.host if self.leg is not None else ANYWHERE
+        return self.leg.first_address.host if self.leg is not None else ANYWHERE
 
     def connect_stream(self) -> None:
         """The channel and the stream are joined, once both are known."""
@@ -365,17 +365,17 @@ class Call:
         stream.channel_place = place_of_channel(self.channel)
         if stream.channel_place is not None:
             self.line.open_stream(stream)
-            self.office.timers.after(QUIET / 2, self.look)
+            self.context.timers.after(QUIET / 2, self.probe_if_quiet)
 
-    def look(self) -> None:
+    def probe_if_quiet(self) -> None:
         """Asks a user who sends nothing whether the call still is, so that the call of one who is gone ends."""
         if self.stream is None or self.leg is None or self.leg.state == OVER:
             return
-        self.office.timers.after(QUIET / 2, self.look)
+        self.context.timers.after(QUIET / 2, self.probe_if_quiet)
         if self.leg.state == CONFIRMED and self.stream.quiet >= QUIET * FRAMES_PER_SECOND:
-            self.leg.probe(self.is_there)
+            self.leg.probe(self.take_probe_response)
 
-    def is_there(self, answer: Received | None) -> None:
+    def take_probe_response(self, answer: Received | None) -> None:
         is_gone = answer is None or answer.status in (408, 481)
         if is_gone and self.leg is not None and self.leg.state == CONFIRMED:
             self.leg.bye(TIMER_EXPIRY)

@@ -8,17 +8,17 @@ from typing import Dict, NamedTuple, Protocol, Tuple
 from nemzhuul.sip.messages import (
     Field,
     Malformed,
-    Place,
     Received,
+    SocketAddress,
     q850_cause,
-    read_address,
+    read_name_address,
     read_uri,
     reason,
     request,
     token,
 )
 from nemzhuul.sip.registrar import Target
-from nemzhuul.sip.transactions import METHODS, T1, T2, TIMEOUT, Hear, Server, Transport
+from nemzhuul.sip.transactions import METHODS, T1, T2, TIMEOUT, ResponseHandler, Server, Transport
 
 SDP = Field("content-type", "application/sdp")
 ALLOW = Field("allow", METHODS)
@@ -58,7 +58,7 @@ Dialogs = Dict[Tuple[str, str], "Leg"]  # by Call-ID and the tag of this side
 class Party(NamedTuple):
     """The other side of a dialog, and its routes."""
 
-    address: str  # the value of To in requests of this side
+    to: str  # the value of To in requests of this side
     target: str
     routes: tuple[str, ...] = ()
 
@@ -74,34 +74,34 @@ class Leg:
         self.their_number = -1
         self.unacknowledged: Server | None = None  # its 2xx has no ACK yet
 
-    def open(self, call_id: str, local: str, party: Party, place: Place) -> None:
-        self.call_id, self.local, self.party, self.first_place = call_id, local, party, place
+    def open(self, call_id: str, local: str, party: Party, address: SocketAddress) -> None:
+        self.call_id, self.local, self.party, self.first_address = call_id, local, party, address
         self.dialogs[call_id, self.tag] = self
 
     @property
     def contact(self) -> Field:
-        return Field("contact", f"<sip:{self.transport.place.host}:{self.transport.place.port}>")
+        return Field("contact", f"<sip:{self.transport.address.host}:{self.transport.address.port}>")
 
-    def place(self) -> Place:
+    def next_hop(self) -> SocketAddress:
         """Where requests go: the first route or the target if it has an address that is heard, else where the first one went."""
-        uri = read_uri(read_address(self.party.routes[0]).uri) if self.party.routes else read_uri(self.party.target)
-        return uri.place if self.transport.networks.holds(uri.host) else self.first_place
+        uri = read_uri(read_name_address(self.party.routes[0]).uri) if self.party.routes else read_uri(self.party.target)
+        return uri.address if self.transport.networks.is_allowed(uri.host) else self.first_address
 
     def fields(self, method: str, number: int) -> list[Field]:
         return [
             Field("from", self.local),
-            Field("to", self.party.address),
+            Field("to", self.party.to),
             Field("call-id", self.call_id),
             Field("cseq", f"{number} {method}"),
             self.contact,
             *(Field("route", route) for route in self.party.routes),
         ]
 
-    def send(self, method: str, hear: Hear, fields: list[Field]) -> None:
+    def send(self, method: str, on_response: ResponseHandler, fields: list[Field]) -> None:
         """Sends a request within the dialog."""
         self.number += 1
         own = self.fields(method, self.number)
-        self.transport.request(method, self.party.target, self.place(), [*own, *fields], hear)
+        self.transport.request(method, self.party.target, self.next_hop(), [*own, *fields], on_response)
 
     def bye(self, cause: int | None = None) -> None:
         """Ends an answered call."""
@@ -109,9 +109,9 @@ class Leg:
             self.end()
             self.send("BYE", lambda answer: None, reason(cause))
 
-    def probe(self, hear: Hear) -> None:
-        """Asks the other side of an answered call whether it still has it; `hear` gets its response or None."""
-        self.send("OPTIONS", hear, [])
+    def probe(self, on_response: ResponseHandler) -> None:
+        """Asks the other side of an answered call whether it still has it; `on_response` gets its response or None."""
+        self.send("OPTIONS", on_response, [])
 
     def end(self) -> None:
         self.state = OVER
@@ -121,7 +121,7 @@ class Leg:
 
     def take_request(self, server: Server) -> None:
         number, method = server.request.sequence
-        if server.request.sender.tag != read_address(self.party.address).tag:
+        if server.request.sender.tag != read_name_address(self.party.to).tag:
             server.answer(481)
             return
         if number <= self.their_number:
@@ -153,7 +153,7 @@ class Leg:
             return
         contact = server.request.get("contact")
         if contact:
-            target = read_address(contact).uri
+            target = read_name_address(contact).uri
             read_uri(target)
             self.party = self.party._replace(target=target)
         body = self.user.offers(server.request.body)
@@ -205,11 +205,11 @@ class Incoming(Leg):
         self.server = server
         came = server.request
         contact = came.get("contact")
-        target = read_address(contact).uri if contact else came.sender.uri
+        target = read_name_address(contact).uri if contact else came.sender.uri
         read_uri(target)
         routes = tuple(came.all("record-route"))
         for route in routes:
-            read_uri(read_address(route).uri)
+            read_uri(read_name_address(route).uri)
         self.their_number = came.sequence.number
         self.open(came.call_id, f"{came.get('to')};tag={self.tag}", Party(came.get("from"), target, routes), came.reply_to)
         server.leg = self
@@ -249,14 +249,14 @@ class Outgoing(Leg):
         self.is_cancelled = self.is_cancel_sent = False
 
     def invite(self, caller: str, body: bytes) -> None:
-        place = self.transport.place
-        local = f"<sip:{caller}@{place.host}:{place.port}>;tag={self.tag}"
-        self.open(f"{token()}@{place.host}", local, Party(f"<{self.target.uri}>", self.target.uri), self.target.place)
+        address = self.transport.address
+        local = f"<sip:{caller}@{address.host}:{address.port}>;tag={self.tag}"
+        self.open(f"{token()}@{address.host}", local, Party(f"<{self.target.uri}>", self.target.uri), self.target.address)
         self.number = 1
         fields = [*self.fields("INVITE", 1), ALLOW, SDP]
-        self.client = self.transport.request("INVITE", self.target.uri, self.target.place, fields, self.hear, body)
+        self.client = self.transport.request("INVITE", self.target.uri, self.target.address, fields, self.take_response, body)
 
-    def hear(self, answer: Received | None) -> None:
+    def take_response(self, answer: Received | None) -> None:
         if answer is None:
             self.finish(408, None)
         elif answer.status < 200:
@@ -268,7 +268,7 @@ class Outgoing(Leg):
             self.finish(answer.status, q850_cause(answer))
         elif self.state == EARLY:
             self.take_answer(answer)
-        elif answer.receiver.tag == read_address(self.party.address).tag:
+        elif answer.receiver.tag == read_name_address(self.party.to).tag:
             self.acknowledge()
         else:
             self.end_branch(answer)
@@ -294,9 +294,9 @@ class Outgoing(Leg):
 
     def party_of(self, answer: Received) -> Party:
         contact = answer.get("contact")
-        target = read_address(contact).uri if contact else self.party.target
+        target = read_name_address(contact).uri if contact else self.party.target
         routes = tuple(answer.all("record-route")[::-1])
-        for uri in (target, *(read_address(route).uri for route in routes)):
+        for uri in (target, *(read_name_address(route).uri for route in routes)):
             read_uri(uri)
         return Party(answer.get("to"), target, routes)
 
@@ -313,7 +313,7 @@ class Outgoing(Leg):
 
     def acknowledge(self) -> None:
         own = [Field("via", self.transport.new_via()), Field("max-forwards", "70")]
-        self.transport.send(request("ACK", self.party.target, [*own, *self.fields("ACK", 1)]), self.place())
+        self.transport.send(request("ACK", self.party.target, [*own, *self.fields("ACK", 1)]), self.next_hop())
 
     def cancel(self, cause: int | None = None) -> None:
         """Ends the call in any state."""

@@ -24,7 +24,7 @@ MAX_PAIRS = 10_000  # of an address and a user, whose failures are counted
 
 
 @dataclass(frozen=True)
-class Reply:
+class Credentials:
     """The words of an Authorization field."""
 
     username: str
@@ -36,8 +36,8 @@ class Reply:
     client_nonce: str
 
 
-def read_reply(text: str) -> Reply | None:
-    """The reply to a challenge of this program; None if the field is not one."""
+def read_credentials(text: str) -> Credentials | None:
+    """The credentials of an Authorization field; None if they are not of digest with MD5 and `auth`."""
     kind, _, rest = text.partition(" ")
     if kind.lower() != "digest":
         return None
@@ -49,17 +49,17 @@ def read_reply(text: str) -> Reply | None:
     names = ("username", "realm", "nonce", "uri", "response", "nc", "cnonce")
     if not usual or not words.get("response", "").isascii():
         return None
-    return Reply(*(words.get(name, "") for name in names))
+    return Credentials(*(words.get(name, "") for name in names))
 
 
-def digest(reply: Reply, method: str, password: str) -> str:
+def digest(credentials: Credentials, method: str, password: str) -> str:
     """The response that RFC 2617 asks for."""
 
     def md5(*parts: str) -> str:
         return hashlib.md5(":".join(parts).encode("utf-8", "surrogateescape")).hexdigest()
 
-    first, second = md5(reply.username, reply.realm, password), md5(method, reply.uri)
-    return md5(first, reply.nonce, reply.count, reply.client_nonce, "auth", second)
+    first, second = md5(credentials.username, credentials.realm, password), md5(method, credentials.uri)
+    return md5(first, credentials.nonce, credentials.count, credentials.client_nonce, "auth", second)
 
 
 class Authenticator:
@@ -76,26 +76,28 @@ class Authenticator:
         """The digits of the user that a request is from; None if it has to prove that."""
         if self.passwords is None:
             return read_uri(request.sender.uri).user
-        reply = read_reply(request.get("authorization"))
-        if reply is None or not self.is_fresh(reply.nonce):
+        credentials = read_credentials(request.get("authorization"))
+        if credentials is None or not self.is_fresh(credentials.nonce):
             return None
-        if self.is_right(reply, request):
-            return reply.username
-        self.fail(request.source.host, reply.username)
+        if self.is_right(credentials, request):
+            return credentials.username
+        self.fail(request.source.host, credentials.username)
         return None
 
-    def is_right(self, reply: Reply, request: Message) -> bool:
+    def is_right(self, credentials: Credentials, request: Message) -> bool:
         assert self.passwords is not None
-        password = self.passwords.get(reply.username)
-        wanted = digest(reply, request.method, token() if password is None else password)
-        if not hmac.compare_digest(wanted, reply.response.lower()) or password is None:
+        password = self.passwords.get(credentials.username)
+        wanted = digest(credentials, request.method, token() if password is None else password)
+        if not hmac.compare_digest(wanted, credentials.response.lower()) or password is None:
             return False
-        return reply.realm == REALM and is_same_user(reply.uri, request.uri) and self.takes_count(reply.nonce, reply.count)
+        if credentials.realm != REALM or not is_same_user(credentials.uri, request.uri):
+            return False
+        return self.takes_count(credentials.nonce, credentials.count)
 
     def challenge(self, request: Message) -> list[Field]:
         """The field of a 401 (RFC 2617)."""
-        reply = read_reply(request.get("authorization"))
-        is_stale = reply is not None and self.is_own(reply.nonce) and not self.is_fresh(reply.nonce)
+        credentials = read_credentials(request.get("authorization"))
+        is_stale = credentials is not None and self.is_own(credentials.nonce) and not self.is_fresh(credentials.nonce)
         stale = ", stale=true" if is_stale else ""
         words = f'Digest realm="{REALM}", nonce="{self.nonce()}", algorithm=MD5, qop="auth"{stale}'
         return [Field("www-authenticate", words)]
@@ -133,7 +135,7 @@ class Authenticator:
     # ---- guesses
 
     def fail(self, host: str, user: str) -> None:
-        """Counts a wrong reply."""
+        """Counts wrong credentials."""
         self.is_muted(host, user)  # forgets failures of long ago
         if len(self.failures) >= MAX_PAIRS:
             del self.failures[next(iter(self.failures))]
@@ -149,8 +151,8 @@ class Authenticator:
 
     def is_ignored(self, request: Received) -> bool:
         """Whether a request is for a user for whom its address has given too many wrong replies."""
-        reply = read_reply(request.get("authorization")) if self.failures else None
-        return reply is not None and self.is_muted(request.source.host, reply.username)
+        credentials = read_credentials(request.get("authorization")) if self.failures else None
+        return credentials is not None and self.is_muted(request.source.host, credentials.username)
 
 
 def is_same_user(one: str, other: str) -> bool:

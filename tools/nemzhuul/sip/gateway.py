@@ -6,40 +6,25 @@ import signal
 import socket
 import time
 from collections import Counter
-from collections.abc import Sequence
-from dataclasses import dataclass
 
-from nemzhuul.command_line import NAME, Refused, say
+from nemzhuul.command_line import NAME, say
 from nemzhuul.live.processes import Loop
-from nemzhuul.live.wire import Address
-from nemzhuul.sip.calls import Call, Office
+from nemzhuul.sip.calls import Call, CallContext
 from nemzhuul.sip.causes import NO_CHANNEL, TEMPORARY_FAILURE
 from nemzhuul.sip.dialogs import Dialogs
 from nemzhuul.sip.digest import Authenticator
 from nemzhuul.sip.jitter import MILLISECOND, depths_of
 from nemzhuul.sip.limits import Networks
 from nemzhuul.sip.lines import Line, LineOptions, Totals
-from nemzhuul.sip.messages import DEFAULT_PORT, Field, Place, Received, read_uri, reason, token
+from nemzhuul.sip.messages import Field, Received, read_uri, reason, token
+from nemzhuul.sip.options import Settings
 from nemzhuul.sip.registrar import Registrar
 from nemzhuul.sip.rtp import COUNTS, Ports
 from nemzhuul.sip.timers import Now, Timers
-from nemzhuul.sip.transactions import METHODS, Server, Transport
-from nemzhuul.sip.trunks import UsersFile
+from nemzhuul.sip.transactions import METHODS, Server, Transport, listening_socket
+from nemzhuul.sip.users import UsersFile
 
 NOTE_SECONDS = 1  # between two remarks on what came
-
-
-@dataclass(frozen=True)
-class Settings:
-    lines: Sequence[Address]
-    users: UsersFile | None  # without one, each telephone is the user that it says
-    listen: Place = Place("127.0.0.1", DEFAULT_PORT)
-    media: tuple[int, int] = (20_000, 29_999)
-    networks: Sequence[str] = ()
-    lead: int = 20  # milliseconds
-    buffer: int = 50  # milliseconds
-    prints_messages: bool = False
-    seconds: int | None = None
 
 
 class Gateway:
@@ -55,21 +40,17 @@ class Gateway:
         self.registrar = Registrar(users, self.timers.now)
         self.dialogs: Dialogs = {}
         self.noted = 0.0
-        listen = settings.listen
-        try:
-            self.transport = Transport(self.loop, self.timers, listen, self, networks)
-        except OSError as error:
-            raise Refused(f"{listen.host}:{listen.port} cannot be listened on: {error.strerror}") from None
-        ports = Ports(listen.host, *settings.media)
-        self.office = Office(
+        self.transport = Transport(self.loop, self.timers, listening_socket(settings.listen), self, networks)
+        ports = Ports(settings.listen.host, *settings.media)
+        self.context = CallContext(
             self.transport, self.timers, self.dialogs, self.registrar, networks, ports, depths_of(settings.buffer), Counter()
         )
-        say(f"{NAME}: listens on {self.transport.place.host}:{self.transport.place.port}")
+        say(f"{NAME}: listens on {self.transport.address.host}:{self.transport.address.port}")
         self.totals = Totals(Counter())
         options = LineOptions(settings.lead * MILLISECOND, settings.prints_messages)
-        self.lines = [Line(self.office, self.loop, self.totals, options, address) for address in settings.lines]
+        self.lines = [Line(self.context, self.loop, self.totals, options, address) for address in settings.lines]
 
-    def notes(self, text: str) -> None:
+    def note(self, text: str) -> None:
         """Says something about what came, once a second at most."""
         now = self.timers.now()
         if now - self.noted >= NOTE_SECONDS:
@@ -84,10 +65,10 @@ class Gateway:
 
     # ---- requests
 
-    def is_requested(self, server: Server) -> None:
+    def take_new_request(self, server: Server) -> None:
         request = server.request
         if request.method == "CANCEL":
-            self.is_cancelled(server)
+            self.take_cancel(server)
         elif not request.uri.lower().startswith(("sip:", "sips:")):
             server.answer(416, token())
         elif request.get("max-forwards") == "0" and request.method != "OPTIONS":
@@ -95,21 +76,21 @@ class Gateway:
         elif request.has("require"):
             server.answer(420, token(), [Field("unsupported", ", ".join(request.all("require")))])
         elif request.receiver.tag:
-            self.is_requested_within(server)
+            self.take_request_within(server)
         elif request.method == "OPTIONS":
             server.answer(200, token(), [Field("allow", METHODS), Field("accept", "application/sdp")])
         elif request.method in ("REGISTER", "INVITE"):
-            self.is_claimed(server)
+            self.authenticate(server)
         else:
             server.answer(481 if request.method in ("BYE", "INFO") else 405, token(), [Field("allow", METHODS)])
 
-    def is_cancelled(self, server: Server) -> None:
+    def take_cancel(self, server: Server) -> None:
         invite = self.transport.invite_of(server.request)
         server.answer(200 if invite else 481, token())
         if invite and invite.leg:
             invite.leg.take_cancel(server.request)
 
-    def is_requested_within(self, server: Server) -> None:
+    def take_request_within(self, server: Server) -> None:
         leg = self.dialogs.get((server.request.call_id, server.request.receiver.tag))
         if leg is None:
             server.answer(481)
@@ -117,17 +98,17 @@ class Gateway:
             server.keep()
             leg.take_request(server)
 
-    def is_acknowledged(self, message: Received) -> None:
+    def take_ack(self, message: Received) -> None:
         leg = self.dialogs.get((message.call_id, message.receiver.tag))
         if leg is not None:
             leg.take_ack(message)
 
-    def is_claimed(self, server: Server) -> None:
+    def authenticate(self, server: Server) -> None:
         """REGISTER and INVITE are from a user who proves that, and INVITE may be from a peer."""
         request = server.request
         user = read_uri(request.sender.uri).user
         if request.method == "INVITE" and self.users.is_peer(request.source):
-            self.is_invited(server)
+            self.begin_call(server)
             return
         if self.authenticator.is_ignored(request):
             return
@@ -137,26 +118,26 @@ class Gateway:
         elif proved != user:
             server.answer(403, token())
         elif request.method == "REGISTER":
-            self.is_registered(server, proved)
+            self.register(server, proved)
         else:
-            self.is_invited(server)
+            self.begin_call(server)
 
-    def is_registered(self, server: Server, user: str) -> None:
+    def register(self, server: Server, user: str) -> None:
         server.keep()
         outcome = self.registrar.register(server.request, user)
         server.answer(outcome.status, token(), outcome.fields)
         if outcome.status == 200:
             binding = self.registrar.binding(user)
-            where = f"at {binding.target.place.host}:{binding.target.place.port}" if binding else "not there"
-            self.notes(f"{user} is {where}")
+            where = f"at {binding.target.address.host}:{binding.target.address.port}" if binding else "not there"
+            self.note(f"{user} is {where}")
 
-    def is_invited(self, server: Server) -> None:
+    def begin_call(self, server: Server) -> None:
         server.keep()
-        self.office.counts["INVITE"] += 1
+        self.context.counts["INVITE"] += 1
         attached = [line for line in self.lines if line.is_attached]
         free = [line for line in attached if line.has_room]
         if free:
-            Call(self.office, min(free, key=lambda line: len(line.calls))).begin(server)
+            Call(self.context, min(free, key=lambda line: len(line.calls))).begin(server)
         else:
             server.answer(503, token(), reason(NO_CHANNEL if attached else TEMPORARY_FAILURE))
 
@@ -192,7 +173,7 @@ class Gateway:
         for call in calls:
             if call.stream is not None:
                 totals.update(call.stream.counts())
-        one, counts = self.transport, self.office.counts
+        one, counts = self.transport, self.context.counts
         invites = ", ".join(f"{name} {value}" for name, value in sorted(counts.items())) or "no INVITE"
         return (
             f"{NAME}: {time.process_time():.2f} s of processor time; {len(calls)} calls now, "

@@ -1,8 +1,8 @@
 """The buffer between packets, which come when they want, and a bearer channel, whose frames are the clock.
 
-A buffer holds the octets that came and were not played. Once in some seconds its least depth is looked at: if it is low,
-single octets are repeated, and if it is high, single octets are left out, until it is neither. That is the slip of a
-plesiochronous line, at most ten a second. A sender on the same clock has none.
+A buffer holds the octets that came and were not played. Every 5 s its least depth is looked at: if it is low, single
+octets are repeated, and if it is high, single octets are left out, until it is neither. That is the slip of a
+plesiochronous line, at most ten a second. A sender on the same clock has none. Frames measure all times.
 """
 
 from __future__ import annotations
@@ -13,8 +13,8 @@ from nemzhuul.traces.events import FRAMES_PER_SECOND, IDLE
 
 MILLISECOND = FRAMES_PER_SECOND // 1000
 FAR = FRAMES_PER_SECOND  # octets from which on a time stamp begins anew
-LOOK = 250  # periods between two looks at the least depth
-SLIP = 5  # periods between two slips
+LOOK = 5 * FRAMES_PER_SECOND  # frames between two looks at the least depth
+SLIP = FRAMES_PER_SECOND // 10  # frames between two slips, at least
 HALF, WHOLE = 1 << 31, (1 << 32) - 1  # of the time stamps
 
 
@@ -32,7 +32,7 @@ def depths_of(milliseconds: int) -> Depths:
     return Depths(ready, ready * 2 // 5, ready * 4)
 
 
-class Buffer:
+class JitterBuffer:
     def __init__(self, depths: Depths) -> None:
         self.depths = depths
         self.octets = bytearray()
@@ -40,7 +40,8 @@ class Buffer:
         self.source = -1  # of the stream that came last
         self.is_playing = False
         self.least = depths.most  # depth since the last look
-        self.periods = self.slips_due = 0
+        self.since_look = self.since_slip = 0  # frames
+        self.slips_due = 0  # octets to leave out, or if negative to repeat
         self.lost = self.late = self.dropped = self.gaps = self.slips = 0
 
     # ---- packets
@@ -80,8 +81,8 @@ class Buffer:
             if len(self.octets) < max(self.depths.ready, count):
                 return b""
             self.is_playing = True
-            self.least, self.periods, self.slips_due = self.depths.most, 0, 0
-        taken = count + self.slip()
+            self.least, self.since_look, self.slips_due = self.depths.most, 0, 0
+        taken = count + self.slip(count)
         octets = bytes(self.octets[:taken])
         del self.octets[:taken]
         if taken > count:
@@ -95,15 +96,17 @@ class Buffer:
             self.least = min(self.least, len(self.octets))
         return octets
 
-    def slip(self) -> int:
+    def slip(self, count: int) -> int:
         """1 if an octet is to be left out, because the buffer was too full at the last look, and -1 if one is repeated."""
-        self.periods += 1
-        if self.periods % SLIP:
-            return 0
-        if self.periods >= LOOK:
+        self.since_look += count
+        self.since_slip += count
+        if self.since_look >= LOOK:
             self.slips_due = max(0, self.least - self.depths.ready) or min(0, self.least - self.depths.low)
-            self.least, self.periods = self.depths.most, 0
-        slip = (self.slips_due > 0) - (self.slips_due < 0)
+            self.least, self.since_look = self.depths.most, 0
+        if not self.slips_due or self.since_slip < SLIP:
+            return 0
+        slip = 1 if self.slips_due > 0 else -1
         self.slips_due -= slip
-        self.slips += abs(slip)
+        self.slips += 1
+        self.since_slip = 0
         return slip

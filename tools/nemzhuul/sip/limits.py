@@ -21,10 +21,10 @@ class Networks:
 
     def __init__(self, allowed: Sequence[str]) -> None:
         self.networks = [ipaddress.IPv4Network(text) for text in ("127.0.0.0/8", *allowed)]
-        self.holds = functools.lru_cache(maxsize=4096)(self._holds)
+        self.is_allowed = functools.lru_cache(maxsize=4096)(self._is_allowed)
         self.may_send_to = functools.lru_cache(maxsize=4096)(self._may_send_to)
 
-    def _holds(self, host: str) -> bool:
+    def _is_allowed(self, host: str) -> bool:
         try:
             address = ipaddress.IPv4Address(host)
         except ValueError:
@@ -33,7 +33,7 @@ class Networks:
 
     def _may_send_to(self, host: str) -> bool:
         """Whether octets may be sent to an address, so that nobody else is flooded: what is heard, or this machine."""
-        return self._holds(host) or is_own(host)
+        return self._is_allowed(host) or is_own(host)
 
 
 def is_own(host: str) -> bool:
@@ -57,7 +57,7 @@ class Rates:
         self.since = now()
         self.counts: dict[str, int] = {}
 
-    def takes(self, host: str) -> bool:
+    def admits(self, host: str) -> bool:
         """Counts a datagram of an address. False if it has sent too many."""
         if self.now() - self.since >= 1 or len(self.counts) > MAX_ADDRESSES:
             self.since = self.now()

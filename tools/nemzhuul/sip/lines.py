@@ -24,7 +24,7 @@ from nemzhuul.signalling.q931 import (
     read_message,
     write_message,
 )
-from nemzhuul.sip.calls import Call, Office, Reference
+from nemzhuul.sip.calls import Call, CallContext, Reference
 from nemzhuul.sip.causes import INVALID_REFERENCE
 from nemzhuul.sip.rtp import Stream
 from nemzhuul.traces.events import IDLE, PLACES
@@ -51,8 +51,8 @@ class LineOptions:
 
 
 class Line:
-    def __init__(self, office: Office, loop: Loop, totals: Totals, options: LineOptions, address: Address) -> None:
-        self.office, self.loop, self.totals, self.options, self.address = office, loop, totals, options, address
+    def __init__(self, context: CallContext, loop: Loop, totals: Totals, options: LineOptions, address: Address) -> None:
+        self.context, self.loop, self.totals, self.options, self.address = context, loop, totals, options, address
         self.number: int | None = None
         self.socket: socket.socket | None = None
         self.calls: MutableMapping[Reference, Call] = {}
@@ -80,7 +80,7 @@ class Line:
         try:
             self.socket = connected(self.address)
         except OSError:
-            self.office.timers.after(RETRY_SECONDS, self.attach)
+            self.context.timers.after(RETRY_SECONDS, self.attach)
             return
         self.socket.setblocking(False)
         self.loop.watch(self.socket, self.receive)
@@ -95,7 +95,7 @@ class Line:
         self.number = None
         for call in list(self.calls.values()):
             call.drop()
-        self.office.timers.after(RETRY_SECONDS, self.attach)
+        self.context.timers.after(RETRY_SECONDS, self.attach)
 
     # ---- to the exchange
 
@@ -174,7 +174,7 @@ class Line:
         if call is not None:
             call.take(message)
         elif message.kind == SETUP and message.flag == 0 and message.channel:
-            Call(self.office, self).is_called(message)
+            Call(self.context, self).take_setup(message)
         elif message.kind == RELEASE and message.reference:
             self.send_message(write_message(1 - message.flag, message.reference, RELEASE_COMPLETE))
         elif message.reference and message.kind not in (RELEASE_COMPLETE, STATUS):
@@ -198,7 +198,7 @@ class Line:
             place = stream.channel_place
             if place is None:
                 continue
-            stream.hear(octets[place::PLACES])
+            stream.take_octets(octets[place::PLACES])
             stream.receive()
             played = stream.play(count)
             first = PLACES * lead + place

@@ -54,7 +54,7 @@ class Field(NamedTuple):
     value: str
 
 
-class Place(NamedTuple):
+class SocketAddress(NamedTuple):
     """An address of IP, and a UDP port."""
 
     host: str
@@ -115,8 +115,8 @@ class Uri:
     port: int
 
     @property
-    def place(self) -> Place:
-        return Place(self.host.strip("[]"), self.port)
+    def address(self) -> SocketAddress:
+        return SocketAddress(self.host.strip("[]"), self.port)
 
 
 def read_uri(text: str) -> Uri:
@@ -136,7 +136,7 @@ def read_port(text: str | None) -> int:
 
 
 @dataclass(frozen=True)
-class Address:
+class NameAddress:
     """The value of a From, To, Contact, Route or Record-Route field."""
 
     uri: str
@@ -147,17 +147,17 @@ class Address:
         return self.parameters.get("tag", "")
 
 
-def read_address(text: str) -> Address:
+def read_name_address(text: str) -> NameAddress:
     text = text.strip()
     quoted = re.match(r'"(?:[^"\\]|\\.)*"', text)
     begin = text.find("<", quoted.end() if quoted else 0)
     if begin < 0:
         uri, _, rest = text.partition(";")
-        return Address(uri.strip(), read_parameters(rest))
+        return NameAddress(uri.strip(), read_parameters(rest))
     end = text.find(">", begin)
     if end < 0:
         raise Malformed("an address has no >")
-    return Address(text[begin + 1 : end].strip(), read_parameters(text[end + 1 :]))
+    return NameAddress(text[begin + 1 : end].strip(), read_parameters(text[end + 1 :]))
 
 
 @dataclass(frozen=True)
@@ -215,11 +215,11 @@ class Message:
 class Received(Message):
     """A message that came, with what is read of its fields."""
 
-    source: Place  # where it came from
-    reply_to: Place  # where the responses to a request go
+    source: SocketAddress  # where it came from
+    reply_to: SocketAddress  # where the responses to a request go
     via: Via
-    sender: Address  # From
-    receiver: Address  # To
+    sender: NameAddress  # From
+    receiver: NameAddress  # To
     sequence: Sequence
 
     @property
@@ -234,8 +234,8 @@ def request(method: str, uri: str, fields: Iterable[Field], body: bytes = b"") -
 # ---- reading
 
 
-def read_message(octets: bytes, source: Place) -> Received:
-    """The message of a datagram that came from a place."""
+def read_message(octets: bytes, source: SocketAddress) -> Received:
+    """The message of a datagram that came from an address."""
     head, end, body = octets.partition(b"\r\n\r\n")
     if not end:
         raise Malformed("it has no empty line")
@@ -279,7 +279,7 @@ def read_fields(lines: list[str]) -> Fields:
     return tuple(fields)
 
 
-def received(message: Message, source: Place) -> Received:
+def received(message: Message, source: SocketAddress) -> Received:
     """A message with its addresses. The Via of a request says where it came from (RFC 3261, RFC 3581)."""
     via = read_via(message.get("via"))
     has_rport = "rport" in via.parameters
@@ -292,8 +292,8 @@ def received(message: Message, source: Place) -> Received:
         fields[at] = Field("via", ";".join(parts))
     return Received(
         method=message.method, uri=message.uri, status=message.status, reason=message.reason, fields=tuple(fields),
-        body=b"", source=source, reply_to=source if has_rport else Place(source.host, via.port), via=via,
-        sender=read_address(message.get("from")), receiver=read_address(message.get("to")), sequence=Sequence(0, ""),
+        body=b"", source=source, reply_to=source if has_rport else SocketAddress(source.host, via.port), via=via,
+        sender=read_name_address(message.get("from")), receiver=read_name_address(message.get("to")), sequence=Sequence(0, ""),
     )  # fmt: skip
 
 

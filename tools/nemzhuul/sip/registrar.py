@@ -6,11 +6,11 @@ import re
 from dataclasses import dataclass
 from typing import NamedTuple
 
-from nemzhuul.sip.messages import Field, Fields, Place, Received, read_address, read_uri
+from nemzhuul.sip.messages import Field, Fields, Received, SocketAddress, read_name_address, read_uri
 from nemzhuul.sip.timers import Now
-from nemzhuul.sip.trunks import UsersFile
+from nemzhuul.sip.users import UsersFile
 
-MIN_SECONDS, USUAL_SECONDS, MAX_SECONDS = 60, 3600, 3600  # of a registration
+MIN_SECONDS, DEFAULT_SECONDS, MAX_SECONDS = 60, 3600, 3600  # of a registration
 MAX_BINDINGS = 10_000
 NUMBER = re.compile("[0-9]{1,20}")
 
@@ -21,7 +21,7 @@ class Target(NamedTuple):
     """The SIP URI of a number, and where requests for it go."""
 
     uri: str
-    place: Place
+    address: SocketAddress
 
 
 class Outcome(NamedTuple):
@@ -54,7 +54,7 @@ class Registrar:
             return binding.target
         peer = self.users.peer_of(digits)
         if peer is not None and NUMBER.fullmatch(digits):
-            return Target(f"sip:{digits}@{peer.place.host}:{peer.place.port}", peer.place)
+            return Target(f"sip:{digits}@{peer.address.host}:{peer.address.port}", peer.address)
         return SUBSCRIBER_ABSENT if digits in self.users.passwords else UNALLOCATED
 
     def binding(self, digits: str) -> Binding | None:
@@ -86,9 +86,9 @@ class Registrar:
 
     def bind(self, digits: str, contact: str, request: Received) -> Outcome | None:
         """Stores where a telephone is. It is sent to where its request came from."""
-        address = read_address(contact)
-        read_uri(address.uri)
-        text = address.parameters.get("expires") or request.get("expires") or str(USUAL_SECONDS)
+        contact_address = read_name_address(contact)
+        read_uri(contact_address.uri)
+        text = contact_address.parameters.get("expires") or request.get("expires") or str(DEFAULT_SECONDS)
         if not re.fullmatch("[0-9]{1,10}", text):
             return Outcome(400)
         seconds = min(int(text), MAX_SECONDS)
@@ -99,7 +99,7 @@ class Registrar:
             return Outcome(423, (Field("min-expires", str(MIN_SECONDS)),))
         if digits not in self.bindings and len(self.bindings) >= MAX_BINDINGS:
             return Outcome(503)
-        target = Target(address.uri, request.source)
+        target = Target(contact_address.uri, request.source)
         self.bindings[digits] = Binding(target, self.now() + seconds, request.call_id, request.sequence.number)
         return None
 

@@ -13,8 +13,8 @@ import struct
 from collections import Counter
 
 from nemzhuul.sip.dtmf import KEYS, Tones
-from nemzhuul.sip.jitter import MILLISECOND, Buffer, Depths
-from nemzhuul.sip.messages import Place
+from nemzhuul.sip.jitter import MILLISECOND, Depths, JitterBuffer
+from nemzhuul.sip.messages import SocketAddress
 from nemzhuul.sip.mu_law import A_OF_MU, MU_OF_A
 from nemzhuul.sip.sdp import PCMA, PCMU, Media
 
@@ -51,20 +51,20 @@ class Ports:
 
 
 class Stream:
-    """The octets of a channel, both ways. In each period, `hear` takes what the exchange sent, and `play` gives what it gets."""
+    """The octets of a channel, both ways. In each period, `take_octets` takes what the exchange sent, and `play` gives what it gets."""
 
     def __init__(self, ports: Ports, depths: Depths) -> None:
         self.socket = ports.open()
-        self.place = Place(*self.socket.getsockname())
+        self.address = SocketAddress(*self.socket.getsockname())
         self.channel_place: int | None = None  # among the places of the line
         self.media: Media | None = None
-        self.sources: tuple[Place, ...] = ()  # from which packets are taken
+        self.sources: tuple[SocketAddress, ...] = ()  # from which packets are taken
         self.sequence = int.from_bytes(os.urandom(2), "big")
         self.stamp = int.from_bytes(os.urandom(4), "big")
         self.source = int.from_bytes(os.urandom(4), "big")
         self.marker = MARKER
         self.unsent = bytearray()
-        self.buffer = Buffer(depths)
+        self.buffer = JitterBuffer(depths)
         self.tones = Tones()
         self.key_stamp: int | None = None
         self.quiet = 0  # octets since a packet came
@@ -75,7 +75,7 @@ class Stream:
         if self.media is None or self.media.kind != media.kind:
             self.unsent.clear()
         self.media = media
-        self.sources = (media.place, Place(host, media.place.port)) if media.gives_octets else ()
+        self.sources = (media.address, SocketAddress(host, media.address.port)) if media.gives_octets else ()
 
     def close(self) -> None:
         self.socket.close()
@@ -89,7 +89,7 @@ class Stream:
 
     # ---- to the telephone
 
-    def hear(self, octets: bytes) -> None:
+    def take_octets(self, octets: bytes) -> None:
         """Takes octets that the exchange sent, and sends whole packets."""
         media = self.media
         if media is None:
@@ -109,7 +109,7 @@ class Stream:
         self.marker = 0
         self.sequence = self.sequence + 1 & 0xFFFF
         try:
-            self.socket.sendto(head + octets, media.place)
+            self.socket.sendto(head + octets, media.address)
             self.sent += 1
         except OSError:
             self.failed += 1

@@ -8,7 +8,7 @@ from collections.abc import Sequence
 from dataclasses import dataclass
 
 from nemzhuul.sip.limits import ANYWHERE, MIN_MEDIA_PORT
-from nemzhuul.sip.messages import Place
+from nemzhuul.sip.messages import SocketAddress
 
 PCMA, PCMU = 8, 0
 NAMES = {PCMA: "PCMA", PCMU: "PCMU"}
@@ -19,7 +19,7 @@ STREAM = re.compile(r"m=audio ([0-9]{1,5})(?:/[0-9]{1,5})? RTP/AVP((?: [0-9]{1,3
 EVENTS = re.compile(r"^a=rtpmap:([0-9]{1,3}) telephone-event/8000", re.M | re.I)
 PTIME = re.compile(r"^a=ptime:([0-9]{1,3})[ \t]*$", re.M)
 MAX_MEDIA = 20
-MIN_PTIME, USUAL_PTIME, MAX_PTIME = 10, 20, 60  # milliseconds
+MIN_PTIME, DEFAULT_PTIME, MAX_PTIME = 10, 20, 60  # milliseconds
 KEYS = 101  # the payload type of telephone events that this side chooses
 
 
@@ -31,7 +31,7 @@ class Unacceptable(Exception):
 class Media:
     """What a description says of its first acceptable audio stream."""
 
-    place: Place
+    address: SocketAddress
     kind: int
     direction: str  # of the other side
     keys: int | None  # the payload type of telephone events
@@ -42,12 +42,12 @@ class Media:
     @property
     def wants_octets(self) -> bool:
         """Whether the other side receives."""
-        return self.direction in ("sendrecv", "recvonly") and self.place.host != ANYWHERE
+        return self.direction in ("sendrecv", "recvonly") and self.address.host != ANYWHERE
 
     @property
     def gives_octets(self) -> bool:
         """Whether the other side sends."""
-        return self.direction in ("sendrecv", "sendonly") and self.place.host != ANYWHERE
+        return self.direction in ("sendrecv", "sendonly") and self.address.host != ANYWHERE
 
 
 def read_sdp(body: bytes) -> Media:
@@ -78,11 +78,11 @@ def read_media(session: str, part: str, parts: Sequence[str], at: int) -> Media 
     events = EVENTS.search(part)
     keys = int(events[1]) if events and int(events[1]) in kinds else None
     ptime = PTIME.search(part)
-    milliseconds = int(ptime[1]) if ptime else USUAL_PTIME
+    milliseconds = int(ptime[1]) if ptime else DEFAULT_PTIME
     if not MIN_PTIME <= milliseconds <= MAX_PTIME:
-        milliseconds = USUAL_PTIME
+        milliseconds = DEFAULT_PTIME
     first_lines = tuple(part.split("\n")[0] for part in parts)
-    return Media(Place(host, int(words[1])), kind, direction, keys, milliseconds, first_lines, at)
+    return Media(SocketAddress(host, int(words[1])), kind, direction, keys, milliseconds, first_lines, at)
 
 
 def read_host(session: str, part: str) -> str | None:
@@ -94,20 +94,20 @@ def read_host(session: str, part: str) -> str | None:
         return None
 
 
-def offer(place: Place, version: int = 1) -> bytes:
-    return written(place, version, [stream_lines(place.port, (PCMA, PCMU), KEYS, USUAL_PTIME, "sendrecv")])
+def offer(address: SocketAddress, version: int = 1) -> bytes:
+    return written(address, version, [stream_lines(address.port, (PCMA, PCMU), KEYS, DEFAULT_PTIME, "sendrecv")])
 
 
-def answer(media: Media, place: Place, version: int = 1) -> bytes:
+def answer(media: Media, address: SocketAddress, version: int = 1) -> bytes:
     """The answer to an offer: its stream is taken, and each other one refused."""
     streams = []
     for at, first in enumerate(media.parts):
         if at == media.at:
             direction = BACK.get(media.direction, media.direction)
-            streams.append(stream_lines(place.port, (media.kind,), media.keys, media.ptime, direction))
+            streams.append(stream_lines(address.port, (media.kind,), media.keys, media.ptime, direction))
         else:
             streams.append([re.sub(r"^(m=\S+) \S+", r"\1 0", first)])
-    return written(place, version, streams)
+    return written(address, version, streams)
 
 
 def stream_lines(port: int, kinds: Sequence[int], keys: int | None, ptime: int, direction: str) -> list[str]:
@@ -119,6 +119,6 @@ def stream_lines(port: int, kinds: Sequence[int], keys: int | None, ptime: int, 
     return [*lines, f"a=ptime:{ptime}", f"a={direction}"]
 
 
-def written(place: Place, version: int, streams: Sequence[Sequence[str]]) -> bytes:
-    lines = ["v=0", f"o=- {place.port} {version} IN IP4 {place.host}", "s=-", f"c=IN IP4 {place.host}", "t=0 0"]
+def written(address: SocketAddress, version: int, streams: Sequence[Sequence[str]]) -> bytes:
+    lines = ["v=0", f"o=- {address.port} {version} IN IP4 {address.host}", "s=-", f"c=IN IP4 {address.host}", "t=0 0"]
     return "\r\n".join([*lines, *(line for stream in streams for line in stream), ""]).encode("utf-8", "replace")

@@ -11,6 +11,7 @@ import socket
 from collections.abc import Callable, Iterable
 from typing import TYPE_CHECKING, Optional, Protocol, Tuple
 
+from nemzhuul.command_line import Refused
 from nemzhuul.live.processes import Loop
 from nemzhuul.sip.limits import Networks, Rates
 from nemzhuul.sip.messages import (
@@ -18,8 +19,8 @@ from nemzhuul.sip.messages import (
     Field,
     Malformed,
     Message,
-    Place,
     Received,
+    SocketAddress,
     read_message,
     request,
     response,
@@ -34,48 +35,46 @@ T1, T2, T4 = 0.5, 4.0, 5.0  # seconds (RFC 3261)
 TIMEOUT = 64 * T1
 MAX_TRANSACTIONS = 5_000  # of servers, from which on requests are not answered
 MAX_TURN = 16  # datagrams that are read before other work is done
+MAX_UNREAD = 1 << 22  # octets of datagrams that wait to be read
 MAGIC = "z9hG4bK"
 METHODS = "INVITE, ACK, CANCEL, BYE, OPTIONS, REGISTER, INFO"
 
 Key = Tuple[str, str, str, str]  # the branch, the sender, the address and the method of a server
-Hear = Callable[[Optional[Received]], object]
+ResponseHandler = Callable[[Optional[Received]], object]
 
 
 class TransportUser(Protocol):
     """Is told what comes."""
 
-    def is_requested(self, server: Server) -> None:
+    def take_new_request(self, server: Server) -> None:
         """A new request has come."""
 
-    def is_acknowledged(self, message: Received) -> None:
+    def take_ack(self, message: Received) -> None:
         """An ACK has come that belongs to no transaction."""
 
-    def notes(self, text: str) -> None:
+    def note(self, text: str) -> None:
         """Something is to be said to the person who runs the program."""
 
 
 class Transport:
     """The socket, with its transactions by key."""
 
-    def __init__(self, loop: Loop, timers: Timers, place: Place, user: TransportUser, networks: Networks) -> None:
+    def __init__(self, loop: Loop, timers: Timers, end: socket.socket, user: TransportUser, networks: Networks) -> None:
         self.timers = timers
         self.user = user
         self.networks = networks
         self.rates = Rates(timers.now)
-        self.socket = socket.socket(socket.AF_INET, socket.SOCK_DGRAM)
-        self.socket.setsockopt(socket.SOL_SOCKET, socket.SO_RCVBUF, 1 << 22)
-        self.socket.bind(place)
-        self.socket.setblocking(False)
-        self.place = Place(*self.socket.getsockname())
+        self.socket = end
+        self.address = SocketAddress(*self.socket.getsockname())
         self.servers: dict[Key, Server] = {}
         self.clients: dict[tuple[str, str], Client] = {}
         self.received = self.sent = self.repeated = self.malformed = self.refused = self.failed = 0
         loop.watch(self.socket, self.receive)
 
-    def send(self, message: Message, place: Place) -> None:
+    def send(self, message: Message, address: SocketAddress) -> None:
         self.sent += 1
         try:
-            self.socket.sendto(message.text(), place)
+            self.socket.sendto(message.text(), address)
         except (OSError, UnicodeError):
             self.failed += 1
 
@@ -88,18 +87,18 @@ class Transport:
             except OSError:  # an earlier datagram did not reach its port
                 continue
             self.received += 1
-            place = Place(*source)
-            if not self.networks.holds(place.host) or not self.rates.takes(place.host) or len(octets) > MAX_DATAGRAM:
+            address = SocketAddress(*source)
+            if not self.networks.is_allowed(address.host) or not self.rates.admits(address.host) or len(octets) > MAX_DATAGRAM:
                 self.refused += 1
             elif octets.strip(b"\r\n\0 "):  # else it keeps a hole in a NAT open
-                self.take_datagram(octets, place)
+                self.take_datagram(octets, address)
 
-    def take_datagram(self, octets: bytes, source: Place) -> None:
+    def take_datagram(self, octets: bytes, source: SocketAddress) -> None:
         try:
             message = read_message(octets, source)
         except Malformed as fault:
             self.malformed += 1
-            self.user.notes(f"{source.host}:{source.port} sent a datagram that is not a message: {fault}")
+            self.user.note(f"{source.host}:{source.port} sent a datagram that is not a message: {fault}")
             if fault.request is not None and fault.request.method != "ACK":
                 self.send(response(fault.request, 400, token()), fault.request.reply_to)
             return
@@ -115,7 +114,7 @@ class Transport:
         server = self.servers.get(key)
         if message.method == "ACK":
             if server is None or not server.acknowledge():
-                self.user.is_acknowledged(message)
+                self.user.take_ack(message)
         elif server is not None:
             self.repeated += 1
             server.repeat()
@@ -125,10 +124,10 @@ class Transport:
     def take_new(self, server: Server) -> None:
         source = server.request.source
         try:
-            self.user.is_requested(server)
+            self.user.take_new_request(server)
         except Malformed as fault:
             self.malformed += 1
-            self.user.notes(f"{source.host}:{source.port} sent a request with a wrong field: {fault}")
+            self.user.note(f"{source.host}:{source.port} sent a request with a wrong field: {fault}")
             if server.status < 200:
                 server.answer(400, token())
 
@@ -138,14 +137,33 @@ class Transport:
         return server if server and server.request.call_id == cancel.call_id else None
 
     def request(
-        self, method: str, uri: str, place: Place, fields: Iterable[Field], hear: Hear, body: bytes = b""
+        self,
+        method: str,
+        uri: str,
+        address: SocketAddress,
+        fields: Iterable[Field],
+        on_response: ResponseHandler,
+        body: bytes = b"",
     ) -> Client:
-        """Sends a request; `hear` gets each response, and None if there is none in time."""
+        """Sends a request; `on_response` gets each response, and None if there is none in time."""
         own = [Field("via", self.new_via()), Field("max-forwards", "70")]
-        return Client(self, request(method, uri, [*own, *fields], body), place, hear)
+        return Client(self, request(method, uri, [*own, *fields], body), address, on_response)
 
     def new_via(self) -> str:
-        return f"SIP/2.0/UDP {self.place.host}:{self.place.port};branch={MAGIC}{token()};rport"
+        return f"SIP/2.0/UDP {self.address.host}:{self.address.port};branch={MAGIC}{token()};rport"
+
+
+def listening_socket(address: SocketAddress) -> socket.socket:
+    """A UDP socket at an address of this machine, or a refusal."""
+    end = socket.socket(socket.AF_INET, socket.SOCK_DGRAM)
+    try:
+        end.setsockopt(socket.SOL_SOCKET, socket.SO_RCVBUF, MAX_UNREAD)
+        end.bind(address)
+    except OSError as error:
+        end.close()
+        raise Refused(f"{address.host}:{address.port} cannot be listened on: {error.strerror}") from None
+    end.setblocking(False)
+    return end
 
 
 def key_of(message: Received, method: str) -> Key:
@@ -204,26 +222,26 @@ class Server:
 class Client:
     """A request that was sent, and is repeated until a response comes."""
 
-    def __init__(self, transport: Transport, request: Message, place: Place, hear: Hear) -> None:
-        self.transport, self.request, self.place, self.hear = transport, request, place, hear
+    def __init__(self, transport: Transport, request: Message, address: SocketAddress, on_response: ResponseHandler) -> None:
+        self.transport, self.request, self.address, self.on_response = transport, request, address, on_response
         self.is_invite = request.method == "INVITE"
         branch = request.get("via").partition("branch=")[2].partition(";")[0]
         self.key = branch, request.method
         self.has_provisional = self.is_over = False
         transport.clients[self.key] = self
-        transport.send(request, place)
+        transport.send(request, address)
         self.repeats = transport.timers.after(T1, lambda: self.repeat(T1))
         self.deadline = transport.timers.after(TIMEOUT, self.expire)
 
     def repeat(self, wait: float) -> None:
         self.transport.repeated += 1
-        self.transport.send(self.request, self.place)
+        self.transport.send(self.request, self.address)
         wait = 2 * wait if self.is_invite else min(2 * wait, T2)
         self.repeats = self.transport.timers.after(wait, lambda: self.repeat(wait))
 
     def expire(self) -> None:
         self.end(0)
-        self.hear(None)
+        self.on_response(None)
 
     def give_up_later(self) -> None:
         """Expires if no final response comes in time after CANCEL (RFC 3261)."""
@@ -238,7 +256,7 @@ class Client:
                     self.repeats.cancel()
                     self.deadline.cancel()
                 self.has_provisional = True
-                self.hear(answer)
+                self.on_response(answer)
             return
         if self.is_invite and answer.status >= 300:
             self.acknowledge(answer)
@@ -246,20 +264,20 @@ class Client:
         if not was_over:
             self.end(TIMEOUT if self.is_invite else T4)
         if not was_over or (self.is_invite and answer.status < 300):
-            self.hear(answer)
+            self.on_response(answer)
 
     def acknowledge(self, answer: Received) -> None:
         """Acknowledges a refusal (RFC 3261)."""
         fields = [*self.own("via", "max-forwards", "from", "call-id"), Field("to", answer.get("to"))]
         fields.append(Field("cseq", f"{answer.sequence.number} ACK"))
-        self.transport.send(request("ACK", self.request.uri, [*fields, *self.routes()]), self.place)
+        self.transport.send(request("ACK", self.request.uri, [*fields, *self.routes()]), self.address)
 
     def cancel(self) -> None:
         """Sends CANCEL (RFC 3261). The final response to the INVITE follows."""
         number = self.request.get("cseq").partition(" ")[0]
         fields = [*self.own("via", "max-forwards", "from", "to", "call-id"), Field("cseq", f"{number} CANCEL")]
         message = request("CANCEL", self.request.uri, [*fields, *self.routes()])
-        Client(self.transport, message, self.place, lambda answer: None)
+        Client(self.transport, message, self.address, lambda answer: None)
         self.give_up_later()
 
     def own(self, *names: str) -> list[Field]:

@@ -13,14 +13,14 @@ from dataclasses import dataclass, field
 from pathlib import Path
 
 from nemzhuul.command_line import Refused
-from nemzhuul.sip.messages import Malformed, Place, read_uri
+from nemzhuul.sip.messages import Malformed, SocketAddress, read_uri
 
 
 @dataclass(frozen=True)
 class Peer:
     digits: str
     is_trunk: bool
-    place: Place
+    address: SocketAddress
 
     def takes(self, digits: str) -> bool:
         return digits.startswith(self.digits) if self.is_trunk else digits == self.digits
@@ -31,8 +31,8 @@ class UsersFile:
     passwords: Mapping[str, str] = field(repr=False)  # by digits
     peers: tuple[Peer, ...] = ()
 
-    def is_peer(self, place: Place) -> bool:
-        return any(peer.place == place for peer in self.peers)
+    def is_peer(self, address: SocketAddress) -> bool:
+        return any(peer.address == address for peer in self.peers)
 
     def peer_of(self, digits: str) -> Peer | None:
         """The peer to which a number goes; of some, the one with the most digits."""
@@ -54,7 +54,7 @@ def read_users(path: str, lines: Iterable[str]) -> UsersFile:
             continue
         digits, value = words if len(words) == 2 else ("", "")
         if value.startswith("sip:") and re.fullmatch(r"[0-9]{1,20}\*?", digits):
-            peers.append(Peer(digits.rstrip("*"), digits.endswith("*"), read_place(f"{path}: line {number}", value)))
+            peers.append(Peer(digits.rstrip("*"), digits.endswith("*"), read_peer_address(f"{path}: line {number}", value)))
         elif re.fullmatch("[0-9]{1,20}", digits) and not value.startswith("sip:") and digits not in passwords:
             passwords[digits] = value
         else:
@@ -63,10 +63,10 @@ def read_users(path: str, lines: Iterable[str]) -> UsersFile:
     return UsersFile(passwords, tuple(peers))
 
 
-def read_place(where: str, text: str) -> Place:
+def read_peer_address(where: str, text: str) -> SocketAddress:
     try:
-        place = read_uri(text).place
-        ipaddress.IPv4Address(place.host)
+        address = read_uri(text).address
+        ipaddress.IPv4Address(address.host)
     except (Malformed, ValueError):
         raise Refused(f"{where} has no address of IPv4 after sip:") from None
-    return place
+    return address
