@@ -37,6 +37,7 @@ PLACES = 30
 PERIOD = 160  # frames
 HOST = "127.0.0.1"
 USERS = ("101 one-secret", "102 two-secret", "103 three-secret")
+ALL_TIMERS = 100  # seconds after which each timer of a call has ended
 
 
 class Clock:
@@ -384,3 +385,19 @@ class GatewayTest(InFolder):
         assert invite is not None
         self.assertEqual(invite.method, "INVITE")
         return invite
+
+
+class ClearedTest(GatewayTest):
+    """A test at whose end the gateway has no call, no transaction and no dialog left, and has printed no password."""
+
+    def tearDown(self) -> None:
+        for line in self.gateway.lines:
+            for call in list(line.calls.values()):
+                call.drop()
+        self.passes(ALL_TIMERS)
+        gateway = self.gateway
+        self.assertEqual((gateway.lines[0].calls, gateway.lines[0].streams, gateway.dialogs), ({}, [], {}))
+        self.assertEqual((gateway.transport.servers, gateway.transport.clients), ({}, {}))
+        for user in USERS:
+            _, password = user.split()
+            self.assertNotIn(password, "\n".join([*self.said, gateway.text(), repr(gateway.settings)]))

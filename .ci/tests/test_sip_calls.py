@@ -7,7 +7,7 @@ import struct
 from unittest import mock
 
 import support
-from sip_peers import HOST, PERIOD, USERS, GatewayTest, Talk, Telephone, description, port_of
+from sip_peers import HOST, PERIOD, USERS, ClearedTest, GatewayTest, Talk, Telephone, description, port_of
 from support import IDLE
 from nemzhuul.signalling.q931 import (
     ALERTING,
@@ -32,23 +32,9 @@ from nemzhuul.sip.lines import MAX_CALLS
 from nemzhuul.sip.users import read_users
 
 TONE_IN_BAND = Element(PROGRESS_INDICATOR, b"\x81\x88")
-DAY = 100  # seconds after which each timer of a call has ended
 
 
-class Cleared(GatewayTest):
-    """A test at whose end the gateway has no call, no transaction and no dialog left."""
-
-    def tearDown(self) -> None:
-        for line in self.gateway.lines:
-            for call in list(line.calls.values()):
-                call.drop()
-        self.passes(DAY)
-        gateway = self.gateway
-        self.assertEqual((gateway.lines[0].calls, gateway.lines[0].streams, gateway.dialogs), ({}, [], {}))
-        self.assertEqual((gateway.transport.servers, gateway.transport.clients), ({}, {}))
-        for secret in ("one-secret", "two-secret", "three-secret"):
-            self.assertNotIn(secret, "\n".join([*self.said, gateway.text(), repr(gateway.settings)]))
-
+class CallTest(ClearedTest):
     def setting_up(self, telephone: Telephone, body: bytes | None = None) -> tuple[Talk, Message]:
         talk = telephone.calls("102", body)
         setup = self.message(SETUP)
@@ -57,7 +43,7 @@ class Cleared(GatewayTest):
         return talk, setup
 
 
-class Refusals(Cleared):
+class Refusals(CallTest):
     def test_causes_of_the_exchange(self) -> None:
         """Each cause before the answer becomes its status, with the cause in Reason."""
         telephone = self.telephone(0)
@@ -139,7 +125,7 @@ class Refusals(Cleared):
         self.assertEqual(self.gateway.lines[0].calls, {})
 
 
-class Unanswered(Cleared):
+class Unanswered(CallTest):
     def test_cancel(self) -> None:
         telephone = self.telephone(0)
         for rings in (False, True):
@@ -225,7 +211,7 @@ class Unanswered(Cleared):
                 self.assertEqual(self.message(DISCONNECT).cause, 88)
 
 
-class Answered(Cleared):
+class Answered(CallTest):
     def heard(self, telephone: Telephone, port: int, octet: int) -> bool:
         """Whether the exchange gets an octet that a telephone says."""
         rows: list[bytes] = []
@@ -363,7 +349,7 @@ class Answered(Cleared):
         self.assertEqual(self.messages, [])
 
 
-class Trunks(Cleared):
+class Trunks(ClearedTest):
     """Calls from and to peers of the users file."""
 
     def test_a_trunk(self) -> None:
