@@ -2,105 +2,17 @@
 
 from __future__ import annotations
 
-import re
-import shutil
 import signal
-import socket
-import subprocess
-import time
 import unittest
-from collections.abc import Sequence
-from typing import AnyStr
 
 import support
-from sip_peers import HOST, Side, Sip, Telephone, description, port_of, read_sip, udp
-from support import EXAMPLES, InFolder, command, environment, needs_program, slow, stream, tool
+from sip_commands import Exchanged, LiveTelephone, Started, needs, port
+from sip_peers import HOST, description, port_of, read_sip, udp
+from support import EXAMPLES, command, needs_program, slow, tool
 from nemzhuul.sip.messages import SocketAddress
 from nemzhuul.sip.transactions import listening_socket
 
-USERS = "101 one-secret\n102 two-secret\n"
 TRIES = 3  # of sipp
-
-
-def port() -> int:
-    """A UDP port that was free a moment ago."""
-    with socket.socket(socket.AF_INET, socket.SOCK_DGRAM) as end:
-        end.bind((HOST, 0))
-        return port_of(end)
-
-
-def needs(program: str) -> bool:
-    return shutil.which(program) is None
-
-
-class Started(InFolder):
-    """Commands that run beside a test, and what the gateway prints."""
-
-    def setUp(self) -> None:
-        super().setUp()
-        (self.folder / "users").write_text(USERS)
-        self.said: list[str] = []
-
-    def start(self, *words: str) -> subprocess.Popen[bytes]:
-        none = subprocess.DEVNULL
-        work = subprocess.Popen(words, cwd=self.folder, env=environment(), stdin=none, stdout=none, stderr=none)
-        self.addCleanup(self.stop, work)
-        return work
-
-    def stop(self, work: subprocess.Popen[AnyStr]) -> None:
-        """Ends a process, which may have to end its own ones."""
-        work.terminate()
-        try:
-            work.wait(3)
-        except subprocess.TimeoutExpired:
-            work.kill()
-            work.wait()
-
-    def until_it_listens(self, at: int) -> None:
-        """Waits until something at a port responds to SIP."""
-        end = udp()
-        self.addCleanup(end.close)
-        end.settimeout(0.2)
-        text = (f"OPTIONS sip:9@{HOST} SIP/2.0", f"Via: SIP/2.0/UDP {HOST}:{port_of(end)};branch=z9hG4bKo", f"From: <sip:1@{HOST}>;tag=1",
-                f"To: <sip:9@{HOST}>", "Call-ID: o", "CSeq: 1 OPTIONS", "Max-Forwards: 9", "Content-Length: 0", "", "")  # fmt: skip
-        for _ in range(5 * support.PATIENCE):
-            end.sendto("\r\n".join(text).encode(), (HOST, at))
-            try:
-                end.recv(8_192)
-                return
-            except OSError:
-                time.sleep(0.1)
-        self.fail("it does not listen")
-
-    def gateway(self, *words: str) -> int:
-        """Starts tools/sip, and returns its port."""
-        return self.listening(command("sip", "--listen", f"{HOST}:0", *words))
-
-    def listening(self, words: Sequence[str]) -> int:
-        """Starts a command that is or has a gateway, and returns its port."""
-        self.work = subprocess.Popen(words, cwd=self.folder, env=environment(), stderr=subprocess.PIPE, text=True)
-        self.errors = stream(self.work.stderr)
-        self.addCleanup(self.errors.close)
-        self.addCleanup(self.work.wait)
-        self.addCleanup(self.stop, self.work)
-        found = re.fullmatch(r"sip: listens on 127\.0\.0\.1:([0-9]+)\n", self.until("sip: listens on"))
-        assert found
-        return int(found[1])
-
-    def until(self, begin: str) -> str:
-        """The next line that begins so."""
-        for line in self.errors:
-            self.said.append(line)
-            if line.startswith(begin):
-                return line
-        self.fail("".join(self.said))
-
-    def end(self) -> str:
-        """Ends the gateway, and returns all that it has printed."""
-        self.work.send_signal(signal.SIGTERM)
-        self.said += self.errors.readlines()
-        self.assertEqual(self.work.wait(), 0, self.said)
-        return "".join(self.said)
 
 
 class Command(Started):
@@ -163,23 +75,6 @@ class Command(Started):
                 self.assertEqual(tool("attach", *words.split(), "settings", folder=self.folder)[0], 2)
 
 
-class LiveTelephone(Telephone):
-    """A telephone of a gateway that is another process."""
-
-    def __init__(self, test: Side, digits: str, password: str) -> None:
-        super().__init__(test, digits, password)
-        self.sip.settimeout(support.PATIENCE)
-
-    def get(self) -> Sip:
-        return read_sip(self.sip.recv(65_536))
-
-    def gets(self, status: int) -> Sip:
-        """The next response with a status."""
-        while (message := self.get()).status != status:
-            pass
-        return message
-
-
 @needs_program
 class OfAttach(Started):
     """The gateway that tools/attach starts."""
@@ -208,31 +103,6 @@ class OfAttach(Started):
             self.assertTrue(text)
             self.assertNotIn("secret", text)
         listening_socket(self.address).close()
-
-
-class Exchanged(Started):
-    """A gateway on line 0 of a running exchange."""
-
-    def attach(self, users: str, settings: str = "exchange 1 2 1 1\nnumber 1 line 0\nnumber 9 line 0\nnumber 30 room 0\n") -> int:
-        (self.folder / "settings").write_text(settings)
-        (self.folder / "users").write_text(users)
-        self.exchange = self.start(*command("attach", "--line", "0", "unix:line", "--log", "log", "settings"))
-        at = self.gateway("--users", "users", "--messages", "unix:line")
-        self.until("sip: unix:line is line 0")
-        return at
-
-    def baresip(self, digits: str, at: int, *words: str, sound: str = "low.wav") -> subprocess.Popen[bytes]:
-        """Starts a telephone of examples/phones with this registrar."""
-        home = self.folder / digits
-        shutil.copytree(EXAMPLES / "phones" / digits, home)
-        account = (home / "accounts").read_text().replace(f"{HOST}>", f"{HOST}:{at}>")
-        (home / "accounts").write_text(account)
-        config = (home / "config").read_text()
-        config = re.sub(r"(?m)^(sip_listen\s+).*$", rf"\g<1>{HOST}:{port()}", config)
-        config = re.sub(r"(?m)^(snd_path\s+).*$", rf"\g<1>{home}", config)
-        config = re.sub(r"aufile,examples/", f"aufile,{self.folder}/", config)
-        (home / "config").write_text(config)
-        return self.start("baresip", "-f", str(home), *words)
 
 
 @needs_program
