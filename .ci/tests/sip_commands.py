@@ -119,11 +119,14 @@ class LiveTelephone(Telephone):
 class Exchanged(Started):
     """A gateway on line 0 of a running exchange."""
 
-    def attach(self, users: str, settings: str = "exchange 1 2 1 1\nnumber 1 line 0\nnumber 9 line 0\nnumber 30 room 0\n") -> int:
+    SETTINGS = "exchange 1 2 1 1\nnumber 1 line 0\nnumber 9 line 0\nnumber 30 room 0\n"
+
+    def attach(self, users: str, settings: str = SETTINGS, more: Sequence[str] = ()) -> int:
+        """Starts both, and returns the port of the gateway."""
         (self.folder / "settings").write_text(settings)
         (self.folder / "users").write_text(users)
         self.exchange = self.start(*command("attach", "--line", "0", "unix:line", "--log", "log", "settings"))
-        at = self.gateway("--users", "users", "--messages", "unix:line")
+        at = self.gateway("--users", "users", *more, "unix:line")
         self.until("sip: unix:line is line 0")
         return at
 

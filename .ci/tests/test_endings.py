@@ -13,7 +13,7 @@ from typing import Any
 
 import support
 from nemzhuul import __version__
-from support import EXAMPLES, PAIRED, TOP, InFolder, command, of_packets, stream, tool
+from support import EXAMPLES, PAIRED, TOP, InFolder, command, of_packets, stream, tool, wav
 
 
 WORKING = {
@@ -27,9 +27,10 @@ WORKING = {
     "plain": ("FILE", "whole_call.report"),
     "records": ("FILE", "whole_call.report"),
     "script": ("FILE",),
+    "spectrogram": ("FILE",),
     "unpcap": ("FILE",),
 }
-FILES = {"audio": "whole_call.report", "script": "some.script", "unpcap": "some.pcap"}  # of others whole_call.trace
+FILES = {"audio": "whole_call.report", "script": "some.script", "spectrogram": "some.wav", "unpcap": "some.pcap"}  # of others whole_call.trace
 OTHERS = ("attach", "build", "endpoint", "install", "run", "sip", "sounds", "traffic")
 
 
@@ -70,6 +71,7 @@ class Endings(InFolder):
         for name in ("whole_call.trace", "whole_call.report"):
             shutil.copy(EXAMPLES / name, self.folder)
         (self.folder / "some.script").write_text("exchange 1 line\n")
+        (self.folder / "some.wav").write_bytes(wav(bytes(4_096)))
         (self.folder / "some.pcap").write_bytes(of_packets([bytes(16) + bytes.fromhex("00010000 0802000175")]))
 
     def words(self, name: str, file: str = "") -> list[str]:

@@ -121,7 +121,7 @@ class Installed(Exchanged):
     def test_baresip(self) -> None:
         """README's two telephones: each records what the other says."""
         self.assertEqual(tool("sounds", str(self.folder), "8")[0], 0)
-        at = self.attach(self.USERS)
+        at = self.attach(self.USERS, more=["--messages"])
         self.baresip("101", at)
         self.until("sip: 101 is at")
         caller = self.baresip("102", at, "-t", "8", "-e", f"/dial sip:101@{HOST}:{at}")
