@@ -163,7 +163,7 @@ class Descriptions(unittest.TestCase):
     def test_an_offer(self) -> None:
         body = description(4000, "0 8 101", ["a=rtpmap:101 telephone-event/8000", "a=ptime:30", "a=sendonly", "m=video 5000 RTP/AVP 96"])
         media = sdp.read_sdp(body)
-        self.assertEqual((media.address, media.kind, media.keys, media.ptime), (SocketAddress("127.0.0.1", 4000), sdp.PCMU, 101, 30))
+        self.assertEqual((media.address, media.payload_type, media.keys, media.ptime), (SocketAddress("127.0.0.1", 4000), sdp.PCMU, 101, 30))
         self.assertEqual((media.wants_octets, media.gives_octets), (False, True))
         answer = sdp.answer(media, self.PLACE, 2).decode()
         self.assertIn("m=audio 20000 RTP/AVP 0 101\r\n", answer)

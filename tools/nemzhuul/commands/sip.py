@@ -18,7 +18,8 @@ sip:DIGITS@HOST, and calls sip:DIGITS@HOST. It ends at an interrupt.
     --lead MS        sends octets this time ahead of the exchange, 0 to 500 ms (20)
     --messages       prints each message of the exchange
     --seconds N      ends after this time
-Signal USR1 prints what has happened so far. SIP and RTP are not encrypted: it is not for the open Internet."""
+Signal USR1 prints what has happened so far. A room has no PIN: each telephone can dial it. SIP and RTP are not encrypted:
+it is not for the open Internet."""
 
 
 def main(*words: str) -> str:

@@ -52,7 +52,7 @@ from nemzhuul.sip.messages import Received, read_uri
 from nemzhuul.sip.registrar import NUMBER, Registrar
 from nemzhuul.sip.rtp import Ports, Stream
 from nemzhuul.sip.timers import Timer, Timers
-from nemzhuul.sip.transactions import Server, Transport
+from nemzhuul.sip.transactions import ServerTransaction, Transport
 from nemzhuul.traces.events import FRAMES_PER_SECOND, place_of_channel
 
 ANY_CHANNEL = Element(CHANNEL_IDENTIFICATION, b"\xa3")
@@ -124,7 +124,7 @@ class Call:
 
     # ---- from SIP
 
-    def begin(self, server: Server) -> None:
+    def begin(self, server: ServerTransaction) -> None:
         """A SIP user calls: the call reaches the exchange, or is refused at once."""
         self.leg = leg = Incoming(self.context.transport, self.context.dialogs, self, server)
         came = server.request
@@ -179,11 +179,11 @@ class Call:
             self.leg.bye(INCOMPATIBLE)
         self.clear(INCOMPATIBLE)
 
-    def refuses(self, status: int, cause: int | None) -> None:
-        self.clear(cause or cause_of(status))
+    def refuses(self, status: int, value: int | None) -> None:
+        self.clear(value or cause_of(status))
 
-    def ends(self, cause: int | None) -> None:
-        self.clear(cause or NORMAL)
+    def ends(self, value: int | None) -> None:
+        self.clear(value or NORMAL)
 
     def offers(self, body: bytes) -> bytes | None:
         """A further offer: its answer, or an offer if it has none; None if it is not acceptable."""

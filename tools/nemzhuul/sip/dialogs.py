@@ -18,7 +18,7 @@ from nemzhuul.sip.messages import (
     token,
 )
 from nemzhuul.sip.registrar import Target
-from nemzhuul.sip.transactions import METHODS, T1, T2, TIMEOUT, ResponseHandler, Server, Transport
+from nemzhuul.sip.transactions import METHODS, T1, T2, TIMEOUT, ResponseHandler, ServerTransaction, Transport
 
 SDP = Field("content-type", "application/sdp")
 ALLOW = Field("allow", METHODS)
@@ -36,10 +36,10 @@ class LegUser(Protocol):
     def answers(self, body: bytes) -> None:
         """The called user has answered, with a description."""
 
-    def refuses(self, status: int, cause: int | None) -> None:
+    def refuses(self, status: int, value: int | None) -> None:
         """The called user has refused, with a cause of Q.850 or without."""
 
-    def ends(self, cause: int | None) -> None:
+    def ends(self, value: int | None) -> None:
         """The user has ended the call."""
 
     def offers(self, body: bytes) -> bytes | None:
@@ -70,9 +70,9 @@ class Leg:
         self.transport, self.dialogs, self.user = transport, dialogs, user
         self.state = EARLY
         self.tag = token()
-        self.number = 0  # the last CSeq that was sent
-        self.their_number = -1
-        self.unacknowledged: Server | None = None  # its 2xx has no ACK yet
+        self.local_sequence = 0  # the last CSeq that was sent
+        self.remote_sequence = -1
+        self.unacknowledged: ServerTransaction | None = None  # its 2xx has no ACK yet
 
     def open(self, call_id: str, local: str, party: Party, address: SocketAddress) -> None:
         self.call_id, self.local, self.party, self.first_address = call_id, local, party, address
@@ -99,8 +99,8 @@ class Leg:
 
     def send(self, method: str, on_response: ResponseHandler, fields: list[Field]) -> None:
         """Sends a request within the dialog."""
-        self.number += 1
-        own = self.fields(method, self.number)
+        self.local_sequence += 1
+        own = self.fields(method, self.local_sequence)
         self.transport.request(method, self.party.target, self.next_hop(), [*own, *fields], on_response)
 
     def bye(self, cause: int | None = None) -> None:
@@ -119,15 +119,15 @@ class Leg:
 
     # ---- requests within the dialog
 
-    def take_request(self, server: Server) -> None:
+    def take_request(self, server: ServerTransaction) -> None:
         number, method = server.request.sequence
         if server.request.sender.tag != read_name_address(self.party.to).tag:
             server.answer(481)
             return
-        if number <= self.their_number:
+        if number <= self.remote_sequence:
             server.answer(500)
             return
-        self.their_number = number
+        self.remote_sequence = number
         if self.state == OVER:
             server.answer(481)
         elif method == "BYE":
@@ -141,12 +141,12 @@ class Leg:
         else:
             server.answer(405, fields=[ALLOW])
 
-    def take_bye(self, server: Server) -> None:
+    def take_bye(self, server: ServerTransaction) -> None:
         server.answer(200)
         self.end()
         self.user.ends(q850_cause(server.request))
 
-    def take_offer(self, server: Server) -> None:
+    def take_offer(self, server: ServerTransaction) -> None:
         """A further INVITE: it holds, retrieves, or moves the media."""
         if self.state != CONFIRMED or self.unacknowledged is not None:
             server.answer(491)
@@ -162,19 +162,19 @@ class Leg:
         else:
             self.answer_invite(server, body)
 
-    def take_info(self, server: Server) -> None:
+    def take_info(self, server: ServerTransaction) -> None:
         key = KEY.search(server.request.body)
         if key and self.state == CONFIRMED:
             self.user.presses(key[1].decode().upper())
         server.answer(200)
 
-    def answer_invite(self, server: Server, body: bytes) -> None:
+    def answer_invite(self, server: ServerTransaction, body: bytes) -> None:
         """Sends a 2xx until its ACK comes (RFC 3261)."""
         server.answer(200, self.tag, [self.contact, ALLOW, SDP], body)
         self.unacknowledged = server
         self.repeat_answer(server, T1, TIMEOUT)
 
-    def repeat_answer(self, server: Server, wait: float, left: float) -> None:
+    def repeat_answer(self, server: ServerTransaction, wait: float, left: float) -> None:
         def again() -> None:
             if self.unacknowledged is not server or self.state == OVER:
                 return
@@ -200,7 +200,7 @@ class Leg:
 class Incoming(Leg):
     """A call that a SIP user makes."""
 
-    def __init__(self, transport: Transport, dialogs: Dialogs, user: LegUser, server: Server) -> None:
+    def __init__(self, transport: Transport, dialogs: Dialogs, user: LegUser, server: ServerTransaction) -> None:
         super().__init__(transport, dialogs, user)
         self.server = server
         came = server.request
@@ -210,7 +210,7 @@ class Incoming(Leg):
         routes = tuple(came.all("record-route"))
         for route in routes:
             read_uri(read_name_address(route).uri)
-        self.their_number = came.sequence.number
+        self.remote_sequence = came.sequence.number
         self.open(came.call_id, f"{came.get('to')};tag={self.tag}", Party(came.get("from"), target, routes), came.reply_to)
         server.leg = self
         server.answer(100)
@@ -234,7 +234,7 @@ class Incoming(Leg):
             self.refuse(487)
             self.user.ends(q850_cause(message))
 
-    def take_bye(self, server: Server) -> None:
+    def take_bye(self, server: ServerTransaction) -> None:
         if self.state == EARLY:
             self.refuse(487)
         super().take_bye(server)
@@ -252,7 +252,7 @@ class Outgoing(Leg):
         address = self.transport.address
         local = f"<sip:{caller}@{address.host}:{address.port}>;tag={self.tag}"
         self.open(f"{token()}@{address.host}", local, Party(f"<{self.target.uri}>", self.target.uri), self.target.address)
-        self.number = 1
+        self.local_sequence = 1
         fields = [*self.fields("INVITE", 1), ALLOW, SDP]
         self.client = self.transport.request("INVITE", self.target.uri, self.target.address, fields, self.take_response, body)
 

@@ -21,7 +21,7 @@ from nemzhuul.sip.options import Settings
 from nemzhuul.sip.registrar import Registrar
 from nemzhuul.sip.rtp import COUNTS, Ports
 from nemzhuul.sip.timers import Now, Timers
-from nemzhuul.sip.transactions import METHODS, Server, Transport, listening_socket
+from nemzhuul.sip.transactions import METHODS, ServerTransaction, Transport, listening_socket
 from nemzhuul.sip.users import UsersFile
 
 NOTE_SECONDS = 1  # between two remarks on what came
@@ -65,7 +65,7 @@ class Gateway:
 
     # ---- requests
 
-    def take_new_request(self, server: Server) -> None:
+    def take_new_request(self, server: ServerTransaction) -> None:
         request = server.request
         if request.method == "CANCEL":
             self.take_cancel(server)
@@ -84,13 +84,13 @@ class Gateway:
         else:
             server.answer(481 if request.method in ("BYE", "INFO") else 405, token(), [Field("allow", METHODS)])
 
-    def take_cancel(self, server: Server) -> None:
+    def take_cancel(self, server: ServerTransaction) -> None:
         invite = self.transport.invite_of(server.request)
         server.answer(200 if invite else 481, token())
         if invite and invite.leg:
             invite.leg.take_cancel(server.request)
 
-    def take_request_within(self, server: Server) -> None:
+    def take_request_within(self, server: ServerTransaction) -> None:
         leg = self.dialogs.get((server.request.call_id, server.request.receiver.tag))
         if leg is None:
             server.answer(481)
@@ -103,7 +103,7 @@ class Gateway:
         if leg is not None:
             leg.take_ack(message)
 
-    def authenticate(self, server: Server) -> None:
+    def authenticate(self, server: ServerTransaction) -> None:
         """REGISTER and INVITE are from a user who proves that, and INVITE may be from a peer."""
         request = server.request
         user = read_uri(request.sender.uri).user
@@ -122,7 +122,7 @@ class Gateway:
         else:
             self.begin_call(server)
 
-    def register(self, server: Server, user: str) -> None:
+    def register(self, server: ServerTransaction, user: str) -> None:
         server.keep()
         outcome = self.registrar.register(server.request, user)
         server.answer(outcome.status, token(), outcome.fields)
@@ -131,7 +131,7 @@ class Gateway:
             where = f"at {binding.target.address.host}:{binding.target.address.port}" if binding else "not there"
             self.note(f"{user} is {where}")
 
-    def begin_call(self, server: Server) -> None:
+    def begin_call(self, server: ServerTransaction) -> None:
         server.keep()
         self.context.counts["INVITE"] += 1
         attached = [line for line in self.lines if line.is_attached]

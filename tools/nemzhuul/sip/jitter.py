@@ -12,10 +12,10 @@ from dataclasses import dataclass
 from nemzhuul.traces.events import FRAMES_PER_SECOND, IDLE
 
 MILLISECOND = FRAMES_PER_SECOND // 1000
-FAR = FRAMES_PER_SECOND  # octets from which on a time stamp begins anew
+FAR = FRAMES_PER_SECOND  # octets from which on a timestamp begins anew
 LOOK = 5 * FRAMES_PER_SECOND  # frames between two looks at the least depth
 SLIP = FRAMES_PER_SECOND // 10  # frames between two slips, at least
-HALF, WHOLE = 1 << 31, (1 << 32) - 1  # of the time stamps
+HALF, WHOLE = 1 << 31, (1 << 32) - 1  # of the timestamps
 
 
 @dataclass(frozen=True)
@@ -36,8 +36,8 @@ class JitterBuffer:
     def __init__(self, depths: Depths) -> None:
         self.depths = depths
         self.octets = bytearray()
-        self.end: int | None = None  # the time stamp after the last octet
-        self.source = -1  # of the stream that came last
+        self.end: int | None = None  # the timestamp after the last octet
+        self.ssrc = -1  # of the stream that came last
         self.is_playing = False
         self.least = depths.most  # depth since the last look
         self.since_look = self.since_slip = 0  # frames
@@ -46,12 +46,12 @@ class JitterBuffer:
 
     # ---- packets
 
-    def put(self, octets: bytes, stamp: int, source: int) -> None:
-        """Takes the octets of a packet, at the place that its time stamp has."""
-        is_new = source != self.source or self.end is None
-        ahead = FAR if is_new or self.end is None else (stamp - self.end + HALF & WHOLE) - HALF
+    def put(self, octets: bytes, timestamp: int, ssrc: int) -> None:
+        """Takes the octets of a packet, at the place that its timestamp has."""
+        is_new = ssrc != self.ssrc or self.end is None
+        ahead = FAR if is_new or self.end is None else (timestamp - self.end + HALF & WHOLE) - HALF
         if abs(ahead) >= FAR or (ahead > 0 and not self.octets and not self.is_playing):
-            self.source, self.end, ahead = source, stamp, 0
+            self.ssrc, self.end, ahead = ssrc, timestamp, 0
         if ahead < 0:
             self.fill(octets, ahead)
             return
@@ -59,7 +59,7 @@ class JitterBuffer:
             self.lost += 1
             self.octets += bytes([IDLE]) * min(ahead, self.depths.most)
         self.octets += octets
-        self.end = stamp + len(octets) & WHOLE
+        self.end = timestamp + len(octets) & WHOLE
         if len(self.octets) > self.depths.most:
             excess = len(self.octets) - self.depths.ready
             del self.octets[:excess]

@@ -30,12 +30,12 @@ class Ports:
 
     def __init__(self, host: str, first: int, last: int) -> None:
         self.host = host
-        self.all = range(first + first % 2, last, 2)
+        self.numbers = range(first + first % 2, last, 2)
         self.next = 0
 
     def open(self) -> socket.socket:
-        for _ in self.all:
-            port = self.all[self.next % len(self.all)]
+        for _ in self.numbers:
+            port = self.numbers[self.next % len(self.numbers)]
             self.next += 1
             end = socket.socket(socket.AF_INET, socket.SOCK_DGRAM)
             try:
@@ -60,19 +60,19 @@ class Stream:
         self.media: Media | None = None
         self.sources: tuple[SocketAddress, ...] = ()  # from which packets are taken
         self.sequence = int.from_bytes(os.urandom(2), "big")
-        self.stamp = int.from_bytes(os.urandom(4), "big")
-        self.source = int.from_bytes(os.urandom(4), "big")
+        self.timestamp = int.from_bytes(os.urandom(4), "big")
+        self.ssrc = int.from_bytes(os.urandom(4), "big")
         self.marker = MARKER
         self.unsent = bytearray()
         self.buffer = JitterBuffer(depths)
         self.tones = Tones()
-        self.key_stamp: int | None = None
+        self.key_timestamp: int | None = None
         self.quiet = 0  # octets since a packet came
         self.sent = self.received = self.other = self.failed = 0
 
     def agree(self, media: Media, host: str) -> None:
         """Takes what was agreed on with the other side, whose signalling comes from a host."""
-        if self.media is None or self.media.kind != media.kind:
+        if self.media is None or self.media.payload_type != media.payload_type:
             self.unsent.clear()
         self.media = media
         self.sources = (media.address, SocketAddress(host, media.address.port)) if media.gives_octets else ()
@@ -94,18 +94,18 @@ class Stream:
         media = self.media
         if media is None:
             return
-        self.unsent += octets if media.kind == PCMA else octets.translate(MU_OF_A)
+        self.unsent += octets if media.payload_type == PCMA else octets.translate(MU_OF_A)
         size = media.ptime * MILLISECOND
         while len(self.unsent) >= size:
             if media.wants_octets:
                 self.send_packet(media, bytes(self.unsent[:size]))
             else:
                 self.marker = MARKER
-            self.stamp = self.stamp + size & 0xFFFFFFFF
+            self.timestamp = self.timestamp + size & 0xFFFFFFFF
             del self.unsent[:size]
 
     def send_packet(self, media: Media, octets: bytes) -> None:
-        head = HEAD.pack(0x80, media.kind | self.marker, self.sequence, self.stamp, self.source)
+        head = HEAD.pack(0x80, media.payload_type | self.marker, self.sequence, self.timestamp, self.ssrc)
         self.marker = 0
         self.sequence = self.sequence + 1 & 0xFFFF
         try:
@@ -135,23 +135,23 @@ class Stream:
         if len(packet) < HEAD.size or packet[0] >> 6 != 2:
             self.other += 1
             return
-        _, kind, _, stamp, source = HEAD.unpack_from(packet)
+        _, payload_type, _, timestamp, ssrc = HEAD.unpack_from(packet)
         payload = payload_of(packet)
-        kind &= 0x7F
-        if kind == media.keys and len(payload) >= 4:
-            self.take_key(payload[0], stamp)
-        elif kind in (PCMA, PCMU) and payload:
+        payload_type &= 0x7F
+        if payload_type == media.keys and len(payload) >= 4:
+            self.take_key(payload[0], timestamp)
+        elif payload_type in (PCMA, PCMU) and payload:
             self.received += 1
             self.quiet = 0
-            self.buffer.put(payload if kind == PCMA else payload.translate(A_OF_MU), stamp, source)
+            self.buffer.put(payload if payload_type == PCMA else payload.translate(A_OF_MU), timestamp, ssrc)
         else:
             self.other += 1
 
-    def take_key(self, code: int, stamp: int) -> None:
-        """A telephone event is played as a tone. Its packets all have the time stamp of its start."""
+    def take_key(self, code: int, timestamp: int) -> None:
+        """A telephone event is played as a tone. Its packets all have the timestamp of its start."""
         self.quiet = 0
-        if stamp != self.key_stamp and code < len(KEYS):
-            self.key_stamp = stamp
+        if timestamp != self.key_timestamp and code < len(KEYS):
+            self.key_timestamp = timestamp
             self.tones.press(KEYS[code])
 
     # ---- to the exchange

@@ -32,7 +32,7 @@ class Media:
     """What a description says of its first acceptable audio stream."""
 
     address: SocketAddress
-    kind: int
+    payload_type: int
     direction: str  # of the other side
     keys: int | None  # the payload type of telephone events
     ptime: int
@@ -66,23 +66,23 @@ def read_media(session: str, part: str, parts: Sequence[str], at: int) -> Media 
     words = STREAM.match(part)
     if not words or not MIN_MEDIA_PORT <= int(words[1]) < 1 << 16:
         return None
-    kinds = [int(word) for word in words[2].split()]
-    kind = next((kind for kind in kinds if kind in NAMES), None)
+    types = [int(word) for word in words[2].split()]
+    payload_type = next((number for number in types if number in NAMES), None)
     host = read_host(session, part)
-    if kind is None or host is None:
+    if payload_type is None or host is None:
         return None
     found = DIRECTION.search(part) or DIRECTION.search(session)
     direction = found[1] if found else "sendrecv"
     if host == ANYWHERE:  # hold as RFC 2543 had it
         direction = "inactive" if direction in ("inactive", "recvonly") else "sendonly"
     events = EVENTS.search(part)
-    keys = int(events[1]) if events and int(events[1]) in kinds else None
+    keys = int(events[1]) if events and int(events[1]) in types else None
     ptime = PTIME.search(part)
     milliseconds = int(ptime[1]) if ptime else DEFAULT_PTIME
     if not MIN_PTIME <= milliseconds <= MAX_PTIME:
         milliseconds = DEFAULT_PTIME
     first_lines = tuple(part.split("\n")[0] for part in parts)
-    return Media(SocketAddress(host, int(words[1])), kind, direction, keys, milliseconds, first_lines, at)
+    return Media(SocketAddress(host, int(words[1])), payload_type, direction, keys, milliseconds, first_lines, at)
 
 
 def read_host(session: str, part: str) -> str | None:
@@ -104,16 +104,16 @@ def answer(media: Media, address: SocketAddress, version: int = 1) -> bytes:
     for at, first in enumerate(media.parts):
         if at == media.at:
             direction = BACK.get(media.direction, media.direction)
-            streams.append(stream_lines(address.port, (media.kind,), media.keys, media.ptime, direction))
+            streams.append(stream_lines(address.port, (media.payload_type,), media.keys, media.ptime, direction))
         else:
             streams.append([re.sub(r"^(m=\S+) \S+", r"\1 0", first)])
     return written(address, version, streams)
 
 
-def stream_lines(port: int, kinds: Sequence[int], keys: int | None, ptime: int, direction: str) -> list[str]:
+def stream_lines(port: int, types: Sequence[int], keys: int | None, ptime: int, direction: str) -> list[str]:
     events = [] if keys is None else [keys]
-    lines = [f"m=audio {port} RTP/AVP {' '.join(map(str, [*kinds, *events]))}"]
-    lines += [f"a=rtpmap:{kind} {NAMES[kind]}/8000" for kind in kinds]
+    lines = [f"m=audio {port} RTP/AVP {' '.join(map(str, [*types, *events]))}"]
+    lines += [f"a=rtpmap:{number} {NAMES[number]}/8000" for number in types]
     if keys is not None:
         lines += [f"a=rtpmap:{keys} telephone-event/8000", f"a=fmtp:{keys} 0-15"]
     return [*lines, f"a=ptime:{ptime}", f"a={direction}"]

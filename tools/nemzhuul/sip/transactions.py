@@ -46,7 +46,7 @@ ResponseHandler = Callable[[Optional[Received]], object]
 class TransportUser(Protocol):
     """Is told what comes."""
 
-    def take_new_request(self, server: Server) -> None:
+    def take_new_request(self, server: ServerTransaction) -> None:
         """A new request has come."""
 
     def take_ack(self, message: Received) -> None:
@@ -66,8 +66,8 @@ class Transport:
         self.rates = Rates(timers.now)
         self.socket = end
         self.address = SocketAddress(*self.socket.getsockname())
-        self.servers: dict[Key, Server] = {}
-        self.clients: dict[tuple[str, str], Client] = {}
+        self.servers: dict[Key, ServerTransaction] = {}
+        self.clients: dict[tuple[str, str], ClientTransaction] = {}
         self.received = self.sent = self.repeated = self.malformed = self.refused = self.failed = 0
         loop.watch(self.socket, self.receive)
 
@@ -119,9 +119,9 @@ class Transport:
             self.repeated += 1
             server.repeat()
         elif len(self.servers) < MAX_TRANSACTIONS:
-            self.take_new(Server(self, message, key))
+            self.take_new(ServerTransaction(self, message, key))
 
-    def take_new(self, server: Server) -> None:
+    def take_new(self, server: ServerTransaction) -> None:
         source = server.request.source
         try:
             self.user.take_new_request(server)
@@ -131,7 +131,7 @@ class Transport:
             if server.status < 200:
                 server.answer(400, token())
 
-    def invite_of(self, cancel: Received) -> Server | None:
+    def invite_of(self, cancel: Received) -> ServerTransaction | None:
         """The transaction of the INVITE that a CANCEL ends (RFC 3261); None if there is none."""
         server = self.servers.get(key_of(cancel, "INVITE"))
         return server if server and server.request.call_id == cancel.call_id else None
@@ -144,10 +144,10 @@ class Transport:
         fields: Iterable[Field],
         on_response: ResponseHandler,
         body: bytes = b"",
-    ) -> Client:
+    ) -> ClientTransaction:
         """Sends a request; `on_response` gets each response, and None if there is none in time."""
         own = [Field("via", self.new_via()), Field("max-forwards", "70")]
-        return Client(self, request(method, uri, [*own, *fields], body), address, on_response)
+        return ClientTransaction(self, request(method, uri, [*own, *fields], body), address, on_response)
 
     def new_via(self) -> str:
         return f"SIP/2.0/UDP {self.address.host}:{self.address.port};branch={MAGIC}{token()};rport"
@@ -174,7 +174,7 @@ def key_of(message: Received, method: str) -> Key:
     return branch, message.via.sent_by, message.source.host, method
 
 
-class Server:
+class ServerTransaction:
     """A request that came, and its responses."""
 
     def __init__(self, transport: Transport, request: Received, key: Key) -> None:
@@ -219,7 +219,7 @@ class Server:
         return self.status >= 300
 
 
-class Client:
+class ClientTransaction:
     """A request that was sent, and is repeated until a response comes."""
 
     def __init__(self, transport: Transport, request: Message, address: SocketAddress, on_response: ResponseHandler) -> None:
@@ -277,7 +277,7 @@ class Client:
         number = self.request.get("cseq").partition(" ")[0]
         fields = [*self.own("via", "max-forwards", "from", "to", "call-id"), Field("cseq", f"{number} CANCEL")]
         message = request("CANCEL", self.request.uri, [*fields, *self.routes()])
-        Client(self.transport, message, self.address, lambda answer: None)
+        ClientTransaction(self.transport, message, self.address, lambda answer: None)
         self.give_up_later()
 
     def own(self, *names: str) -> list[Field]:
