@@ -157,6 +157,19 @@ class Messages(unittest.TestCase):
                     self.assertLess(time.process_time() - begin, 0.1)
 
 
+    def test_the_cost_of_a_description(self) -> None:
+        first = description(4000).decode()
+        for filler in ("m=audio 4000 RTP/AVP 8\r\n", "a=ptime:", "a=rtpmap:101 ", " 8", "c=IN IP4 ", "\r\n", "a=sendrecv ", "\t", "m="):
+            for begin in ("", first, first.rstrip()):
+                with self.subTest(filler=filler, begin=begin):
+                    start = time.process_time()
+                    try:
+                        sdp.read_sdp(f"{begin}{filler * (MAX_DATAGRAM // len(filler))}".encode())
+                    except sdp.Unacceptable:
+                        pass
+                    self.assertLess(time.process_time() - start, 0.1)
+
+
 class Descriptions(unittest.TestCase):
     PLACE = SocketAddress("127.0.0.1", 20_000)
 

@@ -42,7 +42,9 @@ class Sipp(Exchanged):
         if one.called:
             runs[f"{one.name}_called.xml"] = self.sipp(f"{one.name}_called.xml", self.ports[one.name])
         number = self.numbers[one.name] if one.called else one.number
-        runs[f"{one.name}.xml"] = self.sipp(f"{one.name}.xml", port(), "-s", number, f"{HOST}:{self.at}")
+        digest = one.user_of_digest.replace(sipp_scenarios.CALLED, number)
+        words = ("-s", number, "-auth_uri", f"{digest}{HOST}:{self.at}", f"{HOST}:{self.at}")
+        runs[f"{one.name}.xml"] = self.sipp(f"{one.name}.xml", port(), *words)
         return {file: self.errors_of(file) for file, run in runs.items() if run.wait()}
 
     def errors_of(self, file: str) -> str:
