@@ -277,16 +277,20 @@ class GatewayTest(InFolder):
             saying.start()
             self.addCleanup(saying.stop)
         self.clock = Clock()
+        users = read_users("users", self.LINES)
+        settings = Settings([self.listen()], users, SocketAddress(HOST, 0), lead=self.LEAD)
+        self.gateway = Gateway(settings, self.clock)
+        self.addCleanup(self.gateway.close)
+        self.accept()
+
+    def listen(self) -> Address:
+        """Has the exchange listen for the endpoint of its line."""
         self.listener = socket.socket(socket.AF_UNIX)
         self.addCleanup(self.listener.close)
         path = str(self.folder / "line")
         self.listener.bind(path)
         self.listener.listen()
-        users = read_users("users", self.LINES)
-        settings = Settings([Address(f"unix:{path}", path)], users, SocketAddress(HOST, 0), lead=self.LEAD)
-        self.gateway = Gateway(settings, self.clock)
-        self.addCleanup(self.gateway.close)
-        self.accept()
+        return Address(f"unix:{path}", path)
 
     @property
     def address(self) -> SocketAddress:

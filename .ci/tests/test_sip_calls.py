@@ -4,11 +4,14 @@ from __future__ import annotations
 
 import socket
 import struct
+import time
+from collections.abc import Callable
 from unittest import mock
 
 import support
 from sip_peers import HOST, PERIOD, USERS, ClearedTest, GatewayTest, Talk, Telephone, description, port_of
 from support import IDLE
+from nemzhuul.live.wire import Address
 from nemzhuul.signalling.q931 import (
     ALERTING,
     CALLED_PARTY_NUMBER,
@@ -381,6 +384,44 @@ class Trunks(ClearedTest):
         self.passes(61)
         telephone.calls("102")
         self.assertEqual(telephone.statuses()[0], 100)
+
+
+class OverTcp(ClearedTest):
+    """A line with an address of TCP."""
+
+    port = 0
+
+    def listen(self) -> Address:
+        self.listener = socket.create_server((HOST, self.port))
+        self.addCleanup(self.listener.close)
+        self.port = port_of(self.listener)
+        return Address(f"tcp:{HOST}:{self.port}", host=HOST, port=self.port)
+
+    def until(self, is_done: Callable[[], bool]) -> None:
+        """Has the gateway work until something is done. TCP may take its time."""
+        for _ in range(100 * support.PATIENCE):
+            self.pump()
+            if is_done():
+                return
+            time.sleep(0.01)
+        self.fail("it is not done")
+
+    def test_the_exchange_is_away(self) -> None:
+        """The line is tried each second, without a word, until the exchange is there again."""
+        line = self.gateway.lines[0]
+        self.until(lambda: line.is_attached)
+        self.listener.close()
+        self.line.shutdown(socket.SHUT_RDWR)
+        self.until(lambda: not line.is_attached)
+        self.passes(5)
+        self.assertEqual(sum("has closed it" in said for said in self.said), 1)
+        self.listen()
+        self.passes(2)
+        self.accept()
+        self.until(lambda: line.is_attached)
+        self.telephone(0).calls("102")
+        self.until(lambda: bool(self.messages))
+        self.message(SETUP)
 
 
 class Lead(GatewayTest):

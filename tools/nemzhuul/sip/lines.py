@@ -5,10 +5,12 @@ The exchange gives the clock. For the frames of a period the line returns as man
 
 from __future__ import annotations
 
+import errno
 import socket
 from collections import Counter
 from collections.abc import MutableMapping
 from dataclasses import dataclass
+from typing import Any
 
 from nemzhuul.command_line import NAME, say
 from nemzhuul.live.processes import Loop
@@ -30,7 +32,6 @@ from nemzhuul.sip.rtp import Stream
 from nemzhuul.traces.events import IDLE, PLACES
 
 RETRY_SECONDS = 1  # until a line is tried again
-CONNECT_SECONDS = 0.2  # that TCP has; nothing else is done meanwhile
 MAX_UNSENT = 1 << 22  # octets
 MAX_CALLS = 64  # of a line, which has 30 channels; the others are being set up or cleared
 REFERENCES = 0x7FFF
@@ -78,12 +79,24 @@ class Line:
         self.begun, self.unsent = b"", bytearray()
         self.is_speaking = False
         try:
-            self.socket = connected(self.address)
+            self.socket = connecting(self.address)
         except OSError:
             self.context.timers.after(RETRY_SECONDS, self.attach)
+        else:
+            self.loop.watch(self.socket, None, self.take_connection)
+
+    def take_connection(self) -> None:
+        """The socket is connected, or cannot be."""
+        tried = self.socket
+        if tried is None:
             return
-        self.socket.setblocking(False)
-        self.loop.watch(self.socket, self.receive)
+        if tried.getsockopt(socket.SOL_SOCKET, socket.SO_ERROR):
+            self.loop.watch(tried)
+            tried.close()
+            self.socket = None
+            self.context.timers.after(RETRY_SECONDS, self.attach)
+        else:
+            self.loop.watch(tried, self.receive)
 
     def leave(self, why: str) -> None:
         gone, self.socket = self.socket, None
@@ -220,15 +233,16 @@ class Line:
         stream.close()
 
 
-def connected(address: Address) -> socket.socket:
-    """A socket that is connected to an address at once, or an error."""
+def connecting(address: Address) -> socket.socket:
+    """A socket whose connection to an address has begun, without waiting for it; or an error."""
+    place: Any = address.path
+    family: int = socket.AF_UNIX
     if address.path is None:
-        return without_delay(socket.create_connection((address.host, address.port), CONNECT_SECONDS))
-    connection = socket.socket(socket.AF_UNIX)
+        family, _, _, _, place = socket.getaddrinfo(address.host, address.port, type=socket.SOCK_STREAM)[0]
+    connection = socket.socket(family)
     connection.setblocking(False)
-    try:
-        connection.connect(address.path)
-    except OSError:
+    error = connection.connect_ex(place)
+    if error not in (0, errno.EINPROGRESS):
         connection.close()
-        raise
-    return connection
+        raise OSError(error, address.word)
+    return without_delay(connection)
