@@ -9,7 +9,7 @@ import socket
 import subprocess
 import time
 from collections.abc import Sequence
-from typing import AnyStr
+from typing import Any
 
 import support
 from sip_peers import HOST, Side, Sip, Telephone, port_of, read_sip, udp
@@ -43,7 +43,7 @@ class Started(InFolder):
         self.addCleanup(self.stop, work)
         return work
 
-    def stop(self, work: subprocess.Popen[AnyStr]) -> None:
+    def stop(self, work: subprocess.Popen[Any]) -> None:
         """Ends a process, which may have to end its own ones."""
         work.terminate()
         try:

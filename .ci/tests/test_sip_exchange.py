@@ -51,8 +51,9 @@ class RunningExchange(ClearedTest):
         self.frames_due: deque[bytes] = deque()
         self.exchange = subprocess.Popen([PROGRAM, "follow"], stdin=subprocess.PIPE, stdout=subprocess.PIPE)
         self.input, self.output = stream(self.exchange.stdin), stream(self.exchange.stdout)
-        for end in (self.exchange.wait, self.output.close, self.input.close):
-            self.addCleanup(end)
+        self.addCleanup(self.exchange.wait)
+        self.addCleanup(self.output.close)
+        self.addCleanup(self.input.close)
         self.input.write(SETTINGS.encode())
         super().setUp()
 

@@ -41,16 +41,16 @@ class Spectrograms(InFolder):
         (self.folder / "short.wav").write_bytes(wav(tone(400, 0.1), tag=6, bits=8))
         (self.folder / "text").write_text("no sound")
         cases = (
-            (["short.wav"], 1, "spectrogram: short.wav has 800 samples, and not 1,024 to 480,000\n"),
-            (["text"], 1, "spectrogram: text is no WAV file\n"),
-            (["none"], 1, "spectrogram: none cannot be read: No such file or directory\n"),
+            ("short.wav", "spectrogram: short.wav has 800 samples, and not 1,024 to 480,000\n"),
+            ("text", "spectrogram: text is no WAV file\n"),
+            ("none", "spectrogram: none cannot be read: No such file or directory\n"),
         )
-        for words, status, said in cases:
+        for path, said in cases:
+            with self.subTest(path=path):
+                self.assertEqual(tool("spectrogram", path, folder=self.folder), (1, b"", said))
+        for words in ("", "--title", "--title text", "--loud 260.wav"):
             with self.subTest(words=words):
-                self.assertEqual(tool("spectrogram", *words, folder=self.folder), (status, b"", said))
-        for words in ([], ["--title"], ["--title", "text"], ["--loud", "260.wav"]):
-            with self.subTest(words=words):
-                self.assertEqual(tool("spectrogram", *words, folder=self.folder)[0], 2)
+                self.assertEqual(tool("spectrogram", *words.split(), folder=self.folder)[0], 2)
 
 
 if __name__ == "__main__":
