@@ -52,21 +52,21 @@ class Started(InFolder):
             work.kill()
             work.wait()
 
-    def until_it_listens(self, at: int) -> None:
-        """Waits until something at a port responds to SIP."""
+    def until_it_responds(self, at: int, method: str = "OPTIONS", contact: str = "") -> Sip:
+        """Asks at a port as 901, until a response comes."""
         end = udp()
         self.addCleanup(end.close)
         end.settimeout(0.2)
-        text = (f"OPTIONS sip:9@{HOST} SIP/2.0", f"Via: SIP/2.0/UDP {HOST}:{port_of(end)};branch=z9hG4bKo", f"From: <sip:1@{HOST}>;tag=1",
-                f"To: <sip:9@{HOST}>", "Call-ID: o", "CSeq: 1 OPTIONS", "Max-Forwards: 9", "Content-Length: 0", "", "")  # fmt: skip
+        fields = [f"Via: SIP/2.0/UDP {HOST}:{port_of(end)};branch=z9hG4bK{method}", f"From: <sip:901@{HOST}>;tag=1", f"To: <sip:901@{HOST}>",
+                  f"Call-ID: {method}", f"CSeq: 1 {method}", "Max-Forwards: 9", f"Contact: <{contact or f'sip:{HOST}'}>"]  # fmt: skip
+        text = "\r\n".join([f"{method} sip:901@{HOST} SIP/2.0", *fields, "Content-Length: 0", "", ""])
         for _ in range(5 * support.PATIENCE):
-            end.sendto("\r\n".join(text).encode(), (HOST, at))
+            end.sendto(text.encode(), (HOST, at))
             try:
-                end.recv(8_192)
-                return
+                return read_sip(end.recv(8_192))
             except OSError:
                 time.sleep(0.1)
-        self.fail("it does not listen")
+        self.fail("it does not respond")
 
     def gateway(self, *words: str) -> int:
         """Starts tools/sip, and returns its port."""

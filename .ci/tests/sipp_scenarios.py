@@ -19,6 +19,7 @@ T301_FRAMES = 4_000
 SETTINGS = f"""exchange 1 1 1 1
 number 1 line 0
 number 2 line 0
+number 9 line 0
 number 30 room 0
 tone ringback {"5A" * 8}
 timer T301 {T301_FRAMES}
@@ -26,6 +27,7 @@ timer T301 {T301_FRAMES}
 
 URI = "sip:[service]@[remote_ip]:[remote_port]"
 REGISTRAR = "sip:[remote_ip]"
+ROUTES = ' rrs="true"'  # of a message whose routes and contact later requests have
 BACK = ("[last_Via:]", "[last_From:]", "[last_To:]", "[last_Call-ID:]", "[last_CSeq:]")
 CALLER = "<sip:101@[remote_ip]>;tag=c[pid]-[call_number]"
 ANOTHER = "<sip:102@[remote_ip]>;tag=c[pid]-[call_number]"
@@ -104,25 +106,32 @@ def response(status: int, body: Sequence[str] = (), more: Sequence[str] = (), ta
     return sent(f"SIP/2.0 {status} R", [*fields, contact, *more], body, bool(body) and status == 200)
 
 
-def expects(response: int, *texts: str, is_optional: bool = False) -> str:
+def expects(response: int, *texts: str, more: str = "") -> str:
     """A response, and texts of its fields or body."""
-    words = ' optional="true"' if is_optional else ' auth="true"' if response == 401 else ""
+    words = ' auth="true"' if response == 401 else more
     found = "".join(f'<ereg regexp="{text}" search_in="msg" check_it="true" assign_to="found"/>' for text in texts)
     return f'<recv response="{response}"{words}>' + (f"<action>{found}</action>" if found else "") + "</recv>\n"
 
 
 def gets(method: str) -> str:
-    return f'<recv request="{method}"/>\n'
+    routes = ROUTES if method == "INVITE" else ""
+    return f'<recv request="{method}"{routes}/>\n'
 
 
-def gets_ack_of() -> str:
+def gets_ack() -> str:
     """ACK, whose From is the To of later requests of this side."""
     found = '<ereg regexp="sip:.*" search_in="hdr" header="From:" assign_to="found"/>'
     return f'<recv request="ACK"><action>{found}</action></recv>\n'
 
 
-def acknowledges(sequence: int, body: Sequence[str] = ()) -> str:
-    return request("ACK", sequence, to="[last_To:]", body=body)
+def acknowledges(sequence: int) -> str:
+    """ACK to a refusal."""
+    return request("ACK", sequence, to="[last_To:]")
+
+
+def within(method: str, sequence: int, *steps: str, more: Sequence[str] = (), body: Sequence[str] = ()) -> str:
+    """A request within a call, along its routes."""
+    return request(method, sequence, ["[routes]", *more], body, "[last_To:]", uri="[next_url]") + "".join(steps)
 
 
 def pause(milliseconds: int) -> str:
@@ -136,7 +145,7 @@ def credentials(password: str = PASSWORD) -> str:
 # ---- parts of scenarios
 
 SDP = description()
-TRYING = expects(100, is_optional=True)
+TRYING = expects(100, more=' optional="true"')
 
 
 def proved_invite(body: Sequence[str] = SDP, sender: str = CALLER, password: str = PASSWORD) -> str:
@@ -147,6 +156,12 @@ def proved_invite(body: Sequence[str] = SDP, sender: str = CALLER, password: str
 
 def invite(body: Sequence[str] = SDP) -> str:
     return proved_invite(body) + TRYING
+
+
+def without_password(one: Scenario) -> Scenario:
+    """A scenario as a peer has it, whose INVITE is not challenged."""
+    _, _, again = one.caller.partition(expects(401) + acknowledges(1))
+    return Scenario(f"{one.name}_of_a_peer", again.replace(f"{credentials()}\n", ""), one.called)
 
 
 def refused(status: int, *texts: str) -> str:
@@ -162,12 +177,11 @@ def register(seconds: int, sender: str = CALLER, password: str = PASSWORD, seque
 RINGS = response(180, tag=OWN_TAG)
 ANSWERS = response(200, SDP, tag=OWN_TAG)
 RINGING = expects(183, "m=audio")  # with the ringing tone of the exchange
-ANSWERED = expects(200, "m=audio [0-9]+ RTP/AVP 8")
-ENDS = request("BYE", 9, to="[last_To:]") + expects(200)
+ENDS = within("BYE", 9, expects(200))
 IS_ENDED = gets("BYE") + response(200)
-CALL = invite() + RINGING + ANSWERED + acknowledges(2)
+CALL = invite() + RINGING + expects(200, "m=audio [0-9]+ RTP/AVP 8", more=ROUTES) + within("ACK", 2)
 CALLED_RINGS_AND_ANSWERS = gets("INVITE") + RINGS + ANSWERS
-CALLED_ENDS = request("BYE", 9, to="To: <[$found]", sender="<sip:[local_ip]>" + OWN_TAG) + expects(200)
+CALLED_ENDS = request("BYE", 9, ["[routes]"], (), "To: <[$found]", "<sip:[local_ip]>" + OWN_TAG, "[next_url]") + expects(200)
 CALLED_CALL = CALLED_RINGS_AND_ANSWERS + gets("ACK") + IS_ENDED
 IS_CANCELLED = gets("CANCEL") + response(200, tag=OWN_TAG) + response(487, tag=OWN_TAG, method="INVITE") + gets("ACK")
 CANCELS = request("CANCEL", 2) + expects(200) + refused(487)
@@ -177,18 +191,15 @@ def called_refuses(status: int, *more: str) -> str:
     return gets("INVITE") + response(status, more=more, tag=OWN_TAG) + gets("ACK")
 
 
-def within(method: str, sequence: int, *steps: str, more: Sequence[str] = (), body: Sequence[str] = ()) -> str:
-    return request(method, sequence, more, body, to="[last_To:]") + "".join(steps)
-
-
 def offered(sequence: int, body: Sequence[str], *texts: str, answer: Sequence[str] = ()) -> str:
     """INVITE within the call."""
-    return within("INVITE", sequence, TRYING, expects(200, *texts), acknowledges(sequence, answer), body=body)
+    confirmed = within("ACK", sequence, body=answer)
+    return within("INVITE", sequence, TRYING, expects(200, *texts, more=ROUTES), confirmed, body=body)
 
 
-def challenged(more: Sequence[str] = ()) -> str:
+def challenged(sequence: int, more: Sequence[str] = ()) -> str:
     """An INVITE that gets 401."""
-    return request("INVITE", 1, more, SDP) + expects(401) + acknowledges(1)
+    return request("INVITE", sequence, more, SDP) + expects(401) + acknowledges(sequence)
 
 
 NO_CALL = (
@@ -203,7 +214,7 @@ NO_CALL = (
     Scenario("cancel_without_a_call", request("CANCEL") + expects(481)),
 )
 REFUSED_AT_ONCE = (
-    Scenario("invite_without_a_password", challenged() + challenged(["Authorization: Digest"])),
+    Scenario("invite_without_a_password", challenged(1) + challenged(2, ["Authorization: Digest"])),
     Scenario("invite_wrong_password", proved_invite(password="wrong") + expects(401) + acknowledges(2)),
     Scenario("invite_as_another", proved_invite(sender=ANOTHER) + refused(403)),
     Scenario("required_extension", request("INVITE", 1, ["Require: 100rel"], SDP) + expects(420, "Unsupported: 100rel") + acknowledges(1)),
@@ -214,14 +225,14 @@ REFUSED_AT_ONCE = (
     Scenario("no_digits", invite() + refused(404, "cause=1"), number="bob"),
 )
 REFUSED_BY_THE_EXCHANGE = (
-    Scenario("unallocated_number", invite() + refused(404, "cause=1"), number="999"),
+    Scenario("unallocated_number", invite() + refused(404, "cause=1"), number="888"),
     Scenario("incomplete_number", invite() + refused(484, "cause=28"), number="3"),
     Scenario("absent_telephone", invite() + refused(480, "cause=20"), number="103"),
 )
 CALLS = (
     Scenario("call", CALL + pause(200) + ENDS, CALLED_CALL),
-    Scenario("called_ends", CALL + IS_ENDED, CALLED_RINGS_AND_ANSWERS + gets_ack_of() + pause(200) + CALLED_ENDS),
-    Scenario("late_offer", proved_invite(()) + TRYING + RINGING + expects(200, "RTP/AVP 8 0 101") + acknowledges(2, SDP) + ENDS, CALLED_CALL),
+    Scenario("called_ends", CALL + IS_ENDED, CALLED_RINGS_AND_ANSWERS + gets_ack() + pause(200) + CALLED_ENDS),
+    Scenario("late_offer", invite(()) + RINGING + expects(200, "RTP/AVP 8 0 101", more=ROUTES) + within("ACK", 2, body=SDP) + ENDS, CALLED_CALL),
     Scenario("busy", invite() + refused(486, "cause=17"), called_refuses(486)),
     Scenario("declined", invite() + refused(603, "cause=21"), called_refuses(603)),
     Scenario("cause_of_the_called", invite() + refused(410, "cause=22"), called_refuses(480, "Reason: Q.850;cause=22")),
@@ -237,13 +248,15 @@ CALLS = (
     Scenario("requests_within", CALL + within("INFO", 3, expects(200), more=["Content-Type: application/dtmf-relay"],
              body=["Signal=5", "Duration=160"]) + within("OPTIONS", 4, expects(200)) + within("UPDATE", 5, expects(405)) + ENDS, CALLED_CALL),
 )
-ROOM = Scenario("room", invite() + expects(200) + acknowledges(2) + pause(300) + ENDS, number="30")
+ROOM = Scenario("room", invite() + expects(200, more=ROUTES) + within("ACK", 2) + pause(300) + ENDS, number="30")
 
 SCENARIOS = (*NO_CALL, *REFUSED_AT_ONCE, *REFUSED_BY_THE_EXCHANGE, *CALLS, ROOM)
+NAMES_OF_PROXIED = ("call", "called_ends", "late_offer", "busy", "cancelled_while_ringing", "hold_and_retrieve")
+PROXIED = tuple(without_password(one) for one in CALLS if one.name in NAMES_OF_PROXIED)  # through a proxy, which is trusted
 
 
 def main(folder: str) -> None:
-    for one in SCENARIOS:
+    for one in (*SCENARIOS, *PROXIED):
         for name, text in one.files.items():
             (Path(folder) / name).write_text(text)
 

@@ -145,21 +145,6 @@ class Installed(Exchanged):
         self.assert_calls_pass(*words, f"{HOST}:{at}")
         self.assertRegex(self.end(), "INVITE [0-9]+")
 
-    @unittest.skipIf(needs("sipp") or needs("kamailio"), "sipp or Kamailio is not installed")
-    def test_kamailio(self) -> None:
-        """Calls go through the proxy of examples/phones, with record routes, from a telephone there to one of the exchange."""
-        server, proxy, client = port(), port(), port()
-        at = self.attach(f"100 sip:{HOST}:{server}\n9* sip:{HOST}:{proxy}\n")
-        config = (EXAMPLES / "phones" / "kamailio.cfg").read_text().replace("5080", str(proxy)).replace("5060", str(at))
-        (self.folder / "kamailio.cfg").write_text(config)
-        words = ("-DD", "-E", "-f", "kamailio.cfg", "-Y", str(self.folder), "-P", str(self.folder / "pid"))
-        self.start("kamailio", *words, "-m", "16", "-M", "4")
-        self.start("sipp", "-sn", "uas", "-i", HOST, "-p", str(server), "-nostdin")
-        self.until_it_listens(proxy)
-        calls = ("-sn", "uac", "-i", HOST, "-p", str(client), "-s", "100", "-m", "5", "-r", "5", "-d", "500", "-nostdin")
-        self.assert_calls_pass(*calls, f"{HOST}:{proxy}")
-        self.assertRegex(self.end(), "INVITE [0-9]+")
-
 
 if __name__ == "__main__":
     support.main()
