@@ -30,8 +30,9 @@ from nemzhuul.signalling.q931 import (
     number,
 )
 from nemzhuul.sip.causes import CAUSE_OF_STATUS, STATUS_OF_CAUSE
-from nemzhuul.sip.dtmf import key_tone
+from nemzhuul.sip.dtmf import PROMPT, key_tone
 from nemzhuul.sip.lines import MAX_CALLS
+from nemzhuul.sip.pins import PIN_SECONDS
 from nemzhuul.sip.users import read_users
 
 TONE_IN_BAND = Element(PROGRESS_INDICATOR, b"\x81\x88")
@@ -384,6 +385,89 @@ class Trunks(ClearedTest):
         self.passes(61)
         telephone.calls("102")
         self.assertEqual(telephone.statuses()[0], 100)
+
+
+class Pins(ClearedTest):
+    """Calls to a number that has a PIN."""
+
+    LINES = (*USERS, "30 PIN 1234")
+
+    def asked(self, telephone: Telephone, digits: str = "30", body: bytes | None = None) -> Talk:
+        """A call that is answered before the exchange gets it, and hears a tone."""
+        talk = telephone.calls(digits, body)
+        *_, answer = telephone.all()
+        self.assertEqual((answer.status, self.messages), (200, []))
+        telephone.acknowledges(talk, answer, description(port_of(telephone.media)) if body == b"" else b"")
+        for _ in range(12):
+            self.period()
+        self.assertTrue(PROMPT in telephone.hears())
+        return talk
+
+    def dials(self, telephone: Telephone, talk: Talk, keys: str) -> None:
+        for key in keys:
+            telephone.within("INFO", talk, f"Signal={key}\r\n".encode(), ["Content-Type: application/dtmf-relay"])
+            self.assertEqual(telephone.get().status if key else 0, 200)  # type: ignore[union-attr]
+
+    def test_the_right_pin(self) -> None:
+        """The call reaches the exchange after it, also if it is dialled again from a * on, or after a late offer."""
+        for keys, body in (("1234", None), ("12*1234", None), ("1234", b"")):
+            with self.subTest(keys=keys, body=body):
+                telephone = self.telephone(0)
+                talk = self.asked(telephone, body=body)
+                self.dials(telephone, talk, keys[:-1])
+                self.assertEqual(self.messages, [])
+                self.dials(telephone, talk, keys[-1])
+                setup = self.message(SETUP)
+                self.assertEqual(setup.digits, "30")
+                self.sends(1, setup.reference, CONNECT, channel_identification(3))
+                self.message(CONNECT_ACKNOWLEDGE)
+                telephone.hears()
+                self.period({2: b"\x33" * PERIOD})
+                self.assertEqual(telephone.hears(), b"\x33" * PERIOD)
+                self.dials(telephone, talk, "5")
+                self.assertTrue(key_tone("5") in bytes(row[2] for _ in range(8) for row in self.period()))
+                telephone.within("BYE", talk)
+                self.message(DISCONNECT)
+                self.sends(1, setup.reference, RELEASE)
+                self.message(RELEASE_COMPLETE)
+
+    def test_by_telephone_events(self) -> None:
+        telephone = self.telephone(0)
+        talk = self.asked(telephone, body=description(port_of(telephone.media), "8 101", ["a=rtpmap:101 telephone-event/8000"]))
+        for at, key in enumerate(b"\1\2\3\4"):
+            telephone.media.sendto(struct.pack("!BBHIIBBH", 0x80, 101, at, at, 7, key, 0x80, 160), (HOST, talk.answer.media_port))
+        self.period()
+        self.message(SETUP)
+
+    def test_wrong_pins(self) -> None:
+        """A wrong PIN ends the call. After some, calls to numbers with this PIN are refused for a minute, and others are not."""
+        telephone, other = self.telephone(0), self.telephone(1)
+        for digits in ("30", "301", "302"):
+            talk = self.asked(telephone, digits)
+            self.dials(telephone, talk, "123")
+            telephone.within("INFO", talk, b"Signal=5\r\n", ["Content-Type: application/dtmf-relay"])
+            self.assertEqual([message.method for message in telephone.all() if message.method == "BYE"], ["BYE"])
+        telephone.calls("303")
+        answer = telephone.all()[-1]
+        self.assertEqual((answer.status, answer["reason"], self.messages), (403, "Q.850;cause=21", []))
+        self.asked(other)
+        telephone.calls("102")
+        self.message(SETUP)
+        self.passes(61)
+        self.messages.clear()
+        self.asked(self.telephone(0))
+
+    def test_no_pin(self) -> None:
+        """A caller that dials nothing is left after some time, and one may leave."""
+        telephone = self.telephone(0)
+        self.asked(telephone)
+        self.passes(PIN_SECONDS - 1)
+        self.assertNotIn("BYE", [message.method for message in telephone.all()])
+        self.passes(2)
+        bye = telephone.all()[0]
+        self.assertEqual((bye.method, bye["reason"]), ("BYE", "Q.850;cause=21"))
+        telephone.within("BYE", self.asked(telephone))
+        self.assertEqual((self.messages, self.gateway.lines[0].calls, self.gateway.lines[0].streams), ([], {}, []))
 
 
 class OverTcp(ClearedTest):

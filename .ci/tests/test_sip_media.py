@@ -155,7 +155,8 @@ class Streams(unittest.TestCase):
     def setUp(self) -> None:
         self.end = udp()
         self.addCleanup(self.end.close)
-        self.stream = Stream(Ports(HOST, 30_000, 30_999), depths_of(20))
+        self.keys: list[str] = []
+        self.stream = Stream(Ports(HOST, 30_000, 30_999), depths_of(20), self.keys.append)
         self.addCleanup(self.stream.close)
 
     def agree(self, kinds: str = "8 101", more: tuple[str, ...] = ("a=rtpmap:101 telephone-event/8000",), host: str = HOST) -> None:
@@ -202,14 +203,14 @@ class Streams(unittest.TestCase):
         self.assertEqual(self.stream.received, MAX_PACKETS)
 
     def test_events(self) -> None:
-        """The packets of one event are one tone."""
+        """The packets of one event are one key."""
         self.agree()
         for end in (0, 0, 0x80, 0x80):
             self.end.sendto(self.packet(bytes([5, end, 0, 160]), 101, stamp=5), self.stream.address)
         self.stream.receive()
-        self.assertEqual(bytes(self.stream.tones.waiting), key_tone("5"))
         self.gives(self.packet(bytes([99, 0, 0, 160]), 101, stamp=6))
-        self.assertEqual(len(self.stream.tones.waiting), TONE + PAUSE - PERIOD)
+        self.gives(self.packet(bytes([11, 0, 0, 160]), 101, stamp=7))
+        self.assertEqual(self.keys, ["5", "#"])
 
     def test_hold(self) -> None:
         self.agree("8", ("a=inactive",))

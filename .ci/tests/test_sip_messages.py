@@ -13,8 +13,8 @@ from nemzhuul.command_line import Refused, WrongWords
 from nemzhuul.sip.options import read_settings
 from nemzhuul.sip import sdp
 from nemzhuul.sip.causes import cause_of, status_of
-from nemzhuul.sip.digest import FAILURE_SECONDS, MAX_FAILURES, MAX_NONCES, NONCE_SECONDS, Authenticator
-from nemzhuul.sip.limits import MAX_DATAGRAMS, Networks, Rates
+from nemzhuul.sip.digest import MAX_FAILURES, MAX_NONCES, NONCE_SECONDS, Authenticator
+from nemzhuul.sip.limits import FAILURE_SECONDS, MAX_DATAGRAMS, Networks, Rates
 from nemzhuul.sip.messages import (
     MAX_DATAGRAM,
     Malformed,
@@ -251,7 +251,7 @@ class Users(unittest.TestCase):
         self.clock.time += NONCE_SECONDS
         self.assertIsNone(self.user_of(message))
         self.assertIn("stale=true", self.authenticator.challenge(message)[0].value)
-        self.assertEqual(self.authenticator.failures, {})
+        self.assertEqual(self.authenticator.failures.counts, {})
         other = Authenticator(self.users.passwords, self.clock)
         self.assertIsNone(other.user_of(self.proof()))
 
@@ -303,14 +303,23 @@ class Users(unittest.TestCase):
 
     def test_refused_users_files(self) -> None:
         """A line that is refused is not printed: it may be a password."""
-        for line in ("101", "101 pass word", "30 PIN 1234", "a 1", "1* hunter2", "101 sip:example.com", "101 sip:", "1" * 21 + " x"):
+        for line in ("101", "101 pass word", "30 PIN 1234x", "30 pin 1234", "a 1", "1* hunter2", "101 sip:example.com", "101 sip:", "1" * 21 + " x"):
             with self.subTest(line=line), self.assertRaises(Refused) as caught:
                 read_users("users", ["# first", line])
             self.assertTrue(str(caught.exception).startswith("users: line 2 "))
             self.assertFalse(any(word in str(caught.exception) for word in ("1234", "hunter2", "example.com")))
-        with self.assertRaises(Refused):
-            read_users("users", ["101 a", "101 b"])
+        for lines in (["101 a", "101 b"], ["30 PIN 1", "30 PIN 2"]):
+            with self.assertRaises(Refused):
+                read_users("users", lines)
         self.assertNotIn("one-secret", repr(self.users))
+
+    def test_pins(self) -> None:
+        """A number has the PIN of its first digits, since the exchange routes it by them."""
+        users = read_users("users", ["30 PIN 1234", "301 PIN 99", "101 PIN"])
+        found = [users.pin_of(digits) for digits in ("30", "305", "3017", "3", "101")]
+        self.assertEqual(found, [("30", "1234"), ("30", "1234"), ("301", "99"), None, None])
+        self.assertEqual(users.passwords, {"101": "PIN"})
+        self.assertNotIn("1234", repr(users))
 
 
 class Limits(unittest.TestCase):

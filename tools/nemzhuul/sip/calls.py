@@ -39,6 +39,7 @@ from nemzhuul.sip.causes import (
     INCOMPATIBLE,
     NORMAL,
     NO_RESOURCE,
+    REJECTED,
     TEMPORARY_FAILURE,
     TIMER_EXPIRY,
     UNALLOCATED,
@@ -47,8 +48,9 @@ from nemzhuul.sip.causes import (
 )
 from nemzhuul.sip.dialogs import CONFIRMED, OVER, Dialogs, Incoming, Outgoing
 from nemzhuul.sip.jitter import Depths
-from nemzhuul.sip.limits import ANYWHERE, Networks
+from nemzhuul.sip.limits import ANYWHERE, Failures, Networks
 from nemzhuul.sip.messages import Received, read_uri
+from nemzhuul.sip.pins import PIN_SECONDS, PinEntry
 from nemzhuul.sip.registrar import NUMBER, Registrar
 from nemzhuul.sip.rtp import Ports, Stream
 from nemzhuul.sip.timers import Timer, Timers
@@ -60,6 +62,7 @@ T303, T305, T308, T313 = 4, 30, 4, 4  # seconds
 QUIET = 60  # seconds without a packet from which on a user is asked
 
 # The call states of the user side (Q.931).
+ASKING = -1  # for a PIN: the exchange has no call yet
 NULL, INITIATED, OVERLAP, PROCEEDING, DELIVERED = 0, 1, 2, 3, 4
 RECEIVED, REQUESTED, INCOMING_PROCEEDING, ACTIVE, DISCONNECTING, RELEASING = 7, 8, 9, 10, 11, 19
 
@@ -96,6 +99,7 @@ class CallContext:
     networks: Networks
     ports: Ports
     depths: Depths
+    wrong_pins: Failures  # by caller and number
     counts: Counter[str]  # of INVITE, and of refusals by their causes
 
     def read_media(self, body: bytes) -> sdp.Media | None:
@@ -120,25 +124,35 @@ class Call:
         self.stream: Stream | None = None
         self.body = b""  # the description that the user gets at the answer
         self.version = 1
+        self.on_key: Callable[[str], object] = self.play_key
         self.timer: Timer | None = None
 
     # ---- from SIP
 
     def begin(self, server: ServerTransaction) -> None:
-        """A SIP user calls: the call reaches the exchange, or is refused at once."""
+        """A SIP user calls: the call reaches the exchange, at once or after a PIN, or it is refused."""
         self.leg = leg = Incoming(self.context.transport, self.context.dialogs, self, server)
         came = server.request
         digits = dialled(came.uri)
+        caller = calling_user(came)
+        who = caller or came.source.host
+        pin = self.context.registrar.users.pin_of(digits) if digits else None
         media = self.context.read_media(came.body) if came.body else None
         if digits is None:
             leg.refuse(404, UNALLOCATED)
         elif media is None and came.body:
             leg.refuse(488)
+        elif pin is not None and self.context.wrong_pins.is_muted(who, pin.start):
+            leg.refuse(403, REJECTED)
         elif not self.open_stream():
             leg.refuse(503, NO_RESOURCE)
         else:
             self.agree(media)
-            self.set_up(calling_user(came), digits)
+            self.reserve_reference()
+            if pin is None:
+                self.set_up(caller, digits)
+            else:
+                self.ask(PinEntry(pin, who), caller, digits)
 
     def agree(self, media: sdp.Media | None) -> None:
         """Takes an offer, or makes one if the user has made none."""
@@ -149,9 +163,35 @@ class Call:
             self.stream.agree(media, self.host())
             self.body = sdp.answer(media, self.stream.address)
 
-    def set_up(self, caller: str, digits: str) -> None:
+    def reserve_reference(self) -> None:
         self.reference = self.line.new_reference()
         self.line.calls[self.reference] = self
+
+    def ask(self, entry: PinEntry, caller: str, digits: str) -> None:
+        """Answers the telephone, and has it dial a PIN before the exchange gets the call."""
+
+        def take(key: str) -> None:
+            is_right = entry.press(key) if self.state == ASKING else None
+            if is_right:
+                self.on_key = self.play_key
+                self.set_up(caller, digits)
+            elif is_right is not None:
+                self.context.wrong_pins.add(entry.who, entry.pin.start)
+                self.reject()
+
+        self.state = ASKING
+        self.on_key = lambda key: self.context.timers.after(0, lambda: take(key))  # the stream is being read
+        self.wait(PIN_SECONDS, self.reject)
+        if isinstance(self.leg, Incoming):
+            self.leg.answer(self.body)
+        self.connect_stream()
+
+    def reject(self) -> None:
+        """The PIN is wrong, or was not dialled in time."""
+        self.end_leg(REJECTED)
+        self.end()
+
+    def set_up(self, caller: str, digits: str) -> None:
         callers = [number(CALLING_PARTY_NUMBER, caller)] if caller else []
         self.state = INITIATED
         self.send(SETUP, sending_complete(), SPEECH, ANY_CHANNEL, *callers, number(CALLED_PARTY_NUMBER, digits))
@@ -208,6 +248,9 @@ class Call:
             self.connect_stream()
 
     def presses(self, key: str) -> None:
+        self.on_key(key)
+
+    def play_key(self, key: str) -> None:
         if self.stream is not None:
             self.stream.tones.press(key)
 
@@ -301,6 +344,9 @@ class Call:
         """The SIP user has ended the call (Q.931)."""
         if self.state in (NULL, DISCONNECTING, RELEASING):
             return
+        if self.state == ASKING:
+            self.end()
+            return
         self.state = DISCONNECTING
         self.send(DISCONNECT, cause(value))
         self.wait(T305, self.release)
@@ -348,7 +394,7 @@ class Call:
     def open_stream(self) -> bool:
         """Opens a stream; false if no port is free."""
         try:
-            self.stream = Stream(self.context.ports, self.context.depths)
+            self.stream = Stream(self.context.ports, self.context.depths, self.presses)
         except OSError:
             return False
         return True
@@ -360,7 +406,11 @@ class Call:
     def connect_stream(self) -> None:
         """The channel and the stream are joined, once both are known."""
         stream = self.stream
-        if stream is None or stream.media is None or self.channel is None or stream.channel_place is not None:
+        if stream is None or stream.media is None or stream.channel_place is not None:
+            return
+        if self.state == ASKING:
+            self.line.open_stream(stream)
+        if self.channel is None:
             return
         stream.channel_place = place_of_channel(self.channel)
         if stream.channel_place is not None:

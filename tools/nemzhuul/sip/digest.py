@@ -13,14 +13,14 @@ import re
 from collections.abc import Mapping
 from dataclasses import dataclass
 
+from nemzhuul.sip.limits import Failures
 from nemzhuul.sip.messages import Field, Malformed, Message, Received, read_uri, split_outside, token
 from nemzhuul.sip.timers import Now
 
 REALM = "exchange"
 NONCE_SECONDS = 300
-MAX_FAILURES, FAILURE_SECONDS = 20, 60  # wrong replies for a user from an address, until it is not heard for this time
+MAX_FAILURES = 20  # wrong replies for a user from an address, until it is not heard for some time
 MAX_NONCES = 10_000
-MAX_PAIRS = 10_000  # of an address and a user, whose failures are counted
 
 
 @dataclass(frozen=True)
@@ -70,7 +70,7 @@ class Authenticator:
         self.now = now
         self.secret = os.urandom(16)
         self.counts: dict[str, int] = {}  # the highest of each nonce that was used
-        self.failures: dict[tuple[str, str], tuple[int, float]] = {}  # how many, and since when
+        self.failures = Failures(now, MAX_FAILURES)  # by address and user
 
     def user_of(self, request: Received) -> str | None:
         """The digits of the user that a request is from; None if it has to prove that."""
@@ -81,7 +81,7 @@ class Authenticator:
             return None
         if self.is_right(credentials, request):
             return credentials.username
-        self.fail(request.source.host, credentials.username)
+        self.failures.add(request.source.host, credentials.username)
         return None
 
     def is_right(self, credentials: Credentials, request: Message) -> bool:
@@ -132,27 +132,10 @@ class Authenticator:
         self.counts[nonce] = int(count, 16)
         return True
 
-    # ---- guesses
-
-    def fail(self, host: str, user: str) -> None:
-        """Counts wrong credentials."""
-        self.is_muted(host, user)  # forgets failures of long ago
-        if len(self.failures) >= MAX_PAIRS:
-            del self.failures[next(iter(self.failures))]
-        count, since = self.failures.get((host, user), (0, self.now()))
-        self.failures[host, user] = count + 1, since
-
-    def is_muted(self, host: str, user: str) -> bool:
-        count, since = self.failures.get((host, user), (0, 0.0))
-        if count and self.now() - since > FAILURE_SECONDS:
-            del self.failures[host, user]
-            return False
-        return count >= MAX_FAILURES
-
     def is_ignored(self, request: Received) -> bool:
         """Whether a request is for a user for whom its address has given too many wrong replies."""
-        credentials = read_credentials(request.get("authorization")) if self.failures else None
-        return credentials is not None and self.is_muted(request.source.host, credentials.username)
+        credentials = read_credentials(request.get("authorization")) if self.failures.counts else None
+        return credentials is not None and self.failures.is_muted(request.source.host, credentials.username)
 
 
 def is_same_user(one: str, other: str) -> bool:

@@ -3,6 +3,7 @@
 from __future__ import annotations
 
 import functools
+from collections.abc import Sequence
 from math import pi, sin
 
 from nemzhuul.sound import alaw
@@ -20,16 +21,22 @@ MAX_WAITING = FRAMES_PER_SECOND  # octets of tones that wait; further keys are l
 def key_tone(key: str) -> bytes:
     """The A-law octets of a key, and a pause."""
     row = next(at for at, keys in enumerate(PAD) if key in keys)
-    pitches = ROWS[row], COLUMNS[PAD[row].index(key)]
-    samples = (sum(round(LOUD * sin(2 * pi * pitch * at / FRAMES_PER_SECOND)) for pitch in pitches) for at in range(TONE))
-    return bytes(map(alaw.octet_of, samples)) + bytes([IDLE]) * PAUSE
+    return tone((ROWS[row], COLUMNS[PAD[row].index(key)]), TONE) + bytes([IDLE]) * PAUSE
+
+
+def tone(pitches: Sequence[int], count: int) -> bytes:
+    samples = (sum(round(LOUD * sin(2 * pi * pitch * at / FRAMES_PER_SECOND)) for pitch in pitches) for at in range(count))
+    return bytes(map(alaw.octet_of, samples))
+
+
+PROMPT = tone((1_000,), 2 * TONE)  # after which a PIN is to be dialled
 
 
 class Tones:
-    """The tones of the keys that were pressed, which replace the speech."""
+    """Tones that replace the speech, such as the tones of pressed keys."""
 
-    def __init__(self) -> None:
-        self.waiting = bytearray()
+    def __init__(self, first: bytes = b"") -> None:
+        self.waiting = bytearray(first)
 
     def press(self, key: str) -> None:
         if len(self.waiting) < MAX_WAITING:

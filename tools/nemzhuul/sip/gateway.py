@@ -14,10 +14,11 @@ from nemzhuul.sip.causes import NO_CHANNEL, TEMPORARY_FAILURE
 from nemzhuul.sip.dialogs import Dialogs
 from nemzhuul.sip.digest import Authenticator
 from nemzhuul.sip.jitter import MILLISECOND, depths_of
-from nemzhuul.sip.limits import Networks
+from nemzhuul.sip.limits import Failures, Networks
 from nemzhuul.sip.lines import Line, LineOptions, Totals
 from nemzhuul.sip.messages import Field, Received, read_uri, reason, token
 from nemzhuul.sip.options import Settings
+from nemzhuul.sip.pins import MAX_WRONG_PINS
 from nemzhuul.sip.registrar import Registrar
 from nemzhuul.sip.rtp import COUNTS, Ports
 from nemzhuul.sip.timers import Now, Timers
@@ -43,8 +44,9 @@ class Gateway:
         self.transport = Transport(self.loop, self.timers, listening_socket(settings.listen), self, networks)
         ports = Ports(settings.listen.host, *settings.media)
         self.context = CallContext(
-            self.transport, self.timers, self.dialogs, self.registrar, networks, ports, depths_of(settings.buffer), Counter()
-        )
+            transport=self.transport, timers=self.timers, dialogs=self.dialogs, registrar=self.registrar, networks=networks, ports=ports,
+            depths=depths_of(settings.buffer), wrong_pins=Failures(self.timers.now, MAX_WRONG_PINS), counts=Counter(),
+        )  # fmt: skip
         say(f"{NAME}: listens on {self.transport.address.host}:{self.transport.address.port}")
         self.totals = Totals(Counter())
         options = LineOptions(settings.lead * MILLISECOND, settings.prints_messages)

@@ -11,6 +11,8 @@ from nemzhuul.sip.timers import Now
 
 MAX_DATAGRAMS = 2_000  # of SIP from an address in a second; the others are dropped before they are read
 MAX_ADDRESSES = 10_000  # that are counted
+FAILURE_SECONDS = 60  # from the first failure on, after which it is forgotten
+MAX_PAIRS = 10_000  # of those who failed and what they failed at, which are counted
 MIN_MEDIA_PORT = 1_024  # of a description: no telephone has a port of a service of the system
 
 ANYWHERE = "0.0.0.0"  # of a description: to nobody
@@ -47,6 +49,29 @@ def is_own(host: str) -> bool:
         except OSError:
             return False
     return True
+
+
+class Failures:
+    """Wrong passwords or PINs, by who gave them and for what. After too many, further ones are ignored for some time."""
+
+    def __init__(self, now: Now, most: int) -> None:
+        self.now = now
+        self.most = most
+        self.counts: dict[tuple[str, str], tuple[int, float]] = {}  # how many, and since when
+
+    def add(self, who: str, what: str) -> None:
+        self.is_muted(who, what)  # forgets failures of long ago
+        if len(self.counts) >= MAX_PAIRS:
+            del self.counts[next(iter(self.counts))]
+        count, since = self.counts.get((who, what), (0, self.now()))
+        self.counts[who, what] = count + 1, since
+
+    def is_muted(self, who: str, what: str) -> bool:
+        count, since = self.counts.get((who, what), (0, 0.0))
+        if count and self.now() - since > FAILURE_SECONDS:
+            del self.counts[who, what]
+            return False
+        return count >= self.most
 
 
 class Rates:

@@ -210,6 +210,7 @@ class Line:
         for stream in self.streams:
             place = stream.channel_place
             if place is None:
+                stream.pass_by(count)
                 continue
             stream.take_octets(octets[place::PLACES])
             stream.receive()
@@ -219,7 +220,8 @@ class Line:
         self.send(frames_text(back))
 
     def open_stream(self, stream: Stream) -> None:
-        self.streams.append(stream)
+        if stream not in self.streams:
+            self.streams.append(stream)
 
     def close_stream(self, stream: Stream) -> None:
         if stream in self.streams:

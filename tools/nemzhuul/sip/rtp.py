@@ -11,12 +11,14 @@ import os
 import socket
 import struct
 from collections import Counter
+from collections.abc import Callable
 
-from nemzhuul.sip.dtmf import KEYS, Tones
+from nemzhuul.sip.dtmf import KEYS, PROMPT, Tones
 from nemzhuul.sip.jitter import MILLISECOND, Depths, JitterBuffer
 from nemzhuul.sip.messages import SocketAddress
 from nemzhuul.sip.mu_law import A_OF_MU, MU_OF_A
 from nemzhuul.sip.sdp import PCMA, PCMU, Media
+from nemzhuul.traces.events import IDLE
 
 HEAD = struct.Struct("!BBHII")
 MAX_PACKET = 2_048  # octets
@@ -53,7 +55,7 @@ class Ports:
 class Stream:
     """The octets of a channel, both ways. In each period, `take_octets` takes what the exchange sent, and `play` gives what it gets."""
 
-    def __init__(self, ports: Ports, depths: Depths) -> None:
+    def __init__(self, ports: Ports, depths: Depths, on_key: Callable[[str], object]) -> None:
         self.socket = ports.open()
         self.address = SocketAddress(*self.socket.getsockname())
         self.channel_place: int | None = None  # among the places of the line
@@ -66,6 +68,8 @@ class Stream:
         self.unsent = bytearray()
         self.buffer = JitterBuffer(depths)
         self.tones = Tones()
+        self.prompt = Tones(PROMPT)  # for the telephone, while it has no channel
+        self.on_key = on_key
         self.key_timestamp: int | None = None
         self.quiet = 0  # octets since a packet came
         self.sent = self.received = self.other = self.failed = 0
@@ -152,7 +156,15 @@ class Stream:
         self.quiet = 0
         if timestamp != self.key_timestamp and code < len(KEYS):
             self.key_timestamp = timestamp
-            self.tones.press(KEYS[code])
+            self.on_key(KEYS[code])
+
+    # ---- without a channel
+
+    def pass_by(self, count: int) -> None:
+        """Frames pass in which the telephone hears a prompt, and only its keys are taken."""
+        self.take_octets(self.prompt.over(bytes([IDLE]) * count, count))
+        self.receive()
+        self.buffer.play(count)
 
     # ---- to the exchange
 
