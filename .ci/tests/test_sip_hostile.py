@@ -2,10 +2,12 @@
 
 from __future__ import annotations
 
+import itertools
 import random
 import time
 from collections.abc import Callable
 from functools import partial
+from unittest import mock
 
 import support
 from sip_peers import HOST, PERIOD, GatewayTest, Talk, Telephone, authorization, description, port_of, udp
@@ -13,6 +15,7 @@ from support import slow
 from nemzhuul.signalling.q931 import CALL_PROCEEDING, CONNECT, DISCONNECT, RELEASE_COMPLETE, SETUP, channel_identification
 from nemzhuul.sip.limits import MAX_DATAGRAMS
 from nemzhuul.sip.messages import MAX_DATAGRAM
+from nemzhuul.sip.transactions import MAX_TURN, MAX_TURN_SECONDS
 
 MUTATIONS = 2_000
 MAX_SECONDS = 0.25  # of the processor, for a datagram, with the frames and responses that it causes
@@ -153,6 +156,18 @@ class Hostile(GatewayTest):
         self.enemy.send(b"x" * (MAX_DATAGRAM + 1))
         self.assertEqual(self.gateway.transport.refused, 101)
         self.good_call()
+
+    def test_frames_are_not_kept_waiting(self) -> None:
+        """Frames come before more datagrams, once these have taken some milliseconds."""
+        transport = self.gateway.transport
+        for _ in range(MAX_TURN):
+            self.enemy.sip.sendto(b"x", transport.address)
+        times = itertools.count(self.clock.time, MAX_TURN_SECONDS / 2.5)
+        with mock.patch.object(transport.timers, "now", lambda: next(times)):
+            transport.receive()
+        self.assertTrue(0 < transport.received < 4, transport.received)
+        self.pump()
+        self.assertEqual(transport.received, MAX_TURN)
 
     def test_nobody_else_is_sent_to(self) -> None:
         """No port of the machine gets speech that a description of another address asked for."""

@@ -46,6 +46,6 @@ class Tones:
         """The next octets of a channel, with the tones in them."""
         if not self.waiting:
             return octets
-        tone = bytes(self.waiting[:count])
+        first = bytes(self.waiting[:count])
         del self.waiting[:count]
-        return tone + octets[len(tone) :]
+        return first + octets[len(first) :]

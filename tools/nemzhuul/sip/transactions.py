@@ -34,7 +34,7 @@ if TYPE_CHECKING:
 T1, T2, T4 = 0.5, 4.0, 5.0  # seconds (RFC 3261)
 TIMEOUT = 64 * T1
 MAX_TRANSACTIONS = 5_000  # of servers, from which on requests are not answered
-MAX_TURN = 16  # datagrams that are read before other work is done
+MAX_TURN, MAX_TURN_SECONDS = 16, 0.005  # datagrams that are read, and their time, before frames are looked at again
 MAX_UNREAD = 1 << 22  # octets of datagrams that wait to be read
 MAGIC = "z9hG4bK"
 METHODS = "INVITE, ACK, CANCEL, BYE, OPTIONS, REGISTER, INFO"
@@ -79,7 +79,10 @@ class Transport:
             self.failed += 1
 
     def receive(self) -> None:
+        begun = self.timers.now()
         for _ in range(MAX_TURN):
+            if self.timers.now() - begun >= MAX_TURN_SECONDS:
+                return
             try:
                 octets, source = self.socket.recvfrom(MAX_DATAGRAM + 1)
             except BlockingIOError:
