@@ -14,7 +14,6 @@ from pathlib import Path
 
 PASSWORD = "one-secret"
 USERS = f"101 {PASSWORD}\n102 two-secret\n103 three-secret\n"
-CALLED = "CALLED"  # the number of the called telephone of a scenario
 T301_FRAMES = 4_000
 SETTINGS = f"""exchange 1 1 1 1
 number 1 line 0
@@ -39,12 +38,11 @@ class Scenario:
     name: str
     caller: str
     called: str = ""
-    number: str = CALLED
+    number: str = "102"  # if no telephone is called
 
-    @property
-    def user_of_digest(self) -> str:
-        """The user of the URI of the digest, which sipp does not take from the request. REGISTER has none."""
-        return "" if "REGISTER" in self.caller else f"{self.number}@"
+    def digest_uri(self, number: str, address: str) -> str:
+        """The URI of a digest, without its scheme, which sipp does not take from the request. REGISTER has no user in it."""
+        return address if "REGISTER" in self.caller else f"{number}@{address}"
 
     @property
     def files(self) -> dict[str, str]:
@@ -240,7 +238,7 @@ CALLS = (
     Scenario("answer_without_g711", invite() + refused(503, "cause=88"), gets("INVITE") + response(200, description("18"), tag=OWN_TAG)
              + gets("ACK") + IS_ENDED),
     Scenario("no_answer", invite() + RINGING + refused(480, "cause=19"), gets("INVITE") + RINGS + IS_CANCELLED),
-    Scenario("cancelled_before_ringing", invite() + pause(200) + CANCELS, gets("INVITE") + response(100) + IS_CANCELLED),
+    Scenario("cancelled_before_ringing", proved_invite() + expects(100) + pause(200) + CANCELS, gets("INVITE") + response(100) + IS_CANCELLED),
     Scenario("cancelled_while_ringing", invite() + RINGING + CANCELS, gets("INVITE") + RINGS + IS_CANCELLED),
     Scenario("hold_and_retrieve", CALL + offered(3, description(direction="sendonly"), "a=recvonly") + offered(4, SDP, "a=sendrecv") + ENDS,
              CALLED_CALL),

@@ -24,6 +24,8 @@ PATIENCE = ("-timeout", f"{2 * support.PATIENCE}s", "-timeout_error", "-recv_tim
 class Sipp(Exchanged):
     """A scenario has a telephone that calls, and one with a number of its own that is called."""
 
+    maxDiff = None
+
     def begin(self, scenarios: Sequence[Scenario], proxy: int = 0) -> None:
         """Starts the exchange and the gateway, whose users file has each telephone that is called."""
         sipp_scenarios.main(str(self.folder))
@@ -53,9 +55,8 @@ class Sipp(Exchanged):
         runs = {}
         if one.called:
             runs[f"{one.name}_called.xml"] = self.sipp(f"{one.name}_called.xml", self.ports[one.name])
-        number = self.numbers[one.name] if one.called else one.number
-        digest = one.user_of_digest.replace(sipp_scenarios.CALLED, number)
-        words = ("-s", number, "-auth_uri", f"{digest}{HOST}:{self.at}", f"{HOST}:{self.at}")
+        number, address = self.numbers.get(one.name, one.number), f"{HOST}:{self.at}"
+        words = ("-s", number, "-auth_uri", one.digest_uri(number, address), address)
         runs[f"{one.name}.xml"] = self.sipp(f"{one.name}.xml", port(), *words)
         return {file: self.errors_of(file) for file, run in runs.items() if run.wait()}
 
