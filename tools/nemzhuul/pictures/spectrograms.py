@@ -18,7 +18,7 @@ PITCHES = range(LOWEST, HIGHEST, STEP)
 SHADE_DECIBELS = 9
 SHADES = ("#0b3d66", "#1f6fb2", "#5b9bd0", "#9cc4e4", "#d3e5f3")  # from the loudest on
 
-WIDTH, LEFT, RIGHT = 720, 46, 8
+WIDTH, LEFT, RIGHT = 720, 52, 12
 HEIGHT, GAP, BOTTOM = 105, 30, 26  # of a panel, above each, and below the last
 MARKS = (200, 400, 600, 800)  # hertz
 
@@ -97,7 +97,7 @@ def panel(title: str, some: Sequence[Run], top: int, seconds: float) -> Iterator
     yield f'<rect x="{LEFT}" y="{top}" width="{WIDTH - LEFT - RIGHT}" height="{HEIGHT}" fill="none" stroke="#718096"/>'
     for mark in MARKS:
         y = top + HEIGHT * (HIGHEST - mark) / (HIGHEST - LOWEST)
-        yield f'<text x="{LEFT - 5}" y="{y + 4:.1f}" text-anchor="end">{mark}</text>'
+        yield f'<text x="{LEFT - 5}" y="{y + 4:.1f}" text-anchor="end">{mark} Hz</text>'
         yield f'<path stroke="#718096" stroke-opacity="0.3" d="M{LEFT} {y:.1f}h{WIDTH - LEFT - RIGHT}"/>'
 
 
