@@ -12,8 +12,9 @@ from collections.abc import Sequence
 from typing import Any
 
 import support
-from sip_peers import HOST, Side, Sip, Telephone, port_of, read_sip, udp
+from sip_peers import HOST, Side, Sip, Talk, Telephone, port_of, read_sip, udp
 from support import EXAMPLES, InFolder, command, environment, stream
+from nemzhuul.sip.messages import SocketAddress
 
 USERS = "101 one-secret\n102 two-secret\n"
 
@@ -31,6 +32,15 @@ def needs(program: str) -> bool:
 
 class Started(InFolder):
     """Commands that run beside a test, and what the gateway prints."""
+
+    at = 0  # the port of the gateway
+
+    @property
+    def address(self) -> SocketAddress:
+        return SocketAddress(HOST, self.at)
+
+    def pump(self) -> None:
+        """The gateway works by itself."""
 
     def setUp(self) -> None:
         super().setUp()
@@ -100,7 +110,7 @@ class Started(InFolder):
 
 
 class LiveTelephone(Telephone):
-    """A telephone of a gateway that is another process."""
+    """A telephone of a gateway that is another process, and works by itself."""
 
     def __init__(self, test: Side, digits: str, password: str) -> None:
         super().__init__(test, digits, password)
@@ -109,11 +119,17 @@ class LiveTelephone(Telephone):
     def get(self) -> Sip:
         return read_sip(self.sip.recv(65_536))
 
-    def gets(self, status: int) -> Sip:
-        """The next response with a status."""
-        while (message := self.get()).status != status:
+    def gets(self, wanted: int | str) -> Sip:
+        """The next response with a status, or the next request with a method."""
+        while (message := self.get()).status != wanted and message.method != wanted:
             pass
         return message
+
+    def enters(self, digits: str) -> Talk:
+        """Calls a room, which answers."""
+        talk = self.calls(digits)
+        self.acknowledges(talk, self.gets(200))
+        return talk
 
 
 class Exchanged(Started):
@@ -125,12 +141,19 @@ class Exchanged(Started):
         """Starts both, and returns the port of the gateway."""
         (self.folder / "settings").write_text(settings)
         (self.folder / "users").write_text(users)
-        self.exchange = self.start(*command("attach", "--line", "0", "unix:line", "--log", "log", "settings"))
+        self.start_exchange()
+        return self.start_gateway(*more)
+
+    def start_exchange(self) -> None:
+        self.exchange = self.start(*command("attach", "--line", "0", "unix:line", "--log", "log", "--overwrite", "settings"))
+
+    def start_gateway(self, *more: str) -> int:
+        """Starts the gateway, and returns its port when it has its line."""
         at = self.gateway("--users", "users", *more, "unix:line")
         self.until("sip: unix:line is line 0")
         return at
 
-    def baresip(self, digits: str, at: int, *words: str, sound: str = "low.wav") -> subprocess.Popen[bytes]:
+    def baresip(self, digits: str, at: int, *words: str) -> subprocess.Popen[bytes]:
         """Starts a telephone of examples/phones with this registrar."""
         home = self.folder / digits
         shutil.copytree(EXAMPLES / "phones" / digits, home)

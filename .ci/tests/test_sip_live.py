@@ -6,10 +6,9 @@ import signal
 import unittest
 
 import support
-from sip_commands import Exchanged, LiveTelephone, Started, needs, port
+from sip_commands import USERS, Exchanged, LiveTelephone, Started, needs, port
 from sip_peers import HOST, description, port_of, read_sip, udp
 from support import EXAMPLES, command, needs_program, slow, tool
-from nemzhuul.sip.messages import SocketAddress
 from nemzhuul.sip.transactions import listening_socket
 
 TRIES = 3  # of sipp
@@ -79,13 +78,6 @@ class Command(Started):
 class OfAttach(Started):
     """The gateway that tools/attach starts."""
 
-    def pump(self) -> None:
-        """The gateway works by itself."""
-
-    @property
-    def address(self) -> SocketAddress:
-        return SocketAddress(HOST, self.at)
-
     def test_it_runs_the_gateway(self) -> None:
         """A telephone calls a room, and no file of the exchange has a password. The gateway ends with the exchange."""
         (self.folder / "settings").write_text("exchange 1 1 1 1\nnumber 30 room 0\n")
@@ -93,9 +85,7 @@ class OfAttach(Started):
         self.at = self.listening(command("attach", "--sip", "users", "--sip-listen", f"{HOST}:0", *files, "settings"))
         self.until("sip: unix:")
         telephone = LiveTelephone(self, "101", "one-secret")
-        talk = telephone.calls("30")
-        telephone.acknowledges(talk, telephone.gets(200))
-        telephone.within("BYE", talk)
+        telephone.within("BYE", telephone.enters("30"))
         telephone.gets(200)
         said = self.end()
         self.assertIn("INVITE 1", said)
@@ -103,6 +93,39 @@ class OfAttach(Started):
             self.assertTrue(text)
             self.assertNotIn("secret", text)
         listening_socket(self.address).close()
+
+
+@needs_program
+@slow
+class Restarts(Exchanged):
+    """The gateway or the exchange ends during a call, and is started again."""
+
+    def setUp(self) -> None:
+        super().setUp()
+        self.at = self.attach(USERS)
+
+    def test_the_gateway(self) -> None:
+        """The exchange ends its calls, and the next gateway has the line."""
+        LiveTelephone(self, "101", "one-secret").enters("30")
+        self.work.kill()
+        self.work.wait()
+        self.at = self.start_gateway()
+        telephone = LiveTelephone(self, "101", "one-secret")
+        for _ in range(30):  # the whole line
+            telephone.enters("30")
+        self.end()
+
+    def test_the_exchange(self) -> None:
+        """The gateway ends its calls with cause 41, and has the line again when the exchange is there."""
+        telephone = LiveTelephone(self, "101", "one-secret")
+        telephone.enters("30")
+        self.exchange.terminate()
+        self.assertEqual(telephone.gets("BYE")["reason"], "Q.850;cause=41")
+        self.exchange.wait()
+        self.start_exchange()
+        self.until("sip: unix:line is line 0")
+        LiveTelephone(self, "102", "two-secret").enters("30")
+        self.end()
 
 
 @needs_program
