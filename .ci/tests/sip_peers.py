@@ -233,13 +233,14 @@ class Telephone:
         talk.answer, talk.other = answer, answer["to"]
         self.send(self.text("ACK", talk, body=body))
 
-    def answers(self, status: int, request: Sip, body: bytes = b"", more: Sequence[str] = ()) -> None:
-        """Responds to a request that came."""
+    def answers(self, status: int, request: Sip, body: bytes = b"", more: Sequence[str] = (), branch: str = "") -> None:
+        """Responds to a request that came, as one of the telephones that a proxy has sent it to."""
         lines = [f"SIP/2.0 {status} R", *(f"Via: {value}" for name, value in request.fields if name == "via")]
-        tag = "" if request.tag or status == 100 else f";tag=called{self.digits}"
+        tag = "" if request.tag or status == 100 else f";tag=called{self.digits}{branch}"
         lines += [f"From: {request['from']}", f"To: {request['to']}{tag}"]
         lines += [f"Call-ID: {request['call-id']}", f"CSeq: {request['cseq']}"]
-        lines += [f"Contact: <sip:{self.digits}@{HOST}:{self.port}>", *more, f"Content-Length: {len(body)}", "", ""]
+        contact = [] if any(field.startswith("Contact:") for field in more) else [f"Contact: <sip:{self.digits}@{HOST}:{self.port}>"]
+        lines += [*contact, *more, f"Content-Length: {len(body)}", "", ""]
         self.send("\r\n".join(lines).encode() + body)
 
     def within(self, method: str, talk: Talk, body: bytes = b"", more: Sequence[str] = ()) -> None:
@@ -303,6 +304,7 @@ class GatewayTest(InFolder):
         self.begun = b""
         self.frames: list[bytes] = []
         self.messages: list[Message] = []
+        self.silences = 0  # how often it has said that no frames follow
         self.line.sendall(b"line 0\n")
         self.pump()
 
@@ -335,7 +337,9 @@ class GatewayTest(InFolder):
                 message = read_message(bytes.fromhex(line[2:].decode()))
                 assert message is not None
                 self.messages.append(message)
-            elif line != b"F none":
+            elif line == b"F none":
+                self.silences += 1
+            else:
                 self.frames.append(bytes.fromhex(line[2:].decode()))
 
     def message(self, kind: int) -> Message:

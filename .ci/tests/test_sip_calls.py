@@ -204,6 +204,45 @@ class Unanswered(CallTest):
         self.assertEqual({message.method for message in telephone.all()}, {"INVITE"})
         self.assertEqual(self.message(DISCONNECT).cause, 102)
 
+    def test_two_answers(self) -> None:
+        """A proxy sends an INVITE to two telephones, and both answer: the second one is left. An answer again gets ACK."""
+        telephone = self.telephone(1)
+        telephone.register()
+        invite = self.called(telephone, "102")
+        for branch, methods in (("", ["ACK"]), ("x", ["ACK", "BYE"]), ("", ["ACK"])):
+            telephone.answers(200, invite, description(4000), branch=branch)
+            came = telephone.all()
+            self.assertEqual([message.method for message in came], methods)
+            self.assertEqual({message.tag for message in came}, {f"called102{branch}"})
+        self.message(CONNECT)
+        self.assertEqual(self.messages, [])
+
+    def test_an_answer_from_nowhere(self) -> None:
+        telephone = self.telephone(1)
+        telephone.register()
+        telephone.answers(200, self.called(telephone, "102"), description(4000), ["Contact: <mailto:x>"])
+        self.assertEqual(self.message(DISCONNECT).cause, 38)
+
+    def test_no_port_is_free(self) -> None:
+        telephone = self.telephone(1)
+        telephone.register()
+        self.gateway.context.ports.numbers = range(0)
+        self.sends(0, 9, SETUP, channel_identification(5), number(CALLED_PARTY_NUMBER, "102"))
+        self.assertEqual(self.message(RELEASE_COMPLETE).cause, 47)
+        telephone.calls("101")
+        answer = telephone.all()[-1]
+        self.assertEqual((answer.status, answer["reason"], self.messages), (503, "Q.850;cause=47", []))
+
+    def test_the_exchange_does_not_take_the_answer(self) -> None:
+        """Without CONNECT ACKNOWLEDGE T313 ends the call."""
+        telephone = self.telephone(1)
+        telephone.register()
+        telephone.answers(200, self.called(telephone, "102"), description(4000))
+        self.message(CONNECT)
+        self.passes(5)
+        self.assertEqual(self.message(DISCONNECT).cause, 102)
+        self.assertEqual([message.method for message in telephone.all()][:2], ["ACK", "BYE"])
+
     def test_an_answer_without_speech(self) -> None:
         """200 without G.711, or to another machine: BYE, and DISCONNECT 88."""
         telephone = self.telephone(1)
@@ -265,6 +304,48 @@ class Answered(CallTest):
         self.assertIn(b"RTP/AVP 8 0 101", offer.body)
         telephone.acknowledges(talk, offer, description(port_of(telephone.media)))
         self.assertTrue(self.heard(telephone, offer.media_port, 6))
+
+    def test_a_late_answer_without_speech(self) -> None:
+        telephone = self.telephone(0)
+        talk, setup = self.setting_up(telephone, b"")
+        self.sends(1, setup.reference, CONNECT)
+        self.message(CONNECT_ACKNOWLEDGE)
+        offer = telephone.get()
+        assert offer is not None
+        telephone.acknowledges(talk, offer, description(4000, "3"))
+        bye = telephone.get()
+        assert bye is not None
+        self.assertEqual((bye.method, bye["reason"], self.message(DISCONNECT).cause), ("BYE", "Q.850;cause=88", 88))
+
+    def test_requests_within_a_call(self) -> None:
+        """A second INVITE waits until the first one is acknowledged. After the end nothing is taken."""
+        telephone = self.telephone(0)
+        talk, _ = self.answered(telephone)
+        for method, status in (("OPTIONS", 200), ("UPDATE", 405), ("REFER", 405), ("INVITE", 200), ("INVITE", 491), ("BYE", 200), ("INFO", 481)):
+            with self.subTest(method=method, status=status):
+                telephone.within(method, talk)
+                self.assertEqual(telephone.statuses(), [status])
+
+    def test_the_last_call_ends(self) -> None:
+        """The gateway says that it sends no more octets."""
+        telephone = self.telephone(0)
+        talk, setup = self.answered(telephone)
+        self.assertEqual(len(self.period()), PERIOD)
+        telephone.within("BYE", talk)
+        self.message(DISCONNECT)
+        self.sends(1, setup.reference, RELEASE_COMPLETE)
+        before = self.silences
+        self.assertEqual((self.period(), self.period()), ([], []))
+        self.assertEqual(self.silences, before + 1)
+
+    def test_messages_on_no_call(self) -> None:
+        for kind, value in ((RELEASE, None), (CONNECT, 81)):
+            with self.subTest(kind=kind):
+                self.sends(0, 77, kind)
+                reply = self.message(RELEASE_COMPLETE)
+                self.assertEqual((reply.flag, reply.reference, reply.cause), (1, 77, value))
+        self.sends(0, 77, RELEASE_COMPLETE)
+        self.assertEqual(self.messages, [])
 
     def test_keys(self) -> None:
         """INFO and telephone events are tones in the channel."""
