@@ -2,8 +2,10 @@
 
 from __future__ import annotations
 
+import os
 import signal
 import unittest
+from pathlib import Path
 
 import support
 from sip_commands import USERS, Exchanged, LiveTelephone, Started, needs, port
@@ -89,10 +91,22 @@ class OfAttach(Started):
         telephone.gets(200)
         said = self.end()
         self.assertIn("INVITE 1", said)
+        self.assertNotIn("has ended", said)
         for text in (said, *((self.folder / name).read_bytes().decode("latin-1") for name in ("log", "report", "records", "pcap"))):
             self.assertTrue(text)
             self.assertNotIn("secret", text)
         listening_socket(self.address).close()
+
+    def test_the_gateway_ends(self) -> None:
+        """It is said, and the exchange goes on."""
+        (self.folder / "settings").write_text("exchange 1 1 0 1\n")
+        self.at = self.listening(command("attach", "--sip", "users", "--sip-listen", f"{HOST}:0", "settings"))
+        self.until("sip: unix:")
+        children = Path(f"/proc/{self.work.pid}/task/{self.work.pid}/children").read_text().split()
+        (gateway,) = (int(child) for child in children if b"--users" in Path(f"/proc/{child}/cmdline").read_bytes())
+        os.kill(gateway, signal.SIGKILL)
+        self.until("attach: tools/sip has ended with status -9, and its lines have no endpoint")
+        self.end()
 
 
 @needs_program

@@ -6,9 +6,11 @@ import contextlib
 import subprocess
 import sys
 import tempfile
+import threading
 from collections.abc import Iterable, Sequence
 from pathlib import Path
 
+from nemzhuul.command_line import NAME, say
 from nemzhuul.live.wire import read_address
 from nemzhuul.sip.options import read_settings
 from nemzhuul.sip.transactions import listening_socket
@@ -27,12 +29,21 @@ class GatewayProcess:
         self.words = [*options, *(address.word for address in self.addresses.values())]
         listening_socket(read_settings(self.words).listen).close()  # or it is refused before anything starts
         self.ends = ends
+        self.is_wanted = True
 
     def start(self) -> None:
         self.process = subprocess.Popen([sys.executable, str(TOOL), *self.words], stdin=subprocess.DEVNULL)
         self.ends.callback(self.end)
+        threading.Thread(target=self.watch, daemon=True).start()
+
+    def watch(self) -> None:
+        """Says so if it ends by itself."""
+        status = self.process.wait()
+        if self.is_wanted:
+            say(f"{NAME}: tools/sip has ended with status {status}, and its lines have no endpoint")
 
     def end(self) -> None:
+        self.is_wanted = False
         self.process.terminate()
         try:
             self.process.wait(PATIENCE)
