@@ -2,6 +2,7 @@
 
 from __future__ import annotations
 
+import os
 import re
 import shutil
 import signal
@@ -24,6 +25,12 @@ def port() -> int:
     with socket.socket(socket.AF_INET, socket.SOCK_DGRAM) as end:
         end.bind((HOST, 0))
         return port_of(end)
+
+
+def own_host() -> str:
+    """An address of this machine for the telephones of this process, on which no other one takes a port: 127.0.0.0/8 has many."""
+    number = os.getpid()
+    return f"127.{64 + (number >> 16) % 128}.{number >> 8 & 255}.{number & 255}"
 
 
 def needs(program: str) -> bool:
@@ -62,8 +69,8 @@ class Started(InFolder):
             work.kill()
             work.wait()
 
-    def until_it_responds(self, at: int, method: str = "OPTIONS", contact: str = "") -> Sip:
-        """Asks at a port as 901, until a response comes."""
+    def until_it_responds(self, host: str, at: int, method: str = "OPTIONS", contact: str = "") -> Sip:
+        """Asks at an address as 901, until a response comes."""
         end = udp()
         self.addCleanup(end.close)
         end.settimeout(0.2)
@@ -71,7 +78,7 @@ class Started(InFolder):
                   f"Call-ID: {method}", f"CSeq: 1 {method}", "Max-Forwards: 9", f"Contact: <{contact or f'sip:{HOST}'}>"]  # fmt: skip
         text = "\r\n".join([f"{method} sip:901@{HOST} SIP/2.0", *fields, "Content-Length: 0", "", ""])
         for _ in range(5 * support.PATIENCE):
-            end.sendto(text.encode(), (HOST, at))
+            end.sendto(text.encode(), (host, at))
             try:
                 return read_sip(end.recv(8_192))
             except OSError:

@@ -8,7 +8,7 @@ import unittest
 from pathlib import Path
 
 import support
-from sip_commands import USERS, Exchanged, LiveTelephone, Started, needs, port
+from sip_commands import USERS, Exchanged, LiveTelephone, Started, needs, own_host
 from sip_peers import HOST, description, port_of, read_sip, udp
 from support import EXAMPLES, command, needs_program, slow, tool
 from nemzhuul.sip.transactions import listening_socket
@@ -175,10 +175,10 @@ class Installed(Exchanged):
     @unittest.skipIf(needs("sipp"), "sipp is not installed")
     def test_sipp(self) -> None:
         """sipp's built-in scenarios: 30 calls of its user agent client, through the exchange, to its server, as peers."""
-        client, server = port(), port()
-        at = self.attach(f"200 sip:{HOST}:{client}\n100 sip:{HOST}:{server}\n")
-        self.start("sipp", "-sn", "uas", "-i", HOST, "-p", str(server), "-nostdin")
-        words = ("-sn", "uac", "-i", HOST, "-p", str(client), "-s", "100", "-m", "30", "-r", "10", "-d", "500", "-nostdin")
+        host = own_host()
+        at = self.attach(f"200 sip:{host}:5071\n100 sip:{host}:5070\n")
+        self.start("sipp", "-sn", "uas", "-i", host, "-p", "5070", "-nostdin")
+        words = ("-sn", "uac", "-i", host, "-p", "5071", "-s", "100", "-m", "30", "-r", "10", "-d", "500", "-nostdin")
         self.assert_calls_pass(*words, f"{HOST}:{at}")
         self.assertRegex(self.end(), "INVITE [0-9]+")
 
