@@ -174,11 +174,11 @@ class Installed(Exchanged):
 
     @unittest.skipIf(needs("sipp"), "sipp is not installed")
     def test_sipp(self) -> None:
-        """sipp's built-in scenarios: 30 calls of its user agent client, through the exchange, to its server, as peers."""
+        """sipp's built-in scenarios: 30 calls of its user agent client, at most 10 at a time, to its server, as peers."""
         host = own_host()
         at = self.attach(f"200 sip:{host}:5071\n100 sip:{host}:5070\n")
         self.start("sipp", "-sn", "uas", "-i", host, "-p", "5070", "-nostdin")
-        words = ("-sn", "uac", "-i", host, "-p", "5071", "-s", "100", "-m", "30", "-r", "10", "-d", "500", "-nostdin")
+        words = ("-sn", "uac", "-i", host, "-p", "5071", "-s", "100", "-m", "30", "-l", "10", "-r", "10", "-d", "500", "-nostdin")
         self.assert_calls_pass(*words, f"{HOST}:{at}")
         self.assertRegex(self.end(), "INVITE [0-9]+")
 
