@@ -4,6 +4,7 @@ from __future__ import annotations
 
 import shutil
 import subprocess
+import sys
 import unittest
 from unittest import mock
 
@@ -106,6 +107,14 @@ class Installed(InFolder):
             status, output, _ = self.run_tool(f"nemzhuul-{name}", "--help")
             self.assertEqual((status, output.split()[:2]), (0, ["usage:", f"nemzhuul-{name}"]))
             self.assertIn("DESCRIPTION", (self.prefix / "share" / "man" / "man1" / f"nemzhuul-{name}.1").read_text())
+
+    def test_the_gateway_of_attach(self) -> None:
+        """The installed tool is the one that the installed package starts."""
+        code = "import sys; sys.path[:0] = [sys.argv[1]]; from nemzhuul.sip.gateway_process import TOOL; print(TOOL)"
+        words = [sys.executable, "-c", code, str(self.prefix / "lib" / "nemzhuul")]
+        done = subprocess.run(words, env=environment(), capture_output=True, text=True, check=True)
+        self.assertEqual(done.stdout, f"{self.prefix.resolve()}/bin/nemzhuul-sip\n")
+        self.assertTrue((self.prefix / "bin" / "nemzhuul-sip").is_file())
 
     def test_the_program_is_the_one_that_was_copied(self) -> None:
         (self.folder / "some").write_text("exchange 2 lines\nnumber 101 leads to line 1\nline 0 calls 101\n")

@@ -8,14 +8,14 @@ import sys
 import tempfile
 import threading
 from collections.abc import Iterable, Sequence
-from pathlib import Path
 
 from nemzhuul.command_line import NAME, say
 from nemzhuul.live.wire import read_address
+from nemzhuul.programs.built import HOME, INSTALLED, IS_INSTALLED
 from nemzhuul.sip.options import read_settings
 from nemzhuul.sip.transactions import listening_socket
 
-TOOL = Path(__file__).resolve().parents[2] / "sip"
+TOOL = INSTALLED.file.with_name("nemzhuul-sip") if IS_INSTALLED else HOME / "sip"
 OPTIONS = {"sip": "--users", "sip-listen": "--listen", "sip-allow": "--allow"}  # of tools/sip, by the names that tools/attach has
 PATIENCE = 5  # seconds that it has to end its calls
 
