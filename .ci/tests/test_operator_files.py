@@ -6,18 +6,22 @@ import os
 import re
 import resource
 import signal
+import subprocess
 import time
 from pathlib import Path
 from unittest import mock
 
 import support
 from attached import Attached
-from support import PATIENCE, InFolder, needs_program
+from support import PATIENCE, InFolder, needs_program, slow
 
 from nemzhuul.live import log
 from nemzhuul.live.log import Writer
+from nemzhuul.live.records import HEADER
 from nemzhuul.outputs import Output
+from nemzhuul.programs.program import PROGRAM
 
+REFUSED_SETUP = "M 080200020504038090A3700480393939"  # to the number 999, which has no line
 STATUS_ENQUIRY, STATUS = "M 0802000175", "M 080280017D0802829E140100"
 GIVEN_UP = re.compile("^attach: (the [a-z]+) is given up, and the calls go on: (.*)$")
 ENDS = 15  # seconds in which the tool ends after a signal
@@ -71,6 +75,60 @@ class FullFiles(Attached):
 
 
 @needs_program
+class FullDisk(Attached):
+    """A disk on which no octet more fits. Only root can mount one."""
+
+    SIZE = 65_536
+
+    def setUp(self) -> None:
+        super().setUp()
+        disk = self.folder / "disk"
+        disk.mkdir()
+        words = ["mount", "-t", "tmpfs", "-o", f"size={self.SIZE}", "tmpfs", str(disk)]
+        done = subprocess.run(words, capture_output=True, text=True, check=False)
+        if done.returncode:
+            self.skipTest(f"no disk can be mounted: {done.stderr.strip()}")
+        self.addCleanup(lambda: subprocess.run(["umount", "-l", str(disk)], check=True))
+
+    @slow
+    def test_each_file(self) -> None:
+        """It is given up, the others have everything, and the calls go on."""
+        files = {"the log": "live.trace", "the report": "live.report", "the capture": "capture", "the records": "records"}
+        for what, name in files.items():
+            with self.subTest(name=name):
+                content = HEADER.ljust(self.SIZE, b"\n") if name == "records" else b""
+                (self.folder / "disk" / name).write_bytes(content)
+                (self.folder / name).symlink_to(f"disk/{name}")
+                self.attach("--records", "records")
+                speaker = self.attached(0)
+                for _ in range(8):
+                    speaker.send(*[STATUS_ENQUIRY] * 100, *["F " + "11" * 30] * 400, REFUSED_SETUP)
+                for _ in range(8 * 101):
+                    speaker.gets("M")
+                self.until(f"attach: {what} is given up, and the calls go on: {name} cannot be written: No space left on device")
+                other = self.attached(1)
+                other.send(STATUS_ENQUIRY)
+                self.assertEqual(other.gets("M"), STATUS)
+                self.work.send_signal(signal.SIGTERM)
+                self.said += self.errors.readlines()
+                self.assertEqual((self.work.wait(), "".join(self.said).count("given up")), (0, 1), self.said)
+                self.check_others(name)
+                for file in files.values():
+                    (self.folder / file).unlink()
+                (self.folder / "disk" / name).unlink()
+                self.said.clear()
+
+    def check_others(self, full: str) -> None:
+        """The report and the log fit each other, if both are whole, and the records have each call."""
+        trace, report = self.folder / "live.trace", self.folder / "live.report"
+        if full not in (trace.name, report.name):
+            done = subprocess.run([PROGRAM, "follow"], input=trace.read_bytes(), capture_output=True, check=True)
+            self.assertEqual(done.stdout, report.read_bytes())
+        calls = (self.folder / "records").read_text().splitlines()
+        self.assertEqual(sum(",999," in call for call in calls), 0 if full == "records" else 8)
+
+
+@needs_program
 class BlockedFiles(Attached):
     """Files that take nothing: pipes that nobody reads."""
 
@@ -83,8 +141,10 @@ class BlockedFiles(Attached):
         """Frames and messages pass, longer than a pipe takes."""
         speaker = self.attached(0)
         for _ in range(4):
-            speaker.send(*["F " + "11" * 30] * 2000, STATUS_ENQUIRY)
-            speaker.gets("M")
+            speaker.send(*["F " + "11" * 30] * 2000, REFUSED_SETUP, STATUS_ENQUIRY)
+            self.assertEqual((speaker.gets("M")[:14], speaker.gets("M")), ("M 080280025A08", STATUS))
+            for _ in range(2000):
+                speaker.gets("F")
         speaker.close()
 
     def ends(self, number: int) -> str:
@@ -98,14 +158,14 @@ class BlockedFiles(Attached):
     def test_all_files(self) -> None:
         for number in (signal.SIGINT, signal.SIGTERM):
             with self.subTest(number=number):
-                self.block("live.trace", "live.report", "capture")
-                self.attach()
+                self.block("live.trace", "live.report", "capture", "records")
+                self.attach("--records", "records")
                 self.is_answered()
                 said = self.ends(number)
                 for what, name in (("the log", "live.trace"), ("the report", "live.report")):
                     line = f"attach: {what} is given up, and the calls go on: {name} takes nothing, and the last [0-9]+ octets"
                     self.assertRegex(said, line)
-                for name in ("live.trace", "live.report", "capture"):
+                for name in ("live.trace", "live.report", "capture", "records"):
                     self.assertTrue((self.folder / name).is_fifo())
                     (self.folder / name).unlink()
 
