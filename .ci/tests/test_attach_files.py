@@ -29,7 +29,7 @@ TOP = Path(__file__).resolve().parents[2]
 TOOLS = TOP / "tools"
 sys.path.insert(0, str(TOOLS))
 sys.dont_write_bytecode = True
-from nemzhuul.live.lines import MAX_MESSAGES, MAX_WAITING, Line  # noqa: E402
+from nemzhuul.live.lines import MAX_MESSAGES, MAX_WAITING, SHUT_DOWN, Line, Mark  # noqa: E402
 from nemzhuul.live.processes import Loop  # noqa: E402
 from nemzhuul.live.wire import read_address  # noqa: E402
 
@@ -487,17 +487,32 @@ class Queues(InFolder):
         self.assertEqual(self.line.owed, 0)
 
     def test_messages_of_a_period(self) -> None:
-        """At most 64 are taken. The frames behind the others wait too, and are late."""
+        """At most 64 are taken. Frames do not wait for the others, and no message waits for frames."""
+        self.send(3 * PERIOD)
+        self.line.take(b"".join(b"M %04X\n" % at for at in range(2 * MAX_MESSAGES + 1)))
         self.send(PERIOD)
-        self.period()
-        self.line.take(b"M 0802000175\n" * (2 * MAX_MESSAGES + 1))
-        self.send(PERIOD)
-        for count in (MAX_MESSAGES, MAX_MESSAGES, 1):
+        messages: list[bytes] = []
+        for at, count in enumerate((MAX_MESSAGES, 2 * MAX_MESSAGES, 2 * MAX_MESSAGES + 1, 2 * MAX_MESSAGES + 1)):
             self.line.begin_period()
-            self.assertEqual(len([*self.line.messages_due()]), count)
-            rows = self.line.column(PERIOD)
-        self.assertEqual([row[:4] for row in rows if row], [b" 0:0"] * PERIOD)
-        self.assertEqual(self.line.owed, 2 * PERIOD)
+            messages += self.line.messages_due()
+            self.assertEqual(len(messages), count)
+            self.assertEqual([int(row[3:7], 16) for row in self.line.column(PERIOD)], [*range(at * PERIOD, (at + 1) * PERIOD)])
+        self.assertEqual(messages, [b"%04X" % at for at in range(2 * MAX_MESSAGES + 1)])
+        self.assertEqual((self.line.owed, self.line.late), (0, 0))
+
+    def test_an_endpoint_that_leaves(self) -> None:
+        """Its line is shut down when its frames and messages have been taken."""
+        self.line.take(b"M 0802000175\n" * (MAX_MESSAGES + 1))
+        self.send(PERIOD + 1)
+        self.line.queue.append(Mark.GONE)
+        taken = []
+        for _ in range(3):
+            self.line.begin_period()
+            messages = [*self.line.messages_due()]
+            count = self.line.frames_before_mark() or PERIOD
+            rows = self.line.column(min(count, PERIOD))
+            taken.append((len(messages), messages.count(SHUT_DOWN), sum(map(bool, rows))))
+        self.assertEqual(taken, [(MAX_MESSAGES, 0, PERIOD), (1, 0, 1), (1, 1, 0)])
 
 
 @unittest.skipUnless(os.access(PROGRAM, os.X_OK), "the program is not built")

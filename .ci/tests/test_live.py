@@ -40,7 +40,7 @@ class Live(Attached):
         self.assertEqual([sent[at + 2][0] for at in rows], [fed[at][0] for at in rows])
 
     def test_lines_in_order(self) -> None:
-        """A message comes between the frames between which it was sent, and frames are heard two frames later."""
+        """A message comes before the frames that wait, and frames are heard two frames later."""
         self.attach("--burst", "5")
         speaker, listener = self.attached(0), self.attached(1)
         listener.send("F none")
@@ -55,8 +55,21 @@ class Live(Attached):
         self.end()
         trace = (self.folder / "live.trace").read_text().splitlines()
         at = trace.index(f"F 0:{rows[0]}")
-        wanted = [f"F 0:{row}" for row in rows]
-        self.assertEqual(trace[at : at + 6], [*wanted[:3], "M 0 0802000175", *wanted[3:]])
+        self.assertEqual(trace[at - 1 : at + 5], ["M 0 0802000175", *(f"F 0:{row}" for row in rows)])
+
+    def test_a_message_after_a_lead(self) -> None:
+        """It does not wait for frames that were sent before their time. The exchange reads all of them at once."""
+        self.attach()
+        speaker = self.attached(0)
+        rows = [f"F {at:04X}".ljust(62, "1") for at in range(800)]
+        self.work.send_signal(signal.SIGSTOP)
+        speaker.send(*rows, "M 0802000175")
+        self.work.send_signal(signal.SIGCONT)
+        speaker.gets("M")
+        self.end()
+        trace = (self.folder / "live.trace").read_text().splitlines()
+        at = trace.index(rows[0].replace("F ", "F 0:"))
+        self.assertEqual(trace[at - 1], "M 0 0802000175")
 
     def test_an_endpoint_goes(self) -> None:
         """Its line is restarted, the call of the other user is cleared with cause 41, and a new endpoint can come."""

@@ -344,7 +344,7 @@ class Live:
     # ---- to the exchange
 
     def burst(self) -> None:
-        """Gives the exchange the frames of a period, with the messages between them."""
+        """Gives the exchange the messages that have come, and the frames of a period."""
         self.use.burst()
         text: list[bytes] = []
         left = self.use.frames
@@ -358,7 +358,7 @@ class Live:
             messages += len(due)
             if not left:
                 break
-            count = min([left, *filter(None, (line.frames_before_message() for line in self.lines.values()))])
+            count = min([left, *filter(None, (line.frames_before_mark() for line in self.lines.values()))])
             columns = [[b""] * count, *(line.column(count) for line in self.lines.values())]
             text.append(b"F" + b"\nF".join(map(b"".join, zip(*columns))) + b"\n")
             left -= count

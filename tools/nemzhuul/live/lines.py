@@ -1,4 +1,4 @@
-"""A line of a running exchange: the queue of what its endpoint sent, and the socket of its endpoint.
+"""A line of a running exchange: the queues of what its endpoint sent, and the socket of its endpoint.
 
 A line with a data link has a D channel, which is another socket. Each datagram there is a frame with two octets of check
 sequence at its end, in both directions, as a driver of a D channel has it.
@@ -38,7 +38,7 @@ class Mark(enum.Enum):
     GONE = "no endpoint from there on"
 
 
-Item = Union[list[bytes], bytes, Mark]  # of a queue: frames, a message, or a mark
+Item = Union[list[bytes], Mark]  # of a queue: frames, or a mark
 
 
 class Port:
@@ -88,17 +88,18 @@ class Port:
 class Line(Port):
     """A line with a socket on which it listens for its endpoint.
 
-    Its queue has lists of frames, messages and marks, in the order in which the endpoint sent them. A frame there is
-    the part of a trace line, ` L:HEX`. If the line has a data link, its messages come over that.
+    Its queue has lists of frames, and marks, in the order in which the endpoint sent them. A frame there is the part of
+    a trace line, ` L:HEX`. Messages have a separate queue, as a D channel does not wait for the bearer channels. If the
+    line has a data link, its messages come over that.
     """
 
     def __init__(self, number: int, address: Address, loop: Loop, has_link: bool = False) -> None:
         super().__init__(number, address, loop)
         self.key = b"%d" % number
         self.has_link = has_link
-        self.queue: deque[Item] = deque()  # what the endpoint sent
+        self.queue: deque[Item] = deque()  # what the endpoint sent, except messages
+        self.waiting: deque[bytes] = deque()  # messages
         self.queued = 0  # frames and messages
-        self.waiting = 0  # the messages among them
         self.left = 0  # messages that may still be taken in this period
         self.begun = b""  # the line that the endpoint has sent a part of
         self.unsent = bytearray()  # what the endpoint's socket did not take yet
@@ -141,7 +142,7 @@ class Line(Port):
                 raise Refused(f"a line has at most {MAX_LINE} octets")
         except Refused as refusal:
             self.leave(f"is refused: {refusal}", refusal)
-        if self.waiting > MAX_WAITING and self.endpoint is not None:
+        if len(self.waiting) > MAX_WAITING and self.endpoint is not None:
             self.leave(f"has sent more than {MAX_WAITING} messages that wait")
         self.watch()
 
@@ -237,9 +238,8 @@ class Line(Port):
         if message and self.has_link:
             raise Refused(f"line {self.number} has a data link, over which its messages come")
         if message:
-            self.queue.append(message.group(1))
+            self.waiting.append(message.group(1))
             self.queued += 1
-            self.waiting += 1
         elif text == NO_FRAMES:
             self.owed = 0
             self.queue.append(Mark.SILENCE)
@@ -258,32 +258,33 @@ class Line(Port):
         self.has_lead = self.is_speaking
 
     def messages_due(self) -> Iterator[bytes]:
-        """Takes what comes before the next frame. A shutdown of the line is a message too, if it has no data link."""
-        while self.queue and not isinstance(self.queue[0], list):
-            if isinstance(self.queue[0], bytes) and not self.left:
-                return
-            item = self.queue.popleft()
-            if isinstance(item, bytes):
-                self.queued -= 1
-                self.waiting -= 1
-                self.left -= 1
-                self.messages += 1
-                yield item
-            else:
-                self.is_speaking = self.has_lead = False
-                self.owed = 0
-                if item is Mark.GONE and self.has_link:
-                    self.open()
-                elif item is Mark.GONE:
-                    yield SHUT_DOWN
+        """Takes the messages that have come, before frames that were sent earlier, and the marks before the next frame.
 
-    def frames_before_message(self) -> int | None:
-        """How many frames come before the next message or mark; None if none is there."""
+        A shutdown of the line, which comes last, is a message too, if it has no data link.
+        """
+        while self.waiting and self.left:
+            self.queued -= 1
+            self.left -= 1
+            self.messages += 1
+            yield self.waiting.popleft()
+        while self.queue and isinstance(self.queue[0], Mark):
+            if self.queue[0] is Mark.GONE and self.waiting:
+                return
+            mark = self.queue.popleft()
+            self.is_speaking = self.has_lead = False
+            self.owed = 0
+            if mark is Mark.GONE and self.has_link:
+                self.open()
+            elif mark is Mark.GONE:
+                yield SHUT_DOWN
+
+    def frames_before_mark(self) -> int | None:
+        """How many frames come before the next mark; None if none is there."""
         first = self.queue[0] if len(self.queue) > 1 else None
         return len(first) if isinstance(first, list) else None
 
     def column(self, count: int) -> list[bytes]:
-        """Takes the parts of the next frames; an idle frame has none, nor has one behind messages that wait."""
+        """Takes the parts of the next frames; an idle frame has none."""
         rows: list[bytes] = []
         first = self.queue[0] if self.queue else None
         if isinstance(first, list):
