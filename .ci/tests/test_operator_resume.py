@@ -3,6 +3,7 @@
 from __future__ import annotations
 
 import os
+import signal
 import subprocess
 from collections.abc import Iterable
 from pathlib import Path
@@ -13,8 +14,9 @@ from attached import Attached
 from support import InFolder, command, environment, needs_program, report_of, slow, stream, tool
 from test_data_links import SETUP, LinkUser
 
-from nemzhuul.live import resume
-from nemzhuul.live.resume import History, line_starts
+from nemzhuul.live import feeding
+from nemzhuul.live.feeding import line_starts
+from nemzhuul.live.resume import History
 from nemzhuul.programs.program import NAMED, PROGRAM
 
 SETTINGS = "exchange 1 3 1 1\nnumber 100 line 0\nnumber 101 line 1\nnumber 30 room 0\nseat 2/1 0\nnail 0/31 1/31\n"
@@ -70,7 +72,7 @@ class Logs(InFolder):
         content = SETTINGS.encode() + "".join(f"{line}\n" for line in story()).encode()
         wanted = b"".join(self.history(content).pieces())
         for size in range(1, 70):
-            with mock.patch.object(resume, "BLOCK", size), open(self.folder / "log", "rb") as log:
+            with mock.patch.object(feeding, "BLOCK", size), open(self.folder / "log", "rb") as log:
                 history = self.history(content)
                 self.assertEqual(b"".join(history.pieces()), wanted)
                 self.assertEqual(line_starts(log.fileno(), len(content) - 1, 0, 1), content.rindex(b"\n", 0, -1) + 1)
@@ -176,6 +178,26 @@ class Resumed(Attached):
         endpoint.send("M 0802800107")
         again.gets("0802800107")
         self.assertFalse([octets for octets in again.gotten if octets[2] & ~0x10 == 0x6F], "no SABME")
+        self.ends_well()
+
+    def test_a_standby(self) -> None:
+        """It is made from the log, and goes on if the process fails that read the log first."""
+        lines = ("--line", "0", "unix:line0", "--line", "1", "unix:line1")
+        self.attach("--standby")
+        caller, called = self.attached(0), self.attached(1)
+        caller.send("M 080200010504038090A3700480313031", "F none")
+        called.gets("M 0802000105")
+        called.send("M 0802800107", "F none")
+        caller.gets("M 0802800107")
+        self.kill()
+        self.resume("--standby", *lines)
+        caller, called = self.attached(0), self.attached(1)
+        self.assertTrue(any(line.endswith(" stands by\n") for line in self.errors))
+        first = int(Path(f"/proc/{self.work.pid}/task/{self.work.pid}/children").read_text().split()[0])
+        os.kill(first, signal.SIGKILL)
+        called.send("F none")
+        caller.send(*["F " + "22" * 30] * 400, "F none")
+        called.gets("F 22D5")
         self.ends_well()
 
     @slow

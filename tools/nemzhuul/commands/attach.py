@@ -24,6 +24,7 @@ from nemzhuul.live.processes import Exchange, Loop
 from nemzhuul.live.realtime import ask_for_realtime
 from nemzhuul.live.records import CallRecords, open_records
 from nemzhuul.live.resume import Appended, History, Replay, Returns, open_log
+from nemzhuul.live.standby import Pair, check_log
 from nemzhuul.live.states import DISC
 from nemzhuul.live.wire import Address, read_address
 from nemzhuul.outputs import Output, check_output, is_same_file
@@ -53,6 +54,8 @@ endpoint at a time attaches to each line with an ADDRESS: unix:PATH or tcp:HOST:
     --overwrite      replaces these files; without it, one that has content is refused
     --needs-log      ends the exchange if the log cannot be written; without it, calls go on without a log
     --seconds N      ends after N seconds by the clock, also if frames are late
+    --standby        gives every line to two processes of the exchange. If one fails, the other goes on with its next octet,
+                     and a new one is made from the log, which has to be a file
     --strict         runs the fabric on which no path moves
     --program FILE   runs this exchange, and not the proved one (crates/tst/out/tst)
     --realtime       asks for SCHED_RR and locked memory, and goes on if they are refused
@@ -86,6 +89,7 @@ class Options:
         self.seconds: int | None = None
         self.files: dict[str, str | None] = dict.fromkeys((*OUTPUTS, "program"))
         self.flags: list[str] = []
+        self.has_standby = False
         self.may_overwrite = self.may_be_unproved = self.needs_log = self.is_realtime = self.is_resumed = False
         left = list(words)
         while left and left[0].startswith("--"):
@@ -98,7 +102,7 @@ class Options:
         self.check_files(left[0])
 
     def option(self, name: str, words: list[str]) -> None:
-        values = {"line": 2, "link": 2, "strict": 0, "overwrite": 0, "unproved": 0, "needs-log": 0, "realtime": 0}.get(name, 1)
+        values = {"line": 2, "link": 2, "strict": 0, "standby": 0, "overwrite": 0, "unproved": 0, "needs-log": 0, "realtime": 0}.get(name, 1)
         if len(words) <= values:
             raise WrongWords
         given = [words.pop(0) for _ in range(values)]
@@ -106,6 +110,8 @@ class Options:
             self.address(self.addresses if name == "line" else self.links, *given)
         elif name == "strict":
             self.flags = ["--strict"]
+        elif name == "standby":
+            self.has_standby = True
         elif name == "overwrite":
             self.may_overwrite = True
         elif name == "unproved":
@@ -167,6 +173,8 @@ class Options:
 
     def check_files(self, settings: str) -> None:
         """Refuses, before anything starts, an output that is another file of this command or cannot be written."""
+        if self.has_standby:
+            check_log(self.files["log"])
         taken: list[tuple[str, str | Path]] = [("the settings", settings), ("the program", self.files["program"] or PROGRAM)]
         for line, address in (*self.addresses.items(), *self.links.items()):
             if address.path is not None:
@@ -237,8 +245,13 @@ class Live:
             ask_for_realtime()
         for writer in writers:
             writer.begin()
-        self.exchange = Exchange([program, "follow", *options.flags], self.loop, self.take, report)
+        self.exchange = self.make_exchange([program, "follow", *options.flags], report)
         ends.callback(self.exchange.kill)
+
+    def make_exchange(self, words: Sequence[str | Path], report: Writer) -> Exchange | Pair:
+        if self.options.has_standby:
+            return Pair(words, self.loop, self.take, report, self.log, self.use.period)
+        return Exchange(words, self.loop, self.take, report)
 
     def ports(self) -> list[Port]:
         return [*self.lines.values(), *self.channels.values()]
@@ -258,7 +271,8 @@ class Live:
     def run(self) -> None:
         """Makes frames by the clock until an interrupt, the end of the exchange, or the end of its time."""
         self.returns.begin()
-        self.use.begin(self.exchange.process.pid)
+        self.use.begin(self.exchange.pids)
+        self.exchange.begin(self.given)
         clock = WallClock.at_once(self.frame)
         self.packets.start = clock.microseconds(0)
         self.log.write(clock.comment())

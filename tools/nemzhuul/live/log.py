@@ -2,6 +2,8 @@
 
 from __future__ import annotations
 
+import contextlib
+import os
 import threading
 
 from nemzhuul.command_line import NAME, Refused, say
@@ -22,6 +24,7 @@ class Writer:
         self.output = output
         self.what = what
         self.is_given_up = False
+        self.end = 0  # the place in the file after all that it was given
         self._queue: list[bytes] = []
         self._waiting = 0  # octets that the file does not have yet
         self._is_behind = False  # the file did not take a text in time, and still has not got all
@@ -33,6 +36,8 @@ class Writer:
         """Starts to write."""
         self.output.begin()
         if self.output.number is not None:
+            with contextlib.suppress(OSError):  # a pipe has no places
+                self.end = os.lseek(self.output.number, 0, os.SEEK_CUR)
             self._thread = threading.Thread(target=self._run, name=self.what, daemon=True)
             self._thread.start()
 
@@ -48,7 +53,12 @@ class Writer:
                 return
             self._queue.append(content)
             self._waiting += len(content)
+            self.end += len(content)
             self._changed.notify_all()
+
+    def has_all(self) -> bool:
+        """Whether the file has all, or is given up."""
+        return not self._waiting
 
     def settle(self) -> None:
         """Waits some milliseconds until the file has all. It waits no more until the file has caught up."""

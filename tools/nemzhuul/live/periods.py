@@ -4,6 +4,7 @@ from __future__ import annotations
 
 import os
 import time
+from collections.abc import Callable, Sequence
 from pathlib import Path
 
 from nemzhuul.command_line import NAME, say
@@ -22,14 +23,14 @@ class Use:
         self.count = 0
         self.replies = self.slowest = self.latest = 0.0  # seconds, all together and the most
         self.start = self.given = self.said = 0.0  # when the first period and the last one began, and when that was said
-        self.process: int | None = None  # of the exchange
+        self.pids: Callable[[], Sequence[int]] = list  # of the exchange
         self.own = self.children = 0.0  # the processor time at the start
 
-    def begin(self, process: int) -> None:
-        """Starts the clock."""
-        self.process = process
+    def begin(self, pids: Callable[[], Sequence[int]]) -> None:
+        """Starts the clock. The exchange has these processes."""
+        self.pids = pids
         self.own = time.process_time()
-        self.children = children_seconds() + process_seconds(process)
+        self.children = self.exchange_seconds()
         self.start = time.monotonic()
 
     def left(self) -> float:
@@ -58,12 +59,16 @@ class Use:
         self.replies += seconds
         self.slowest = max(self.slowest, seconds)
 
+    def exchange_seconds(self) -> float:
+        """The processor time of the exchange, also before the clock started."""
+        return children_seconds() + sum(map(process_seconds, self.pids()))
+
     def text(self) -> str:
         """What was used so far, in two lines."""
         count = max(1, self.count)
         period = self.period * 1000
         tool = (time.process_time() - self.own) / count * 1000
-        exchange = (process_seconds(self.process) + children_seconds() - self.children) / count * 1000
+        exchange = (self.exchange_seconds() - self.children) / count * 1000
         return (
             f"{NAME}: {self.count * self.period:.2f} s in periods of {period:.3g} ms; "
             f"the latest began {self.latest * 1000:.1f} ms late\n"
@@ -73,7 +78,7 @@ class Use:
         )
 
 
-def process_seconds(number: int | None) -> float:
+def process_seconds(number: int) -> float:
     """The processor time of a running process, on Linux; 0 if it has ended."""
     try:
         fields = Path(f"/proc/{number}/stat").read_text().rpartition(")")[2].split()

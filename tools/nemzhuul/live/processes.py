@@ -18,6 +18,7 @@ FINISH_SECONDS = 30  # that the exchange has for its last replies
 
 
 Act = Callable[[], object]
+Replies = Callable[[bytes], None]  # is called with the text of whole lines
 
 
 class Waitable(Protocol):
@@ -34,11 +35,12 @@ class Acts(NamedTuple):
 
 
 class Loop:
-    """Waits for sockets and pipes."""
+    """Waits for sockets, pipes and times."""
 
     def __init__(self) -> None:
         self.selector = selectors.DefaultSelector()
         self.acts: dict[int, Acts] = {}  # by descriptor
+        self.times: dict[Act, float] = {}  # when each of these is called
 
     def watch(self, end: Waitable, reads: Act | None = None, writes: Act | None = None) -> None:
         """Has these called when an end can be read or written; None for neither."""
@@ -56,21 +58,31 @@ class Loop:
         if not events:
             del self.acts[number]
 
+    def call_at(self, moment: float, act: Act) -> None:
+        """Has this called once at a time, by the monotonic clock."""
+        self.times[act] = moment
+
     def wait(self, seconds: float | None) -> None:
         """Waits for at most this time; None for any time."""
+        if self.times:
+            left = max(0, min(self.times.values()) - time.monotonic())
+            seconds = left if seconds is None else min(seconds, left)
         for key, events in self.selector.select(seconds):
             for at, event in enumerate((selectors.EVENT_READ, selectors.EVENT_WRITE)):
                 act = self.acts.get(key.fd, Acts())[at]  # another one may have ended it
                 if events & event and act:
                     act()
+        for act in [act for act, moment in self.times.items() if moment <= time.monotonic()]:
+            del self.times[act]
+            act()
 
 
 class Exchange:
     """The running exchange. It gets lines of a trace, and its replies are taken whole."""
 
-    def __init__(self, words: Sequence[str | Path], loop: Loop, replies: Callable[[bytes], None], report: Writer) -> None:
+    def __init__(self, words: Sequence[str | Path], loop: Loop, replies: Replies, report: Writer) -> None:
         self.loop = loop
-        self.replies = replies  # is called with the text of whole lines
+        self.replies = replies
         self.report = report
         self.unsent = bytearray()
         self.begun = b""
@@ -82,6 +94,12 @@ class Exchange:
         os.set_blocking(self.input.fileno(), False)
         os.set_blocking(self.output.fileno(), False)
         loop.watch(self.output, self.read)
+
+    def pids(self) -> list[int]:
+        return [self.process.pid]
+
+    def begin(self, given: int) -> None:
+        """The clock starts, after this number of events."""
 
     def send(self, text: bytes) -> None:
         self.unsent += text

@@ -2,6 +2,7 @@
 
 from __future__ import annotations
 
+import contextlib
 import ctypes
 import os
 import resource
@@ -21,6 +22,23 @@ def ask_for_realtime() -> None:
     why = lock_memory()
     if why is not None:
         say_refused("locked memory", why)
+
+
+def as_background(process: int) -> None:
+    """Has a process that was started take no time of those that have SCHED_RR."""
+    if os.sched_getscheduler(0) == os.SCHED_RR:
+        set_scheduler(process, os.SCHED_OTHER, os.sched_param(0))
+
+
+def as_foreground(process: int) -> None:
+    """Has a process the scheduling class of this one."""
+    if os.sched_getscheduler(0) == os.SCHED_RR:
+        set_scheduler(process, os.SCHED_RR, os.sched_getparam(0))
+
+
+def set_scheduler(process: int, policy: int, parameter: os.sched_param) -> None:
+    with contextlib.suppress(OSError):
+        os.sched_setscheduler(process, policy, parameter)
 
 
 def say_refused(what: str, why: str) -> None:

@@ -10,8 +10,9 @@ from pathlib import Path
 
 from nemzhuul.command_line import Refused
 from nemzhuul.live.clock import WallClock
+from nemzhuul.live.feeding import BLOCK
 from nemzhuul.live.log import Writer
-from nemzhuul.live.resume import BLOCK, Appended
+from nemzhuul.live.resume import Appended
 from nemzhuul.signalling.lapd import MODULUS, read_frame
 from nemzhuul.traces.call_records import Record, csv_line, record
 from nemzhuul.traces.events import Arrival, Event, Frame, Link, Reply, Sent, Trace

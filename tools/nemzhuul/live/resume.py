@@ -12,20 +12,21 @@ import time
 from collections import deque
 from collections.abc import Iterator, Sequence
 from pathlib import Path
-from typing import Callable, Protocol
+from typing import TYPE_CHECKING, Callable, Protocol
 
 from nemzhuul.command_line import NAME, Refused, say
 from nemzhuul.live.clock import WallClock
+from nemzhuul.live.feeding import KEPT_FRAMES, line_starts, pieces_of
 from nemzhuul.live.lines import Line, Mark
 from nemzhuul.live.log import Writer
 from nemzhuul.live.processes import Exchange, Loop
 from nemzhuul.outputs import Output
 
-KEPT_FRAMES = 4  # a room's mix is of four frames before, and every other octet is younger
+if TYPE_CHECKING:
+    from nemzhuul.live.standby import Pair
+
 RETURN_SECONDS = 60  # that endpoints have to come back
-BLOCK = 1 << 20  # octets of a read
 SAID_SECONDS = 1  # between two lines on how far it is
-FRAME = re.compile(rb"^F [^\n]*", re.MULTILINE)
 SIGNAL = re.compile(rb"^[ML] ([0-9]+) ?([0-9A-Fa-f]*)$", re.MULTILINE)
 CLOCK = re.compile(rb"^# clock: .*$", re.MULTILINE)
 OTHER_EVENT = re.compile(rb"\n(?:nail|seat|free|up|down|M|L) ")
@@ -53,40 +54,7 @@ class History:
         if not self.is_begun:
             return
         with open(self.path, "rb") as log:
-            log.seek(self.start)
-            for piece in blocks(log.fileno(), self.start, self.kept):
-                yield FRAME.sub(b"F", piece)
-            yield from blocks(log.fileno(), self.kept, self.end)
-
-
-def line_starts(number: int, end: int, least: int, count: int, begin: bytes = b"") -> int:
-    """Where the last lines before an end begin, as many as the count, of those that begin so; at least this place.
-
-    Without a beginning, it is where the last line that has no end begins, or the end.
-    """
-    rest = b""  # the part of a line that is known
-    while end > least:
-        size = min(BLOCK, end - least)
-        text = os.pread(number, size, end - size) + rest
-        end -= size
-        at = len(text)
-        while (at := text.rfind(b"\n" + begin, 0, at)) >= 0:
-            count -= 1
-            if count == 0:
-                return end + at + 1
-        rest = text[: len(begin)]
-    return least
-
-
-def blocks(number: int, start: int, end: int) -> Iterator[bytes]:
-    """A part of a file that is whole lines, in pieces that are whole lines."""
-    begun = b""
-    while start < end:
-        text = os.pread(number, min(BLOCK, end - start), start)
-        start += len(text)
-        whole, line_end, begun = (begun + text).rpartition(b"\n")
-        if line_end:
-            yield whole + line_end
+            yield from pieces_of(log.fileno(), self.start, self.kept, self.end)
 
 
 class Appended(Output):
@@ -121,7 +89,7 @@ class Follower(Protocol):
 class Replay:
     """Gives a new process what the old one had, and takes its replies, which nobody gets again."""
 
-    def __init__(self, exchange: Exchange, loop: Loop, is_interrupted: Callable[[], object], follower: Follower | None) -> None:
+    def __init__(self, exchange: Exchange | Pair, loop: Loop, is_interrupted: Callable[[], object], follower: Follower | None) -> None:
         self.exchange = exchange
         self.follower = follower
         self.asked: deque[tuple[int, bytes]] = deque()  # if calls are followed
