@@ -13,7 +13,7 @@ from typing import Any
 
 import support
 from nemzhuul import __version__
-from support import EXAMPLES, PAIRED, TOP, InFolder, command, of_packets, stream, tool, wav
+from support import EXAMPLES, PAIRED, TOP, InFolder, command, environment, of_packets, stream, tool, wav
 
 
 WORKING = {
@@ -31,6 +31,16 @@ WORKING = {
     "unpcap": ("FILE",),
 }
 FILES = {"audio": "whole_call.report", "script": "some.script", "spectrogram": "some.wav", "unpcap": "some.pcap"}  # of others whole_call.trace
+INTERRUPTION = """# sends an interrupt as soon as a module is imported
+import os, signal, sys
+
+class Finder:
+    def find_spec(self, name, path=None, target=None):
+        if name == os.environ["MODULE"]:
+            os.kill(os.getpid(), signal.SIGINT)
+
+sys.meta_path.insert(0, Finder())
+"""
 OTHERS = ("attach", "build", "endpoint", "install", "run", "sip", "sounds", "traffic")
 
 
@@ -117,7 +127,17 @@ class Endings(InFolder):
                     with open(self.folder / "pipe", "wb"):  # waits until the tool has opened the other end
                         work.send_signal(signal.SIGINT)
                         said = stream(work.stderr).read().decode()
-                self.assertEqual((work.returncode, said), (1, f"{name}: interrupted\n"))
+                self.assertEqual((work.returncode, said), (130, f"{name}: interrupted\n"))
+
+    def test_interrupted_imports(self) -> None:
+        """Each tool is interrupted while its last module is being imported."""
+        (self.folder / "sitecustomize.py").write_text(INTERRUPTION)
+        for name in (*WORKING, *OTHERS):
+            for module in ("command_line", f"commands.{name}"):
+                with self.subTest(tool=name, module=module):
+                    env = {**environment(), "PYTHONPATH": str(self.folder), "MODULE": f"nemzhuul.{module}"}
+                    done = subprocess.run(command(name, "--version"), capture_output=True, env=env, check=False)
+                    self.assertEqual((done.returncode, done.stdout, done.stderr), (130, b"", b""))
 
     def test_interrupted_writers(self) -> None:
         """While they write a file or their output to a pipe that nobody reads."""
@@ -126,12 +146,12 @@ class Endings(InFolder):
         with subprocess.Popen(command("sounds", "."), cwd=self.folder, stderr=subprocess.PIPE) as work:
             (self.folder / "low.wav").read_bytes()
             work.send_signal(signal.SIGINT)
-            self.assertEqual((work.wait(), stream(work.stderr).read()), (1, b"sounds: interrupted\n"))
+            self.assertEqual((work.wait(), stream(work.stderr).read()), (130, b"sounds: interrupted\n"))
         words = command("traffic", 1, 2000)
         with subprocess.Popen(words, stdout=subprocess.PIPE, stderr=subprocess.PIPE) as work:
             select.select([work.stdout], [], [])
             work.send_signal(signal.SIGINT)
-            self.assertEqual((work.wait(), stream(work.stderr).read()), (1, b"traffic: interrupted\n"))
+            self.assertEqual((work.wait(), stream(work.stderr).read()), (130, b"traffic: interrupted\n"))
 
     def test_a_closed_error_output(self) -> None:
         done = subprocess.run(command("calls", "none"), stdout=subprocess.PIPE, preexec_fn=lambda: os.close(2), check=False)

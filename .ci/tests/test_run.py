@@ -75,7 +75,7 @@ class Programs(InFolder):
         with subprocess.Popen(command, start_new_session=True, stdout=subprocess.PIPE, stderr=subprocess.PIPE) as work:
             self.assertEqual(stream(work.stdout).readline(), b"begun\n")
             os.killpg(work.pid, signal.SIGINT)
-            self.assertEqual((work.wait(), stream(work.stderr).read()), (1, b"run: interrupted\n"))
+            self.assertEqual((work.wait(), stream(work.stderr).read()), (130, b"run: interrupted\n"))
 
     def test_progress(self) -> None:
         """It is shown on a terminal, and nowhere else."""

@@ -1,8 +1,8 @@
 """The frame of each tool: its arguments, what it writes, and how it ends.
 
 `command` runs a tool. It prints the usage for `-h` and `--help`, the version for `--version`, the usage and status 2 for
-wrong arguments, and one line and status 1 for a file that cannot be read, an output that cannot be written, or an interrupt. `watch` shows
-on standard error how far a tool is, each second.
+wrong arguments, one line and status 1 for a file that cannot be read or an output that cannot be written, and one line and
+status 130 for an interrupt. `watch` shows on standard error how far a tool is, each second.
 """
 
 from __future__ import annotations
@@ -18,6 +18,7 @@ from typing import NoReturn, TypeVar
 from nemzhuul import __version__
 
 NAME = Path(sys.argv[0]).name
+INTERRUPTED = 130  # the status that a shell gives a program that SIGINT ended; tools/NAME have it too
 
 Item = TypeVar("Item")
 
@@ -46,7 +47,8 @@ def command(usage: str, work: Callable[..., str | bytes]) -> NoReturn:
     except MemoryError:
         status = fail("there is not enough memory")
     except KeyboardInterrupt:
-        status = fail("interrupted")
+        fail("interrupted")
+        status = INTERRUPTED
     sys.exit(status)
 
 
