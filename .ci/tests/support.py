@@ -38,8 +38,7 @@ PAIRED = ("calls", "pcap", "moves", "page", "records")  # the tools that take a 
 TRACES = [trace for trace in sorted(EXAMPLES.glob("*.trace")) if "\nlink " not in trace.read_text()]
 LINKED = EXAMPLES / "call_over_a_link.trace"
 
-# What a tool says each second, on a machine with other work too: the tool, the file, and how far it is.
-PROGRESS = re.compile(r"^(?:[a-z]+: [^:]*: [0-9]+ of [0-9]+|[^:]*: [0-9]+ lines of meters passed over)\n", re.MULTILINE)
+METERS = re.compile(r"^[^:]*: [0-9]+ lines of meters passed over\n", re.MULTILINE)  # what a tool says of a report with them
 
 Marked = TypeVar("Marked")
 
@@ -80,8 +79,8 @@ class Ran(NamedTuple):
     said: str
 
 
-def tool(name: str, *words: object, folder: Path = EXAMPLES, progress: bool = False) -> Ran:
-    """Runs a tool on these words; how far it is, which it says each second, is left out unless it is wanted."""
+def tool(name: str, *words: object, folder: Path = EXAMPLES) -> Ran:
+    """Runs a tool on these words; what it says of lines of meters is left out."""
     done = subprocess.run(
         command(name, *words),
         capture_output=True,
@@ -89,8 +88,7 @@ def tool(name: str, *words: object, folder: Path = EXAMPLES, progress: bool = Fa
         cwd=folder,
         check=False,
     )
-    said = done.stderr.decode()
-    return Ran(done.returncode, done.stdout, said if progress else PROGRESS.sub("", said))
+    return Ran(done.returncode, done.stdout, METERS.sub("", done.stderr.decode()))
 
 
 def command(name: str, *words: object) -> list[str]:
@@ -111,8 +109,8 @@ def stream(pipe: IO[AnyStr] | None) -> IO[AnyStr]:
 
 @contextlib.contextmanager
 def silence() -> Iterator[None]:
-    """Has the package say nothing on standard error, such as how far it is."""
-    with mock.patch("nemzhuul.command_line.say"), mock.patch("nemzhuul.traces.reading.say"):
+    """Has the package say nothing of lines of meters."""
+    with mock.patch("nemzhuul.traces.runs.say"):
         yield
 
 

@@ -28,7 +28,7 @@ class Documents(unittest.TestCase):
         (settings,) = (block for block in blocks("docs/INTEROP.md", "text") if block.startswith("exchange "))
         reader = TraceReader()
         self.assertIsNone(take_lines(reader, settings.splitlines()))
-        self.assertEqual((len(reader.numbers), len(reader.tones), len(reader.timers), len(reader.events)), (2, 1, 1, 1))
+        self.assertEqual((len(reader.numbers), len(reader.tones), len(reader.timers), reader.count), (2, 1, 1, 1))
 
     def test_signatures(self) -> None:
         sources = [path for name in ("exchange_run", "exchange_follow", "ex_io") for path in (TOP / "crates" / name / "src").glob("*.rt")]

@@ -4,6 +4,7 @@ from __future__ import annotations
 
 import re
 import shutil
+import tracemalloc
 from unittest import mock
 
 import support
@@ -88,6 +89,39 @@ class Explanations(InFolder):
         self.assertEqual((found.status, "is a trace: 2 lines, " in found.text), (0, True))
         links = header + b"link 0\nL 0 00\nM 0 08\n"
         self.assertIn("line 0 has a data link: its messages come in frames, lines `L`", self.explained(links)[1])
+
+    @slow
+    def test_long_runs(self) -> None:
+        """A log of `tools/attach`, and a trace with the report of `tst follow`, may be longer than `tst run` accepts."""
+        head, clock = b"exchange 1 2 0 1\n", b"# clock: frame 0 begins at 2026-12-01T00:00:00.000000Z\n"
+        many = 66_000
+        summary = "a trace of `tst follow`, which is too long for `tst run`: 2 lines, 0 bridges, 1 processors, 0 numbers, "
+        summary += f"{many} events, {many} of them frames"
+        self.assertEqual(self.explained(head + clock + b"F\n" * many, ends=0), [f"some.trace is {summary}"])
+        report = self.folder / "some.report"
+        rows = [f"{number} frame {number - 1}\n" for number in range(1, many + 1)]
+        report.write_text("".join(rows))
+        said = self.explained(head + b"F\n" * many, "some.report", ends=0)
+        self.assertEqual((said[0], said[1][:42]), (f"some.trace is {summary}", "some.report has a line for each event of s"))
+        self.assertIn(f"refused {many + 3} word", self.explained(head + clock + b"F\n" * many + b"f\n")[0])
+        rows[7] = "8 frame 7 0:a1\n"
+        report.write_text("".join(rows))
+        said = self.explained(head + b"F\n" * many, "some.report", ends=6)
+        self.assertEqual(said[1:3], ["some.report is no report", "line 8, column 13: octets of a report are upper-case digits"])
+
+    def test_memory(self) -> None:
+        """A run that is ten times as long takes no more memory."""
+        trace, report = self.folder / "some.trace", self.folder / "some.report"
+        peaks = []
+        for frames in (2_000, 20_000):
+            trace.write_text("exchange 1 2 0 1\nlink 0\n" + "F\n" * frames)
+            report.write_text("".join(f"{number} frame {number - 1}\n" for number in range(1, frames + 1)))
+            tracemalloc.start()
+            found = explain.explain_trace(str(trace)), explain.explain_report(str(trace), str(report))
+            peaks.append(tracemalloc.get_traced_memory()[1])
+            tracemalloc.stop()
+            self.assertEqual([one.status for one in found], [0, 0])
+        self.assertLess(peaks[1], peaks[0] + 50_000, "octets")
 
     def test_reports(self) -> None:
         shutil.copy(EXAMPLES / "whole_call.report", self.folder)

@@ -7,7 +7,7 @@ import xml.etree.ElementTree as xml
 
 import support
 from nemzhuul.commands.matrix import around
-from nemzhuul.traces.reading import read_run
+from nemzhuul.traces.runs import read_run
 from support import TRACES, is_refused, report_of, silence, slow, tool
 
 REARRANGED = """event 34: 2 new paths

@@ -7,12 +7,12 @@ import tracemalloc
 from unittest import mock
 
 import support
-from support import EXAMPLES, InFolder, needs_program, report_of, slow, tool
+from support import EXAMPLES, LINKED, InFolder, needs_program, report_of, slow, tool
 
 from nemzhuul.command_line import Refused
-from nemzhuul.commands import calls, moves, page, records
+from nemzhuul.commands import calls, moves, page, plain, records
 from nemzhuul.programs.program import PROGRAM
-from nemzhuul.traces import long_runs
+from nemzhuul.traces import runs
 
 SETTINGS = "exchange 1 3 1 1\nnumber 100 line 0\nnumber 101 line 1\nnumber 30 room 0\nnail 2/1 2/2\n"
 PLAIN = "tools/plain writes a trace without them"
@@ -80,15 +80,24 @@ class LongRuns(InFolder):
             for main in (calls.main, records.main, moves.main, page.main):
                 with self.subTest(path=path.name, main=main.__module__):
                     parts: list[str] = []
-                    with mock.patch.object(long_runs, "MAX_EVENTS", 0), mock.patch("nemzhuul.command_line.write_output", parts.append):
+                    with mock.patch.object(runs, "MAX_EVENTS", 0), mock.patch("nemzhuul.command_line.write_output", parts.append):
                         parts.append(main(str(path), str(self.report)))
                     self.assertEqual("".join(parts), main(str(path), str(self.report)))
+
+    def test_a_long_run_with_data_links(self) -> None:
+        """What tools/plain writes of it is the same, written as it is read."""
+        parts: list[str] = []
+        words = (str(LINKED), str(report_of(LINKED)))
+        with mock.patch.object(runs, "MAX_EVENTS", 0), mock.patch("nemzhuul.command_line.write_output", parts.append):
+            parts.append(plain.main(*words))
+        self.assertGreater(len(parts), 5)
+        self.assertEqual("".join(parts), plain.main(*words))
 
     def test_counts(self) -> None:
         for trace in support.TRACES:
             report = report_of(trace).read_text()
             if not report.startswith("refused") and "sync" not in report and "\nchange" not in trace.read_text():
-                self.assertEqual(long_runs.count_events(str(trace)), report.count("\n"), trace.name)
+                self.assertEqual(runs.count_events(str(trace)), report.count("\n"), trace.name)
 
     def test_refused_runs(self) -> None:
         self.follow(story(1000))
@@ -106,11 +115,11 @@ class LongRuns(InFolder):
             ([line.replace("nail", "link 0\nnail") for line in lines], rows, f"{self.trace} has data links: {PLAIN}"),
         )
         for trace, report, said in cases:
-            with self.subTest(said=said), mock.patch.object(long_runs, "MAX_EVENTS", 0):
+            with self.subTest(said=said), mock.patch.object(runs, "MAX_EVENTS", 0):
                 self.trace.write_text("".join(trace))
                 self.report.write_text("".join(report))
                 with self.assertRaises(Refused) as refused:
-                    list(long_runs.open_run(str(self.trace), str(self.report)).steps)
+                    list(runs.open_run(str(self.trace), str(self.report)).steps)
                 self.assertEqual(str(refused.exception), said)
 
     def test_memory(self) -> None:
@@ -118,7 +127,7 @@ class LongRuns(InFolder):
         peaks = []
         for frames in (1000, 10_000):
             self.follow(story(frames))
-            patches = mock.patch.multiple(long_runs, MAX_EVENTS=0, BLOCK=4096)
+            patches = mock.patch.multiple(runs, MAX_EVENTS=0, BLOCK=4096)
             with patches, mock.patch("nemzhuul.command_line.write_output"):
                 tracemalloc.start()
                 records.main(str(self.trace), str(self.report))

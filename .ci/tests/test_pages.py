@@ -16,7 +16,7 @@ from pathlib import Path
 import support
 from nemzhuul.pictures import fabric
 from nemzhuul.signalling import q931
-from nemzhuul.traces import events, following, reading
+from nemzhuul.traces import events, following, runs
 from support import EXAMPLES, IDLE, TRACES, is_refused, report_of, signals, silence, slow, tool
 
 
@@ -136,7 +136,7 @@ class Pages(unittest.TestCase):
         was sent its partner's octet of two frames before."""
         for trace_path in filter(lambda trace: not is_refused(trace), TRACES):
             with silence():
-                trace, steps = reading.read_run(str(trace_path), str(report_of(trace_path)))
+                trace, steps = runs.read_run(str(trace_path), str(report_of(trace_path)))
             slots = fabric.STRICT_SLOTS if trace_path.stem.startswith("strict") else fabric.SLOTS
             run, paths = following.Run(trace), fabric.Fabric(trace, slots)
             arrived: list[Mapping[int, bytes]] = []

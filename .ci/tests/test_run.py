@@ -80,7 +80,7 @@ class Programs(InFolder):
     def test_progress(self) -> None:
         """It is shown on a terminal, and nowhere else."""
         self.make_proved("head -c 1500000 >/dev/null; echo report; sleep 0.5")
-        tool = self.copy / "tools" / "nemzhuul" / "commands" / "run.py"
+        tool = self.copy / "tools" / "nemzhuul" / "command_line.py"
         tool.write_text(tool.read_text().replace("PROGRESS_SECONDS = 2", "PROGRESS_SECONDS = 0.1"))
         trace, report = self.copy / "trace", self.copy / "report"
         trace.write_bytes(bytes(3_000_000))
@@ -94,8 +94,8 @@ class Programs(InFolder):
         self.assertEqual(len(done.stderr.splitlines()), 1)
         os.close(other)
         shown = os.read(main, 10_000).decode()
-        self.assertRegex(shown, r"\rrun: has read 1\.[0-9] of 3\.0 MB and written 0\.0 MB, 0 s\x1b\[K")
-        self.assertRegex(shown, r"\r\x1b\[Krun: the proved program ran for ")
+        self.assertRegex(shown, r"\rrun: has read 1\.[0-9] of 3\.0 MB and written 0\.0 MB, 0 s\x1b\[K\r")
+        self.assertRegex(shown, r"\r\x1b\[K\rrun: the proved program ran for ")
 
     def make_builder(self, before: str = "") -> None:
         """The command of the kit that builds a program. It takes half a second, and ends when its program was found."""

@@ -67,7 +67,7 @@ class RunTimes(InFolder):
     def test_parts(self) -> None:
         """What is left counts from the last part that both runs have; one that takes longer says nothing."""
         now = float(Path("/proc/uptime").read_text().split()[0])
-        cases = (
+        cases: tuple[tuple[str, str, list[str]], ...] = (
             ("0 begun\n5 1 crates\n30 2 crates\n40 3 crates\n660 end\n", "", [LEFT]),
             ("0 begun\n5 1 crates\n610 end\n", f"{now} begun\n", [LEFT]),
             ("0 begun\n5 1 crates\n4 end\n", f"{now} begun\n", []),

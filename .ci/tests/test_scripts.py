@@ -3,11 +3,13 @@
 from __future__ import annotations
 
 import array
+import os
 import struct
+import subprocess
 import sys
 
 import support
-from support import InFolder, Ran, needs_program, octet_of_sample, tool, wav
+from support import InFolder, Ran, command, needs_program, octet_of_sample, slow, tool, wav
 
 
 class Scripts(InFolder):
@@ -15,9 +17,9 @@ class Scripts(InFolder):
 
     HEAD = "exchange 2 lines\nnumber 101 leads to line 1\n"
 
-    def run_script(self, text: str, *options: str, progress: bool = False) -> Ran:
+    def run_script(self, text: str, *options: str) -> Ran:
         (self.folder / "some.script").write_text(text)
-        return tool("script", *options, "some.script", folder=self.folder, progress=progress)
+        return tool("script", *options, "some.script", folder=self.folder)
 
     def lines(self, text: str) -> list[str]:
         """The lines of a script's trace that are no comments."""
@@ -308,15 +310,21 @@ class Scripts(InFolder):
             self.assertEqual((status, output), (1, b""))
             self.assertTrue(found.startswith("script: some.script: line 3: ") and found.endswith(f"{said}\n"), found)
 
+    @slow
     def test_how_far_it_is(self) -> None:
-        """A script whose program takes its time tells each second how many lines were taken."""
-        slow = self.folder / "slow"
-        slow.write_text("#!/bin/sh\nsleep 0.6\n")
-        slow.chmod(0o755)
-        text = "exchange 1 line\n" + "line 0 sends 08\n" * 3
-        status, _, said = self.run_script(text, "--program", "./slow", progress=True)
-        self.assertEqual(status, 0)
-        self.assertRegex(said, r"\A(script: some\.script: [0-3] of 4\n)+\Z")
+        """A script whose program takes its time shows a bar on a terminal, and removes it."""
+        program = self.folder / "slow"
+        program.write_text("#!/bin/sh\nsleep 0.6\n")
+        program.chmod(0o755)
+        text = "exchange 1 line\n" + "line 0 sends 08\n" * 5
+        self.assertEqual(self.run_script(text, "--program", "./slow")[::2], (0, ""))
+        main, other = os.openpty()
+        self.addCleanup(os.close, main)
+        words = command("script", "--program", "./slow", "some.script")
+        subprocess.run(words, cwd=self.folder, stdout=subprocess.DEVNULL, stderr=other, check=True)
+        os.close(other)
+        shown = os.read(main, 10_000).decode()
+        self.assertRegex(shown, r"\A(\rscript: some\.script \[#{1,29} {1,29}\] [0-9]{1,2}%\x1b\[K\r)+\r\x1b\[K\r\Z")
 
     def test_lines_at_once(self) -> None:
         """Commands and frames of indented lines are one segment; a comment and a blank line do not end it."""

@@ -9,8 +9,8 @@ from pathlib import Path
 
 import support
 from nemzhuul.programs.program import PROGRAM
-from nemzhuul.traces import following, reading
-from support import needs_program, silence, tool
+from nemzhuul.traces import following, runs
+from support import needs_program, tool
 
 
 def cause_of(call: following.Call) -> int | None:
@@ -50,8 +50,7 @@ class Traffic(unittest.TestCase):
             path, report = Path(folder) / "some.trace", Path(folder) / "some.report"
             path.write_bytes(trace)
             report.write_bytes(self.ran(trace=trace))
-            with silence():
-                read, steps = reading.read_run(str(path), str(report))
+            read, steps = runs.read_run(str(path), str(report))
         run = following.Run(read)
         for event, reply in steps:
             run.take(event, reply)

@@ -2,11 +2,12 @@
 
 `command` runs a tool. It prints the usage for `-h` and `--help`, the version for `--version`, the usage and status 2 for
 wrong arguments, one line and status 1 for a file that cannot be read or an output that cannot be written, and one line and
-status 130 for an interrupt. `watch` shows on standard error how far a tool is, each second.
+status 130 for an interrupt. `Progress` shows on a terminal how far a tool is.
 """
 
 from __future__ import annotations
 
+import contextlib
 import errno
 import os
 import sys
@@ -18,6 +19,9 @@ from typing import NoReturn, TypeVar
 from nemzhuul import __version__
 
 NAME = Path(sys.argv[0]).name
+PROGRESS_SECONDS = 2  # until it is shown how far a tool is
+REPEAT_SECONDS = 0.2
+BAR = 30  # characters
 INTERRUPTED = 130  # the status that a shell gives a program that SIGINT ended; tools/NAME have it too
 
 Item = TypeVar("Item")
@@ -68,7 +72,8 @@ def fail(reason: object) -> int:
 def say(text: str) -> None:
     """Writes a line to standard error, if that takes it."""
     try:
-        os.write(2, f"{text}\n".encode(errors="backslashreplace"))
+        rest = "\x1b[K" if os.isatty(2) else ""  # of what `Progress` has shown
+        os.write(2, f"{text}{rest}\n".encode(errors="backslashreplace"))
     except OSError:
         pass
 
@@ -94,11 +99,47 @@ def write_parts(parts: Iterable[str], is_long: bool) -> str:
     return ""
 
 
+class Progress:
+    """Shows on a terminal how far a tool is in what takes it more than two seconds, and nothing elsewhere.
+
+    A tool that writes to the same terminal meanwhile shows nothing.
+    """
+
+    def __init__(self, what: object, total: int, writes: bool = False) -> None:
+        self.what = what
+        self.total = total
+        self._is_on = total > 0 and os.isatty(2) and not (writes and os.isatty(1))
+        self._next = time.monotonic() + PROGRESS_SECONDS
+        self._is_shown = False
+
+    def show(self, done: int) -> None:
+        """Shows that so much is done, if it is time."""
+        if self._is_on and time.monotonic() >= self._next:
+            self._next = time.monotonic() + REPEAT_SECONDS
+            self._is_shown = True
+            full = BAR * min(done, self.total) // self.total
+            bar = f"[{'#' * full}{' ' * (BAR - full)}]"
+            write_line(f"{NAME}: {self.what} {bar} {100 * min(done, self.total) // self.total}%")
+
+    def end(self) -> None:
+        """Removes what is shown."""
+        if self._is_shown:
+            write_line("")
+        self._is_on = self._is_shown = False
+
+
+def write_line(text: str) -> None:
+    """Replaces the line of a terminal on standard error, if that takes it. What comes next replaces it too."""
+    with contextlib.suppress(OSError):
+        os.write(2, f"\r{text}\x1b[K\r".encode(errors="backslashreplace"))
+
+
 def watch(items: Sequence[Item], what: object) -> Iterator[Item]:
-    """Yields the items. Where they take long, a line on standard error each second says how many were taken."""
-    said = time.monotonic()
-    for number, item in enumerate(items):
-        if time.monotonic() - said >= 1:
-            said = time.monotonic()
-            say(f"{NAME}: {what}: {number} of {len(items)}")
-        yield item
+    """Yields the items, and shows on a terminal how many were taken."""
+    progress = Progress(what, len(items))
+    try:
+        for number, item in enumerate(items):
+            progress.show(number)
+            yield item
+    finally:
+        progress.end()

@@ -33,7 +33,7 @@ from nemzhuul.signalling.captures import CaptureWriter
 from nemzhuul.signalling.lapd import frame_text
 from nemzhuul.signalling.q931 import SETUP, message_text
 from nemzhuul.sip.gateway_process import OPTIONS as SIP_OPTIONS, GatewayProcess
-from nemzhuul.traces.events import FRAMES_PER_SECOND, Arrival, Frame, Link, LinkArrival, Trace
+from nemzhuul.traces.events import FRAMES_PER_SECOND, Arrival, Event, Frame, Link, LinkArrival, Trace
 from nemzhuul.traces.reading import NUMERAL, TraceReader, is_said, lines_of, take_lines
 
 USAGE = """usage: tools/attach [OPTION ..] [--line L ADDRESS ..] [--link L ADDRESS ..] SETTINGS
@@ -152,21 +152,22 @@ class Options:
         """The lines of a trace in which no message and no frame arrives."""
         reader = TraceReader(is_followed=True)
         lines = lines_of(path)
-        wrong = take_lines(reader, lines)
+        events: list[Event] = []
+        wrong = take_lines(reader, lines, events)
         if wrong:
             raise Refused(f"{path} is no trace: {wrong}")
-        if any(isinstance(event, (Arrival, LinkArrival, Frame)) for event in reader.events) or reader.changes:
+        if any(isinstance(event, (Arrival, LinkArrival, Frame)) for event in events) or reader.changes:
             raise Refused(f"{path} has messages, frames or changes of meters: endpoints send them")
         for line in (*self.addresses, *self.links):
             if line >= reader.sizes.external:
                 raise Refused(f"{path} has no line {line}: it has lines 0 to {reader.sizes.external - 1}")
-        for event in reader.events:
+        for event in events:
             if isinstance(event, Link) and event.line in self.links:
                 raise Refused(f"{path} has a line `up` or `down` for line {event.line}, whose data link is attached")
         self.linked = {*reader.linked, *self.links}
-        self.events = len(reader.events)
+        self.events = len(events)
         timers = reader.known_timers | reader.timers
-        self.trace = Trace(reader.sizes, reader.numbers, timers, tuple(reader.events), (), tuple(sorted(self.linked)))
+        self.trace = Trace(reader.sizes, reader.numbers, timers, tuple(sorted(self.linked)), tuple(events))
         header = next(at for at, line in enumerate(lines, start=1) if is_said(line))
         lines[header:header] = [f"link {line}" for line in self.links if line not in reader.linked]
         return "".join(f"{line}\n" for line in lines).encode("latin-1")

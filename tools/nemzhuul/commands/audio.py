@@ -2,13 +2,14 @@
 
 from __future__ import annotations
 
-from collections.abc import Mapping, Sequence
+from collections.abc import Iterable, Mapping, Sequence
 from typing import NamedTuple
 
 from nemzhuul.command_line import NAME, Refused, WrongWords, say
 from nemzhuul.sound.wave import a_law_wave
 from nemzhuul.traces.events import IDLE, place_of_channel
-from nemzhuul.traces.reading import numeral, read_report
+from nemzhuul.traces.reading import numeral
+from nemzhuul.traces.runs import read_report
 
 USAGE = """usage: tools/audio REPORT LINE CHANNEL [LINE CHANNEL ..] >SOUND
 writes what a channel (1 to 15, 17 to 31) of a line (0 to 31) was sent, as a WAV file of G.711 A-law;
@@ -29,11 +30,10 @@ def main(report: str = "", *words: str) -> bytes:
     if not slots or len(words) % 2:
         raise WrongWords
     places = [place(*slot) for slot in slots]
-    frames = [reply.octets for reply in read_report(report, changed=True) if reply.octets is not None]
+    channels, lines = sent((reply.octets or {} for reply in read_report(report) if reply.frame is not None), places)
     for of_slot in places:
-        if not any(of_slot.line in octets for octets in frames):
+        if of_slot.line not in lines:
             raise Refused(f"{report} has no octets of line {of_slot.line}: it was sent idle octets alone, or there is no such line")
-    channels = [sent(frames, of_slot) for of_slot in places]
     for (line, channel), octets in zip(slots, channels):
         if octets == bytes([IDLE]) * len(octets):
             say(f"{NAME}: {line}/{channel} was sent idle octets alone")
@@ -49,7 +49,14 @@ def place(line: str, channel: str) -> Place:
     return Place(of_line, number)
 
 
-def sent(frames: Sequence[Mapping[int, bytes]], place: Place) -> bytes:
-    """The octet of each frame; a line without a part in a frame's line of the report sent idle octets."""
-    line, number = place
-    return bytes(octets[line][number] if line in octets else IDLE for octets in frames)
+def sent(frames: Iterable[Mapping[int, bytes]], places: Sequence[Place]) -> tuple[list[bytes], set[int]]:
+    """The octet of each frame for each place, and the lines that frames have. Another line was sent idle octets."""
+    channels = [bytearray() for _ in places]
+    lines: set[int] = set()
+    for octets in frames:
+        for (line, number), channel in zip(places, channels):
+            row = octets.get(line)
+            channel.append(IDLE if row is None else row[number])
+            if row is not None:
+                lines.add(line)
+    return list(map(bytes, channels)), lines

@@ -6,8 +6,8 @@ from collections.abc import Callable, Iterator, Sequence
 
 from nemzhuul.command_line import WrongWords, write_parts
 from nemzhuul.pictures.ladders import frames_text, name, note, place, title
+from nemzhuul.traces import runs
 from nemzhuul.traces.following import Call, Row, Run, calls_in_order
-from nemzhuul.traces.long_runs import Opened, open_run
 
 USAGE = """usage: tools/calls TRACE REPORT
 draws each call of the run that REPORT tells of: its messages between the two lines and the exchange"""
@@ -20,11 +20,11 @@ def main(*words: str) -> str:
     if len(words) != 2:
         raise WrongWords
     trace_path, report_path = words
-    opened = open_run(trace_path, report_path)
+    opened = runs.open_run(trace_path, report_path, writes=True)
     return write_parts(parts(opened), opened.is_long)
 
 
-def parts(opened: Opened) -> Iterator[str]:
+def parts(opened: runs.Run) -> Iterator[str]:
     """The text of each call, when it and those before it have ended, and of the messages on no call."""
     run = Run(opened.trace)
     gap = ""

@@ -5,13 +5,15 @@ from __future__ import annotations
 import re
 import shlex
 import sys
-from collections.abc import Iterable, Sequence
+from collections.abc import Iterable, Iterator, Sequence
+from itertools import takewhile
 from typing import NamedTuple
 
-from nemzhuul.command_line import Refused, WrongWords, write_output
+from nemzhuul.command_line import Progress, Refused, WrongWords, write_output
 from nemzhuul.signalling.lapd import USUAL_TIMERS
-from nemzhuul.traces.events import MAX_BYTES, Frame
-from nemzhuul.traces.reading import METER, LineError, TraceReader, lines_of, read_run, reply, split_lines, take_lines
+from nemzhuul.traces import runs
+from nemzhuul.traces.events import MAX_BYTES
+from nemzhuul.traces.reading import METER, LineError, TraceReader, reply, take_lines
 
 USAGE = """usage: tools/explain TRACE [REPORT]
        tools/explain --status [N]
@@ -37,7 +39,8 @@ or missing.""",
 }
 
 REFUSED, INVALID = 1, 6  # statuses
-DIVIDER = b"\nreport\n"  # between the trace and the report in an input of `check`
+FOLLOWED = ("link ", "# clock: frame ")  # how lines begin that only a trace of `tst follow` or a log of tools/attach has
+DIVIDER = "report\n"  # the line between the trace and the report in an input of `check`
 WINDOW = 72  # how many characters of a line are shown
 
 
@@ -53,7 +56,7 @@ def main(*words: str) -> str:
         return statuses(*words[1:])
     if len(words) not in (1, 2) or words[0].startswith("-"):
         raise WrongWords
-    found = [explain_trace(words[0])]
+    found = [explain_trace(words[0], has_report=len(words) == 2)]
     if len(words) == 2:
         found.append(explain_report(*words))
     write_output("".join(one.text for one in found))
@@ -75,36 +78,58 @@ def statuses(*words: str) -> str:
 # ---- traces
 
 
-def explain_trace(path: str) -> Explained:
-    with open(path, "rb") as file:
-        content = file.read(MAX_BYTES + len(DIVIDER))
-    if len(content) > MAX_BYTES and DIVIDER not in content:
+class Lines:
+    """The lines of a trace, which are read as often as they are wanted. A pipe is read once."""
+
+    def __init__(self, path: str) -> None:
+        self.path = path
+        self.size = runs.size_of(path)
+        self.last = ""  # of those that were read
+        self._lines: Iterable[str] = () if self.size else list(runs.lines_in(path))
+
+    def __iter__(self) -> Iterator[str]:
+        return takewhile(DIVIDER.__ne__, runs.lines_in(self.path) if self.size else self._lines)
+
+    def with_progress(self) -> Iterator[str]:
+        """The lines without their ends."""
+        progress, octets = Progress(self.path, self.size), 0
+        try:
+            for number, line in enumerate(self):
+                octets += len(line)
+                if number % runs.SHOWN_LINES == 0:
+                    progress.show(octets)
+                self.last = line.removesuffix("\n")
+                yield self.last
+            self.last = ""
+        finally:
+            progress.end()
+
+
+def explain_trace(path: str, has_report: bool = False) -> Explained:
+    """A trace is one of `tst follow` if its lines show that. If it is too long for `tst run`, its report shows it too."""
+    lines = Lines(path)
+    is_followed = any(line.startswith(FOLLOWED) for line in lines) or has_report and runs.is_over_limits(path)
+    if not is_followed and sum(map(len, lines)) > MAX_BYTES:
         limit = f"it has over {MAX_BYTES:,} bytes, and `tst follow` alone reads so many"
         return Explained(f"{path} is no trace: the exchange writes `refused 0 limit` and ends with status 1\n{limit}\n", REFUSED)
-    lines = split_lines(content)
-    if "report" in lines:  # an input of `check`
-        lines = lines[: lines.index("report")]
-    reader = TraceReader(is_followed=has_link(lines))
-    wrong = take_lines(reader, lines)
+    reader = TraceReader(is_followed)
+    wrong = take_lines(reader, lines.with_progress())
     if wrong is None:
         return Explained(summary(path, reader))
     number, error = wrong
-    line = lines[number - 1] if number <= len(lines) else ""
     head = f"{path} is no trace: the exchange writes `refused {number} {error}` and ends with status 1\n"
-    return Explained(head + (octet_text(path, number, line) or word_text(number, line, error)), REFUSED)
-
-
-def has_link(lines: Iterable[str]) -> bool:
-    """Whether a line gives a data link to a line, as only `tst follow` accepts it."""
-    return any(line.startswith("link ") for line in lines)
+    return Explained(head + (octet_text(path, number, lines.last) or word_text(number, lines.last, error)), REFUSED)
 
 
 def summary(path: str, reader: TraceReader) -> str:
     lines, bridges, processors = reader.sizes
-    frames = sum(isinstance(event, Frame) for event in reader.events)
     said = [f"{lines} lines", f"{bridges} bridges", f"{processors} processors", f"{len(reader.numbers)} numbers"]
-    said.append(f"{len(reader.events)} events, {frames} of them frames")
-    kind = "a trace of `tst follow`, whose data links `tst run` refuses" if reader.linked else "a trace"
+    said.append(f"{reader.count} events, {reader.frames} of them frames")
+    kind = "a trace"
+    if reader.linked:
+        kind = "a trace of `tst follow`, whose data links `tst run` refuses"
+    elif runs.is_over_limits(path):
+        kind = "a trace of `tst follow`, which is too long for `tst run`"
     return f"{path} is {kind}: {', '.join(said)}\n"
 
 
@@ -142,6 +167,8 @@ def word_cause(error: LineError, word: str, words: Sequence[str]) -> str:
     reason = str(error)
     if reason == "header":
         return header_cause(words)
+    if reason == "limit" and words[0] != "number":
+        return "the trace is one for `tst follow`, which has no such limit"
     if reason == "hex" or reason == "length":
         return digits_cause(word.rpartition(":")[2])
     if reason == "word" and error.word == 0 and reply(" ".join(words)):
@@ -179,12 +206,14 @@ def digits_cause(digits: str) -> str:
 
 
 def explain_report(trace: str, path: str) -> Explained:
-    lines = lines_of(path)
-    for number, line in enumerate(lines, start=1):
-        if reply(line) is None and not METER.fullmatch(line):
-            return Explained(f"{path} is no report\n" + (octet_text(path, number, line) or report_text(number, line)), INVALID)
     try:
-        read_run(trace, path, has_link(lines_of(trace)))
+        for _ in runs.open_run(trace, path, has_links=True).steps:
+            pass
+    except runs.WrongReport as wrong:
+        if wrong.row and not METER.fullmatch(wrong.line):
+            why = octet_text(path, wrong.row, wrong.line) or report_text(wrong.row, wrong.line)
+            return Explained(f"{path} is no report\n{why}", INVALID)
+        return Explained(f"{wrong}\n", INVALID)
     except Refused as refusal:
         return Explained(f"{refusal}\n", INVALID)
     return Explained(f"{path} has a line for each event of {trace}; `tst check` finds out whether it is its report\n")

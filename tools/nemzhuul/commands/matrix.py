@@ -14,7 +14,8 @@ from nemzhuul.command_line import Refused, WrongWords
 from nemzhuul.pictures.fabric import STRICT_SLOTS, Fabric, Laid, Paths
 from nemzhuul.traces.events import Step, Trace
 from nemzhuul.traces.following import Run
-from nemzhuul.traces.reading import numeral, read_run
+from nemzhuul.traces.reading import numeral
+from nemzhuul.traces.runs import read_run
 
 USAGE = """usage: tools/matrix [--svg] TRACE REPORT EVENT
 draws Paull's matrix before and after an event, by its number in the trace, as text or as SVG. A row is an incoming line, a

@@ -14,7 +14,7 @@ from typing import NamedTuple
 from nemzhuul.command_line import WrongWords
 from nemzhuul.traces.events import PLACES
 from nemzhuul.traces.following import Run
-from nemzhuul.traces.long_runs import open_run
+from nemzhuul.traces.runs import count_events, open_run
 
 USAGE = """usage: tools/moves [--svg] TRACE REPORT
 plots the taken slots and the moved paths of the run, event by event, as text or as SVG"""
@@ -42,7 +42,8 @@ def main(*words: str) -> str:
     if len(files) != 2 or any(word.startswith("-") for word in files):
         raise WrongWords
     trace_path, report_path = files
-    trace, steps, total, _ = open_run(trace_path, report_path)
+    trace, steps, _ = open_run(trace_path, report_path)
+    total = count_events(trace_path)
     taken = Columns(total, SVG_COLUMNS if as_svg else TEXT_COLUMNS, max)
     moved = Columns(total, SVG_COLUMNS if as_svg else TEXT_COLUMNS, operator.add)
     run = Run(trace)

@@ -14,7 +14,7 @@ from nemzhuul.pictures.fabric import STRICT_SLOTS, Fabric
 from nemzhuul.pictures.ladders import frames_text, name, note, place, title
 from nemzhuul.traces.events import CHANNELS, FRAMES_PER_SECOND, IDLE, PLACES, Slot, Step, Trace, place_of_channel
 from nemzhuul.traces.following import Call, Row, Run
-from nemzhuul.traces.long_runs import open_run
+from nemzhuul.traces.runs import read_run
 
 USAGE = """usage: tools/page TRACE REPORT >PAGE
 writes one HTML file: each call as a ladder, what has each channel, the internal slots of each line, and a player
@@ -42,8 +42,7 @@ def main(*words: str) -> str:
     if len(words) != 2 or any(word.startswith("-") for word in words):
         raise WrongWords
     trace_path, report_path = words
-    trace, opened, _, _ = open_run(trace_path, report_path, has_octets=True)
-    steps = list(opened)
+    trace, steps = read_run(trace_path, report_path)
     pictures = draw(trace, steps)
     run = pictures.run
     heard = sounds([reply.octets for _, reply in steps if reply.octets is not None], trace.sizes.external)

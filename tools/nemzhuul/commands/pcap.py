@@ -15,7 +15,7 @@ from typing import NamedTuple
 from nemzhuul.command_line import WrongWords
 from nemzhuul.signalling.captures import CaptureWriter
 from nemzhuul.traces.events import Arrival, LinkArrival, Step
-from nemzhuul.traces.reading import read_run
+from nemzhuul.traces.runs import open_run
 
 USAGE = """usage: tools/pcap TRACE REPORT >CAPTURE
 writes the messages of the run as a capture file for Wireshark, Q.931 over LAPD"""
@@ -34,7 +34,7 @@ def main(*words: str) -> bytes:
     if len(words) != 2:
         raise WrongWords
     trace_path, report_path = words
-    trace, steps = read_run(trace_path, report_path, is_followed=True)
+    trace, steps, _ = open_run(trace_path, report_path, has_links=True)
     writer = CaptureWriter(trace.linked)
     return writer.HEADER + b"".join(writer.packet(*passage) for passage in passages(steps))
 

@@ -6,12 +6,13 @@ are in the report. Each event is a segment of its own, so the processors of the 
 
 from __future__ import annotations
 
-from collections.abc import Iterable, Iterator
+from collections.abc import Iterator
 
-from nemzhuul.command_line import Refused, WrongWords
+from nemzhuul.command_line import Refused, WrongWords, write_parts
 from nemzhuul.signalling.lapd import USUAL_TIMERS, read_frame
-from nemzhuul.traces.events import LinkArrival, Reply, Trace
-from nemzhuul.traces.reading import is_said, lines_of, read_run
+from nemzhuul.traces import runs
+from nemzhuul.traces.events import LinkArrival, Reply
+from nemzhuul.traces.reading import is_said
 
 USAGE = """usage: tools/plain TRACE REPORT >TRACE
 writes the trace without data links, for `tst run` and the other tools. A frame that arrives becomes a line `M`, `up` or
@@ -22,28 +23,30 @@ def main(*words: str) -> str:
     if len(words) != 2:
         raise WrongWords
     trace_path, report_path = words
-    trace, steps = read_run(trace_path, report_path, is_followed=True)
-    return "".join(f"{line}\n" for line in plain_lines(lines_of(trace_path), trace, [reply for _, reply in steps]))
+    run = runs.open_run(trace_path, report_path, has_links=True, writes=True)
+    return write_parts((f"{line}\n" for line in plain_lines(trace_path, run)), run.is_long)
 
 
-def plain_lines(lines: Iterable[str], trace: Trace, replies: Iterable[Reply]) -> Iterator[str]:
+def plain_lines(path: str, run: runs.Run) -> Iterator[str]:
     """The lines of the trace, where the links are down before the first event."""
-    events = zip(trace.events, replies)
-    starts = [f"down {line}" for line in sorted(trace.linked)]
-    for line in lines:
-        word = (line.split() or [""])[0] if is_said(line) else "#"
+    steps = iter(run.steps)
+    starts = [f"down {line}" for line in sorted(run.trace.linked)]
+    for text in runs.lines_in(path):
+        line = text.removesuffix("\n")
+        word = (line.split(maxsplit=1) or [""])[0] if is_said(line) else "#"
         if word == "link" or word == "timer" and line.split()[1] in USUAL_TIMERS:
             continue
         if word in ("#", "exchange", "number", "tone", "timer", "sync", "change"):
             yield line
             continue
-        event, reply = next(events)
+        event, reply = next(steps)
         yield from starts
         starts = []
         yield from lines_of_frame(event, reply) if isinstance(event, LinkArrival) else [line]
         yield from [f"{reply.told} {reply.turned}"] if reply.turned is not None else []
         yield "sync"
     yield from starts
+    next(steps, None)  # refuses a report that goes on
 
 
 def lines_of_frame(event: LinkArrival, reply: Reply) -> Iterator[str]:

@@ -5,9 +5,9 @@ from __future__ import annotations
 from collections.abc import Iterator
 
 from nemzhuul.command_line import WrongWords, write_parts
+from nemzhuul.traces import runs
 from nemzhuul.traces.call_records import Record, csv_line, record
 from nemzhuul.traces.following import Run, calls_in_order
-from nemzhuul.traces.long_runs import Opened, open_run
 
 USAGE = """usage: tools/records TRACE REPORT >CSV
 writes a call detail record for each call of the run, in the order of their SETUPs, as CSV with a header line. It
@@ -29,11 +29,11 @@ def main(*words: str) -> str:
     if len(words) != 2 or any(word.startswith("-") for word in words):
         raise WrongWords
     trace_path, report_path = words
-    opened = open_run(trace_path, report_path)
+    opened = runs.open_run(trace_path, report_path, writes=True)
     return write_parts(lines(opened), opened.is_long)
 
 
-def lines(opened: Opened) -> Iterator[str]:
+def lines(opened: runs.Run) -> Iterator[str]:
     """The lines of the records, each when its call and those before it have ended."""
     run = Run(opened.trace)
     yield csv_line(Record._fields)

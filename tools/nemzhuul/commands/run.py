@@ -2,7 +2,6 @@
 
 from __future__ import annotations
 
-import contextlib
 import os
 import stat
 import subprocess
@@ -10,7 +9,7 @@ import sys
 import time
 from typing import NoReturn
 
-from nemzhuul.command_line import NAME, WrongWords, say
+from nemzhuul.command_line import NAME, PROGRESS_SECONDS, WrongWords, say, write_line
 from nemzhuul.programs.program import UNPROVED, program_at
 
 USAGE = """usage: tools/run COMMAND.. <TRACE >REPORT
@@ -21,7 +20,6 @@ how a status other than 0 is explained (`tools/explain`). On a terminal it shows
 
 COMMANDS = ("run", "follow", "check", "gen")
 REFUSED = 1
-PROGRESS_SECONDS = 2  # between two looks at how far it is
 MEGABYTE = 1_000_000
 
 
@@ -59,10 +57,10 @@ def waited(child: subprocess.Popen[bytes]) -> int:
             status = child.wait(PROGRESS_SECONDS)
             break
         except subprocess.TimeoutExpired:
-            show(f"\r{NAME}: {progress()}, {time.monotonic() - begun:.0f} s")
+            write_line(f"{NAME}: {progress()}, {time.monotonic() - begun:.0f} s")
             was_shown = True
     if was_shown:
-        show("\r")
+        write_line("")
     return status
 
 
@@ -79,12 +77,6 @@ def position(number: int) -> int | None:
         return os.lseek(number, 0, os.SEEK_CUR) if stat.S_ISREG(os.fstat(number).st_mode) else None
     except OSError:
         return None
-
-
-def show(text: str) -> None:
-    """Replaces the line of a terminal."""
-    with contextlib.suppress(OSError):
-        os.write(2, f"{text}\x1b[K".encode())
 
 
 def remedy(command: str, status: int) -> str:

@@ -1,6 +1,6 @@
 """When the parts of the full check end, and how much is left of it if it takes as long as the last whole run.
 
-`.ci/run` names the file of its times in an environment variable. It keeps that of the last run in which no check failed.
+`.ci/run` names the file of its times in an environment variable. It keeps the file of the last run without a failure.
 A line has the seconds since the machine started, and the part that ended then: `begun` is the first, and `end` the last.
 """
 

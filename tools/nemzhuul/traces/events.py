@@ -2,7 +2,7 @@
 
 from __future__ import annotations
 
-from collections.abc import Mapping
+from collections.abc import Iterator, Mapping
 from dataclasses import dataclass
 from typing import NamedTuple, Union
 
@@ -79,6 +79,33 @@ class Link:
     is_up: bool
 
 
+class Octets(Mapping[int, bytes]):
+    """The octets of a frame by line, from a text ` L:HEX ..` that was checked. A row is decoded when it is looked at."""
+
+    __slots__ = ("text",)
+
+    def __init__(self, text: str = "") -> None:
+        self.text = text
+
+    def __getitem__(self, line: int) -> bytes:
+        name = f" {line}:"
+        at = self.text.find(name)
+        if at < 0:
+            raise KeyError(line)
+        return bytes.fromhex(self.text[at + len(name) : at + len(name) + FRAME_DIGITS])
+
+    def __iter__(self) -> Iterator[int]:
+        return iter(map(int, self.names().split()))
+
+    def __len__(self) -> int:
+        return self.text.count(":")
+
+    def names(self) -> str:
+        """The lines that have octets, as the words of a text."""
+        first, *parts = self.text.split(":")
+        return first + "".join([part[FRAME_DIGITS:] for part in parts])
+
+
 @dataclass(frozen=True)
 class Frame:
     """The octets that arrive in a frame, by line."""
@@ -106,12 +133,13 @@ class Target(NamedTuple):
 
 @dataclass(frozen=True)
 class Trace:
+    """What a trace has above its first event."""
+
     sizes: Sizes
     numbers: Mapping[str, Target]  # by the digits
     timers: Mapping[str, int]  # frames by name; a timer that isn't given has its usual value
-    events: tuple[Event, ...]
-    changes: tuple[int, ...]  # for each change of meters, how many events are before it
     linked: tuple[int, ...] = ()  # the lines with a data link
+    events: tuple[Event, ...] = ()  # of settings; a run is read event by event
 
 
 class Moved(NamedTuple):

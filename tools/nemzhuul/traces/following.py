@@ -70,9 +70,18 @@ class Use:
         return f"call {self.call}" if self.room is None else f"in room {self.room}"
 
 
+class LegName(NamedTuple):
+    """How messages name a leg."""
+
+    line: int
+    chooser: int  # 0 if the user chose the call reference, and 1 if the exchange did
+    reference: int
+
+
 @dataclass(eq=False)
 class Leg:
     call: Call
+    name: LegName
     slot: Slot
     dials: bool  # whether more digits are awaited
     releases: int = 0  # how often RELEASE was sent to it
@@ -83,15 +92,13 @@ class Leg:
     def is_active(self) -> bool:
         return self.call.answered is not None and self.call.cleared is None
 
-    def note(self, message: Message, frame: int) -> None:
-        """Counts a message that is sent to it in a frame."""
-        if message.kind == RELEASE:
-            self.releases += 1
-            self.since = frame
+    @property
+    def may_end(self) -> bool:
+        """Whether a frame may end it, without a message."""
+        return self.releases == 2 or self.outage is not None
 
 
-@dataclass(frozen=True)
-class Row:
+class Row(NamedTuple):
     """A message of a call, or one on no call."""
 
     event: int
@@ -101,14 +108,6 @@ class Row:
     message: Message | None
     leg: Leg | None = None
     moved: Moved | None = None
-
-
-class LegName(NamedTuple):
-    """How messages name a leg."""
-
-    line: int
-    chooser: int  # 0 if the user chose the call reference, and 1 if the exchange did
-    reference: int
 
 
 class SentMessage(NamedTuple):
@@ -166,13 +165,11 @@ class Run:
         self.ended: list[Call] = []  # in the last event: the calls that were refused, or have no leg any more
         self._count = 0  # of the calls
         self._legs: dict[LegName, Leg] = {}
-        self._waiting: list[LegName] = []  # the legs that a frame may end
+        self._waiting: dict[LegName, Leg] = {}  # the legs that a frame may end
 
     def take(self, event: Event, reply: Reply) -> None:
         self.joined, self.left, self.ended = [], [], []
         self._take(event, reply)
-        if reply.sent or self._waiting or not isinstance(event, Frame):
-            self._waiting = [name for name, leg in self._legs.items() if leg.releases == 2 or leg.outage is not None]
 
     def pass_frame(self, frame: int) -> None:
         """Takes a frame in which no message is sent, and no data link changes."""
@@ -238,8 +235,7 @@ class Run:
         """A frame ends the legs whose users were sent RELEASE twice and have waited, and those whose data link was down
         too long, and sends what is due of others."""
         self.frames = frame + 1
-        for name in self._waiting:
-            leg = self._legs[name]
+        for name, leg in list(self._waiting.items()):
             if place_of_channel(leg.slot.channel) != frame % PLACES:
                 continue
             if leg.is_active and leg.outage is not None and leg.outage + self.timers["T309"] <= frame:
@@ -259,8 +255,8 @@ class Run:
     def _sent_in_frame(self, name: LegName, row: Row, message: Message) -> None:
         leg = self._legs[name]
         call = leg.call
-        call.rows.append(replace(row, leg=leg))
-        leg.note(message, row.frame)
+        call.rows.append(row._replace(leg=leg))
+        self._sent_to(leg, message, row.frame)
         if message.kind in (DISCONNECT, RELEASE_COMPLETE):
             unanswered = NO_USER_RESPONDING if call.alerted is None else NO_ANSWER_FROM_USER
             self._clear(call, row.frame, ADDRESS_INCOMPLETE if leg.dials else unanswered)
@@ -357,18 +353,20 @@ class Run:
                 self.on_no_call.append(row)
                 continue
             leg.call.rows.append(row)
-            leg.note(message, row.frame)
+            self._sent_to(leg, message, row.frame)
             if message.kind == DISCONNECT:
                 self._clear(leg.call, self.frames, message.cause)
                 leg.dials = False
         for name, leg in [item for item in self._legs.items() if item[0].line == event.line]:
             if event.is_up:
                 leg.outage = None
+                self._note_waiting(leg)
             elif not leg.is_active:
                 self._clear(leg.call, self.frames, DESTINATION_OUT_OF_ORDER)
                 self._end(name)
             elif leg.outage is None:
                 leg.outage = self.frames
+                self._note_waiting(leg)
 
     def _call_at(self, line: int, message: Message) -> Call | None:
         leg = self._legs.get(key(line, message, 1))
@@ -377,27 +375,44 @@ class Run:
     def _begin(self, call: Call, row: Row, line: int, message: Message) -> Leg:
         if message.channel is None:
             raise never_sent(row.event)
-        leg = Leg(call, Slot(line, message.channel.number), message.kind == SETUP_ACKNOWLEDGE)
-        self._legs[key(line, message, 1)] = leg
+        name = key(line, message, 1)
+        leg = Leg(call, name, Slot(line, message.channel.number), message.kind == SETUP_ACKNOWLEDGE)
+        self._legs[name] = leg
         self.uses[leg.slot] = Use(call.number)
         return leg
 
     def _end(self, name: LegName) -> None:
         leg = self._legs.pop(name)
+        self._waiting.pop(name, None)
         self._leave(leg.slot)
         self.uses.pop(leg.slot, None)
-        if all(other.call is not leg.call for other in self._legs.values()):
-            leg.call.released = self.frames
-            self.ended.append(leg.call)
+        call = leg.call
+        if not any(other and self._legs.get(other.name) is other for other in (call.caller, call.called)):
+            call.released = self.frames
+            self.ended.append(call)
 
     def _note(self, call: Call, row: Row, leg: Leg | None, sent: Iterable[SentMessage]) -> None:
-        call.rows.append(replace(row, leg=leg))
+        call.rows.append(row._replace(leg=leg))
         for line, message in sent:
             to = self._legs.get(key(line, message, 1), leg)
             out = Row(row.event, row.frame, line, True, message, to)
             call.rows.append(out)
             if to is not None:
-                to.note(message, row.frame)
+                self._sent_to(to, message, row.frame)
+
+    def _sent_to(self, leg: Leg, message: Message, frame: int) -> None:
+        """Counts a message that is sent to a leg before a frame."""
+        if message.kind == RELEASE:
+            leg.releases += 1
+            leg.since = frame
+            self._note_waiting(leg)
+
+    def _note_waiting(self, leg: Leg) -> None:
+        """A frame may end a leg, or no more."""
+        if leg.may_end and self._legs.get(leg.name) is leg:
+            self._waiting[leg.name] = leg
+        else:
+            self._waiting.pop(leg.name, None)
 
     def _on_none(self, row: Row, sent: Iterable[SentMessage]) -> None:
         self.on_no_call.append(row)

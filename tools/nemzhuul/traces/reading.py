@@ -1,7 +1,4 @@
-"""Reads traces and reports, as docs/FORMATS.md says they are written.
-
-`read_trace` and `read_report` refuse what is none with `Refused`, whose text is one line.
-"""
+"""Reads the lines of traces and of reports, as docs/FORMATS.md says they are written."""
 
 from __future__ import annotations
 
@@ -10,7 +7,7 @@ from collections.abc import Callable, Iterable, Sequence
 from pathlib import Path
 from typing import NamedTuple, Optional
 
-from nemzhuul.command_line import Refused, say, watch
+from nemzhuul.command_line import Refused
 from nemzhuul.signalling import lapd, q931
 from nemzhuul.traces.events import (
     FRAME_DIGITS,
@@ -30,19 +27,20 @@ from nemzhuul.traces.events import (
     LinkArrival,
     Moved,
     Nail,
+    Octets,
     Reply,
     Seat,
     Sent,
     Sizes,
     Slot,
-    Step,
     Target,
-    Trace,
     place_of_channel,
 )
 
 NUMERAL = re.compile(r"0|[1-9][0-9]{0,8}")
 DIGITS = re.compile(r"[0-9]{1,20}")
+FRAME_LINE = re.compile(rf"F((?: [0-9]{{1,2}}:[0-9A-Fa-f]{{{FRAME_DIGITS}}})*)")  # as most are spelled
+MAX_KNOWN = 1024  # rows of lines of frames whose numbers are known to be good
 
 
 class LineError(Exception):
@@ -96,7 +94,10 @@ class WrongLine(NamedTuple):
 
 
 class TraceReader:
-    """Takes the lines of a trace one by one, and gathers what they say. Only a trace that is followed has data links."""
+    """Takes the lines of a trace one by one, and gathers what they say besides events, which it counts.
+
+    Only a trace that is followed has data links.
+    """
 
     def __init__(self, is_followed: bool = False) -> None:
         self.has_header = False
@@ -108,9 +109,10 @@ class TraceReader:
         self.known_timers = {**q931.USUAL_TIMERS, **(lapd.USUAL_TIMERS if is_followed else {})}
         self.max_events: float = float("inf") if is_followed else MAX_EVENTS
         self.max_changes: float = float("inf") if is_followed else MAX_CHANGES
-        self.events: list[Event] = []
-        self.changes: list[int] = []
-        self.segments = 0
+        self.count = 0  # of the events so far
+        self.frames = 0  # of them
+        self.changes = 0
+        self._known = {""}  # the numbers of the lines of frames that were checked
         self.kinds = {
             "number": Form(self.number, range(3, MAX_BYTES)),
             "tone": Form(self.tone, range(2, 3)),
@@ -128,18 +130,35 @@ class TraceReader:
         if is_followed:
             self.kinds |= {"link": Form(self.link, range(1, 2)), "L": Form(self.link_frame, range(1, 3))}
 
-    def take(self, line: str) -> None:
-        """Takes one line that is neither a comment nor blank."""
+    def take(self, line: str) -> Event | None:
+        """Takes one line that is neither a comment nor blank. Returns its event, if it has one."""
         if not self.has_header:
             self.sizes = header(line)
             self.has_header = True
-            return
-        if not all(" " <= octet <= "~" for octet in line):
+            return None
+        event = self._known_frame(line) or self._event(line)
+        if event is not None:
+            if self.count == self.max_events:
+                raise LineError("limit", f"a trace has at most {MAX_EVENTS:,} events")
+            self.count += 1
+            self.frames += isinstance(event, Frame)
+        return event
+
+    def _known_frame(self, line: str) -> Frame | None:
+        """The frame of a line with octets for the same lines, in their order, as one before."""
+        match = FRAME_LINE.fullmatch(line)
+        if match is None:
+            return None
+        octets = Octets(match[1])
+        return Frame(octets) if octets.names() in self._known else None
+
+    def _event(self, line: str) -> Event | None:
+        if not (line.isascii() and line.isprintable()):
             raise LineError("word", "there is an octet that is no printable character of ASCII")
         first, *words = line.split()
         if first not in self.kinds:
             raise LineError("word", f'no line begins with "{first}"')
-        if first in ("number", "tone", "timer", "link") and self.events:
+        if first in ("number", "tone", "timer", "link") and self.count:
             raise LineError("word", f"a line `{first}` comes before the first event")
         if first in ("M", "up", "down") and words and numeral(words[0]) in self.linked:
             raise LineError("slot", f"line {words[0]} has a data link: its messages come in frames, lines `L`", 1)
@@ -149,11 +168,7 @@ class TraceReader:
             said = f"`{first}` has {counts.start} to {counts.stop - 1} words after it".replace(" 0 to 0 ", " no ")
             said = said.replace(f" to {MAX_BYTES - 1} ", " or more ")
             raise LineError("word", f"too {'few' if few else 'many'} words: {said}", len(words) if few else counts.stop)
-        event = act(*words)
-        if event is not None:
-            if len(self.events) == self.max_events:
-                raise LineError("limit", f"a trace has at most {MAX_EVENTS:,} events")
-            self.events.append(event)
+        return act(*words)
 
     def line(self, word: str, at: int) -> int:
         lines = self.sizes.external
@@ -245,24 +260,28 @@ class TraceReader:
         return Link(self.line(line, 1), is_up=False)
 
     def frame(self, *parts: str) -> Frame:
-        octets: dict[int, bytes] = {}
+        lines: set[int] = set()
         for at, part in enumerate(parts, start=1):
             word, colon, digits = part.partition(":")
             if not colon:
                 raise LineError("slot", "a line of a frame is its number, : and 60 digits", at)
             line = self.line(word, at)
-            if line in octets:
+            if line in lines:
                 raise LineError("slot", f"line {line} is in this frame already", at)
-            octets[line] = hexadecimal(digits, FRAME_DIGITS, FRAME_DIGITS, at)
+            lines.add(line)
+            hexadecimal(digits, FRAME_DIGITS, FRAME_DIGITS, at)
+        octets = Octets("".join(f" {part}" for part in parts))
+        if len(self._known) < MAX_KNOWN:
+            self._known.add(octets.names())
         return Frame(octets)
 
     def sync(self) -> None:
-        self.segments += 1
+        pass
 
     def change(self) -> None:
-        if len(self.changes) == self.max_changes:
+        if self.changes == self.max_changes:
             raise LineError("limit", f"a trace has at most {MAX_CHANGES:,} changes")
-        self.changes.append(len(self.events))
+        self.changes += 1
 
 
 def room(word: str, at: int) -> int:
@@ -286,10 +305,6 @@ def lines_of(path: str | Path) -> list[str]:
     content = Path(path).read_bytes()
     if len(content) > MAX_BYTES:
         raise Refused(f"{path} is no trace: line 0, limit: it has over {MAX_BYTES:,} bytes")
-    return split_lines(content)
-
-
-def split_lines(content: bytes) -> list[str]:
     lines = content.decode("latin-1").split("\n")
     if lines[-1] == "":
         lines.pop()
@@ -301,38 +316,24 @@ def is_said(line: str) -> bool:
     return not line.startswith("#") and bool(line.strip(" "))
 
 
-def take_lines(reader: TraceReader, lines: Iterable[str]) -> WrongLine | None:
-    """Has a reader take the lines of a trace. Returns the first that fails, if any does."""
+def take_lines(reader: TraceReader, lines: Iterable[str], events: list[Event] | None = None) -> WrongLine | None:
+    """Has a reader take the lines of a trace, and gathers their events. Returns the first that fails, if any does."""
     number = 0
     for number, line in enumerate(lines, start=1):
         if not is_said(line):
             continue
         try:
-            reader.take(line)
+            event = reader.take(line)
         except LineError as error:
             return WrongLine(number, error)
-    if not reader.has_header:
-        return WrongLine(number + 1, LineError("header", "no line says the sizes of the exchange"))
-    return None
+        if event is not None and events is not None:
+            events.append(event)
+    return None if reader.has_header else no_header(number)
 
 
-def read_trace(path: str, is_followed: bool = False) -> Trace:
-    """The trace in a file."""
-    reader = TraceReader(is_followed)
-    lines = lines_of(path)
-    wrong = take_lines(reader, watch(lines, path))
-    if wrong and not is_followed and has_links(lines):
-        raise Refused(f"{path} has data links: tools/plain writes a trace without them")
-    if wrong:
-        raise Refused(f"{path} is no trace: {wrong}")
-    timers = reader.known_timers | reader.timers
-    return Trace(reader.sizes, reader.numbers, timers, tuple(reader.events), tuple(reader.changes), tuple(reader.linked))
-
-
-def has_links(lines: Iterable[str]) -> bool:
-    """Whether these are the lines of a trace with data links."""
-    reader = TraceReader(is_followed=True)
-    return take_lines(reader, lines) is None and bool(reader.linked)
+def no_header(lines: int) -> WrongLine:
+    """What is wrong with a trace of lines that are all comments or blank."""
+    return WrongLine(lines + 1, LineError("header", "no line says the sizes of the exchange"))
 
 
 # ---- reports
@@ -346,7 +347,9 @@ LINK = re.compile(f"{COUNT} link(?: (took|up|down))?(?: moved {COUNT} {COUNT})?(
 METER = re.compile(f"call [0-9/]+ (?:[0-9/]+|room [0-9]+)(?: {COUNT}){{3}}|(?:peg|holding) [0-9]+ [0-9]+")
 SENDS = f"((?: send {SIGNAL})*)"
 TURN = f"(?: (up|down) ([0-9]{{1,2}}){SENDS})?"  # of a data link
-FRAME = re.compile(f"{COUNT} frame {COUNT}{SENDS}{TURN}((?: [0-9]{{1,2}}:[0-9A-F]{{{FRAME_DIGITS}}})*)")
+NAMED_ROW = f" (?:0|[1-9][0-9]?):[0-9A-F]{{{FRAME_DIGITS}}}"
+FRAME = re.compile(f"{COUNT} frame {COUNT}{SENDS}{TURN}((?:{NAMED_ROW})*)")
+REFUSAL = re.compile(r"refused ([0-9]+ [a-z]+|words)")
 
 
 def read_parts(text: str) -> tuple[Sent, ...]:
@@ -362,6 +365,11 @@ def read_moved(there: str | None, back: str | None) -> Moved | None:
 
 def reply(line: str) -> Reply | None:
     """What a line of a report says; None where it is no such line."""
+    if match := FRAME.fullmatch(line):
+        event, frame, sent, told, turned, more, octets = match.groups(default="")
+        signals = read_parts((sent + more).replace(" send ", " ")) if sent or more else ()
+        turn = (told, int(turned)) if told else (None, None)
+        return Reply(int(event), "frame", None, signals, int(frame), Octets(octets), *turn)
     if match := PLAIN.fullmatch(line):
         event, word = match.groups()
         return Reply(int(event), word)
@@ -374,39 +382,7 @@ def reply(line: str) -> Reply | None:
     if match := LINK.fullmatch(line):
         event, told, there, back, sent = match.groups()
         return Reply(int(event), "link", read_moved(there, back), read_parts(sent), told=told)
-    if match := FRAME.fullmatch(line):
-        event, frame, sent, told, turned, more, octets = match.groups(default="")
-        sent = read_parts((sent + more).replace(" send ", " "))
-        turn = (told, int(turned)) if told else (None, None)
-        return Reply(int(event), "frame", None, sent, int(frame), dict(read_parts(octets)), *turn)
     return None
-
-
-def read_report(path: str, changed: bool = False) -> tuple[Reply, ...]:
-    """The lines of events of the report in a file, in its order. Where meters were changed, theirs are passed over."""
-    lines = Path(path).read_bytes().decode("latin-1").split("\n")
-    if re.fullmatch(r"refused ([0-9]+ [a-z]+|words)", lines[0]) and lines[1:] == [""]:
-        raise Refused(f"{path} is the report of a refusal: {lines[0]}")
-    if lines.pop() != "":
-        raise Refused(f"{path} is no report: its last line has no end")
-    replies = []
-    frames = 0
-    passed = 0
-    for number, line in enumerate(watch(lines, path), start=1):
-        if changed and METER.fullmatch(line):
-            passed += 1
-            continue
-        answer = reply(line)
-        if answer is None:
-            raise Refused(f"{path} is no report: line {number}")
-        if answer.frame is not None:
-            if answer.frame != frames:
-                raise Refused(f"{path} is no report: line {number}, frame {frames} is missing")
-            frames += 1
-        replies.append(answer)
-    if passed:
-        say(f"{path}: {passed} lines of meters passed over")
-    return tuple(replies)
 
 
 WORDS_OF: dict[type, tuple[str, ...]] = {
@@ -418,27 +394,3 @@ WORDS_OF: dict[type, tuple[str, ...]] = {
     LinkArrival: ("link",),
     Frame: ("frame",),
 }
-
-
-def read_run(trace_path: str, report_path: str, is_followed: bool = False) -> tuple[Trace, list[Step]]:
-    """A trace, and its steps in the order of the report."""
-    trace = read_trace(trace_path, is_followed)
-    replies = read_report(report_path, changed=bool(trace.changes))
-    steps = []
-    seen: set[int] = set()
-    for number, answer in enumerate(replies, start=1):
-        lines = [line for line, _ in answer.sent] + list(answer.octets or ())
-        fits = (
-            1 <= answer.event <= len(trace.events)
-            and answer.event not in seen
-            and answer.word in WORDS_OF[type(trace.events[answer.event - 1])]
-            and all(line < trace.sizes.external for line in lines)
-            and answer.turned in (None, *trace.linked)
-        )
-        if not fits:
-            raise Refused(f"{report_path} is not the report of {trace_path}: line {number}")
-        seen.add(answer.event)
-        steps.append(Step(trace.events[answer.event - 1], answer))
-    if len(steps) != len(trace.events):
-        raise Refused(f"{report_path} is not the report of {trace_path}: it has too few lines")
-    return trace, steps
