@@ -107,7 +107,8 @@ class LongRuns(InFolder):
         misfit = f"{self.report} is not the report of {self.trace}: "
         cases = (
             (lines, rows[:-1], f"{misfit}it has too few lines"),
-            (lines, [*rows, "x\n"], f"{misfit}line {last + 1}"),
+            (lines, [*rows, "1 busy\n"], f"{misfit}line {last + 1}"),
+            (lines, [*rows, "x\n"], f"{self.report} is no report: line {last + 1}"),
             (lines, [*rows[:500], *rows[501:]], f"{misfit}line 501"),
             (lines, [*rows[:-1], "x\n"], f"{self.report} is no report: line {last}"),
             ([*lines, "M 0 0\n"], rows, f"{self.trace} is no trace: line {len(lines) + 1}, hex"),

@@ -14,10 +14,12 @@ from html.parser import HTMLParser
 from pathlib import Path
 
 import support
-from nemzhuul.pictures import fabric
+from nemzhuul.pictures import fabric, matrices
+from nemzhuul.pictures.fabric import End, Laid, Move
+from nemzhuul.programs.program import PROGRAM
 from nemzhuul.signalling import q931
 from nemzhuul.traces import events, following, runs
-from support import EXAMPLES, IDLE, TRACES, is_refused, report_of, signals, silence, slow, tool
+from support import EXAMPLES, IDLE, TOP, TRACES, is_refused, needs_program, report_of, signals, silence, slow, tool
 
 
 BROWSER = shutil.which("chromium") or shutil.which("chromium-browser") or shutil.which("google-chrome") or ""
@@ -25,11 +27,12 @@ BROWSER = shutil.which("chromium") or shutil.which("chromium-browser") or shutil
 
 @dataclass
 class Element:
-    """An element of a page, with its text so far."""
+    """An element of a page, with its text so far, and how its source begins."""
 
     tag: str
     attrs: dict[str, str]
     text: str = ""
+    start: str = ""
 
 
 class Elements(HTMLParser):
@@ -39,6 +42,7 @@ class Elements(HTMLParser):
 
     def __init__(self, text: str) -> None:
         super().__init__()
+        self.lines = text.splitlines(keepends=True)
         self.open: list[Element] = []
         self.all: list[Element] = []
         self.feed(text)
@@ -50,7 +54,10 @@ class Elements(HTMLParser):
             self.open.append(self.all[-1])
 
     def handle_startendtag(self, tag: str, attrs: list[tuple[str, str | None]]) -> None:
-        self.all.append(Element(tag, {name: value or "" for name, value in attrs}))
+        line, column = self.getpos()
+        source = self.lines[line - 1][column : column + 4000]
+        begun = source.partition(f"</{tag}>")[0]
+        self.all.append(Element(tag, {name: value or "" for name, value in attrs}, start=begun))
 
     def handle_endtag(self, tag: str) -> None:
         assert self.open.pop().tag == tag, f"</{tag}> ends another element"
@@ -59,9 +66,10 @@ class Elements(HTMLParser):
         for element in self.open:
             element.text += data
 
-    def of(self, tag: str) -> list[Element]:
-        """Each element of a name."""
-        return [element for element in self.all if element.tag == tag]
+    def of(self, tag: str, kind: str = "") -> list[Element]:
+        """Each element of a name, of a class if that is given."""
+        found = (element for element in self.all if element.tag == tag)
+        return [element for element in found if not kind or kind in element.attrs.get("class", "").split()]
 
 
 def octet_at(octets: Mapping[int, bytes], slot: events.Slot) -> int:
@@ -91,7 +99,7 @@ class Pages(unittest.TestCase):
         texts = [element.text for element in elements.of("b")]
         arrows = [text for text in texts if re.search(" [0-9A-F]{4}$|^ignored octets$", text)]
         self.assertEqual(sorted(arrows), self.names(name))
-        figures = [figure.attrs for figure in elements.of("figure")]
+        figures = [figure.attrs for figure in elements.of("figure", "sound")]
         sounds = {attrs["data-name"]: base64.b64decode(attrs["data-octets"]) for attrs in figures}
         for slot, octets in sounds.items():
             _, wave_file, _ = tool("audio", f"{name}.report", *slot.split("-"))
@@ -118,8 +126,81 @@ class Pages(unittest.TestCase):
         titles = [element.text for element in elements.of("title")]
         for slot in ("0/17 with 1/17", "1/17 with 0/17", "0/1 with 2/1"):
             self.assertIn(slot, titles)
-        self.assertEqual([text for text in titles if text.endswith("paths moved")], [
-            "event 34: nail 0/17 to 1/17: granted; 2 paths moved there, 0 back: 2 paths moved"])  # fmt: skip
+        event = "event 34: nail 0/17 to 1/17: granted; 2 paths moved there, 0 back"
+        self.assertEqual({text for text in titles if text.endswith("paths moved")}, {f"{event}: 2 paths moved"})
+        dots = [text for text in titles if text.startswith("a path of")]
+        self.assertEqual(dots, [f"a path of {slot} moved" for slot in ("0/1", "1/1", "2/1", "2/17")])
+        lines = [text.removeprefix(event) for text in titles if text.startswith(event) and " of them " in text]
+        self.assertEqual(lines, [": 1 of them to line 0", ": 1 of them to line 1", ": 2 of them from line 2"])
+
+    def test_a_reader_of_the_screen(self) -> None:
+        """Each picture has a title or is passed over, and each arrow says its way. The axis says which numbers are of frames."""
+        elements = Elements(self.page("rearrangement"))
+        for picture in elements.of("svg"):
+            self.assertTrue(picture.attrs.get("aria-hidden") or "<title>" in picture.start and picture.attrs.get("role") == "img")
+        for figure in elements.of("figure"):
+            self.assertTrue("<figcaption" in figure.start or "<caption" in figure.start)
+        numbers = {frame: [text.text for text in elements.of("text", "axis") if ("frame" in text.attrs["class"]) == frame] for frame in (False, True)}
+        self.assertEqual((numbers[False], numbers[True]), ([*map(str, range(1, 31)), "34"], ["0–2", "3–5"]))
+        ways = [arrow.attrs["aria-label"] for arrow in Elements(self.page("whole_call")).of("i")]
+        self.assertEqual(ways[:4], ["to the exchange", "from the exchange", "from the exchange", "to the exchange"])
+
+    def test_the_matrix(self) -> None:
+        """The steps of a chain, and the slots that change in each."""
+        elements = Elements(self.page("rearrangement"))
+        (table,) = elements.of("table")
+        self.assertEqual(table.text, "Paull's matrix for the path from line 0 to line 1"
+                         "to 0to 1to 2" "from 0150-14" "from 115-29" "from 20 15 1-1415 0 16-29")  # fmt: skip
+        changes = [(mark.attrs["data-step"], mark.text) for mark in elements.of("b") if "data-step" in mark.attrs]
+        self.assertEqual(changes, [("3", "15"), ("2", "0 15"), ("1", "15 0")])
+        (steps,) = [element.text for element in elements.of("ol") if "start" in element.attrs]
+        self.assertEqual(steps, "No slot is free on both: 15 is free on line 0, 0 on line 1."
+                         "The path from line 2 to line 1 moves from slot 15 to slot 0."
+                         "The path from line 2 to line 0 moves from slot 0 to slot 15."
+                         "The path from line 0 to line 1 takes slot 15.")  # fmt: skip
+
+    def test_a_long_chain(self) -> None:
+        """Between many lines, the others are one row and one column."""
+        ends = [End(line, 0) for line in range(12)]
+        chain = [Move(fabric.Path(ends[at], ends[at + 1]), at % 2) for at in range(3)]
+        before = {matrices.Entry(at, at + 1): {at % 2} for at in range(11)}
+        laid = Laid(fabric.Path(ends[0], ends[3]), 1, chain, (0, 1))
+        elements = Elements(matrices.figure(laid, before))
+        self.assertEqual([head.text for head in elements.of("th")], ["to 1", "to 2", "to 3", "to others", *(f"from {row}" for row in range(3)), "from others"])
+
+    @needs_program
+    @slow
+    def test_a_full_exchange(self) -> None:
+        """The page of 960 channels in use stays small, and says what it leaves out."""
+        with tempfile.TemporaryDirectory() as folder:
+            trace, report = Path(folder) / "some.trace", Path(folder) / "some.report"
+            with open(trace, "wb") as file:
+                subprocess.run([TOP / "bench" / "generate", "dense", "4000000"], stdout=file, check=True)
+            with open(trace, "rb") as given, open(report, "wb") as told:
+                subprocess.run([PROGRAM, "run"], stdin=given, stdout=told, check=True)
+            status, output, _ = tool("page", trace, report)
+        self.assertEqual(status, 0)
+        self.assertLess(len(output), 8_000_000)
+        self.assertIn(b"<p>100 of 960 channels have a player, which are the first to be sent a sound.</p>", output)
+
+    def calls(self, count: int) -> str:
+        """The page of n calls, each of which is refused."""
+        with tempfile.TemporaryDirectory() as folder:
+            trace, report = Path(folder) / "some.trace", Path(folder) / "some.report"
+            numbers = ("".join(f"3{digit}" for digit in f"{at:04}") for at in range(count))
+            trace.write_text("exchange 1 1 0 1\n" + "".join(f"M 0 080200010504038090A3700580{number}\n" for number in numbers))
+            report.write_text("".join(f"{at} message 0:080280015A08028281\n" for at in range(1, count + 1)))
+            status, output, said = tool("page", trace, report)
+        self.assertEqual((status, said), (0, ""))
+        return output.decode()
+
+    def test_many_calls(self) -> None:
+        """From 50 on they can be searched, and from 200 on they have only titles."""
+        self.assertNotIn('id="find"', self.calls(49))
+        self.assertIn('id="find"', self.calls(50))
+        elements = Elements(self.calls(2100))
+        self.assertEqual((len(elements.of("article", "call")), len(elements.of("div", "ladder"))), (2000, 200))
+        self.assertIn("The first 200 of 2,100 calls are drawn, and the first 2,000 are listed.", [part.text for part in elements.of("p")])
 
     def test_internal_slots(self) -> None:
         """Two paths change their internal slots, and the other thirty stay where they are."""

@@ -1,17 +1,12 @@
-"""Draws Paull's matrix of the fabric before and after an event: which internal slots carry paths between two lines.
-
-A path takes an internal slot that is free on its incoming and on its outgoing line. If no slot is free on both, the paths
-of a chain exchange two slots: one that is free on the incoming line, and one that is free on the outgoing line.
-"""
+"""Draws Paull's matrix of the fabric before and after an event: which internal slots carry paths between two lines."""
 
 from __future__ import annotations
 
-import textwrap
 from collections.abc import Iterable, Iterator
-from dataclasses import dataclass, field
 
 from nemzhuul.command_line import Refused, WrongWords
-from nemzhuul.pictures.fabric import STRICT_SLOTS, Fabric, Laid, Paths
+from nemzhuul.pictures.fabric import STRICT_SLOTS, Fabric, Laid
+from nemzhuul.pictures.matrices import CHAIN, NEW, Entry, Matrix, cells, sentences
 from nemzhuul.traces.events import Step, Trace
 from nemzhuul.traces.following import Run
 from nemzhuul.traces.reading import numeral
@@ -23,39 +18,7 @@ column an outgoing line, and an entry the internal slots of the paths between th
 and the new paths with +. Bridge lines come after the external ones. Lines without a path are left out"""
 
 WIDTH, ROW, LEFT, TOP, GAP = 150, 26, 70, 64, 46  # of an SVG: a column, a row, the margins, and the space between two matrices
-CHAIN, NEW = "*", "+"
-TEXT_WIDTH = 100
 COLOURS = {CHAIN: "#fbd38d", NEW: "#9ae6b4"}
-
-Cells = dict[tuple[int, int], set[int]]  # by incoming and outgoing line, the internal slots
-
-
-@dataclass
-class Matrix:
-    """A matrix, and the mark of each internal slot that has one."""
-
-    title: str
-    cells: Cells
-    marks: dict[tuple[int, int, int], str] = field(default_factory=dict)
-
-    def mark(self, laid: Iterable[Laid], is_after: bool) -> None:
-        for path, number, chain, slots in laid:
-            for moved, before in chain:
-                at = sum(slots or ()) - before if is_after else before
-                self.marks[moved.source.line, moved.target.line, at] = CHAIN
-            if is_after:
-                self.marks[path.source.line, path.target.line, number] = NEW
-
-    def entry(self, row: int, column: int) -> str:
-        """The slots of an entry: those with marks first, and the others as ranges."""
-        slots = sorted(self.cells.get((row, column), ()))
-        marked = [f"{mark}{at}" for at in slots if (mark := self.marks.get((row, column, at)))]
-        return " ".join([*marked, *ranges([at for at in slots if (row, column, at) not in self.marks])]) or "-"
-
-    def mark_of(self, row: int, column: int) -> str:
-        """The mark of an entry: the mark of the chain, or else of a new path."""
-        found = {mark for (source, target, _), mark in self.marks.items() if (source, target) == (row, column)}
-        return CHAIN if CHAIN in found else "".join(found)
 
 
 def main(*words: str) -> str:
@@ -96,35 +59,6 @@ def fitting_fabric(trace: Trace, steps: list[Step]) -> Fabric:
     return Fabric(trace)
 
 
-def cells(incoming: Iterable[Paths]) -> Cells:
-    found: Cells = {}
-    for row, paths in enumerate(incoming):
-        for number, path in paths.items():
-            found.setdefault((row, path.target.line), set()).add(number)
-    return found
-
-
-def ranges(numbers: list[int]) -> Iterator[str]:
-    """Rising numbers, of which those that follow each other are joined."""
-    first = 0
-    for at, number in enumerate(numbers):
-        if at + 1 == len(numbers) or numbers[at + 1] != number + 1:
-            yield f"{numbers[first]}" if first == at else f"{numbers[first]}-{number}"
-            first = at + 1
-
-
-def sentences(laid: Laid) -> Iterator[str]:
-    """How a path got its slot."""
-    path, number, chain, slots = laid
-    said = f"the path from line {path.source.line} to line {path.target.line} takes slot {number}"
-    if slots is None:
-        yield f"{said}, the lowest that is free on both"
-        return
-    yield f"{said}. No slot is free on both: {slots[0]} is free on line {path.source.line}, {slots[1]} on line {path.target.line}"
-    moves = [f"{moved.source.line} to {moved.target.line} from {at} to {sum(slots) - at}" for moved, at in chain]
-    yield from textwrap.wrap(f"a chain of {len(moves)} paths moves: {', '.join(moves)}", TEXT_WIDTH)
-
-
 def lines_of_all(matrices: Iterable[Matrix]) -> tuple[list[int], list[int]]:
     """The rows and the columns that have a path in one of the matrices."""
     keys = [key for matrix in matrices for key in matrix.cells]
@@ -134,12 +68,12 @@ def lines_of_all(matrices: Iterable[Matrix]) -> tuple[list[int], list[int]]:
 def text(said: Iterable[str], matrices: list[Matrix]) -> str:
     rows, columns = lines_of_all(matrices)
     lines = list(said)
-    widths = [max(len(m.entry(row, column)) for m in matrices for row in rows) for column in columns]
+    widths = [max(len(m.text(Entry(row, column))) for m in matrices for row in rows) for column in columns]
     for matrix in matrices:
         heads = (f"{f'to {column}':<{max(width, 6)}}" for column, width in zip(columns, widths))
         lines += ["", f"{matrix.title:<8} {'  '.join(heads)}".rstrip()]
         for row in rows:
-            entries = (f"{matrix.entry(row, column):<{max(width, 6)}}" for column, width in zip(columns, widths))
+            entries = (f"{matrix.text(Entry(row, column)):<{max(width, 6)}}" for column, width in zip(columns, widths))
             lines.append(f"from {row:<3} {'  '.join(entries)}".rstrip())
     return "".join(f"{line}\n" for line in lines)
 
@@ -170,6 +104,6 @@ def grid(matrix: Matrix, rows: Iterable[int], columns: list[int], top: int) -> I
         y = top + ROW * down
         yield f'<text x="16" y="{y + 18}">from {row}</text>'
         for at, column in enumerate(columns):
-            colour = COLOURS.get(matrix.mark_of(row, column), "none")
+            colour = COLOURS.get(matrix.mark_of(Entry(row, column)), "none")
             yield f'<rect x="{LEFT + WIDTH * at}" y="{y}" width="{WIDTH}" height="{ROW}" fill="{colour}" stroke="#4a5568"/>'
-            yield f'<text x="{LEFT + WIDTH * at + 8}" y="{y + 18}">{matrix.entry(row, column)}</text>'
+            yield f'<text x="{LEFT + WIDTH * at + 8}" y="{y + 18}">{matrix.text(Entry(row, column))}</text>'

@@ -3,28 +3,34 @@
 from __future__ import annotations
 
 from base64 import b64encode
-from collections.abc import Callable, Iterable, Iterator, Mapping, Sequence
-from dataclasses import dataclass
+from collections.abc import Callable, Iterable, Iterator, Sequence
+from dataclasses import dataclass, field
 from html import escape
 from pathlib import Path
 
 from nemzhuul.command_line import WrongWords
 from nemzhuul.pictures.drawing import Pictures, waveform
-from nemzhuul.pictures.fabric import STRICT_SLOTS, Fabric
 from nemzhuul.pictures.ladders import frames_text, name, note, place, title
-from nemzhuul.traces.events import CHANNELS, FRAMES_PER_SECOND, IDLE, PLACES, Slot, Step, Trace, place_of_channel
+from nemzhuul.pictures.matrices import rearrangement_part
+from nemzhuul.traces.events import CHANNELS, FRAMES_PER_SECOND, IDLE, PLACES, Reply, Slot, Trace, place_of_channel
 from nemzhuul.traces.following import Call, Row, Run
-from nemzhuul.traces.runs import read_run
+from nemzhuul.traces.runs import open_run
 
 USAGE = """usage: tools/page TRACE REPORT >PAGE
-writes one HTML file: each call as a ladder, what has each channel, the internal slots of each line, and a player
-with a waveform for what each channel was sent. It needs no other file, and works without a network."""
+writes one HTML file: each call as a ladder, what has each channel, the internal slots of each line, Paull's matrix of each
+event that moved live paths, and a player with a waveform for what each channel was sent. It needs no other file, and works
+without a network. It can be printed. A long run has only its first calls, events and seconds of sound"""
 
 PARTS = Path(__file__).resolve().parent.parent / "pictures"  # the style and the script of a page
 MAX_CALLS = 200  # that are drawn
-MAX_OCTETS = 4_000_000  # of sounds
+MAX_LISTED = 2000  # calls with their titles
+MAX_ROWS = 200  # of a ladder
+SEARCHED = 50  # calls from which on they can be searched
+MAX_OCTETS = 3_000_000  # of sounds
+MAX_PLAYERS = 100
 POLICY = "default-src 'none'; style-src 'unsafe-inline'; script-src 'unsafe-inline'; media-src blob:"
 SHORT = 0.25  # seconds that are too short to hear
+IDLE_ROW = bytes([IDLE]) * PLACES
 
 
 @dataclass(frozen=True)
@@ -35,6 +41,7 @@ class Parts:
     calls: str
     channels: str
     slots: str
+    matrices: str
     sounds: str
 
 
@@ -42,30 +49,23 @@ def main(*words: str) -> str:
     if len(words) != 2 or any(word.startswith("-") for word in words):
         raise WrongWords
     trace_path, report_path = words
-    trace, steps = read_run(trace_path, report_path)
-    pictures = draw(trace, steps)
-    run = pictures.run
-    heard = sounds([reply.octets for _, reply in steps if reply.octets is not None], trace.sizes.external)
+    trace, steps, _ = open_run(trace_path, report_path)
+    pictures, calls, heard = Pictures(trace), Calls(), Sounds()
+    for event, reply in steps:
+        pictures.take(event, reply)
+        calls.take(pictures.run, reply)
+        heard.take(reply)
+    pictures.end()
+    calls.end(pictures.run)
     parts = Parts(
-        summary=summary(trace, steps, run),
-        calls=calls_part(run),
+        summary=summary(trace, calls, pictures.run.frames),
+        calls=calls.text(),
         channels=channels_part(pictures),
         slots=slots_part(pictures),
-        sounds=sounds_part(heard, run.frames),
+        matrices=matrices_part(pictures),
+        sounds=sounds_part(heard, pictures.run.frames),
     )
-    return document(Path(trace_path).name, parts, pictures)
-
-
-def draw(trace: Trace, steps: Sequence[Step]) -> Pictures:
-    """The pictures of a run, on the fabric whose paths move as the report says."""
-    for fabric in (Fabric(trace), Fabric(trace, STRICT_SLOTS)):
-        pictures = Pictures(Run(trace), fabric)
-        for event, reply in steps:
-            pictures.take(event, reply)
-        pictures.end()
-        if pictures.fits:
-            break
-    return pictures
+    return document(Path(trace_path).name, parts, pictures, calls)
 
 
 def count(number: int, what: str) -> str:
@@ -78,16 +78,14 @@ def span(frames: int) -> str:
     return f"{seconds:.3g} s" if seconds >= 1 else f"{seconds * 1000:.3g} ms"
 
 
-def summary(trace: Trace, steps: Sequence[Step], run: Run) -> str:
-    moved = sum(sum(reply.moved or ()) for _, reply in steps)
-    answered = sum(call.answered is not None for call in run.calls)
+def summary(trace: Trace, calls: Calls, frames: int) -> str:
     said = [
         count(trace.sizes.external, "line"),
         count(trace.sizes.bridges, "bridge"),
-        count(len(steps), "event"),
-        f"{count(run.frames, 'frame')}, {span(run.frames)}",
-        f"{count(len(run.calls), 'call')}, {answered} answered",
-        f"{count(moved, 'path')} moved",
+        count(calls.events, "event"),
+        f"{count(frames, 'frame')}, {span(frames)}",
+        f"{count(calls.count, 'call')}, {calls.answered:,} answered",
+        f"{count(calls.moved, 'path')} moved",
     ]
     return "".join(f"<li>{text}</li>" for text in said)
 
@@ -95,25 +93,61 @@ def summary(trace: Trace, steps: Sequence[Step], run: Run) -> str:
 # ---- calls
 
 
-def calls_part(run: Run) -> str:
-    parts = [call_part(call, run) for call in run.calls[:MAX_CALLS]]
-    if len(run.calls) > MAX_CALLS:
-        parts.append(f"<p>The first {MAX_CALLS} of {len(run.calls):,} calls are drawn.</p>")
-    if run.on_no_call:
-        heads = "<span>line</span><span>exchange</span>"
-        rungs = ladder(run.on_no_call[: 20 * MAX_CALLS], lambda row: False, False, with_line=True)
-        parts.append(f'<article class="call"><h3>Messages on no call</h3>{ladder_part(heads, rungs, False)}</article>')
-    return "".join(parts) or "<p>No call, and no message.</p>"
+@dataclass
+class Calls:
+    """The calls of a run as HTML, each when it and those before it have ended, and the numbers of a run."""
+
+    events: int = 0
+    moved: int = 0  # paths
+    count: int = 0
+    answered: int = 0
+    parts: list[str] = field(default_factory=list)
+    on_no_call: list[Row] = field(default_factory=list)
+
+    def take(self, run: Run, reply: Reply) -> None:
+        self.events += 1
+        self.moved += sum(reply.moved or ())
+        while run.ended and run.calls and run.calls[0].has_ended:
+            self._add(run.calls.pop(0), run)
+        if run.on_no_call:
+            self.on_no_call += run.on_no_call[: 20 * MAX_CALLS - len(self.on_no_call)]
+            run.on_no_call.clear()
+
+    def end(self, run: Run) -> None:
+        for call in run.calls:
+            self._add(call, run)
+
+    def _add(self, call: Call, run: Run) -> None:
+        self.count += 1
+        self.answered += call.answered is not None
+        if self.count <= MAX_LISTED:
+            self.parts.append(call_part(call, run, is_drawn=self.count <= MAX_CALLS))
+
+    def text(self) -> str:
+        parts = list(self.parts)
+        if self.count > MAX_CALLS:
+            listed = f", and the first {MAX_LISTED:,} are listed" if self.count > MAX_LISTED else ""
+            parts.append(f"<p>The first {MAX_CALLS} of {self.count:,} calls are drawn{listed}.</p>")
+        if self.on_no_call:
+            heads = "<span>line</span><span>exchange</span>"
+            rungs = ladder(self.on_no_call, lambda row: False, False, with_line=True)
+            parts.append(f'<article class="call"><h3>Messages on no call</h3>{ladder_part(heads, rungs, False)}</article>')
+        return "".join(parts) or "<p>No call, and no message.</p>"
 
 
-def call_part(call: Call, run: Run) -> str:
+def call_part(call: Call, run: Run, is_drawn: bool = True) -> str:
+    """A call with its title, and with its ladder if it is drawn."""
     right = call.called
     first, *rest = title(call, run).split("; ")
     facts = "".join(f"<li>{escape(text)}</li>" for text in rest)
+    begin = (f'<article class="call"><h3><span class="number">{call.number}</span> {escape(first)}</h3>'
+             f'<ul class="facts">{facts}</ul>')  # fmt: skip
+    if not is_drawn:
+        return f"{begin}</article>"
     heads = f"<span>{place(call.caller, call.line)}</span><span>exchange</span>" + (f"<span>{place(right)}</span>" if right else "")
-    rungs = ladder(call.rows, lambda row: row.leg is not None and row.leg is right, right is not None)
-    return (f'<article class="call"><h3><span class="number">{call.number}</span> {escape(first)}</h3>'
-            f'<ul class="facts">{facts}</ul>{ladder_part(heads, rungs, right is not None)}</article>')  # fmt: skip
+    rungs = ladder(call.rows[:MAX_ROWS], lambda row: row.leg is not None and row.leg is right, right is not None)
+    more = f"<p>The first {MAX_ROWS} of {len(call.rows):,} messages are drawn.</p>" if len(call.rows) > MAX_ROWS else ""
+    return f"{begin}{ladder_part(heads, rungs, right is not None)}{more}</article>"
 
 
 def ladder_part(heads: str, rungs: Iterable[str], has_right: bool) -> str:
@@ -139,72 +173,98 @@ def ladder(rows: Sequence[Row], is_right: Callable[[Row], bool], has_right: bool
 def arrow(row: Row, towards_right: bool, with_line: bool) -> str:
     """A message on its way, with what it says and its octets."""
     kind = f"arrow {'right' if towards_right else 'left'} {'sent' if row.is_sent else 'arrived'}"
+    way = "from the exchange" if row.is_sent else "to the exchange"
     said = escape(note(row, with_line))
     octets = "" if row.message is None else f'<code class="octets">{row.message.octets.hex(" ").upper()}</code>'
-    return f'<div class="{kind}"><b>{escape(name(row))}</b><i></i><small>{said}</small>{octets}</div>'
+    return f'<div class="{kind}"><b>{escape(name(row))}</b><i role="img" aria-label="{way}"></i><small>{said}</small>{octets}</div>'
 
 
 # ---- channels and internal slots
 
 
 def channels_part(pictures: Pictures) -> str:
-    channels = pictures.channels()
-    if not channels:
+    if not pictures.channels():
         return "<p>Nothing has a channel in this run.</p>"
-    labels = "".join(f"<li>{slot}</li>" for slot in channels)
     left_out = f"<p>{pictures.left_out:,} later events are left out.</p>" if pictures.left_out else ""
-    return f'<div class="picture channels"><ol>{labels}</ol><div class="scroll" tabindex="0">{pictures.timeline()}</div></div>{left_out}'
+    return "".join(pictures.timelines()) + left_out
 
 
 def slots_part(pictures: Pictures) -> str:
-    if not pictures.fits:
+    layout = pictures.layout
+    if layout is None:
         return "<p>The numbers of moved paths are those of neither fabric, so no internal slots are shown.</p>"
-    lines = pictures.lines_with_paths()
+    lines = pictures.lines_with_paths(layout)
     if not lines:
         return "<p>No path was laid in this run.</p>"
-    options = "".join(f'<option value="{line}">{line_text(line, pictures)}</option>' for line in lines)
-    parts = [f'<p class="control"><label>Line <select id="line">{options}</select></label></p>']
+    options = ""
     for line in lines:
-        picture, number = pictures.internal_slots(line)
-        labels = "".join(f"<li>{at}</li>" for at in range(number))
-        parts.append(f'<div class="picture slots" id="line-{line}"><div><b>from line {line}</b><ol>{labels}</ol>'
-                     f'<b>to line {line}</b><ol>{labels}</ol></div><div class="scroll" tabindex="0">{picture}</div></div>')  # fmt: skip
+        bridge, moves = line - layout.fabric.external, pictures.moves_of(layout, line)
+        text = f"{line}" + (f" (bridge {bridge})" if bridge >= 0 else "") + (f": {count(moves, 'move')}" if moves else "")
+        options += f'<option value="{line}">{text}</option>'
+    parts = [f'<p class="control"><label>Line <select id="line">{options}</select></label></p>']
+    parts += [f'<div class="line" id="line-{line}">{pictures.internal_slots(layout, line)}</div>' for line in lines]
     return "".join(parts)
 
 
-def line_text(line: int, pictures: Pictures) -> str:
-    bridge = line - pictures.fabric.external
-    return f"{line}" if bridge < 0 else f"{line} (bridge {bridge})"
+def matrices_part(pictures: Pictures) -> str:
+    found = pictures.layout.rearrangements if pictures.layout else []
+    if not found:
+        return "<p>No live path moved in this run.</p>"
+    return "".join(map(rearrangement_part, found))
 
 
 # ---- sounds
 
 
-def sounds(frames: Sequence[Mapping[int, bytes]], lines: int) -> dict[Slot, bytes]:
-    """By slot, the octets that it was sent, of those that were sent anything but idle octets."""
-    heard: dict[Slot, bytes] = {}
-    for line in range(lines):
-        rows = [octets.get(line) for octets in frames]
-        if any(rows):
-            idle = bytes([IDLE]) * PLACES
-            whole = b"".join(row or idle for row in rows)
-            for channel in CHANNELS:
-                octets = whole[place_of_channel(channel) :: PLACES]
-                if octets.count(IDLE) < len(octets):
-                    heard[Slot(line, channel)] = octets
-    return heard
+class Sounds:
+    """What channels were sent, of those that were sent anything but idle octets."""
+
+    def __init__(self) -> None:
+        self.octets: dict[Slot, bytearray] = {}
+        self.count = 0  # of the channels, some of which have no player
+        self._frames = 0  # so far
+        self._found: dict[int, set[int]] = {}  # by line, its channels
+        self._lines: set[int] = set()  # with a channel that has a player
+
+    def take(self, reply: Reply) -> None:
+        if reply.octets is None:
+            return
+        for line in reply.octets:
+            found = self._found.setdefault(line, set())
+            if len(found) < PLACES:
+                others = [(channel, octet) for channel, octet in zip(CHANNELS, reply.octets[line]) if channel not in found]
+                for channel in [channel for channel, octet in others if octet != IDLE]:
+                    found.add(channel)
+                    self._begin(Slot(line, channel))
+        if self._has_room(len(self.octets)):
+            rows = {line: reply.octets.get(line, IDLE_ROW) for line in self._lines}
+            for slot, sound in self.octets.items():
+                if len(sound) == self._frames:
+                    sound.append(rows[slot.line][place_of_channel(slot.channel) or 0])
+        self._frames += 1
+
+    def _begin(self, slot: Slot) -> None:
+        self.count += 1
+        if len(self.octets) < MAX_PLAYERS and self._has_room(len(self.octets) + 1):
+            self.octets[slot] = bytearray([IDLE]) * self._frames
+            self._lines.add(slot.line)
+
+    def _has_room(self, players: int) -> bool:
+        return players * (self._frames + 1) <= MAX_OCTETS
 
 
-def sounds_part(heard: Mapping[Slot, bytes], frames: int) -> str:
-    if not heard:
+def sounds_part(heard: Sounds, frames: int) -> str:
+    if not heard.octets:
         return "<p>Every channel was sent idle octets only.</p>"
-    most = max(1, MAX_OCTETS // frames)
-    parts = [sound_part(slot, octets) for slot, octets in list(heard.items())[:most]]
+    parts = [sound_part(slot, bytes(octets)) for slot, octets in sorted(heard.octets.items())]
+    length = max(map(len, heard.octets.values()))
     if frames < SHORT * FRAMES_PER_SECOND:
         last = f"{count(frames, 'frame')} last {span(frames)}, which is a click at most"
         parts.insert(0, f"<p>{last}: <em>repeat</em> plays them over and over.</p>")
-    if len(heard) > most:
-        parts.append(f"<p>The first {most} of {len(heard)} channels have a player.</p>")
+    if length < frames:
+        parts.append(f"<p>Only the first {span(length)} can be played.</p>")
+    if len(heard.octets) < heard.count:
+        parts.append(f"<p>{len(heard.octets)} of {heard.count} channels have a player, which are the first to be sent a sound.</p>")
     return "".join(parts)
 
 
@@ -221,7 +281,7 @@ def sound_part(slot: Slot, octets: bytes) -> str:
 # ---- the document
 
 
-def document(file: str, parts: Parts, pictures: Pictures) -> str:
+def document(file: str, parts: Parts, pictures: Pictures, calls: Calls) -> str:
     """The whole page. Its policy lets it load nothing."""
     style, script = ((PARTS / part).read_text() for part in ("page.css", "page.js"))
     steps = "".join(
@@ -229,8 +289,8 @@ def document(file: str, parts: Parts, pictures: Pictures) -> str:
         f' data-frame="{column.frames.first if column.frames else ""}">{escape(column.title)}</li>'
         for column in pictures.columns
     )
-    run = pictures.run
-    hidden = "" if run.calls or run.on_no_call else " hidden"
+    hidden = "" if calls.parts or calls.on_no_call else " hidden"
+    search = '<label>search <input type="search" id="find"></label><output id="found" aria-live="polite"></output>'
     return f"""<!DOCTYPE html>
 <html lang="en">
 <head>
@@ -246,18 +306,22 @@ def document(file: str, parts: Parts, pictures: Pictures) -> str:
 <header>
 <h1>{escape(file)}</h1>
 <ul class="facts">{parts.summary}</ul>
-<nav><a href="#calls">Calls</a> <a href="#channels">Channels</a> <a href="#sounds">Sounds</a> <a href="#slots">Internal slots</a></nav>
+<nav><a href="#calls">Calls</a> <a href="#channels">Channels</a> <a href="#sounds">Sounds</a>
+<a href="#slots">Internal slots</a> <a href="#matrix">Paull's matrix</a></nav>
 </header>
+{pictures.axes()}
 <main>
 <section id="calls">
 <h2>Calls</h2>
-<p class="control"{hidden}><label><input type="checkbox" id="octets"> show the octets of each message</label></p>
+<p class="control"{hidden}><label><input type="checkbox" id="octets"> show the octets of each message</label>
+{search if calls.count >= SEARCHED else ""}</p>
 <div class="calls">{parts.calls}</div>
 </section>
 <section id="channels">
 <h2>Channels</h2>
 <p>What has each channel, event by event. Bars of one colour are connected, a grey bar is a call without a connection,
-and a mark above counts the live paths that an event moved. Frames in which nothing changes are one column.</p>
+and a mark above counts the live paths that an event moved: a dot is on each of their channels. A white column is an event.
+A shaded column is frames in which nothing changes, and has their numbers in italics.</p>
 <div class="control step"><button type="button" id="back" aria-label="one step back">◀</button>
 <input type="range" id="step" min="0" max="{max(len(pictures.columns) - 1, 0)}" value="0" aria-label="step">
 <button type="button" id="on" aria-label="one step on">▶</button><output id="said" aria-live="polite"></output></div>
@@ -273,6 +337,12 @@ and a mark above counts the live paths that an event moved. Frames in which noth
 <p>In which internal slot of the fabric each channel of a line is carried, event by event, by the rule of the exchange:
 the octets that come from the line, and those that go to it. Where a path moves, its colour changes its row.</p>
 {parts.slots}
+</section>
+<section id="matrix">
+<h2>Paull's matrix</h2>
+<p>How live paths make room for a new one. A row is an incoming line, a column an outgoing line, and an entry has the internal
+slots of the paths between them. A slot is free on a line that has it nowhere in its row or column.</p>
+{parts.matrices}
 </section>
 </main>
 <ol id="steps" hidden>{steps}</ol>

@@ -84,7 +84,7 @@ function go(at, isShown = true) {
   document.querySelectorAll(".ladder li[data-event]").forEach((rung) => {
     rung.classList.toggle("now", rung.dataset.event >= event && rung.dataset.event <= last);
   });
-  if (isShown) document.querySelectorAll(".scroll").forEach((box) => {
+  if (isShown) boxes.forEach((box) => {
     if (x < box.scrollLeft || x + width > box.scrollLeft + box.clientWidth) box.scrollLeft = x - box.clientWidth / 2;
   });
 }
@@ -100,15 +100,58 @@ step.addEventListener("input", () => go(+step.value));
 document.getElementById("back").addEventListener("click", () => go(+step.value - 1));
 document.getElementById("on").addEventListener("click", () => go(+step.value + 1));
 document.querySelectorAll("svg.steps").forEach((picture) => picture.addEventListener("click", (event) => {
-  const x = event.clientX - picture.getBoundingClientRect().left;
+  const x = event.clientX - picture.getBoundingClientRect().left + picture.viewBox.baseVal.x;
   go(steps.findIndex((column) => x < column.x + column.width), false);
 }));
+
+// All pictures show the same columns.
+const boxes = [...document.querySelectorAll(".scroll")];
+boxes.forEach((box) => box.addEventListener("scroll", () => {
+  boxes.forEach((other) => { if (other.scrollLeft !== box.scrollLeft) other.scrollLeft = box.scrollLeft; });
+}));
+
+// ---- Paull's matrix, step by step
+
+document.querySelectorAll(".matrix").forEach((matrix) => {
+  const texts = matrix.querySelectorAll("li"), marks = matrix.querySelectorAll("[data-step]");
+  const [back, on] = ["back", "on"].map((name) => matrix.querySelector("." + name));
+  let at = 0;
+  const show = (next) => {
+    at = Math.max(0, Math.min(texts.length - 1, next));
+    texts.forEach((text, n) => text.classList.toggle("now", n === at));
+    marks.forEach((mark) => {
+      mark.classList.toggle("done", mark.dataset.step <= at);
+      mark.classList.toggle("now", +mark.dataset.step === at);
+    });
+    [back.disabled, on.disabled] = [at === 0, at === texts.length - 1];
+  };
+  [[back, -1, "one step back"], [on, 1, "one step on"]].forEach(([button, step, label]) => {
+    button.setAttribute("aria-label", label);
+    button.addEventListener("click", () => show(at + step));
+  });
+  matrix.classList.add("live");
+  matrix.querySelector("ol").setAttribute("aria-live", "polite");
+  show(0);
+});
+
+// ---- the search
+
+const find = document.getElementById("find"), calls = [...document.querySelectorAll(".call")];
+if (find) find.addEventListener("input", () => {
+  const words = find.value.toLowerCase().split(/\s+/).filter(Boolean);
+  calls.forEach((call) => {
+    const text = call.textContent.toLowerCase();
+    call.hidden = !words.every((word) => text.includes(word));
+  });
+  const shown = calls.filter((call) => !call.hidden).length;
+  document.getElementById("found").value = words.length ? `${shown} of ${calls.length}` : "";
+});
 
 // ---- the rest
 
 const line = document.getElementById("line");
 function showLine() {
-  document.querySelectorAll(".slots").forEach((picture) => { picture.hidden = picture.id !== "line-" + line.value; });
+  document.querySelectorAll(".line").forEach((pictures) => { pictures.hidden = pictures.id !== "line-" + line.value; });
 }
 if (line) { line.addEventListener("change", showLine); showLine(); }
 const octets = document.getElementById("octets");

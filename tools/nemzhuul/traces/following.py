@@ -171,6 +171,11 @@ class Run:
         self.joined, self.left, self.ended = [], [], []
         self._take(event, reply)
 
+    @property
+    def may_end(self) -> bool:
+        """Whether a frame may end a leg without a message."""
+        return bool(self._waiting)
+
     def pass_frame(self, frame: int) -> None:
         """Takes a frame in which no message is sent, and no data link changes."""
         if self._waiting or self.ended or self.left or self.joined:

@@ -87,13 +87,28 @@ class Run(NamedTuple):
 
 
 def open_run(trace_path: str, report_path: str, has_links: bool = False, writes: bool = False) -> Run:
-    """The run of a trace and its report, which is read while its steps are taken. A tool may write while they are."""
+    """The run of a trace and its report, whose steps are read while they are taken. A tool may write while they are.
+
+    Only a long run is taken before it is known that its report fits to the end.
+    """
     is_long = is_over_limits(trace_path)
+    if not is_long and size_of(trace_path) and size_of(report_path):
+        for _ in steps_of(trace_path, report_path, has_links, says=False).steps:
+            pass
+        return steps_of(trace_path, report_path, has_links)
+    run = steps_of(trace_path, report_path, has_links, is_long, writes)
+    return run if is_long else run._replace(steps=list(run.steps))
+
+
+def steps_of(
+    trace_path: str, report_path: str, has_links: bool, is_long: bool = False, writes: bool = False, says: bool = True
+) -> Run:
+    """The run of a trace and its report, of which nothing is known yet."""
     file = TraceFile(trace_path, Progress(trace_path, size_of(trace_path), writes and is_long))
     if file.trace.linked and not has_links:
         raise Refused(f"{trace_path} has data links: tools/plain writes a trace without them")
     in_order = is_long or bool(file.trace.linked)
-    return Run(file.trace, Replies(file, report_path, in_order).steps(), is_long)
+    return Run(file.trace, Replies(file, report_path, in_order, says).steps(), is_long)
 
 
 def size_of(path: str) -> int:
@@ -110,8 +125,8 @@ def is_over_limits(path: str) -> bool:
 
 def read_run(trace_path: str, report_path: str, has_links: bool = False) -> tuple[Trace, list[Step]]:
     """A trace, and its steps in the order of the report."""
-    trace, steps, _ = open_run(trace_path, report_path, has_links)
-    return trace, list(steps)
+    run = steps_of(trace_path, report_path, has_links, is_over_limits(trace_path))
+    return run.trace, list(run.steps)
 
 
 def count_events(path: str) -> int:
@@ -129,10 +144,11 @@ def count_events(path: str) -> int:
 class Replies:
     """The replies of a report to the events of a trace."""
 
-    def __init__(self, trace: TraceFile, path: str, in_order: bool) -> None:
+    def __init__(self, trace: TraceFile, path: str, in_order: bool, says: bool = True) -> None:
         self.trace = trace
         self.path = path
         self.in_order = in_order
+        self.says = says
         self._events = enumerate(trace.events(), start=1)
         self._ahead = next(self._events, None)  # the next event and its number
         self._waiting: dict[int, Event] = {}  # the events before it that have no reply yet
@@ -149,7 +165,7 @@ class Replies:
 
     def _steps(self) -> Iterator[Step]:
         frames = 0
-        for row, answer in replies_in(self.path, lambda: self.trace.reader.changes > 0):
+        for row, answer in replies_in(self.path, lambda: self.trace.reader.changes > 0, self.says):
             event = self._event(answer.event)
             if event is None or not self._fits(event, answer):
                 raise self._misfit(f"line {row}")
@@ -190,8 +206,9 @@ def read_report(path: str) -> Iterator[Reply]:
         yield answer
 
 
-def replies_in(path: str, may_change: Callable[[], bool]) -> Iterator[tuple[int, Reply]]:
-    """The replies of a report, each with the number of its line. Where meters may change, their lines are passed over."""
+def replies_in(path: str, may_change: Callable[[], bool], says: bool = True) -> Iterator[tuple[int, Reply]]:
+    """The replies of a report, each with the number of its line. If meters may change, their lines are passed over, and
+    that is said."""
     passed = 0
     for row, text in enumerate(lines_in(path), start=1):
         line = text.removesuffix("\n")
@@ -205,7 +222,7 @@ def replies_in(path: str, may_change: Callable[[], bool]) -> Iterator[tuple[int,
         else:
             why = f"the report of a refusal: {line}" if REFUSAL.fullmatch(line) else f"no report: line {row}"
             raise WrongReport(f"{path} is {why}", row, line)
-    if passed:
+    if passed and says:
         say(f"{path}: {passed} lines of meters passed over")
 
 
