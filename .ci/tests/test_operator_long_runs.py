@@ -9,6 +9,7 @@ from unittest import mock
 import support
 from support import EXAMPLES, LINKED, InFolder, needs_program, report_of, slow, tool
 
+from nemzhuul import command_line
 from nemzhuul.command_line import Refused
 from nemzhuul.commands import calls, moves, page, plain, records
 from nemzhuul.programs.program import PROGRAM
@@ -92,6 +93,20 @@ class LongRuns(InFolder):
             parts.append(plain.main(*words))
         self.assertGreater(len(parts), 5)
         self.assertEqual("".join(parts), plain.main(*words))
+
+    def test_progress(self) -> None:
+        """A bar on a terminal shows how much of the trace is read, and is removed."""
+        shown: list[str] = []
+        path = EXAMPLES / "rearrangement.trace"
+        patches = mock.patch.multiple(command_line, PROGRESS_SECONDS=0, REPEAT_SECONDS=0, write_line=shown.append)
+        for is_terminal in (False, True):
+            with patches, mock.patch.object(runs, "SHOWN_LINES", 1), mock.patch("os.isatty", lambda number: is_terminal and number == 2):
+                runs.read_run(str(path), str(report_of(path)))
+            self.assertEqual(bool(shown), is_terminal)
+        self.assertEqual(shown[-1], "")
+        shares = [int(line.rpartition("] ")[2].rstrip("%")) for line in shown[:-1]]
+        self.assertEqual((shares, shares[-1]), (sorted(shares), 100))
+        self.assertIn(f"[{'#' * 30}]", shown[-2])
 
     def test_counts(self) -> None:
         for trace in support.TRACES:

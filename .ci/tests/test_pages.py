@@ -19,9 +19,10 @@ from nemzhuul.pictures.fabric import End, Laid, Move
 from nemzhuul.programs.program import PROGRAM
 from nemzhuul.signalling import q931
 from nemzhuul.traces import events, following, runs
-from support import EXAMPLES, IDLE, TOP, TRACES, is_refused, needs_program, report_of, signals, silence, slow, tool
+from support import EXAMPLES, IDLE, TOP, TRACES, InFolder, is_refused, needs_program, report_of, signals, silence, slow, tool
 
 
+MESSAGE = " [0-9A-F]{4}$|^ignored octets$"  # how the name of a message ends
 BROWSER = shutil.which("chromium") or shutil.which("chromium-browser") or shutil.which("google-chrome") or ""
 
 
@@ -78,27 +79,40 @@ def octet_at(octets: Mapping[int, bytes], slot: events.Slot) -> int:
     return IDLE if row is None or place is None else row[place]
 
 
+def page(name: str) -> str:
+    """The page of an example."""
+    status, output, said = tool("page", f"{name}.trace", f"{name}.report")
+    assert (status, said) == (0, ""), said
+    return output.decode()
+
+
+def names_of(name: str) -> list[str]:
+    """The names of the messages of a run, of which the exchange ignores some."""
+    texts = [reading_of(octets) for _, _, octets in signals(EXAMPLES / f"{name}.trace")]
+    return sorted(texts)
+
+
+def page_of_calls(count: int) -> str:
+    """The page of n calls, each of which is refused."""
+    with tempfile.TemporaryDirectory() as folder:
+        trace, report = Path(folder) / "some.trace", Path(folder) / "some.report"
+        numbers = ("".join(f"3{digit}" for digit in f"{at:04}") for at in range(count))
+        trace.write_text("exchange 1 1 0 1\n" + "".join(f"M 0 080200010504038090A3700580{number}\n" for number in numbers))
+        report.write_text("".join(f"{at} message 0:080280015A08028281\n" for at in range(1, count + 1)))
+        status, output, said = tool("page", trace, report)
+    assert (status, said) == (0, ""), said
+    return output.decode()
+
+
 class Pages(unittest.TestCase):
     """Pages of runs, by their parts, and where a browser is installed as it shows them."""
 
     RUNS = ("whole_call", "conversation", "rearrangement", "strict_rearrangement", "called_user_silent", "dialled_to_a_room")
 
-    @staticmethod
-    def page(name: str) -> str:
-        status, output, said = tool("page", f"{name}.trace", f"{name}.report")
-        assert (status, said) == (0, ""), said
-        return output.decode()
-
-    @staticmethod
-    def names(name: str) -> list[str]:
-        """The names of the messages of a run, of which the exchange ignores some."""
-        texts = [reading_of(octets) for _, _, octets in signals(EXAMPLES / f"{name}.trace")]
-        return sorted(texts)
-
     def check(self, name: str, elements: Elements) -> dict[str, bytes]:
         texts = [element.text for element in elements.of("b")]
-        arrows = [text for text in texts if re.search(" [0-9A-F]{4}$|^ignored octets$", text)]
-        self.assertEqual(sorted(arrows), self.names(name))
+        arrows = [text for text in texts if re.search(MESSAGE, text)]
+        self.assertEqual(sorted(arrows), names_of(name))
         figures = [figure.attrs for figure in elements.of("figure", "sound")]
         sounds = {attrs["data-name"]: base64.b64decode(attrs["data-octets"]) for attrs in figures}
         for slot, octets in sounds.items():
@@ -111,7 +125,7 @@ class Pages(unittest.TestCase):
         """Each page has the messages of its run and what its channels heard, and names no other file."""
         for name in self.RUNS:
             with self.subTest(run=name):
-                elements = Elements(self.page(name))
+                elements = Elements(page(name))
                 self.assertEqual(elements.open, [])
                 self.check(name, elements)
                 for element in elements.all:
@@ -122,7 +136,7 @@ class Pages(unittest.TestCase):
 
     def test_channels(self) -> None:
         """Which channel is connected with which, and for which event paths were moved."""
-        elements = Elements(self.page("rearrangement"))
+        elements = Elements(page("rearrangement"))
         titles = [element.text for element in elements.of("title")]
         for slot in ("0/17 with 1/17", "1/17 with 0/17", "0/1 with 2/1"):
             self.assertIn(slot, titles)
@@ -135,19 +149,19 @@ class Pages(unittest.TestCase):
 
     def test_a_reader_of_the_screen(self) -> None:
         """Each picture has a title or is passed over, and each arrow says its way. The axis says which numbers are of frames."""
-        elements = Elements(self.page("rearrangement"))
+        elements = Elements(page("rearrangement"))
         for picture in elements.of("svg"):
             self.assertTrue(picture.attrs.get("aria-hidden") or "<title>" in picture.start and picture.attrs.get("role") == "img")
         for figure in elements.of("figure"):
             self.assertTrue("<figcaption" in figure.start or "<caption" in figure.start)
         numbers = {frame: [text.text for text in elements.of("text", "axis") if ("frame" in text.attrs["class"]) == frame] for frame in (False, True)}
         self.assertEqual((numbers[False], numbers[True]), ([*map(str, range(1, 31)), "34"], ["0–2", "3–5"]))
-        ways = [arrow.attrs["aria-label"] for arrow in Elements(self.page("whole_call")).of("i")]
+        ways = [arrow.attrs["aria-label"] for arrow in Elements(page("whole_call")).of("i")]
         self.assertEqual(ways[:4], ["to the exchange", "from the exchange", "from the exchange", "to the exchange"])
 
     def test_the_matrix(self) -> None:
         """The steps of a chain, and the slots that change in each."""
-        elements = Elements(self.page("rearrangement"))
+        elements = Elements(page("rearrangement"))
         (table,) = elements.of("table")
         self.assertEqual(table.text, "Paull's matrix for the path from line 0 to line 1"
                          "to 0to 1to 2" "from 0150-14" "from 115-29" "from 20 15 1-1415 0 16-29")  # fmt: skip
@@ -183,28 +197,17 @@ class Pages(unittest.TestCase):
         self.assertLess(len(output), 8_000_000)
         self.assertIn(b"<p>100 of 960 channels have a player, which are the first to be sent a sound.</p>", output)
 
-    def calls(self, count: int) -> str:
-        """The page of n calls, each of which is refused."""
-        with tempfile.TemporaryDirectory() as folder:
-            trace, report = Path(folder) / "some.trace", Path(folder) / "some.report"
-            numbers = ("".join(f"3{digit}" for digit in f"{at:04}") for at in range(count))
-            trace.write_text("exchange 1 1 0 1\n" + "".join(f"M 0 080200010504038090A3700580{number}\n" for number in numbers))
-            report.write_text("".join(f"{at} message 0:080280015A08028281\n" for at in range(1, count + 1)))
-            status, output, said = tool("page", trace, report)
-        self.assertEqual((status, said), (0, ""))
-        return output.decode()
-
     def test_many_calls(self) -> None:
         """From 50 on they can be searched, and from 200 on they have only titles."""
-        self.assertNotIn('id="find"', self.calls(49))
-        self.assertIn('id="find"', self.calls(50))
-        elements = Elements(self.calls(2100))
+        self.assertNotIn('id="find"', page_of_calls(49))
+        self.assertIn('id="find"', page_of_calls(50))
+        elements = Elements(page_of_calls(2100))
         self.assertEqual((len(elements.of("article", "call")), len(elements.of("div", "ladder"))), (2000, 200))
         self.assertIn("The first 200 of 2,100 calls are drawn, and the first 2,000 are listed.", [part.text for part in elements.of("p")])
 
     def test_internal_slots(self) -> None:
         """Two paths change their internal slots, and the other thirty stay where they are."""
-        titles = [element.text for element in Elements(self.page("rearrangement")).of("title")]
+        titles = [element.text for element in Elements(page("rearrangement")).of("title")]
         from_lines = [re.fullmatch("internal slot ([0-9]+): (.*) to (.*)", text) for text in titles]
         places: dict[tuple[str, str], list[int]] = {}
         for number, near, far in (match.groups() for match in from_lines if match):
@@ -236,23 +239,85 @@ class Pages(unittest.TestCase):
                         there = octet_at(arrived[reply.frame - 2], use.partner)
                         self.assertEqual(octet_at(reply.octets, slot), there, f"{trace_path.name}, frame {reply.frame}")
 
-    @unittest.skipUnless(BROWSER, "no browser is there")
+
+@unittest.skipUnless(BROWSER, "no browser is there")
+class Browsers(InFolder):
+    """Pages as a browser shows and prints them."""
+
+    def browser(self, page: str, *words: str) -> bytes:
+        path = self.folder / "page.html"
+        path.write_text(page)
+        profile = f"--user-data-dir={self.folder}/profile"
+        command = [BROWSER, "--headless", "--no-sandbox", "--disable-gpu", profile, *words, path.as_uri()]
+        return subprocess.run(command, capture_output=True, check=True, timeout=300).stdout
+
+    def shown(self, page: str, script: str = "") -> Elements:
+        """The page after its script, and after another one."""
+        return Elements(self.browser(page.replace("</body>", f"<script>{script}</script></body>"), "--dump-dom").decode())
+
     @slow
-    def test_in_a_browser(self) -> None:
+    def test_the_parts(self) -> None:
         """It loads without an error, with every message; each player has a sample for each frame."""
         for name, frames in (("whole_call", 3), ("conversation", 16004)):
-            with self.subTest(run=name), tempfile.TemporaryDirectory() as folder:
-                path = Path(folder) / "page.html"
-                path.write_text(self.page(name))
-                words = [BROWSER, "--headless", "--no-sandbox", "--disable-gpu", f"--user-data-dir={folder}/profile", "--dump-dom"]
-                shown = subprocess.run([*words, path.as_uri()], capture_output=True, check=True, timeout=300).stdout
-                elements = Elements(shown.decode())
+            with self.subTest(run=name):
+                elements = self.shown(page(name))
                 (html,) = elements.of("html")
                 self.assertEqual((html.attrs.get("data-ready"), html.attrs.get("data-error")), ("yes", None))
-                self.check(name, elements)
                 samples = [int(figure.attrs["data-samples"]) for figure in elements.of("figure")]
                 self.assertEqual(samples, [frames] * len(samples))
                 self.assertGreater(len(samples), 1)
+                names = [text for element in elements.of("b") if re.search(MESSAGE, text := element.text)]
+                self.assertEqual(sorted(names), names_of(name))
+
+    @slow
+    def test_a_lecture(self) -> None:
+        """The numbers of the axis have their size in each picture, and the matrix goes on step by step."""
+        script = """
+            const use = document.querySelectorAll(".slots use")[0], axis = document.querySelector("defs .axis");
+            const one = use.parentNode.appendChild(axis.cloneNode(true));
+            one.id = "one";
+            const two = use.parentNode.appendChild(use.cloneNode());
+            two.setAttribute("href", "#one");
+            const [wide, high] = ["width", "height"].map((side) => two.getBBox()[side] / one.getBBox()[side]);
+            document.querySelector(".matrix .on").click();
+            document.querySelector(".matrix .on").click();
+            const seen = (name) => [...document.querySelectorAll(`.matrix ${name}`)].filter((part) => part.checkVisibility());
+            document.title = [wide, high, seen("li.now").length, ...seen("td").map((part) => part.innerText.trim())].join("|");
+        """
+        (said,) = [element.text for element in self.shown(page("rearrangement"), script).of("title") if "|" in element.text]
+        self.assertEqual(said.split("|"), ["1", "1", "1", "", "", "", "0-14", "", "", "15-29", "15 1-14", "0 16-29", ""])
+
+    @slow
+    def test_a_search(self) -> None:
+        """The words of a search are all in the calls that stay."""
+        script = """
+            const field = document.getElementById("find");
+            field.value = "Number 0042";
+            field.dispatchEvent(new Event("input"));
+        """
+        elements = self.shown(page_of_calls(60), script)
+        there = [call.text for call in elements.of("article", "call") if "hidden" not in call.attrs]
+        self.assertEqual((len(there), "dials 0042" in there[0]), (1, True))
+
+    @unittest.skipIf(shutil.which("pdftotext") is None, "pdftotext is not installed")
+    @slow
+    def test_a_print(self) -> None:
+        """No page is blank, and each picture is there with its last row and its last column."""
+        pages = {name: self.printed(page(name)) for name in ("rearrangement", "strict_rearrangement")}
+        pages["calls"] = self.printed(page_of_calls(60))
+        for name, texts in pages.items():
+            with self.subTest(run=name):
+                self.assertEqual([number for number, text in enumerate(texts, 1) if not text.strip()], [])
+        words = " ".join(pages["rearrangement"]).split()
+        for word, count in (("2/31", 1), ("3–5", 5), ("event", 5)):
+            self.assertGreaterEqual(words.count(word), count, word)
+        self.assertEqual(sum(text.count("SETUP") for text in pages["calls"]), 60)
+
+    def printed(self, page: str) -> list[str]:
+        """The texts of the pages of a print."""
+        self.browser(page, "--no-pdf-header-footer", f"--print-to-pdf={self.folder}/page.pdf")
+        text = subprocess.run(["pdftotext", self.folder / "page.pdf", "-"], stdout=subprocess.PIPE, check=True).stdout.decode()
+        return text.split("\f")[:-1]
 
 
 def reading_of(octets: bytes) -> str:

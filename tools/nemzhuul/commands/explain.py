@@ -19,7 +19,8 @@ USAGE = """usage: tools/explain TRACE [REPORT]
        tools/explain --status [N]
 explains why the exchange refuses TRACE, or which line of REPORT cannot be one: the line, the column and the
 likely cause. It ends with the status of the exchange: 0 if TRACE is a trace, 1 if it is refused, and 6 if REPORT
-cannot be its report. With --status it explains an exit status of the exchange, or all of them."""
+cannot be its report. A log of tools/attach, and a trace with the report that `tst follow` wrote of it, can be of any
+length. With --status it explains an exit status of the exchange, or all of them."""
 
 STATUSES = {
     0: """the trace was run and its report was written (`run`, `follow`), the summary was written (`gen`), or the report is

@@ -12,7 +12,7 @@ from nemzhuul.command_line import WrongWords
 from nemzhuul.pictures.drawing import Pictures, waveform
 from nemzhuul.pictures.ladders import frames_text, name, note, place, title
 from nemzhuul.pictures.matrices import rearrangement_part
-from nemzhuul.traces.events import CHANNELS, FRAMES_PER_SECOND, IDLE, PLACES, Reply, Slot, Trace, place_of_channel
+from nemzhuul.traces.events import CHANNELS, FRAMES_PER_SECOND, IDLE, PLACES, Reply, Slot, Trace
 from nemzhuul.traces.following import Call, Row, Run
 from nemzhuul.traces.runs import open_run
 
@@ -223,31 +223,35 @@ class Sounds:
         self.octets: dict[Slot, bytearray] = {}
         self.count = 0  # of the channels, some of which have no player
         self._frames = 0  # so far
+        self._is_full = False
         self._found: dict[int, set[int]] = {}  # by line, its channels
-        self._lines: set[int] = set()  # with a channel that has a player
+        self._places: dict[int, list[tuple[int, bytearray]]] = {}  # by line, the places of the channels with a player
 
     def take(self, reply: Reply) -> None:
         if reply.octets is None:
             return
-        for line in reply.octets:
-            found = self._found.setdefault(line, set())
-            if len(found) < PLACES:
-                others = [(channel, octet) for channel, octet in zip(CHANNELS, reply.octets[line]) if channel not in found]
-                for channel in [channel for channel, octet in others if octet != IDLE]:
-                    found.add(channel)
-                    self._begin(Slot(line, channel))
-        if self._has_room(len(self.octets)):
-            rows = {line: reply.octets.get(line, IDLE_ROW) for line in self._lines}
-            for slot, sound in self.octets.items():
-                if len(sound) == self._frames:
-                    sound.append(rows[slot.line][place_of_channel(slot.channel) or 0])
+        for line in reply.octets if self.count < len(self._found) * PLACES or len(self._found) < len(reply.octets) else ():
+            self._find(line, reply.octets[line])
+        self._is_full |= not self._has_room(len(self.octets))
+        if not self._is_full:
+            for line, places in self._places.items():
+                row = reply.octets.get(line, IDLE_ROW)
+                for at, sound in places:
+                    sound.append(row[at])
         self._frames += 1
 
-    def _begin(self, slot: Slot) -> None:
-        self.count += 1
-        if len(self.octets) < MAX_PLAYERS and self._has_room(len(self.octets) + 1):
-            self.octets[slot] = bytearray([IDLE]) * self._frames
-            self._lines.add(slot.line)
+    def _find(self, line: int, row: bytes) -> None:
+        """Finds the channels of a line that are sent something for the first time."""
+        found = self._found.setdefault(line, set())
+        if len(found) == PLACES or row == IDLE_ROW:
+            return
+        for at, octet in enumerate(row):
+            if octet != IDLE and at not in found:
+                found.add(at)
+                self.count += 1
+                if len(self.octets) < MAX_PLAYERS and not self._is_full and self._has_room(len(self.octets) + 1):
+                    sound = self.octets[Slot(line, CHANNELS[at])] = bytearray([IDLE]) * self._frames
+                    self._places.setdefault(line, []).append((at, sound))
 
     def _has_room(self, players: int) -> bool:
         return players * (self._frames + 1) <= MAX_OCTETS

@@ -89,7 +89,8 @@ class Bars(Generic[Row, Value]):
 
     def set(self, values: Mapping[Row, Value], at: int) -> None:
         """From a column on, these rows have these values, and others have none."""
-        for row in [row for row, (value, _) in self.open.items() if values.get(row) != value]:
+        others = [row for row, (value, _) in self.open.items() if (new := values.get(row)) is not value and new != value]
+        for row in others:
             value, first = self.open.pop(row)
             self.closed.append(Bar(row, value, first, at))
         for row, value in values.items():
@@ -428,9 +429,9 @@ def waveform(octets: bytes) -> str:
     """The picture of a sound: its lowest and its highest sample in each column."""
     count = min(len(octets), WAVE_WIDTH)
     bounds = [len(octets) * at // count for at in range(count + 1)]
-    peaks = [(min(values), max(values)) for first, end in zip(bounds, bounds[1:]) if (values := [*map(value_of, set(octets[first:end]))])]
+    parts = [[HEIGHTS[octet] for octet in set(octets[first:end])] for first, end in zip(bounds, bounds[1:])]
     middle = WAVE_HEIGHT // 2
-    upper, lower = [middle - scale(most) for _, most in peaks], [middle - scale(least) for least, _ in peaks]
+    upper, lower = [middle - max(heights) for heights in parts], [middle - min(heights) for heights in parts]
     path = f"M0 {middle}{edge(upper, middle, 1)}{edge(lower[::-1], upper[-1], -1)}z"
     return (f'<svg class="wave" viewBox="0 0 {count} {WAVE_HEIGHT}" preserveAspectRatio="none" aria-hidden="true">'
             f'<path class="zero" d="M0 {middle}H{count}"/><path class="form" d="{path}"/></svg>')  # fmt: skip
@@ -453,3 +454,6 @@ def scale(value: int) -> int:
     """The height of a sample, which grows more slowly for loud ones, as the octets of A-law do; at least a dot."""
     height = round(sqrt(abs(value) / 4096) * (WAVE_HEIGHT / 2 - 2))
     return max(height, 1) if value > 0 else -max(height, 1)
+
+
+HEIGHTS = [scale(value_of(octet)) for octet in range(256)]  # by octet

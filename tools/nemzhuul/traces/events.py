@@ -82,10 +82,11 @@ class Link:
 class Octets(Mapping[int, bytes]):
     """The octets of a frame by line, from a text ` L:HEX ..` that was checked. A row is decoded when it is looked at."""
 
-    __slots__ = ("text",)
+    __slots__ = ("text", "_names")
 
     def __init__(self, text: str = "") -> None:
         self.text = text
+        self._names: str | None = None
 
     def __getitem__(self, line: int) -> bytes:
         name = f" {line}:"
@@ -102,8 +103,10 @@ class Octets(Mapping[int, bytes]):
 
     def names(self) -> str:
         """The lines that have octets, as the words of a text."""
-        first, *parts = self.text.split(":")
-        return first + "".join([part[FRAME_DIGITS:] for part in parts])
+        if self._names is None:
+            first, *parts = self.text.split(":")
+            self._names = first + "".join([part[FRAME_DIGITS:] for part in parts])
+        return self._names
 
 
 @dataclass(frozen=True)
