@@ -152,6 +152,7 @@ if (find) find.addEventListener("input", () => {
 const line = document.getElementById("line");
 function showLine() {
   document.querySelectorAll(".line").forEach((pictures) => { pictures.hidden = pictures.id !== "line-" + line.value; });
+  boxes.forEach((box) => { box.scrollLeft = boxes[0].scrollLeft; });
 }
 if (line) { line.addEventListener("change", showLine); showLine(); }
 const octets = document.getElementById("octets");
