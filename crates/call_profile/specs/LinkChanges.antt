@@ -78,10 +78,10 @@ resume_slot tones whole legs x = resume_held tones whole legs x (held_at legs x)
 abbrev pub resume_rule : Tones → Bool → SlotRule
 resume_rule tones whole = record { does = resume_slot tones whole; cause = temporary_failure }
 
--- the whole interface is restarted: its user is owed a RESTART, and no leg is left on the line
 abbrev pub is_held : Legs → Slot → Bool
 is_held legs x = is_some (leg_at legs x)
 
+-- the whole interface is restarted: its user is owed a RESTART, and no leg is left on the line
 abbrev pub restarts_interface : Legs → ℕ → Bool
 restarts_interface legs line = list_any (is_owed legs) (slots_of line) && not (list_any (is_held legs) (slots_of line))
 

@@ -99,8 +99,8 @@ pub fn law_of_link_failures()
     ensures others { (s : Setting) (w : World) (line : ℕ) → HasLine s w line → OtherLinesAreLeft s.dimensions.external line w (next s w (LinkDown line)) }
 {}
 
-/// After the establishment of a data link, no leg of the line in state 10 waits for the link, and the user of each is
-/// sent STATUS ENQUIRY. Each in state 2 is in disconnect indication with cause 41, and every other leg is unchanged.
+/// After the establishment of a data link, no leg of the line in state 10 waits for the link, and an enquiry of each is
+/// open. Each in state 2 is in disconnect indication with cause 41, and every other leg is unchanged.
 pub fn law_of_link_establishments()
     ensures legs { (s : Setting) (w : World) (line : ℕ) → HasLine s w line → LegsAreResumed s.dimensions.external line w (next s w (LinkUp line)) }
 {}
