@@ -60,7 +60,7 @@ IsWithin external (side.Line y) = IsExternal external y
 IsWithin external (side.Room room) = Unit {0}
 IsWithin external side.More = Unit {0}
 
--- the course of a state that the user of a leg reports: none unless it had a STATUS ENQUIRY
+-- the operations for a state that the user of a leg reports: none unless it had a STATUS ENQUIRY
 abbrev pub course_of_status : Setting → World → HeldLeg → ℕ → Course
 course_of_status s w h reported = if h.leg.enquired then course_of_report s w h reported else nothing
 
