@@ -158,7 +158,7 @@ class Pictures:
 
     def take(self, event: Event, reply: Reply) -> None:
         is_quiet = isinstance(event, Frame) and not reply.sent
-        if is_quiet and not self.run.may_end and reply.frame is not None:
+        if is_quiet and reply.frame is not None and not self.run.may_end_leg(reply.frame):
             self.run.pass_frame(reply.frame)
             is_changed = False
         else:

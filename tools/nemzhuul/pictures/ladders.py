@@ -3,10 +3,10 @@
 from __future__ import annotations
 
 from nemzhuul.signalling.q931 import cause_text, contents_text, printable
-from nemzhuul.traces.following import Call, Leg, Row, Run
+from nemzhuul.traces.following import Call, Leg, Rooms, Row
 
 
-def title(call: Call, run: Run) -> str:
+def title(call: Call, run: Rooms) -> str:
     """Who calls whom, and how it ends."""
     digits = "no number" if call.digits is None else printable(call.digits)
     if call.caller is None:
@@ -20,7 +20,7 @@ def title(call: Call, run: Run) -> str:
     return "; ".join(said)
 
 
-def target_text(call: Call, run: Run) -> str:
+def target_text(call: Call, run: Rooms) -> str:
     if call.called:
         return f"reaches {call.called.slot}"
     if call.answered is None:

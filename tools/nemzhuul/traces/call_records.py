@@ -6,7 +6,7 @@ from collections.abc import Iterable
 from typing import NamedTuple
 
 from nemzhuul.signalling.q931 import cause_name, printable
-from nemzhuul.traces.following import Call, Run
+from nemzhuul.traces.following import Call, Rooms
 from nemzhuul.traces.events import FRAMES_PER_SECOND, Slot
 
 MICROSECONDS = 1_000_000
@@ -28,7 +28,7 @@ class Record(NamedTuple):
     cause_name: str | None
 
 
-def record(call: Call, run: Run) -> Record:
+def record(call: Call, run: Rooms) -> Record:
     setup = call.rows[0].frame
     clearing, cause = call.cleared or (None, None)
     release = call.released
@@ -41,7 +41,7 @@ def record(call: Call, run: Run) -> Record:
     return Record(caller, called_party(call, run), number, *times, talk, cause, cause_name(cause))
 
 
-def called_party(call: Call, run: Run) -> Slot | str | None:
+def called_party(call: Call, run: Rooms) -> Slot | str | None:
     """The slot or the room that a call reached."""
     if call.called is not None:
         return call.called.slot

@@ -11,9 +11,10 @@ its clearing begins.
 
 from __future__ import annotations
 
-from collections.abc import Iterable, Iterator
-from dataclasses import dataclass, field, replace
-from typing import NamedTuple
+from collections import defaultdict
+from collections.abc import Iterable, Iterator, Mapping
+from dataclasses import dataclass, field
+from typing import NamedTuple, Protocol
 
 from nemzhuul.command_line import Refused
 from nemzhuul.signalling.q931 import (
@@ -51,6 +52,7 @@ from nemzhuul.traces.events import (
     Seat,
     Slot,
     Step,
+    Target,
     Trace,
     place_of_channel,
 )
@@ -87,14 +89,15 @@ class Leg:
     releases: int = 0  # how often RELEASE was sent to it
     since: int = 0  # the next frame when it was sent last
     outage: int | None = None  # the next frame when the data link of its line failed, while T309 runs
+    has_ended: bool = False
 
     @property
     def is_active(self) -> bool:
         return self.call.answered is not None and self.call.cleared is None
 
     @property
-    def may_end(self) -> bool:
-        """Whether a frame may end it, without a message."""
+    def awaits_timer(self) -> bool:
+        """Whether a timer may end it without a message."""
         return self.releases == 2 or self.outage is not None
 
 
@@ -108,6 +111,10 @@ class Row(NamedTuple):
     message: Message | None
     leg: Leg | None = None
     moved: Moved | None = None
+
+    def with_leg(self, leg: Leg | None) -> Row:
+        """The row of a call, on this leg of it."""
+        return Row(self.event, self.frame, self.line, self.is_sent, self.message, leg, self.moved)
 
 
 class SentMessage(NamedTuple):
@@ -137,6 +144,7 @@ class Call:
     line: int
     digits: str | None
     rows: list[Row] = field(default_factory=list)
+    left_out: int = 0  # rows after the first half of them
     caller: Leg | None = None
     called: Leg | None = None
     alerted: int | None = None  # the frame
@@ -150,35 +158,46 @@ class Call:
         return self.released is not None or self.refused is not None
 
 
-class Run:
-    """The calls of a run so far, and the slots that are taken."""
+class Rooms(Protocol):
+    """What knows the room that a call reached."""
 
-    def __init__(self, trace: Trace) -> None:
+    def room(self, call: Call) -> int | None: ...
+
+
+class Run:
+    """The calls of a run so far, and the slots that are taken. An event takes the time of the calls that it changes.
+
+    With a limit to the rows of a call, it keeps the first half of them and the last.
+    """
+
+    def __init__(self, trace: Trace, max_rows: int | None = None) -> None:
         self.timers = trace.timers
         self.numbers = trace.numbers
+        self.max_rows = max_rows
         self.calls: list[Call] = []
+        self.count = 0  # of the calls, also those that a user of this run has removed
         self.on_no_call: list[Row] = []
         self.frames = 0
         self.uses: dict[Slot, Use] = {}  # by slot, if it is taken
         self.joined: list[Join] = []  # in the last event
         self.left: list[Slot] = []  # in the last event: the slots that lost their connection
+        self.answered: list[Call] = []  # in the last event
         self.ended: list[Call] = []  # in the last event: the calls that were refused, or have no leg any more
-        self._count = 0  # of the calls
         self._legs: dict[LegName, Leg] = {}
-        self._waiting: dict[LegName, Leg] = {}  # the legs that a frame may end
+        self._legs_of: defaultdict[int, dict[LegName, Leg]] = defaultdict(dict)  # by line
+        self._waiting: list[dict[LegName, Leg]] = [{} for _ in range(PLACES)]  # by place, the legs that a frame may end
 
     def take(self, event: Event, reply: Reply) -> None:
-        self.joined, self.left, self.ended = [], [], []
+        self.joined, self.left, self.answered, self.ended = [], [], [], []
         self._take(event, reply)
 
-    @property
-    def may_end(self) -> bool:
+    def may_end_leg(self, frame: int) -> bool:
         """Whether a frame may end a leg without a message."""
-        return bool(self._waiting)
+        return bool(self._waiting[frame % PLACES])
 
     def pass_frame(self, frame: int) -> None:
         """Takes a frame in which no message is sent, and no data link changes."""
-        if self._waiting or self.ended or self.left or self.joined:
+        if self.may_end_leg(frame) or self.ended or self.left or self.joined:
             self.take(Frame({}), Reply(0, "frame", frame=frame))
         else:
             self.frames = frame + 1
@@ -201,17 +220,14 @@ class Run:
 
     def room(self, call: Call) -> int | None:
         """The room of a call that reached none of the lines; None where its digits lead to none."""
-        for digits, target in self.numbers.items():
-            if call.digits is not None and call.digits.startswith(digits) and target.room is not None:
-                return target.room
-        return None
+        return room_of(call, self.numbers)
 
     def _join(self, slot: Slot, use: Use) -> None:
         """A slot is connected with its partner, or sits in its room."""
         self.joined.append(Join(slot, use))
         self.uses[slot] = use
         if use.partner is not None:
-            self.uses[use.partner] = replace(use, partner=slot)
+            self.uses[use.partner] = Use(use.call, slot)
 
     def _leave(self, slot: Slot) -> None:
         """A slot that is connected with a slot or a room is so no more, and its call, if it has one, still has it."""
@@ -224,6 +240,7 @@ class Run:
         if call.caller is None:
             raise never_sent(row.event)
         call.answered = row.frame
+        self.answered.append(call)
         if call.called is not None:
             self._join(call.caller.slot, Use(call.number, partner=call.called.slot))
         else:
@@ -240,9 +257,7 @@ class Run:
         """A frame ends the legs whose users were sent RELEASE twice and have waited, and those whose data link was down
         too long, and sends what is due of others."""
         self.frames = frame + 1
-        for name, leg in list(self._waiting.items()):
-            if place_of_channel(leg.slot.channel) != frame % PLACES:
-                continue
+        for name, leg in list(self._waiting[frame % PLACES].items()):
             if leg.is_active and leg.outage is not None and leg.outage + self.timers["T309"] <= frame:
                 self._clear(leg.call, self.frames, DESTINATION_OUT_OF_ORDER)
                 self._end(name)
@@ -260,8 +275,8 @@ class Run:
     def _sent_in_frame(self, name: LegName, row: Row, message: Message) -> None:
         leg = self._legs[name]
         call = leg.call
-        call.rows.append(row._replace(leg=leg))
-        self._sent_to(leg, message, row.frame)
+        self._add(call, row.with_leg(leg))
+        self._sent(leg, message, row.frame)
         if message.kind in (DISCONNECT, RELEASE_COMPLETE):
             unanswered = NO_USER_RESPONDING if call.alerted is None else NO_ANSWER_FROM_USER
             self._clear(call, row.frame, ADDRESS_INCOMPLETE if leg.dials else unanswered)
@@ -287,8 +302,8 @@ class Run:
             self._on_none(row, sent)
 
     def _setup(self, row: Row, setup: Message, sent: Iterable[SentMessage]) -> None:
-        self._count += 1
-        call = Call(self._count, row.line, setup.digits)
+        self.count += 1
+        call = Call(self.count, row.line, setup.digits)
         self.calls.append(call)
         for line, message in sent:
             if message.kind in (CALL_PROCEEDING, SETUP_ACKNOWLEDGE):
@@ -331,11 +346,8 @@ class Run:
     def _restart(self, row: Row, message: Message, sent: list[SentMessage]) -> None:
         """A RESTART is in the ladder of each call that it ends, with what was sent for it."""
         channel = message.channel.number if message.channel else None
-        ended = [
-            (name, leg)
-            for name, leg in self._legs.items()
-            if name.line == row.line and (message.restarts_line or leg.slot.channel == channel)
-        ]
+        legs = self._legs_of[row.line].items()
+        ended = [(name, leg) for name, leg in legs if message.restarts_line or leg.slot.channel == channel]
         calls = list(dict.fromkeys(leg.call for _, leg in ended))
         for call in calls:
             own = [out for out in sent if out.message.reference == 0 or self._call_at(*out) is call]
@@ -357,21 +369,20 @@ class Run:
             if leg is None:
                 self.on_no_call.append(row)
                 continue
-            leg.call.rows.append(row)
-            self._sent_to(leg, message, row.frame)
+            self._add(leg.call, row)
+            self._sent(leg, message, row.frame)
             if message.kind == DISCONNECT:
                 self._clear(leg.call, self.frames, message.cause)
                 leg.dials = False
-        for name, leg in [item for item in self._legs.items() if item[0].line == event.line]:
+        for name, leg in list(self._legs_of[event.line].items()):
             if event.is_up:
                 leg.outage = None
-                self._note_waiting(leg)
             elif not leg.is_active:
                 self._clear(leg.call, self.frames, DESTINATION_OUT_OF_ORDER)
                 self._end(name)
             elif leg.outage is None:
                 leg.outage = self.frames
-                self._note_waiting(leg)
+            self._watch(leg)
 
     def _call_at(self, line: int, message: Message) -> Call | None:
         leg = self._legs.get(key(line, message, 1))
@@ -381,48 +392,66 @@ class Run:
         if message.channel is None:
             raise never_sent(row.event)
         name = key(line, message, 1)
+        if name in self._legs:
+            self._legs[name].has_ended = True
         leg = Leg(call, name, Slot(line, message.channel.number), message.kind == SETUP_ACKNOWLEDGE)
-        self._legs[name] = leg
+        self._legs[name] = self._legs_of[line][name] = leg
         self.uses[leg.slot] = Use(call.number)
         return leg
 
     def _end(self, name: LegName) -> None:
         leg = self._legs.pop(name)
-        self._waiting.pop(name, None)
+        leg.has_ended = True
+        del self._legs_of[name.line][name]
+        self._watch(leg)
         self._leave(leg.slot)
         self.uses.pop(leg.slot, None)
         call = leg.call
-        if not any(other and self._legs.get(other.name) is other for other in (call.caller, call.called)):
+        if all(other is None or other.has_ended for other in (call.caller, call.called)):
             call.released = self.frames
             self.ended.append(call)
 
+    def _watch(self, leg: Leg) -> None:
+        """Has each frame look at a leg, if a timer may end it."""
+        legs = self._waiting[place_of_channel(leg.slot.channel) or 0]
+        if leg.awaits_timer and not leg.has_ended:
+            legs[leg.name] = leg
+        else:
+            legs.pop(leg.name, None)
+
     def _note(self, call: Call, row: Row, leg: Leg | None, sent: Iterable[SentMessage]) -> None:
-        call.rows.append(row._replace(leg=leg))
+        self._add(call, row.with_leg(leg))
         for line, message in sent:
             to = self._legs.get(key(line, message, 1), leg)
-            out = Row(row.event, row.frame, line, True, message, to)
-            call.rows.append(out)
+            self._add(call, Row(row.event, row.frame, line, True, message, to))
             if to is not None:
-                self._sent_to(to, message, row.frame)
+                self._sent(to, message, row.frame)
 
-    def _sent_to(self, leg: Leg, message: Message, frame: int) -> None:
-        """Counts a message that is sent to a leg before a frame."""
+    def _add(self, call: Call, row: Row) -> None:
+        call.rows.append(row)
+        if self.max_rows is not None and len(call.rows) > self.max_rows:
+            del call.rows[self.max_rows // 2]
+            call.left_out += 1
+
+    def _sent(self, leg: Leg, message: Message, frame: int) -> None:
+        """Counts a message that is sent to a leg in a frame."""
         if message.kind == RELEASE:
             leg.releases += 1
             leg.since = frame
-            self._note_waiting(leg)
-
-    def _note_waiting(self, leg: Leg) -> None:
-        """A frame may end a leg, or no more."""
-        if leg.may_end and self._legs.get(leg.name) is leg:
-            self._waiting[leg.name] = leg
-        else:
-            self._waiting.pop(leg.name, None)
+            self._watch(leg)
 
     def _on_none(self, row: Row, sent: Iterable[SentMessage]) -> None:
         self.on_no_call.append(row)
         for line, message in sent:
             self.on_no_call.append(Row(row.event, row.frame, line, True, message))
+
+
+def room_of(call: Call, numbers: Mapping[str, Target]) -> int | None:
+    """The room to which the digits of a call lead by a plan of numbers."""
+    for digits, target in numbers.items():
+        if call.digits is not None and call.digits.startswith(digits) and target.room is not None:
+            return target.room
+    return None
 
 
 def follow(trace: Trace, steps: Iterable[Step]) -> Run:
