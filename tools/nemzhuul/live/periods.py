@@ -63,12 +63,15 @@ class Use:
         """The processor time of the exchange, also before the clock started."""
         return children_seconds() + sum(map(process_seconds, self.pids()))
 
+    def processor_seconds(self) -> tuple[float, float]:
+        """The processor time so far, of this tool and of the exchange."""
+        return time.process_time() - self.own, self.exchange_seconds() - self.children
+
     def text(self) -> str:
         """What was used so far, in two lines."""
         count = max(1, self.count)
         period = self.period * 1000
-        tool = (time.process_time() - self.own) / count * 1000
-        exchange = (self.exchange_seconds() - self.children) / count * 1000
+        tool, exchange = (seconds / count * 1000 for seconds in self.processor_seconds())
         return (
             f"{NAME}: {self.count * self.period:.2f} s in periods of {period:.3g} ms; "
             f"the latest began {self.latest * 1000:.1f} ms late\n"
