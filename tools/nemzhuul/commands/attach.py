@@ -11,19 +11,23 @@ import signal
 import socket
 import time
 from collections import deque
-from collections.abc import Sequence
+from collections.abc import Mapping, Sequence
 from pathlib import Path
 from typing import NamedTuple
 
 from nemzhuul.command_line import NAME, Refused, WrongWords, say
 from nemzhuul.live.clock import WallClock
+from nemzhuul.live.control import REPLIES
+from nemzhuul.live.following import Follower
 from nemzhuul.live.lines import SHUT_DOWN, DChannel, Line, Port
 from nemzhuul.live.log import Writer
+from nemzhuul.live.operators import Operators, Places
 from nemzhuul.live.periods import Use
 from nemzhuul.live.processes import Exchange, Loop
 from nemzhuul.live.realtime import ask_for_realtime
 from nemzhuul.live.records import CallRecords, open_records
 from nemzhuul.live.resume import Appended, History, Replay, Returns, open_log
+from nemzhuul.live.snapshots import Observer
 from nemzhuul.live.standby import Pair, check_log
 from nemzhuul.live.states import DISC
 from nemzhuul.live.wire import Address, read_address
@@ -51,6 +55,9 @@ endpoint at a time attaches to each line with an ADDRESS: unix:PATH or tcp:HOST:
     --report FILE    writes the report; with --resume, from there on
     --records FILE   appends a line of CSV for each call when it ends, as tools/records has it, with times by the wall clock
     --pcap FILE      writes a capture of the messages, for Wireshark
+    --control unix:PATH  listens there for tools/console, which shows calls and lines, and connects and releases slots
+    --status PLACE   serves a page of the exchange, calls.json, and metrics for Prometheus over HTTP. PLACE is HOST:PORT,
+                     or PORT, which only this machine reaches
     --overwrite      replaces these files; without it, one that has content is refused
     --needs-log      ends the exchange if the log cannot be written; without it, calls go on without a log
     --seconds N      ends after N seconds by the clock, also if frames are late
@@ -85,6 +92,8 @@ class Options:
         self.addresses: dict[int, Address] = {}  # of the endpoints, by line
         self.links: dict[int, Address] = {}  # of the data links
         self.sip: list[str] = []  # options of tools/sip
+        self.control: Address | None = None
+        self.status = ""  # the place of the page
         self.frames = FRAMES_PER_SECOND // 50  # of a burst
         self.seconds: int | None = None
         self.files: dict[str, str | None] = dict.fromkeys((*OUTPUTS, "program"))
@@ -98,6 +107,7 @@ class Options:
             raise Refused("--sip-listen and --sip-allow need --sip USERS: without passwords, run tools/sip itself")
         if len(left) != 1 or not (self.addresses or self.links or self.sip):
             raise WrongWords
+        self.name = Path(left[0]).name
         self.settings = self.read_settings(left[0])
         self.check_files(left[0])
 
@@ -126,6 +136,10 @@ class Options:
             self.seconds = int_of(given[0], 1, 999_999_999)
         elif name in SIP_OPTIONS:
             self.sip += [SIP_OPTIONS[name], *given]
+        elif name == "control":
+            self.control = read_address(given[0])
+        elif name == "status":
+            self.status = given[0]
         elif name == "resume" and self.files["log"] is None:
             (self.files["log"],) = given
             self.is_resumed = True
@@ -133,6 +147,11 @@ class Options:
             (self.files[name],) = given
         else:
             raise WrongWords
+
+    @property
+    def is_followed(self) -> bool:
+        """Whether the calls of the exchange are followed."""
+        return bool(self.files["records"] or self.control or self.status)
 
     def address(self, addresses: dict[int, Address], line: str, word: str) -> None:
         if int_of(line, 0, 31) in addresses:
@@ -177,9 +196,10 @@ class Options:
         if self.has_standby:
             check_log(self.files["log"])
         taken: list[tuple[str, str | Path]] = [("the settings", settings), ("the program", self.files["program"] or PROGRAM)]
-        for line, address in (*self.addresses.items(), *self.links.items()):
-            if address.path is not None:
-                taken.append((f"a socket of line {line}", address.path))
+        sockets = [(f"a socket of line {line}", address) for line, address in (*self.addresses.items(), *self.links.items())]
+        if self.control is not None:
+            sockets.append(("the console", self.control))
+        taken += [(what, address.path) for what, address in sockets if address.path is not None]
         for name, what in OUTPUTS.items():
             path = self.files[name]
             if path is None:
@@ -223,7 +243,8 @@ class Live:
             writers.append(Writer(options.output(name), what))
             ends.callback(writers[-1].close)
         self.log, report, self.capture, records = writers
-        self.records = CallRecords(records, options.trace) if options.files["records"] else None
+        self.follower = Follower(options.trace) if options.is_followed else None
+        self.records = self.record_calls(records)
         self.history = self.read_history(self.log.output)
         self.packets = CaptureWriter(options.linked)
         self.given = self.replied = 0  # events
@@ -242,6 +263,7 @@ class Live:
         for number, address in options.links.items():
             self.channels[number] = DChannel(number, address, self.loop)
             ends.callback(self.channels[number].close)
+        self.operators = self.serve_operators(dict(zip(OUTPUTS, writers)), ends)
         if options.is_realtime:
             ask_for_realtime()
         for writer in writers:
@@ -253,6 +275,22 @@ class Live:
         if self.options.has_standby:
             return Pair(words, self.loop, self.take, report, self.log, self.use.period)
         return Exchange(words, self.loop, self.take, report)
+
+    def record_calls(self, writer: Writer) -> CallRecords | None:
+        """The records of calls, if they are wanted."""
+        if self.follower is None or not self.options.files["records"]:
+            return None
+        records = CallRecords(writer, self.follower.clocks)
+        self.follower.listeners.append(records)
+        return records
+
+    def serve_operators(self, writers: Mapping[str, Writer], ends: contextlib.ExitStack) -> Operators | None:
+        """The console and the page, if they are wanted."""
+        places = Places(self.options.control, self.options.status, self.options.name)
+        if self.follower is None or not (places.control or places.status):
+            return None
+        observer = Observer(self.follower, self.lines, self.channels, self.use, writers)
+        return Operators(places, observer, self.loop, self.command, ends)
 
     def ports(self) -> list[Port]:
         return [*self.lines.values(), *self.channels.values()]
@@ -268,6 +306,8 @@ class Live:
             self.resume(self.history)
         for port in self.ports():
             port.open()
+        if self.operators is not None:
+            self.operators.open()
 
     def run(self) -> None:
         """Makes frames by the clock until an interrupt, the end of the exchange, or the end of its time."""
@@ -277,8 +317,8 @@ class Live:
         clock = WallClock.at_once(self.frame)
         self.packets.start = clock.microseconds(0)
         self.log.write(clock.comment())
-        if self.records is not None:
-            self.records.clocks.append(clock)
+        if self.follower is not None:
+            self.follower.clocks.append(clock)
         while not (self.interrupts or self.exchange.has_ended or self.lacks_log() or self.use.has_passed(self.options.seconds)):
             waits = self.replied < self.given
             left = self.use.left()
@@ -287,6 +327,8 @@ class Live:
             else:
                 self.returns.check()
                 self.burst()
+                if self.operators is not None:  # while the exchange works
+                    self.operators.serve()
 
     def read_history(self, output: Output) -> History | None:
         """What the log has, if the exchange goes on."""
@@ -296,7 +338,7 @@ class Live:
 
     def resume(self, history: History) -> None:
         """Brings the exchange to the state that the log leaves, and the log to the end of its settings if it has less."""
-        replay = Replay(self.exchange, self.loop, lambda: self.interrupts, self.records)
+        replay = Replay(self.exchange, self.loop, lambda: self.interrupts, self.follower)
         if self.records is not None:
             self.records.begin_again()
         replay.run(history, self.options.settings, self.options.events)
@@ -392,6 +434,12 @@ class Live:
                 self.asked.append(Asked(number, digits))
         return len(self.asked) - before
 
+    def command(self, event: Event, line: str) -> None:
+        """Gives the exchange a command of an operator."""
+        if self.follower is not None:
+            self.follower.commands.append(event)
+        self.give(f"{line}\n".encode(), 1)
+
     def give(self, text: bytes, events: int) -> None:
         self.log.write(text)
         self.log.settle()
@@ -407,8 +455,8 @@ class Live:
             words = reply.split(b" ")
             word = words[1:2]
             self.replied += 1
-            if self.records is not None:
-                self.records.take(words, self.asked[0] if self.asked and word in ([b"message"], [b"link"]) else None)
+            if self.follower is not None:
+                self.follower.take(words, self.asked[0] if self.asked and word in ([b"message"], [b"link"]) else None)
             if word == [b"frame"]:
                 self.frame += 1
                 first = self.take_sends(words)
@@ -422,6 +470,8 @@ class Live:
                 if told and words[2] != b"took":
                     self.set_link(self.asked[0].line, words[2])
                 self.take_message(words[3:] if told else words[2:])
+            elif self.operators is not None and word and word[0] in REPLIES:
+                self.operators.take(reply)
             elif words[0] == b"refused":
                 self.refusal = reply.decode("latin-1")
         for line in self.lines.values():

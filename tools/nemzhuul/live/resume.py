@@ -83,6 +83,8 @@ class Follower(Protocol):
 
     clocks: list[WallClock]
 
+    def read(self, text: bytes) -> None: ...
+
     def take(self, words: Sequence[bytes], asked: tuple[int, bytes] | None) -> None: ...
 
 
@@ -112,6 +114,7 @@ class Replay:
             if self.follower is not None:
                 self.follower.clocks += [clock for clock in map(WallClock.from_comment, CLOCK.findall(piece)) if clock]
                 self.asked += [(int(line), digits) for line, digits in SIGNAL.findall(piece)]
+                self.follower.read(piece)
             self.events += frames + len(OTHER_EVENT.findall(text))
             self.send(piece, history)
         while self.replied < self.events:

@@ -74,8 +74,8 @@ class Address:
             raise
         return connection
 
-    def listen(self, kind: int = socket.SOCK_STREAM) -> Listener:
-        """A socket that listens at this address. Only a Unix socket can be of another kind."""
+    def listen(self, kind: int = socket.SOCK_STREAM, mode: int | None = None) -> Listener:
+        """A socket that listens at this address. Only a Unix socket can be of another kind, or has a mode."""
         try:
             if self.path is None:
                 listener = socket.create_server((self.host, self.port))
@@ -85,6 +85,8 @@ class Address:
                 listener = socket.socket(socket.AF_UNIX, kind)
                 try:
                     listener.bind(self.path)
+                    if mode is not None:
+                        os.chmod(self.path, mode)  # no process can connect before it listens
                     listener.listen()
                 except OSError:
                     listener.close()
