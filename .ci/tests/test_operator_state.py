@@ -38,7 +38,7 @@ from nemzhuul.traces.events import (
     Slot,
     Trace,
 )
-from nemzhuul.traces.following import Run
+from nemzhuul.traces.following import Clearing, Run
 from nemzhuul.traces.reading import METER, read_run, read_trace
 
 
@@ -180,6 +180,27 @@ class States(unittest.TestCase):
         half = [row.event for row in call.rows][: MAX_ROWS // 2]
         self.assertEqual((half, call.rows[-1].event), ([1 + at // 2 for at in range(MAX_ROWS // 2)], 3 * MAX_ROWS - 1))
         self.assertEqual((len(call.rows), len(call.rows) + call.left_out), (MAX_ROWS, 2 * (3 * MAX_ROWS - 1)))
+
+    def test_a_leg_without_a_data_link(self) -> None:
+        """A leg that is cleared while the data link of its line is down is sent nothing, and T305 and T308 end it."""
+        timers = {**USUAL_TIMERS, "T305": 1, "T308": 1}
+        run = Run(Trace(Sizes(2, 0, 1), {}, timers, (1,), ()))
+        run.take(Link(1, True), Reply(1, "message"))
+        messages = (
+            (0, "080200010504038090A3700480313031", ((0, "08028001021803A98381"), (1, "0802000105A104038090A31803A98381"))),
+            (1, "0802800107", ((1, "080200010F"), (0, "0802800107"))),
+            (0, "080200014508028090", ((0, "080280014D"),)),
+            (0, "080200015A", ()),
+        )
+        for event, (line, octets, sent) in enumerate(messages, start=2):
+            if event == 4:
+                run.take(Link(1, False), Reply(event, "message"))
+            replies = tuple(Sent(to, bytes.fromhex(out)) for to, out in sent)
+            run.take(Arrival(line, bytes.fromhex(octets)), Reply(event, "message", sent=replies))
+        for frame in range(120):
+            run.pass_frame(frame)
+        (call,) = run.calls
+        self.assertEqual((call.answered, call.cleared, call.released, run.uses), (0, Clearing(0, 16), 91, {}))
 
 
 if __name__ == "__main__":

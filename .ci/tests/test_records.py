@@ -65,7 +65,7 @@ class Records(InFolder):
     def test_meters_of_reports(self) -> None:
         """The reports of examples that have the details of calls have the calls of the records, in order."""
         names = [path.stem for path in EXAMPLES.glob("*.trace") if re.search("^call ", report_of(path).read_text(), re.MULTILINE)]
-        self.assertEqual(len(names), 2)
+        self.assertEqual(len(names), 6)
         for name in names:
             lines = [line for line in (EXAMPLES / f"{name}.report").read_text().splitlines() if line.startswith("call ")]
             rows = self.rows(f"{name}.trace", f"{name}.report")

@@ -4,7 +4,7 @@ What its messages say of a call: a SETUP that CALL PROCEEDING or SETUP ACKNOWLED
 begins a leg on the caller's line, and the SETUP that goes out for it begins the other, at once or
 after INFORMATION with the rest of the number. A leg ends with RELEASE, RELEASE COMPLETE or a STATUS
 of the null state from its user, with RELEASE COMPLETE to it, by RESTART, or without a word: in the frame in
-which T308 runs out after RELEASE was sent to it twice, when the data link of its line fails and it is not active, and in
+which T308 runs out after RELEASE was sent to it twice, when the data link of its line fails before CONNECT, and in
 the frame in which T309 runs out. The two slots of a call are connected from CONNECT on until
 its clearing begins.
 """
@@ -87,7 +87,7 @@ class Leg:
     slot: Slot
     dials: bool  # whether more digits are awaited
     releases: int = 0  # how often RELEASE was sent to it
-    since: int = 0  # the next frame when it was sent last
+    since: int = 0  # the next frame when it was sent last, or the clearing began
     outage: int | None = None  # the next frame when the data link of its line failed, while T309 runs
     has_ended: bool = False
 
@@ -186,6 +186,8 @@ class Run:
         self._legs: dict[LegName, Leg] = {}
         self._legs_of: defaultdict[int, dict[LegName, Leg]] = defaultdict(dict)  # by line
         self._waiting: list[dict[LegName, Leg]] = [{} for _ in range(PLACES)]  # by place, the legs that a frame may end
+        self._linked = frozenset(trace.linked)
+        self._down = set(trace.linked)  # the lines whose data links are down
 
     def take(self, event: Event, reply: Reply) -> None:
         self.joined, self.left, self.answered, self.ended = [], [], [], []
@@ -241,6 +243,8 @@ class Run:
             raise never_sent(row.event)
         call.answered = row.frame
         self.answered.append(call)
+        for leg in filter(None, (call.caller, call.called)):
+            self._await_link(leg)
         if call.called is not None:
             self._join(call.caller.slot, Use(call.number, partner=call.called.slot))
         else:
@@ -252,17 +256,15 @@ class Run:
             call.cleared = Clearing(frame, cause)
             for leg in filter(None, (call.caller, call.called)):
                 self._leave(leg.slot)
+                leg.since, leg.outage = frame, None
+                self._watch(leg)
 
     def _frame(self, frame: int, reply: Reply) -> None:
         """A frame ends the legs whose users were sent RELEASE twice and have waited, and those whose data link was down
         too long, and sends what is due of others."""
         self.frames = frame + 1
-        for name, leg in list(self._waiting[frame % PLACES].items()):
-            if leg.is_active and leg.outage is not None and leg.outage + self.timers["T309"] <= frame:
-                self._clear(leg.call, self.frames, DESTINATION_OUT_OF_ORDER)
-                self._end(name)
-            elif leg.releases == 2 and leg.since + self.timers["T308"] <= frame:
-                self._end(name)
+        for leg in sorted(self._waiting[frame % PLACES].values(), key=lambda leg: leg.name):
+            self._expire(leg, frame)
         for line, octets in reply.sent:
             message = sent_message(octets, reply.event)
             row = Row(reply.event, self.frames, line, True, message)
@@ -271,6 +273,18 @@ class Run:
                 self._sent_in_frame(name, row, message)
             else:
                 self.on_no_call.append(row)
+
+    def _expire(self, leg: Leg, frame: int) -> None:
+        """A frame in which a timer of a leg may run out, without a message of the report."""
+        if leg.outage is not None:
+            if leg.outage + self.timers["T309"] <= frame:
+                self._clear(leg.call, self.frames, DESTINATION_OUT_OF_ORDER)
+                self._end(leg.name)
+        elif leg.since + self.timers["T308" if leg.releases else "T305"] <= frame:
+            if leg.releases == 2:
+                self._end(leg.name)
+            elif self._is_unseen(leg):
+                self._released(leg, self.frames)
 
     def _sent_in_frame(self, name: LegName, row: Row, message: Message) -> None:
         leg = self._legs[name]
@@ -328,8 +342,16 @@ class Run:
             self._answer(call, row)
         if ends_leg(message) or message.kind == DISCONNECT:
             self._clear(call, row.frame, clearing_cause(message))
+        elif message.kind == STATUS:
+            self._report(call, row, sent)
         if ends_leg(message):
             self._end(key(row.line, message, 0))
+
+    def _report(self, call: Call, row: Row, sent: Iterable[SentMessage]) -> None:
+        """The exchange clears a call whose user reports another state than it has."""
+        for _, out in sent:
+            if out.kind == DISCONNECT:
+                self._clear(call, row.frame, out.cause)
 
     def _information(self, leg: Leg, row: Row, message: Message, sent: list[SentMessage]) -> None:
         """More of the number: the call goes on as after a SETUP, or is cleared, or still more is awaited."""
@@ -360,8 +382,11 @@ class Run:
             self._on_none(row, sent)
 
     def _link(self, event: Link, reply: Reply) -> None:
-        """A data link that fails ends the legs of its line, and those that are active wait. One that is up ends the wait,
-        and clears the callers that still dial."""
+        """A data link that fails ends the legs of its line that are neither active nor being cleared, and those that are
+        active wait. One that is up ends the wait, and clears the callers that still dial."""
+        legs = list(self._legs_of[event.line].values())
+        lost = [] if event.is_up else [leg for leg in legs if leg.call.answered is None and leg.call.cleared is None]
+        (self._down.discard if event.is_up else self._down.add)(event.line)
         for line, octets in reply.sent:
             message = sent_message(octets, reply.event)
             leg = self._legs.get(key(line, message, 1))
@@ -374,15 +399,19 @@ class Run:
             if message.kind == DISCONNECT:
                 self._clear(leg.call, self.frames, message.cause)
                 leg.dials = False
-        for name, leg in list(self._legs_of[event.line].items()):
-            if event.is_up:
-                leg.outage = None
-            elif not leg.is_active:
-                self._clear(leg.call, self.frames, DESTINATION_OUT_OF_ORDER)
-                self._end(name)
-            elif leg.outage is None:
-                leg.outage = self.frames
-            self._watch(leg)
+        for leg in lost:
+            self._clear(leg.call, self.frames, DESTINATION_OUT_OF_ORDER)
+            self._end(leg.name)
+        for leg in legs:
+            self._await_link(leg)
+
+    def _await_link(self, leg: Leg) -> None:
+        """T309 runs at an active leg while the data link of its line is down."""
+        if leg.name.line not in self._down:
+            leg.outage = None
+        elif leg.is_active and leg.outage is None:
+            leg.outage = self.frames
+        self._watch(leg)
 
     def _call_at(self, line: int, message: Message) -> Call | None:
         leg = self._legs.get(key(line, message, 1))
@@ -394,6 +423,7 @@ class Run:
         name = key(line, message, 1)
         if name in self._legs:
             self._legs[name].has_ended = True
+            self._watch(self._legs[name])
         leg = Leg(call, name, Slot(line, message.channel.number), message.kind == SETUP_ACKNOWLEDGE)
         self._legs[name] = self._legs_of[line][name] = leg
         self.uses[leg.slot] = Use(call.number)
@@ -414,10 +444,10 @@ class Run:
     def _watch(self, leg: Leg) -> None:
         """Has each frame look at a leg, if a timer may end it."""
         legs = self._waiting[place_of_channel(leg.slot.channel) or 0]
-        if leg.awaits_timer and not leg.has_ended:
+        if not leg.has_ended and (leg.awaits_timer or self._is_unseen(leg)):
             legs[leg.name] = leg
-        else:
-            legs.pop(leg.name, None)
+        elif legs.get(leg.name) is leg:
+            del legs[leg.name]
 
     def _note(self, call: Call, row: Row, leg: Leg | None, sent: Iterable[SentMessage]) -> None:
         self._add(call, row.with_leg(leg))
@@ -434,11 +464,18 @@ class Run:
             call.left_out += 1
 
     def _sent(self, leg: Leg, message: Message, frame: int) -> None:
-        """Counts a message that is sent to a leg in a frame."""
+        """Counts a message that is sent to a leg before a frame."""
         if message.kind == RELEASE:
-            leg.releases += 1
-            leg.since = frame
-            self._watch(leg)
+            self._released(leg, frame)
+
+    def _released(self, leg: Leg, frame: int) -> None:
+        leg.releases += 1
+        leg.since = frame
+        self._watch(leg)
+
+    def _is_unseen(self, leg: Leg) -> bool:
+        """Whether a leg is being cleared over a data link of the exchange that is down, so that its messages are not sent."""
+        return leg.call.cleared is not None and leg.name.line in self._linked and leg.name.line in self._down
 
     def _on_none(self, row: Row, sent: Iterable[SentMessage]) -> None:
         self.on_no_call.append(row)
