@@ -171,7 +171,8 @@ class Scripts(InFolder):
 
     @needs_program
     def test_a_data_link_fails(self) -> None:
-        """An active call goes on when the link is up in time. A call that is not answered ends on both sides."""
+        """An active call goes on when the link is up in time, and its user reports its state. A call that is not answered
+        ends on both sides, and its user acknowledges RESTART."""
         text = """
             line 0 calls 101
             line 1 answers
@@ -182,11 +183,13 @@ class Scripts(InFolder):
             line 0 calls 101
             the link of line 1 fails
             line 0 calls 101
+            the link of line 1 is up
             """
         setup, release = "M 0 080200010504038090A3700480313031", "M 0 080200014D"
         clearing = ["M 0 080200014508028090", "M 0 080200015A", "M 1 080280014D"]
-        wanted = [setup, "M 1 0802800107", "M 0 080200010F", "down 1", "F", "F", "up 1", *clearing]
-        self.assertEqual(self.messages(text), [*wanted, setup, "down 1", release, setup])
+        wanted = [setup, "M 1 0802800107", "M 0 080200010F", "down 1", "F", "F", "up 1"]
+        wanted += ["M 1 080280017D0802809E14010A", *clearing, setup, "down 1", release, setup, "up 1", "M 1 080280004E790186"]
+        self.assertEqual(self.messages(text), wanted)
         text = "the link of line 1 fails\nline 1 calls 101\n"
         self.assertIn("the data link of line 1 is down", self.run_script(self.HEAD + text)[2])
 

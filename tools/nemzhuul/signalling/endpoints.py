@@ -1,7 +1,8 @@
 """The endpoints on the lines of an exchange: their calls, and what each answers of its own accord.
 
 An endpoint acknowledges CONNECT, answers DISCONNECT by RELEASE and RELEASE by RELEASE COMPLETE. Where
-DISCONNECT says that there is a tone in band, it listens until its user hangs up. The endpoint of a line that has
+DISCONNECT says that there is a tone in band, it listens until its user hangs up. It reports its call state to
+STATUS ENQUIRY, and at RESTART drops the calls of the channels and acknowledges. The endpoint of a line that has
 fallen silent gets all messages and sends none.
 """
 
@@ -13,6 +14,7 @@ from typing import NamedTuple, Union
 
 from nemzhuul.command_line import Refused
 from nemzhuul.signalling.q931 import (
+    ACTIVE,
     ALERTING,
     CALLED_PARTY_NUMBER,
     CALLING_PARTY_NUMBER,
@@ -21,6 +23,7 @@ from nemzhuul.signalling.q931 import (
     CONNECT_ACKNOWLEDGE,
     DISCONNECT,
     INFORMATION,
+    NULL,
     PROGRESS_INDICATOR,
     RELEASE,
     RELEASE_COMPLETE,
@@ -35,8 +38,10 @@ from nemzhuul.signalling.q931 import (
     channel_identification,
     number,
     read_message,
+    restart_acknowledge,
     restart_indicator,
     sending_complete,
+    status,
     write_message,
 )
 from nemzhuul.traces.events import Slot
@@ -68,6 +73,12 @@ RELEASES = "releases"  # RELEASE was sent
 
 UNANSWERED = (IS_CALLED, PROCEEDS, ALERTS)
 STANDING = (CALLS, DIALS, *UNANSWERED, TALKS)
+CLEARED = (HEARS_TONE, CLEARS, RELEASES)
+
+# The call states of the user side (Q.931), and those of a caller by the last message of its progress.
+CALL_STATES = {DIALS: 2, IS_CALLED: 6, ALERTS: 7, PROCEEDS: 9, TALKS: ACTIVE, CLEARS: 11, HEARS_TONE: 12, RELEASES: 19}
+INITIATED = 1
+OF_A_CALLER = {CALL_PROCEEDING: 3, ALERTING: 4}
 
 
 @dataclass(eq=False)
@@ -79,6 +90,13 @@ class Leg:
     is_own: bool  # whether the endpoint chose the call reference, and not the exchange
     state: str
     channel: int | None = None
+    progress: int | None = None  # of a caller: the kind of the last message
+
+    @property
+    def call_state(self) -> int:
+        if self.state == CALLS:
+            return INITIATED if self.progress is None else OF_A_CALLER[self.progress]
+        return CALL_STATES[self.state]
 
     def message(self, kind: int, *elements: Element) -> bytes:
         return write_message(0 if self.is_own else 1, self.reference, kind, *elements)
@@ -103,9 +121,9 @@ class Endpoints:
         self.silent.remove(line)
 
     def link_fails(self, line: int) -> None:
-        """Calls that are not active are gone, and nothing reaches the endpoint or comes from it."""
+        """Calls that are not answered are gone, and nothing reaches the endpoint or comes from it."""
         self.down.add(line)
-        self.legs = [leg for leg in self.legs if leg.line != line or leg.state == TALKS]
+        self.legs = [leg for leg in self.legs if leg.line != line or leg.state in (TALKS, *CLEARED)]
 
     def link_is_up(self, line: int) -> None:
         self.down.discard(line)
@@ -183,7 +201,7 @@ class Endpoints:
         return leg.message(RELEASE_COMPLETE, cause(value))
 
     def ask(self, where: Where) -> bytes:
-        leg = self.find(where, (*STANDING, HEARS_TONE, CLEARS, RELEASES), "to ask for")
+        leg = self.find(where, (*STANDING, *CLEARED), "to ask for")
         return leg.message(STATUS_ENQUIRY)
 
     def restart(self, where: Where) -> bytes:
@@ -216,7 +234,17 @@ class Endpoints:
             if message.kind == RELEASE_COMPLETE:
                 self.legs.remove(leg)
             return None
-        return None if leg is None else self._take(leg, message)
+        return self._take_on_none(line, message) if leg is None else self._take(leg, message)
+
+    def _take_on_none(self, line: int, message: Message) -> bytes | None:
+        """A message that is for no call."""
+        reply = None
+        if message.kind == RESTART and message.reference == 0:
+            self.legs = [leg for leg in self.legs if leg.line != line or not message.restarts(leg.channel)]
+            reply = restart_acknowledge(message)
+        elif message.kind == STATUS_ENQUIRY and message.reference:
+            reply = status(1 - message.flag, message.reference, NULL)
+        return None if line in self.silent else reply
 
     def _leg(self, line: int, message: Message) -> Leg | None:
         for leg in self.legs:
@@ -225,12 +253,16 @@ class Endpoints:
         return None
 
     def _take(self, leg: Leg, message: Message) -> bytes | None:
+        if message.kind in OF_A_CALLER:
+            leg.progress = message.kind
         if message.kind in (CALL_PROCEEDING, SETUP_ACKNOWLEDGE):
             leg.state = DIALS if message.kind == SETUP_ACKNOWLEDGE else CALLS
             leg.channel = message.channel.number if message.channel else leg.channel
         elif message.kind == CONNECT:
             leg.state = TALKS
             return leg.message(CONNECT_ACKNOWLEDGE)
+        elif message.kind == STATUS_ENQUIRY:
+            return status(0 if leg.is_own else 1, leg.reference, leg.call_state)
         elif message.kind == DISCONNECT and PROGRESS_INDICATOR in message.elements:
             leg.state = HEARS_TONE
         elif message.kind == DISCONNECT:

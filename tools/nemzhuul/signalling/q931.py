@@ -69,6 +69,7 @@ NO_ANSWER_FROM_USER = 19
 CALL_REJECTED = 21
 DESTINATION_OUT_OF_ORDER = 27
 ADDRESS_INCOMPLETE = 28
+RESPONSE_TO_STATUS_ENQUIRY = 30
 TEMPORARY_FAILURE = 41
 
 # The names of all causes, by ITU-T Q.850.
@@ -142,17 +143,20 @@ CAUSES = {
     127: "interworking, unspecified",
 }
 
-# The call states of the network side that the exchange keeps a leg in, and the null state.
-NULL = 0
+# The call states that the exchange keeps a leg in, and those that only its user reports.
+NULL, ACTIVE = 0, 10
 STATES = {
     NULL: "null",
+    1: "call initiated",
     2: "overlap sending",
     3: "outgoing call proceeding",
     4: "call delivered",
     6: "call present",
     7: "call received",
+    8: "connect request",
     9: "incoming call proceeding",
-    10: "active",
+    ACTIVE: "active",
+    11: "disconnect request",
     12: "disconnect indication",
     19: "release request",
 }
@@ -221,6 +225,10 @@ class Message:
         """Whether the restart indicator asks for the whole line; None where it is unknown."""
         indicator = self.elements.get(RESTART_INDICATOR, b"")[:1]
         return {b"\x80": False, b"\x86": True, b"\x87": True}.get(indicator)
+
+    def restarts(self, channel: int | None) -> bool:
+        """Whether a RESTART is of a channel."""
+        return bool(self.restarts_line) or (self.channel is not None and self.channel.number == channel)
 
 
 def read_message(octets: bytes) -> Message | None:
@@ -291,6 +299,17 @@ def cause(value: int) -> Element:
 
 def restart_indicator(is_whole_line: bool) -> Element:
     return Element(RESTART_INDICATOR, b"\x86" if is_whole_line else b"\x80")
+
+
+def status(flag: int, reference: int, state: int) -> bytes:
+    """The reply to STATUS ENQUIRY."""
+    return write_message(flag, reference, STATUS, cause(RESPONSE_TO_STATUS_ENQUIRY), Element(CALL_STATE, bytes([state])))
+
+
+def restart_acknowledge(restart: Message) -> bytes:
+    """The reply to RESTART, with its elements."""
+    codes = [code for code in (CHANNEL_IDENTIFICATION, RESTART_INDICATOR) if code in restart.elements]
+    return write_message(1, 0, RESTART_ACKNOWLEDGE, *(Element(code, restart.elements[code]) for code in codes))
 
 
 # ---- in words

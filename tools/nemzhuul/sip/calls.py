@@ -27,11 +27,13 @@ from nemzhuul.signalling.q931 import (
     SETUP_ACKNOWLEDGE,
     SPEECH,
     STATUS,
+    STATUS_ENQUIRY,
     Element,
     Message,
     cause,
     number,
     sending_complete,
+    status,
     write_message,
 )
 from nemzhuul.sip import sdp
@@ -278,6 +280,8 @@ class Call:
             self.channel = message.channel.number
         if kind in (DISCONNECT, RELEASE, RELEASE_COMPLETE, STATUS):
             self.take_clearing(message)
+        elif kind == STATUS_ENQUIRY:
+            self.line.send_message(status(1 - message.flag, message.reference, self.state))
         elif kind in (CALL_PROCEEDING, SETUP_ACKNOWLEDGE) and self.state in (INITIATED, OVERLAP):
             self.state = PROCEEDING if kind == CALL_PROCEEDING else OVERLAP
             self.stop_timer()

@@ -16,14 +16,19 @@ from nemzhuul.command_line import NAME, say
 from nemzhuul.live.processes import Loop
 from nemzhuul.live.wire import FRAMES, PIECE, Address, frames_text, octets_of, receive, without_delay
 from nemzhuul.signalling.q931 import (
+    NULL,
     RELEASE,
     RELEASE_COMPLETE,
+    RESTART,
     SETUP,
     STATUS,
+    STATUS_ENQUIRY,
     Message,
     cause,
     message_text,
     read_message,
+    restart_acknowledge,
+    status,
     write_message,
 )
 from nemzhuul.sip.calls import Call, CallContext, Reference
@@ -188,11 +193,21 @@ class Line:
             call.take(message)
         elif message.kind == SETUP and message.flag == 0 and message.channel:
             Call(self.context, self).take_setup(message)
+        elif message.kind == RESTART and message.reference == 0:
+            self.restart(message)
+        elif message.kind == STATUS_ENQUIRY and message.reference:
+            self.send_message(status(1 - message.flag, message.reference, NULL))
         elif message.kind == RELEASE and message.reference:
             self.send_message(write_message(1 - message.flag, message.reference, RELEASE_COMPLETE))
         elif message.reference and message.kind not in (RELEASE_COMPLETE, STATUS):
             unknown = cause(INVALID_REFERENCE)
             self.send_message(write_message(1 - message.flag, message.reference, RELEASE_COMPLETE, unknown))
+
+    def restart(self, message: Message) -> None:
+        """Ends the calls of the channels that the exchange restarts."""
+        for call in [call for call in self.calls.values() if message.restarts(call.channel)]:
+            call.drop()
+        self.send_message(restart_acknowledge(message))
 
     # ---- frames
 
