@@ -124,7 +124,7 @@ class Users:
         self.answers = draw.random()  # how likely a user with an alert answers
         self.pauses = draw.choice((0, 0.02, 0.05))
         self.frames = 0  # frames of a run that are left
-        self.outages = draw.choice((0, 0, 0.02, 0.05))
+        self.outages = draw.choice((0, 0.02, 0.05, 0.05))
         self.down: set[int] = set()  # the lines whose data links are down
         self.is_crowded = draw.random() < 0.15
         self.waiting = self.crowd() if self.is_crowded else self.full_lines()
@@ -176,13 +176,13 @@ class Users:
 
     def link(self) -> str:
         """A data link goes down, or mostly up if it is down. At times frames follow in which timers expire."""
-        is_of_these = self.down and self.draw.random() < 0.5
+        is_of_these = self.down and self.draw.random() < 0.2
         line = self.draw.choice(sorted(self.down)) if is_of_these else self.draw.randrange(self.setting.external)
         if (line in self.down) != (self.draw.random() < 0.2):
             self.down.discard(line)
             return f"up {line}"
         self.down.add(line)
-        self.frames = max(self.frames, self.draw.choice((0, 0, 30, 100)))
+        self.frames = max(self.frames, self.draw.choice((0, 0, 0, 0, 30, 100)))
         return f"down {line}"
 
     def slot(self) -> str:
