@@ -75,7 +75,7 @@ UNANSWERED = (IS_CALLED, PROCEEDS, ALERTS)
 STANDING = (CALLS, DIALS, *UNANSWERED, TALKS)
 CLEARED = (HEARS_TONE, CLEARS, RELEASES)
 
-# The call states of the user side (Q.931), and those of a caller by the last message of its progress.
+# The call states of the user side (Q.931), and a caller's by the last message of its progress.
 CALL_STATES = {DIALS: 2, IS_CALLED: 6, ALERTS: 7, PROCEEDS: 9, TALKS: ACTIVE, CLEARS: 11, HEARS_TONE: 12, RELEASES: 19}
 INITIATED = 1
 OF_A_CALLER = {CALL_PROCEEDING: 3, ALERTING: 4}
