@@ -38,19 +38,20 @@ from nemzhuul.traces.events import (
     Slot,
     Trace,
 )
-from nemzhuul.traces.following import Clearing, Run
-from nemzhuul.traces.reading import METER, read_run, read_trace
+from nemzhuul.traces.following import Clearing, Run, follow
+from nemzhuul.traces.reading import METER
+from nemzhuul.traces.runs import read_run
 
 
 def state_after(path: Path) -> Snapshot:
     """The state after the last line of a trace, by its report."""
     with support.silence():
-        trace = read_trace(str(path), is_followed=True)
+        trace, steps = read_run(str(path), str(report_of(path)), has_links=True)
     follower = Follower(trace)
     follower.commands.clear()
     observer = Observer(follower, {}, {}, Use(160), {})
     replies = [line for line in report_of(path).read_text().splitlines() if not METER.fullmatch(line)]
-    for event, line in zip(trace.events, replies):
+    for (event, _), line in zip(steps, replies):
         asked = (event.line, event.octets.hex().encode()) if isinstance(event, (Arrival, LinkArrival)) else None
         if isinstance(event, (Nail, Seat, Free, Link)):
             follower.commands.append(event)
@@ -129,9 +130,7 @@ class States(unittest.TestCase):
             with self.subTest(trace=trace.name):
                 state = state_after(trace)
                 with support.silence():
-                    run = Run(read_trace(str(trace)))
-                    for event, reply in read_run(str(trace), str(report_of(trace)))[1]:
-                        run.take(event, reply)
+                    run = follow(*read_run(str(trace), str(report_of(trace))))
                 self.assertEqual(dict(state.uses), run.uses)
                 by_state = Metrics(metrics_text(state)).by("channels", "state")
                 self.assertEqual(sum(by_state.values()), 30 * state.sizes.external)
@@ -158,7 +157,7 @@ class States(unittest.TestCase):
             b"1 freed": (None, "event 1 does not fit the calls before it"),
         }
         for reply, (asked, said) in cases.items():
-            follower = Follower(Trace(Sizes(2, 0, 1), {}, USUAL_TIMERS, (Free(Slot(0, 1)),), ()))
+            follower = Follower(Trace(Sizes(2, 0, 1), {}, USUAL_TIMERS, (), (Free(Slot(0, 1)),)))
             observer = Observer(follower, {}, {}, Use(160), {})
             follower.take(reply.split(b" "), asked)
             follower.take([b"2", b"frame", b"0"], None)
@@ -170,7 +169,7 @@ class States(unittest.TestCase):
 
     def test_a_call_with_many_messages(self) -> None:
         """It has its first messages and its last ones, and the others are counted."""
-        run = Run(Trace(Sizes(2, 0, 1), {}, USUAL_TIMERS, (), ()), max_rows=MAX_ROWS)
+        run = Run(Trace(Sizes(2, 0, 1), {}, USUAL_TIMERS), max_rows=MAX_ROWS)
         setup = bytes.fromhex("080200010504038090A3700480313031")
         run.take(Arrival(0, setup), Reply(1, "message", sent=(Sent(0, bytes.fromhex("080280010D1803A98381")),)))
         for event in range(2, 3 * MAX_ROWS):
@@ -184,7 +183,7 @@ class States(unittest.TestCase):
     def test_a_leg_without_a_data_link(self) -> None:
         """A leg that is cleared while the data link of its line is down is sent nothing, and T305 and T308 end it."""
         timers = {**USUAL_TIMERS, "T305": 1, "T308": 1}
-        run = Run(Trace(Sizes(2, 0, 1), {}, timers, (1,), ()))
+        run = Run(Trace(Sizes(2, 0, 1), {}, timers, (1,)))
         run.take(Link(1, True), Reply(1, "message"))
         messages = (
             (0, "080200010504038090A3700480313031", ((0, "08028001021803A98381"), (1, "0802000105A104038090A31803A98381"))),

@@ -169,7 +169,9 @@ def read_command(line: str, sizes: Sizes) -> Event:
     reader = TraceReader(is_followed=True)
     reader.has_header, reader.sizes = True, sizes
     try:
-        reader.take(line)
+        event = reader.take(line)
     except LineError as error:
         raise Refused(error.said) from None
-    return reader.events[-1]
+    if event is None:
+        raise Refused(f"{line} is no event")
+    return event
