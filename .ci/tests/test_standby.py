@@ -159,6 +159,13 @@ class Pairs(InFolder):
             self.give(self.lines())
             self.until(self.is_replied)
 
+    def loses(self, processes: Sequence[int], number: signal.Signals) -> None:
+        """These processes get a signal. The others reply in their place."""
+        for process in processes:
+            os.kill(process, number)
+        self.until(lambda: not set(processes) & set(self.pair.pids()))
+        self.until(self.is_replied)
+
     def is_whole(self) -> bool:
         """Whether there are two processes, and a reserve that is ready."""
         return len(self.pair.members) == 2 and self.pair.reserve is not None and self.pair.reserve.is_ready()
@@ -177,16 +184,13 @@ class Pairs(InFolder):
             self.until(self.is_whole)
             self.periods(2)
             self.give(self.lines())
-            for process in self.pids():
-                os.kill(process, signal.SIGKILL)
-            self.until(self.is_replied)
+            self.loses(self.pids(), signal.SIGKILL)
         self.until(lambda: len(self.pids()) == 2)
         self.pair.discard_reserve()
         self.pair.retry = time.monotonic() + PATIENCE
+        self.periods(1)
         self.give(self.lines())
-        for process in self.pids():
-            os.kill(process, signal.SIGKILL)
-        self.until(self.is_replied)
+        self.loses(self.pids(), signal.SIGKILL)
         self.assertTrue(any("no frame passes until a new one has read the log" in line for line in self.said))
         self.ends_well()
 
@@ -197,9 +201,7 @@ class Pairs(InFolder):
             self.until(self.is_whole)
             self.periods(2)
             self.give(self.lines())
-            for process in self.pair.pids()[:3]:
-                os.kill(process, number)
-            self.until(self.is_replied)
+            self.loses(self.pair.pids()[:3], number)
         self.ends_well()
 
     def test_lines_that_each_process_refuses(self) -> None:
