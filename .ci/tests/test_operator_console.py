@@ -179,6 +179,7 @@ class Consoles(Attached):
 
     def test_a_data_link(self) -> None:
         """A call that comes over a link is shown as it is in the trace without links."""
+        (self.folder / "settings").write_text(self.SETTINGS.replace("\n", "\ntimer T200 80000\n", 1))
         self.attach("--burst", "5", "--control", "unix:control", lines=(1,), linked=(0,))
         self.until("attach: the console listens on unix:control")
         self.assertRegex(self.shows("links")[0], "^line 0: its data link is down; no endpoint at unix:link0; 0 frames were taken, 0 cut; ")
