@@ -41,7 +41,7 @@ class Finder:
 
 sys.meta_path.insert(0, Finder())
 """
-OTHERS = ("attach", "build", "endpoint", "install", "run", "sip", "sounds", "traffic")
+OTHERS = ("attach", "build", "console", "endpoint", "install", "run", "sip", "sounds", "traffic")
 
 
 class Usages(unittest.TestCase):
