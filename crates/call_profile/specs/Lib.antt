@@ -31,6 +31,7 @@ pub mod References
 pub mod Restarted
 pub mod Dropped
 pub mod Resumed
+pub mod LineRestarts
 pub mod Recorded
 pub mod WorkedMessages
 pub mod WorkedOverlap

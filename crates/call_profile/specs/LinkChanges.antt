@@ -1,6 +1,6 @@
--- The exchange state after a change of a line's data link. Source: ITU-T Q.931 (05/98), 5.8.8 (data link reset), 5.8.9
--- (data link failure), 5.8.10 (status enquiry) and 5.5 (restart); the clearing of the rest of a call, and that a call
--- that is being cleared goes on, are this project's profile.
+-- The exchange state after a change of a line's data link, and after the restart of a line by the exchange. Source:
+-- ITU-T Q.931 (05/98), 5.8.8 (data link reset), 5.8.9 (data link failure), 5.8.10 (status enquiry) and 5.5 (restart); the
+-- clearing of the rest of a call, and that a call that is being cleared goes on, are this project's profile.
 use Rattle.std.specs.Prelude.{ℕ, ◌==◌, ◌&&◌, not, Bool, true, false, List, [], ◌∷◌, Option, Some, None, is_some, if◌then◌else◌}
 use Rattle.std.specs.List.{list_any}
 use Rattle.circuit_model.specs.declared.channel.Slot.{Slot}
@@ -15,7 +15,8 @@ use Rattle.tone_rules.specs.declared.tones.Tones.{Tones}
 use Rattle.call_states.specs.Acts.{is_among}
 use Rattle.call_states.specs.declared.leg.HeldLeg.{HeldLeg}
 use Rattle.call_profile.specs.Acts.{send_to, message_to, clear_with, with_enquiry}
-use Rattle.call_profile.specs.Legs.{Legs, held_at, leg_at, is_owed, slots_of, with_link}
+use Rattle.call_profile.specs.Expiring.{send_again}
+use Rattle.call_profile.specs.Legs.{Legs, held_at, is_down, kept_at, leg_at, is_owed, slots_of, with_link}
 use Rattle.call_profile.specs.Operations.{Operation, Put, Await, Remove, Send, making_after, with_legs}
 use Rattle.call_profile.specs.Restarts.{MessageOutcome, SlotRule, restart_leg, outcome_below}
 use Rattle.exchange_events.specs.Sizes.{Dimensions}
@@ -57,11 +58,13 @@ drop_rule tones = record { does = drop_slot tones; cause = destination_out_of_or
 abbrev pub enquire : HeldLeg → List Operation
 enquire h = Put h.slot (with_enquiry true h.leg) ∷ send_to h (message_to h.leg kind.StatusEnquiry) ∷ []
 
--- a leg in overlap sending is cleared with cause 41, since digits may be lost; in all other states the call goes on
-abbrev pub resume_leg : Tones → HeldLeg → List Operation
-resume_leg tones h =
+-- a leg in overlap sending is cleared with cause 41, since digits may be lost; RELEASE is sent again, since it may be
+-- lost too; in all other states the call goes on
+abbrev pub resume_leg : Tones → Legs → HeldLeg → List Operation
+resume_leg tones legs h =
     if h.leg.state == active then enquire h
     else if h.leg.state == overlap_sending then clear_with tones temporary_failure h
+    else if h.leg.state == release_request then send_again h (kept_at legs h.slot)
     else []
 
 -- a RESTART of the channel, unless one of the whole interface follows (5.5.1)
@@ -69,7 +72,7 @@ abbrev pub restart_channel : Bool → Slot → List Operation
 restart_channel whole x = Remove x false ∷ (if whole then [] else Send x.line (restart_of (Channel x.place)) ∷ [])
 
 abbrev pub resume_held : Tones → Bool → Legs → Slot → Option HeldLeg → List Operation
-resume_held tones whole legs x (Some h) = resume_leg tones h
+resume_held tones whole legs x (Some h) = resume_leg tones legs h
 resume_held tones whole legs x None = if is_owed legs x then restart_channel whole x else []
 
 abbrev pub resume_slot : Tones → Bool → Legs → Slot → List Operation
@@ -104,3 +107,24 @@ abbrev pub outcome_of_link : Dimensions → Tones → Bool → ℕ → World →
 outcome_of_link d tones down line w =
     let whole = not down && restarts_interface w.legs line in
     with_interface d whole line (outcome_below d (rule_of tones whole down) line (with_line w line down) 30)
+
+-- ---- the exchange restarts a line (5.5.1)
+
+-- the leg of a slot is removed, and the other leg of its call too if it is on the line, or else cleared with cause 41; the
+-- flag states whether the user is owed the RESTART
+abbrev pub give_up_leg : Tones → Bool → Legs → Slot → Option HeldLeg → List Operation
+give_up_leg tones owed legs x None = Remove x owed ∷ []
+give_up_leg tones owed legs x (Some h) = restart_leg tones temporary_failure owed whole_line legs (Some h)
+
+abbrev pub give_up_slot : Tones → Bool → Legs → Slot → List Operation
+give_up_slot tones owed legs x = give_up_leg tones owed legs x (held_at legs x)
+
+abbrev pub give_up_rule : Tones → Bool → SlotRule
+give_up_rule tones owed = record { does = give_up_slot tones owed; cause = temporary_failure }
+
+-- each slot of the line is given up, lowest first, and last its user is sent RESTART; while the data link of the line is
+-- down, the user is owed it
+abbrev pub outcome_of_line_restart : Dimensions → Tones → ℕ → World → MessageOutcome
+outcome_of_line_restart d tones line w =
+    let owed = is_down w.legs line in
+    with_interface d (not owed) line (outcome_below d (give_up_rule tones owed) line w 30)

@@ -1,8 +1,8 @@
 -- What the establishment of a data link leaves of each channel of its line. Source: ITU-T Q.931 (05/98), 5.8.8 to 5.8.10
 -- and 5.5.
-use Rattle.std.specs.Prelude.{◌≡◌, ◌≢◌, true, false, is_some, Contains, Option, Some, None, ℕ}
+use Rattle.std.specs.Prelude.{◌≡◌, ◌≢◌, true, false, is_some, Contains, List, Option, Some, None, ℕ}
 use Rattle.circuit_model.specs.declared.channel.Slot.{Slot}
-use Rattle.q931_codec.specs.CallStates.{active}
+use Rattle.q931_codec.specs.CallStates.{active, release_request}
 use Rattle.q931_codec.specs.Outgoing.{encoding}
 use Rattle.q931_codec.specs.declared.kind.MessageKind.TheVariants as kind
 use Rattle.call_states.specs.Acts.{is_among}
@@ -12,6 +12,7 @@ use Rattle.clearing_rules.specs.Restarting.{is_restarted, restart_of}
 use Rattle.clearing_rules.specs.declared.scope.Restart.{Restart}
 use Rattle.exchange_events.specs.declared.signal.Signal.{Signal}
 use Rattle.call_profile.specs.Acts.{message_to}
+use Rattle.call_profile.specs.KeptMessages.{IsKept}
 use Rattle.call_profile.specs.Legs.{is_owed, leg_at}
 use Rattle.call_profile.specs.LinkChanges.{being_cleared, outcome_of_link}
 use Rattle.call_profile.specs.Operations.{Making}
@@ -41,11 +42,16 @@ pub record IsEnquired (m : Making) (x : Slot) (leg : Leg) : Type 0 where
   pub flag : leg.enquired ≡ true
   pub sent : Contains m.sends (enquiry_signal x leg)
 
--- a channel with a leg: in active its user was sent STATUS ENQUIRY; while it is being cleared it has a timer; in every
--- other state it is unchanged
+-- a leg in release request: its user was sent RELEASE again
+abbrev pub IsReleasedAgain : Making → Slot → Leg → Type 0
+IsReleasedAgain m x leg = (octets : List ℕ) × IsKept leg octets × Contains m.sends (record { line = x.line; octets = octets })
+
+-- a channel with a leg: in active its user was sent STATUS ENQUIRY; while it is being cleared it has a timer, and in
+-- release request its user was sent RELEASE again; in every other state it is unchanged
 pub record IsAccounted (before : World) (m : Making) (x : Slot) (leg : Leg) : Type 0 where
   pub in_active : leg.state ≡ active → IsEnquired m x leg
   pub in_clearing : is_among being_cleared leg.state ≡ true → is_some (expiry_in leg.state leg.resent) ≡ true
+  pub in_release : leg.state ≡ release_request → IsReleasedAgain m x leg
   pub in_others : leg.state ≢ active → is_among being_cleared leg.state ≡ false → leg_at before.legs x ≡ Some leg
 
 -- a channel, by the leg that holds it

@@ -4,7 +4,7 @@ use Rattle.circuit_model.specs.declared.channel.Slot.{Slot}
 use Rattle.circuit_model.specs.Holding.{Connect, Seat as Take_seat, Clear}
 use Rattle.circuit_model.specs.Ports.{port_of, ports_with}
 use Rattle.exchange_events.specs.declared.trace.Event.{Event}
-use Rattle.exchange_events.specs.declared.trace.Event.TheVariants.{Nail, Seat, Free, Message, LinkUp, LinkDown, Frame}
+use Rattle.exchange_events.specs.declared.trace.Event.TheVariants.{Nail, Seat, Free, Message, LinkUp, LinkDown, RestartLine, Frame}
 use Rattle.exchange_events.specs.declared.reply.Reply.{Reply}
 use Rattle.exchange_events.specs.declared.reply.Reply.TheVariants.{Granted, Busy, Seated, NoPort, Freed, NotNailed, Sent as Sent_reply, Frame as Frame_reply}
 use Rattle.exchange_events.specs.Orders.{event_at}
@@ -12,7 +12,7 @@ use Rattle.call_profile.specs.Calls.{MessageAnswer, after_message, answer_to}
 use Rattle.call_profile.specs.Expiring.{outcome_of_frame}
 use Rattle.call_profile.specs.IdleSlots.{idle, is_nailed}
 use Rattle.exchange_events.specs.Sizes.{Setting, Dimensions}
-use Rattle.call_profile.specs.LinkChanges.{outcome_of_link}
+use Rattle.call_profile.specs.LinkChanges.{outcome_of_line_restart, outcome_of_link}
 use Rattle.call_profile.specs.Restarts.{MessageOutcome}
 use Rattle.call_profile.specs.World.{World, obey, is_full, nail_reply, seat_reply}
 
@@ -27,7 +27,7 @@ may_seat d w x = idle w x && not (is_full d w)
 abbrev pub message_reply : MessageAnswer → Reply
 message_reply a = Sent_reply a.sends a.moved a.records
 
--- the reply to a change of a data link: the messages and records; nothing is connected
+-- the reply to a change of a data link, or to the restart of a line: the messages and records; nothing is connected
 abbrev pub link_reply : MessageOutcome → Reply
 link_reply a = Sent_reply a.making.sends None a.recorded
 
@@ -46,6 +46,7 @@ reply s w (Free x) = if is_nailed w x then Freed else NotNailed
 reply s w (Message line octets) = message_reply (answer_to s w line octets)
 reply s w (LinkUp line) = link_reply (outcome_of_link s.dimensions s.tones false line w)
 reply s w (LinkDown line) = link_reply (outcome_of_link s.dimensions s.tones true line w)
+reply s w (RestartLine line) = link_reply (outcome_of_line_restart s.dimensions s.tones line w)
 reply s w (Frame input) = frame_reply w.holding.next (outcome_of_frame s w input)
 
 -- the exchange state after an event; a refused event does not change it
@@ -56,6 +57,7 @@ next s w (Free x) = if is_nailed w x then obey s.dimensions w (Clear x) else w
 next s w (Message line octets) = after_message s w line octets
 next s w (LinkUp line) = (outcome_of_link s.dimensions s.tones false line w).making.world
 next s w (LinkDown line) = (outcome_of_link s.dimensions s.tones true line w).making.world
+next s w (RestartLine line) = (outcome_of_line_restart s.dimensions s.tones line w).making.world
 next s w (Frame input) = (outcome_of_frame s w input).making.world
 
 -- a reply states that at most n paths moved, each way

@@ -2,7 +2,7 @@
 use Rattle.std.specs.Prelude.{◌≡◌, ◌≢◌, ℕ, zero, suc, ◌%◌, ◌<◌, ◌≤◌, ◌⊎◌, List, length, take, nat_lt, count_by, slice_get, slice_index, All, AllPairs, Contains, EachIndex, Option, Some, None}
 use Rattle.std.specs.List.{range_with_len}
 use Rattle.exchange_events.specs.declared.trace.Event.{Event}
-use Rattle.exchange_events.specs.declared.trace.Event.TheVariants.{Nail, Seat, Free, Message, LinkUp, LinkDown, Frame}
+use Rattle.exchange_events.specs.declared.trace.Event.TheVariants.{Nail, Seat, Free, Message, LinkUp, LinkDown, RestartLine, Frame}
 use Rattle.exchange_events.specs.declared.trace.Trace.{Trace}
 
 -- the worker of an event: one of the call processors, or the frame worker
@@ -19,6 +19,7 @@ worker_of processors (Free x) = Processor (x.line % processors)
 worker_of processors (Message line octets) = Processor (line % processors)
 worker_of processors (LinkUp line) = Processor (line % processors)
 worker_of processors (LinkDown line) = Processor (line % processors)
+worker_of processors (RestartLine line) = Processor (line % processors)
 worker_of processors (Frame input) = Frame_worker
 
 -- the segment of event number n, counted from 0: the number of segments that end before it

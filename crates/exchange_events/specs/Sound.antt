@@ -7,7 +7,7 @@ use Rattle.number_plan.specs.declared.target.Target.{Target}
 use Rattle.number_plan.specs.declared.target.Target.TheVariants as target
 use Rattle.number_plan.specs.Plan.{all_targets}
 use Rattle.exchange_events.specs.declared.trace.Event.{Event}
-use Rattle.exchange_events.specs.declared.trace.Event.TheVariants.{Nail, Seat, Free, Message, LinkUp, LinkDown, Frame}
+use Rattle.exchange_events.specs.declared.trace.Event.TheVariants.{Nail, Seat, Free, Message, LinkUp, LinkDown, RestartLine, Frame}
 use Rattle.exchange_events.specs.declared.trace.Trace.{Trace}
 use Rattle.exchange_events.specs.Limits.{max_changes, max_events}
 use Rattle.exchange_events.specs.Sizes.{Setting}
@@ -26,6 +26,7 @@ Fits external (Free x) = IsExternal external x
 Fits external (Message line octets) = (line < external) × All (λ octet. octet < 256) octets
 Fits external (LinkUp line) = line < external
 Fits external (LinkDown line) = line < external
+Fits external (RestartLine line) = line < external
 Fits external (Frame input) = length input ≡ external
 
 -- a line is one of n external lines

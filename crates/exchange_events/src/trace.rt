@@ -25,6 +25,8 @@ pub enum Event {
     LinkUp(u8),
     /// The data link of a line is down (DL-RELEASE indication).
     LinkDown(u8),
+    /// The exchange restarts the interface of a line: its calls end, and its user is sent RESTART (Q.931, 5.5.1).
+    RestartLine(u8),
     /// The boundary of a frame, and its input.
     Frame(Input),
 }
