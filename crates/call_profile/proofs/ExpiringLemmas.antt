@@ -57,7 +57,7 @@ module _ (d : Dimensions) (tones : Tones) (m : Making) (x : Slot) (leg : Leg) (k
     abbrev May : List Operation → Type 0
     May os = ArePermitted d tones plan m os
 
-    again_may : (o : Option (List ℕ)) → kept_at w.legs x ≡ o → May (send_again h o)
+    pub again_may : (o : Option (List ℕ)) → kept_at w.legs x ≡ o → May (send_again h o)
     again_may None is = tt
     again_may (Some octets) is = ((within, at, is), tt)
 
@@ -108,7 +108,7 @@ module _ (d : Dimensions) (tones : Tones) (m : Making) (x : Slot) (leg : Leg) (k
   digits_fine : leg.peer ≡ peer.Alone → Fine (clear_with tones invalid_number_format h)
   digits_fine is = cleared_kept d tones w h invalid_number_format (omega arith) kept.0 kept.1 within at is
 
-  again_fine : (o : Option (List ℕ)) → Fine (send_again h o)
+  pub again_fine : (o : Option (List ℕ)) → Fine (send_again h o)
   again_fine None = kept
   again_fine (Some octets) = (kept.0, waits_anew d.external tones w (making_after_all d m (send_again h (Some octets))).world x leg w.holding.next true kept.1 within at refl refl)
 

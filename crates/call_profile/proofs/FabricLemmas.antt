@@ -11,7 +11,7 @@ use Rattle.clearing_rules.specs.declared.scope.Restart.{Restart}
 use Rattle.clearing_rules.specs.Restarting.{acknowledgement, restart_of}
 use Rattle.clearing_rules.specs.UnknownReference.{answer_without_call}
 use Rattle.exchange_events.specs.declared.trace.Event.{Event}
-use Rattle.exchange_events.specs.declared.trace.Event.TheVariants.{Nail, Seat as Seat_event, Free, Message, Frame, LinkUp, LinkDown}
+use Rattle.exchange_events.specs.declared.trace.Event.TheVariants.{Nail, Seat as Seat_event, Free, Message, Frame, LinkUp, LinkDown, RestartLine}
 use Rattle.exchange_events.specs.declared.reply.Reply.TheVariants.{Busy, NoPort, Sent as Sent_reply, Frame as Frame_reply}
 use Rattle.exchange_events.specs.Sizes.{Setting, Dimensions}
 use Rattle.call_profile.specs.ActCourse.{course_of}
@@ -21,7 +21,7 @@ use Rattle.call_profile.specs.Calls.{Request, For_leg, New_call, On_no_call, Res
 use Rattle.call_profile.specs.Expiring.{cause_at, expire_slot, slot_looked_at, outcome_on_line, outcome_of_lines, outcome_of_frame}
 use Rattle.call_profile.specs.Fabrics.{with_slots, without_paths, without_moves, replies_of_run, world_of_run}
 use Rattle.call_profile.specs.IdleSlots.{idle, is_nailed}
-use Rattle.call_profile.specs.Legs.{Legs}
+use Rattle.call_profile.specs.Legs.{Legs, is_down}
 use Rattle.call_profile.specs.Operations.{Operation, Clear, Pair, Seat, Sound, Put, Wait, Expect, Repeat, Remove, Send, Making, making_at, making_after, making_after_all, moves_for, moves_of_seat, Await}
 use Rattle.call_profile.specs.Restarts.{MessageOutcome, outcome_then, outcome_at_slot, outcome_below, outcome_of_restart, restart_rule, SlotRule}
 use Rattle.call_profile.specs.Setup.{course_of_setup}
@@ -29,7 +29,7 @@ use Rattle.call_profile.specs.Step.{reply, next, may_nail, may_seat, run, world_
 use Rattle.call_profile.specs.World.{World, is_full, nail_reply, seat_reply, obey, pass, start}
 use Rattle.call_profile.proofs.ExpiringLemmas.{lines_none, lines_more}
 use Rattle.call_profile.proofs.RestartedSlotLemmas.{below_none, below_more}
-use Rattle.call_profile.specs.LinkChanges.{outcome_of_link, rule_of, with_line, restarts_interface, with_interface, whole_line}
+use Rattle.call_profile.specs.LinkChanges.{give_up_rule, outcome_of_line_restart, outcome_of_link, rule_of, with_line, restarts_interface, with_interface, whole_line}
 
 -- two worlds in the making that differ in nothing but paths
 pub record SameButPaths (a b : Making) : Type 0 where
@@ -194,6 +194,14 @@ module _ (s : Setting) (slots : ℕ) where
       interface_alike whole line (outcome_below t.dimensions (rule_of s.tones whole down) line (with_line (with_layout w layout) line down) 30) (outcome_below s.dimensions (rule_of s.tones whole down) line (with_line w line down) 30)
       (below_alike (with_line w line down) layout (rule_of s.tones whole down) line 30)
 
+  -- ---- the exchange restarts a line
+
+  line_restart_alike : (w : World) (layout : Layout) (line : ℕ) → DoneAlike (outcome_of_line_restart t.dimensions t.tones line (with_layout w layout)) (outcome_of_line_restart s.dimensions s.tones line w)
+  line_restart_alike w layout line =
+      let owed : Bool = is_down w.legs line in
+      interface_alike (not owed) line (outcome_below t.dimensions (give_up_rule t.tones owed) line (with_layout w layout) 30) (outcome_below s.dimensions (give_up_rule s.tones owed) line w 30)
+      (below_alike w layout (give_up_rule s.tones owed) line 30)
+
   -- ---- an event
 
   without_paths_either_alike : (b : Bool) (u v w : World) (layout : Layout) → without_paths u ≡ without_paths v → without_paths (if b then u else with_layout w layout) ≡ without_paths (if b then v else w)
@@ -207,6 +215,7 @@ module _ (s : Setting) (slots : ℕ) where
   without_paths-next_alike w layout (Message line octets) = (done_alike w layout line octets).making.world
   without_paths-next_alike w layout (LinkUp line) = (link_alike w layout false line).making.world
   without_paths-next_alike w layout (LinkDown line) = (link_alike w layout true line).making.world
+  without_paths-next_alike w layout (RestartLine line) = (line_restart_alike w layout line).making.world
   without_paths-next_alike w layout (Frame input) = (frame_alike w layout input).making.world
 
   without_moves_nailed_alike : (b : Bool) (p q : Layout) (x y : Slot) → without_moves (if b then nail_reply t.dimensions p x y else Busy) ≡ without_moves (if b then nail_reply s.dimensions q x y else Busy)
@@ -236,6 +245,7 @@ module _ (s : Setting) (slots : ℕ) where
   without_moves-reply_alike w layout (Message line octets) = without_moves_sent_alike (outcome_of_octets t (with_layout w layout) line octets) (outcome_of_octets s w line octets) (done_alike w layout line octets)
   without_moves-reply_alike w layout (LinkUp line) = changed_alike (outcome_of_link t.dimensions t.tones false line (with_layout w layout)) (outcome_of_link s.dimensions s.tones false line w) (link_alike w layout false line)
   without_moves-reply_alike w layout (LinkDown line) = changed_alike (outcome_of_link t.dimensions t.tones true line (with_layout w layout)) (outcome_of_link s.dimensions s.tones true line w) (link_alike w layout true line)
+  without_moves-reply_alike w layout (RestartLine line) = changed_alike (outcome_of_line_restart t.dimensions t.tones line (with_layout w layout)) (outcome_of_line_restart s.dimensions s.tones line w) (line_restart_alike w layout line)
   without_moves-reply_alike w layout (Frame input) =
       let alike = frame_alike w layout input in
       λ i. Frame_reply w.holding.next (alike.making.sends i) (alike.recorded i)

@@ -58,6 +58,15 @@ pub kept_there : (external next : ℕ) (legs : Legs) (x : Slot) (leg : Leg) (oct
 kept_there external next legs x leg octets wait in_x at keeps =
     subst (λ (o : Option Leg). MayKeep o (Some octets)) at (subst (MayKeep (leg_at legs x)) keeps (wait.each x in_x))
 
+kept_by : (legs : Legs) (x : Slot) (leg : Leg) (k : Option (List ℕ)) → kept_at legs x ≡ k → MayKeep (Some leg) k → is_among awaiting_answer leg.state ≡ true
+    → (octets : List ℕ) × (kept_at legs x ≡ Some octets) × IsKept leg octets
+kept_by legs x leg None at may among = let wrong : false ≡ true = sym may ∙ among in absurd cc
+kept_by legs x leg (Some octets) at may among = (octets, at, may)
+
+pub stored_there : (external next : ℕ) (legs : Legs) (x : Slot) (leg : Leg) → LegsWait external next legs → IsExternal external x → leg_at legs x ≡ Some leg → is_among awaiting_answer leg.state ≡ true
+    → (octets : List ℕ) × (kept_at legs x ≡ Some octets) × IsKept leg octets
+stored_there external next legs x leg wait in_x at among = kept_by legs x leg (kept_at legs x) refl (subst (λ (o : Option Leg). MayKeep o (kept_at legs x)) at (wait.each x in_x)) among
+
 -- ---- one entry written
 
 module _ (external next : ℕ) (legs : Legs) (x : Slot) (wait : LegsWait external next legs) (in_x : IsExternal external x) (o : Option Leg) (p : Option Pending) (k : Option (List ℕ)) where
@@ -115,13 +124,8 @@ module _ (s : Setting) (w : World) (stands : CallsStand s w) where
   pub each_began : EachBegan s.dimensions.external w
   each_began x leg in_x at = subst (λ (o : Option Leg). IfSome o (λ l. l.since ≤ w.holding.next)) at (stands.waits.since x in_x)
 
-  kept_by : (x : Slot) (leg : Leg) (k : Option (List ℕ)) → kept_at w.legs x ≡ k → MayKeep (Some leg) k → is_among awaiting_answer leg.state ≡ true
-      → (octets : List ℕ) × (kept_at w.legs x ≡ Some octets) × IsKept leg octets
-  kept_by x leg None at may among = let wrong : false ≡ true = sym may ∙ among in absurd cc
-  kept_by x leg (Some octets) at may among = (octets, at, may)
-
   pub each_is_kept : EachIsKept s.dimensions.external w
-  each_is_kept x leg in_x at among = kept_by x leg (kept_at w.legs x) refl (subst (λ (o : Option Leg). MayKeep o (kept_at w.legs x)) at (stands.waits.each x in_x)) among
+  each_is_kept x leg in_x at among = stored_there s.dimensions.external w.holding.next w.legs x leg stands.waits in_x at among
 
   holds_by : (x : Slot) (octets : List ℕ) (o : Option Leg) → leg_at w.legs x ≡ o → MayKeep o (Some octets) → (leg : Leg) × (leg_at w.legs x ≡ Some leg) × (is_among awaiting_answer leg.state ≡ true)
   holds_by x octets None at may = absurd may

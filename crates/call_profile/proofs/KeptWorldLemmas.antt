@@ -12,7 +12,7 @@ use Rattle.circuit_model.specs.Extent.{IsExternal}
 use Rattle.circuit_model.proofs.Slots.{true_or_false}
 use Rattle.tone_rules.specs.declared.tones.Tones.{Tones}
 use Rattle.exchange_events.specs.declared.trace.Event.{Event}
-use Rattle.exchange_events.specs.declared.trace.Event.TheVariants.{Nail, Seat as Seat_event, Free, Message, Frame as Frame_event, LinkUp, LinkDown}
+use Rattle.exchange_events.specs.declared.trace.Event.TheVariants.{Nail, Seat as Seat_event, Free, Message, Frame as Frame_event, LinkUp, LinkDown, RestartLine}
 use Rattle.call_states.specs.Acts.{act_on}
 use Rattle.clearing_rules.specs.declared.scope.Restart.{Restart}
 use Rattle.clearing_rules.specs.UnknownReference.{answer_without_call}
@@ -23,7 +23,7 @@ use Rattle.call_profile.specs.Expiring.{slot_looked_at, expire_slot}
 use Rattle.call_profile.specs.IdleSlots.{idle, is_nailed}
 use Rattle.call_profile.specs.LegStanding.{CallsStand}
 use Rattle.q931_codec.specs.Outgoing.{encoding}
-use Rattle.call_profile.specs.Legs.{Legs, leg_at, with_leg, retransmitted_from, with_waiting, with_kept, without_leg, with_link}
+use Rattle.call_profile.specs.Legs.{Legs, is_down, leg_at, with_leg, retransmitted_from, with_waiting, with_kept, without_leg, with_link}
 use Rattle.call_profile.specs.Operations.{Operation, begun, Making, making_at, making_after, making_after_all, with_tone}
 use Rattle.call_profile.specs.Operations as op
 use Rattle.call_profile.specs.Permitted.{CanSeat}
@@ -39,10 +39,11 @@ use Rattle.call_profile.proofs.CommandLemmas.{both_true, pass_kept}
 use Rattle.call_profile.proofs.ExpiringLemmas.{slot_may, slot_fine, each_line, place_within}
 use Rattle.call_profile.proofs.StandingLegLemmas.{happened_kept}
 use Rattle.call_profile.proofs.PermittedLemmas.{act_may, call_may, answer_may}
-use Rattle.call_profile.proofs.RestartedSlotLemmas.{each_below, linked_by}
+use Rattle.call_profile.proofs.RestartedSlotLemmas.{each_below, line_restarted_by, linked_by}
 use Rattle.call_profile.proofs.RestartLemmas.{slot_kept, slot_permitted}
-use Rattle.call_profile.specs.LinkChanges.{outcome_of_link, rule_of, with_line}
+use Rattle.call_profile.specs.LinkChanges.{give_up_rule, give_up_slot, outcome_of_line_restart, outcome_of_link, rule_of, with_line}
 use Rattle.call_profile.proofs.LinkLemmas.{linked_kept, rule_kept, rule_may}
+use Rattle.call_profile.proofs.GivenUpSlotLemmas.{give_up_kept, give_up_may}
 
 -- a seat that is allowed finds fewer members than ports
 room_left : (d : Dimensions) (w : World) → Valid d.bridges w.holding → not (is_full d w) ≡ true → count_by is_member w.holding.circuits < 30 * d.bridges
@@ -124,6 +125,18 @@ module _ (s : Setting) (P : World → Type 0) (keeps : Keeps s.dimensions s.tone
         rule_kept s.dimensions s.tones a.making x k.1 (below, small) whole down,
       )) 30 (omega arith)).0)
 
+  -- ---- the exchange restarts a line
+
+  line_restarted : (w : World) (line : ℕ) → line < s.dimensions.external → CallsStand s w → P w → P (outcome_of_line_restart s.dimensions s.tones line w).making.world
+  line_restarted w line below stands holds =
+      let owed : Bool = is_down w.legs line in
+      line_restarted_by s.dimensions s.tones line w P
+      (each_below s.dimensions (give_up_rule s.tones owed) line w (λ a. P a.making.world × Kept s.dimensions s.tones a.making.world) (holds, (stands.circuits, stands.legs)) (λ a place small k.
+      let x : Slot = record { line = line; place = place } in (
+        operated a.making (give_up_slot s.tones owed a.making.world.legs x) (give_up_may s.dimensions s.tones owed a.making x k.1 (below, small) s.plan) k.0,
+        give_up_kept s.dimensions s.tones owed a.making x k.1 (below, small),
+      )) 30 (omega arith)).0
+
   -- ---- an event
 
   happened : (w : World) (e : Event) → IsPlanned s → Fits s.dimensions.external e → CallsStand s w → P w → P (next s w e)
@@ -149,6 +162,7 @@ module _ (s : Setting) (P : World → Type 0) (keeps : Keeps s.dimensions s.tone
   happened w (Message line octets) planned fits stands holds = received w line octets planned fits stands holds (request_of w.legs line octets) refl
   happened w (LinkUp line) planned fits stands holds = linked w false line fits stands holds
   happened w (LinkDown line) planned fits stands holds = linked w true line fits stands holds
+  happened w (RestartLine line) planned fits stands holds = line_restarted w line fits stands holds
   happened w (Frame_event input) planned fits stands holds = turned w input stands holds
 
   -- ---- a run

@@ -13,6 +13,7 @@ pub mod ExpiredRecordLemmas
 pub mod GivenToneLemmas
 pub mod RestartedSlotLemmas
 pub mod LinkLemmas
+pub mod GivenUpSlotLemmas
 pub mod RefusalLemmas
 pub mod FabricLemmas
 pub mod NamedLegLemmas
@@ -82,6 +83,8 @@ pub mod LostRecordLemmas
 pub mod LastingCallLemmas
 pub mod RecordedCallLemmas
 pub mod RecordedMessageLemmas
+pub mod LineRestartLemmas
+mod OwedLineLemmas
 pub mod FrameRecordLemmas
 pub mod FullPortLemmas
 pub mod QuietEventLemmas

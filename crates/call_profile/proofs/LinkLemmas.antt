@@ -12,7 +12,7 @@ use Rattle.circuit_model.proofs.Slots.{true_or_false}
 use Rattle.clearing_rules.specs.declared.scope.Restart.TheVariants.{Channel}
 use Rattle.control_memory.specs.Layout.{number_of}
 use Rattle.q931_codec.specs.declared.kind.MessageKind.TheVariants as kind
-use Rattle.q931_codec.specs.CallStates.{overlap_sending, active}
+use Rattle.q931_codec.specs.CallStates.{overlap_sending, active, release_request}
 use Rattle.q931_codec.specs.Causes.{destination_out_of_order, temporary_failure}
 use Rattle.call_states.specs.Acts.{is_among}
 use Rattle.call_states.specs.Status.{FitsMessages}
@@ -29,8 +29,9 @@ use Rattle.tone_rules.specs.declared.tones.Tones.{Tones}
 use Rattle.call_profile.specs.Acts.{clear_with, in_disconnect_indication, peer_of, with_enquiry}
 use Rattle.call_profile.specs.CallRecords.{before_clearing, is_calling, records}
 use Rattle.call_profile.specs.EndedCalls.{caller_in, dropped_record, dropped_records, record_calling, record_ended}
+use Rattle.call_profile.specs.Expiring.{send_again}
 use Rattle.call_profile.specs.KeptMessages.{awaiting_answer}
-use Rattle.call_profile.specs.Legs.{Legs, is_owed, leg_at, retransmitted_from, waiting_from}
+use Rattle.call_profile.specs.Legs.{Legs, is_owed, kept_at, leg_at, retransmitted_from, waiting_from}
 use Rattle.call_profile.specs.LegStanding.{HasPeer, LegStands, MayHear, alone}
 use Rattle.call_profile.specs.LinkChanges.{being_cleared, whole_line, drop_leg, drop_slot, enquire, restart_channel, resume_held, resume_leg, resume_slot, rule_of, with_line}
 use Rattle.call_profile.specs.Operations.{Operation, Making, Await, Remove, begun, making_after, making_after_all, with_legs}
@@ -42,6 +43,7 @@ use Rattle.call_profile.proofs.ClearingLemmas.{Kept}
 use Rattle.call_profile.proofs.DigitsLemmas.{cleared_kept}
 use Rattle.call_profile.proofs.ExpiredLegLemmas.{waits_enquired}
 use Rattle.call_profile.proofs.ExpiredRecordLemmas.{records_quiet, is_calling_never, no_caller}
+use Rattle.call_profile.proofs.ExpiringLemmas.{again_fine, again_may}
 use Rattle.call_profile.proofs.ExpiryStateLemmas.{is_alone}
 use Rattle.call_profile.proofs.Permitted.{ArePermitted}
 use Rattle.call_profile.proofs.PermittedActLemmas.{clear_permitted, is_there, message_writable}
@@ -99,7 +101,7 @@ module _ (d : Dimensions) (tones : Tones) (m : Making) (x : Slot) (leg : Leg) (k
   there : IsThere d.external h
   there = is_there d.external tones w h kept.1 within at
 
-  -- the three cases of a leg whose link is down, and of one whose link is up
+  -- the cases of a leg whose link is down, and of one whose link is up
   module _ (P : List Operation → Type 0) where
     pub by_drop : (leg.state ≡ active → P (if leg.resent then [] else Await x (with_enquiry false leg) ∷ []))
         → (is_among being_cleared leg.state ≡ true → P [])
@@ -113,12 +115,16 @@ module _ (d : Dimensions) (tones : Tones) (m : Making) (x : Slot) (leg : Leg) (k
       ]
     ]
 
-    pub by_resume : (leg.state ≡ active → P (enquire h)) → (leg.state ≡ overlap_sending → P (clear_with tones temporary_failure h)) → P [] → P (resume_leg tones h)
-    by_resume talks dials goes = elim (true_or_false (leg.state == active)) [
+    pub by_resume : (leg.state ≡ active → P (enquire h)) → (leg.state ≡ overlap_sending → P (clear_with tones temporary_failure h))
+        → (leg.state ≡ release_request → P (send_again h (kept_at w.legs x))) → P [] → P (resume_leg tones w.legs h)
+    by_resume talks dials clears goes = elim (true_or_false (leg.state == active)) [
       | inl up ↦ rw up (talks (eqb-true leg.state active up))
       | inr not_up ↦ elim (true_or_false (leg.state == overlap_sending)) [
         | inl is ↦ rw (not_up, is) (dials (eqb-true leg.state overlap_sending is))
-        | inr other ↦ rw (not_up, other) goes
+        | inr other ↦ elim (true_or_false (leg.state == release_request)) [
+          | inl asked ↦ rw (not_up, other, asked) (clears (eqb-true leg.state release_request asked))
+          | inr quiet ↦ rw (not_up, other, quiet) goes
+        ]
       ]
     ]
 
@@ -138,8 +144,8 @@ module _ (d : Dimensions) (tones : Tones) (m : Making) (x : Slot) (leg : Leg) (k
   digits_fine : leg.state ≡ overlap_sending → Fine (clear_with tones temporary_failure h)
   digits_fine is = cleared_kept d tones w h temporary_failure (omega arith) kept.0 kept.1 within at (is_alone d.external w.legs x leg leg.peer (rw is refl) (kept.1.each x leg within at).peer)
 
-  pub resume_fine : Fine (resume_leg tones h)
-  resume_fine = by_resume Fine (λ talks. enquired_fine) digits_fine kept
+  pub resume_fine : Fine (resume_leg tones w.legs h)
+  resume_fine = by_resume Fine (λ talks. enquired_fine) digits_fine (λ clears. again_fine d tones m x leg kept within at (kept_at w.legs x)) kept
 
   -- ---- permitted
 
@@ -163,8 +169,11 @@ module _ (d : Dimensions) (tones : Tones) (m : Making) (x : Slot) (leg : Leg) (k
     pub enquired_may : leg.state ≡ active → May (enquire h)
     enquired_may is = (stays_put true is, ((within.0, message_writable leg kind.StatusEnquiry there.told tt), tt))
 
-    pub resume_may : May (resume_leg tones h)
-    resume_may = by_resume May enquired_may (λ dials. clear_permitted d tones plan m temporary_failure h there (omega arith)) tt
+    pub resent_may : May (send_again h (kept_at w.legs x))
+    resent_may = again_may d tones m x leg kept within at plan (kept_at w.legs x) refl
+
+    pub resume_may : May (resume_leg tones w.legs h)
+    resume_may = by_resume May enquired_may (λ dials. clear_permitted d tones plan m temporary_failure h there (omega arith)) (λ clears. resent_may) tt
 
   -- ---- recorded
 
@@ -202,8 +211,13 @@ module _ (d : Dimensions) (tones : Tones) (m : Making) (x : Slot) (leg : Leg) (k
       let waits : Option Leg = Some (begun w (in_disconnect_indication temporary_failure leg)) in
       records_quiet d tones m x leg kept within at temporary_failure (making_after_all d m (clear_with tones temporary_failure h)).world waits refl (is_calling_never d tones m x leg kept within at waits (rw is refl))
 
-  pub resume_told : Told temporary_failure (resume_leg tones h) []
-  resume_told = by_resume (λ os. Told temporary_failure os []) (λ talks. enquired_told) digits_told (no_records w temporary_failure)
+  resent_told : (o : Option (List ℕ)) → Told temporary_failure (send_again h o) []
+  resent_told None = no_records w temporary_failure
+  resent_told (Some octets) =
+      records_quiet d tones m x leg kept within at temporary_failure (making_after_all d m (send_again h (Some octets))).world (Some (retransmitted_from w.holding.next leg)) refl (λ calls. calls)
+
+  pub resume_told : Told temporary_failure (resume_leg tones w.legs h) []
+  resume_told = by_resume (λ os. Told temporary_failure os []) (λ talks. enquired_told) digits_told (λ clears. resent_told (kept_at w.legs x)) (no_records w temporary_failure)
 
 -- ---- a slot that no leg holds
 

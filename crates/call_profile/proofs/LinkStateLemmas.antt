@@ -6,7 +6,7 @@ use Rattle.std.proofs.lemmas.List.{length-replicate}
 use Rattle.circuit_model.specs.Holding.{Connect, Seat as Take_seat, Clear}
 use Rattle.circuit_model.proofs.Slots.{true_or_false}
 use Rattle.exchange_events.specs.declared.trace.Event.{Event}
-use Rattle.exchange_events.specs.declared.trace.Event.TheVariants.{Nail, Seat, Free, Message, Frame, LinkUp, LinkDown}
+use Rattle.exchange_events.specs.declared.trace.Event.TheVariants.{Nail, Seat, Free, Message, Frame, LinkUp, LinkDown, RestartLine}
 use Rattle.exchange_events.specs.Sizes.{Setting, Dimensions}
 use Rattle.exchange_events.specs.Sound.{Fits}
 use Rattle.call_states.specs.Acts.{act_on}
@@ -16,7 +16,7 @@ use Rattle.call_profile.specs.Calls.{Request, For_leg, New_call, On_no_call, Res
 use Rattle.call_profile.specs.Expiring.{slot_looked_at, expire_slot}
 use Rattle.call_profile.specs.IdleSlots.{is_nailed}
 use Rattle.call_profile.specs.Legs.{is_down}
-use Rattle.call_profile.specs.LinkChanges.{outcome_of_link, rule_of, with_line}
+use Rattle.call_profile.specs.LinkChanges.{give_up_rule, give_up_slot, outcome_of_line_restart, outcome_of_link, rule_of, with_line}
 use Rattle.call_profile.specs.Operations as op
 use Rattle.call_profile.specs.Operations.{Operation, Making, making_at, making_after, making_after_all}
 use Rattle.call_profile.specs.Outages.{down_after, down_after_all, KeepsLinks, HasNoFailure, NoLinkIsDown}
@@ -25,7 +25,7 @@ use Rattle.call_profile.specs.Setup.{course_of_setup}
 use Rattle.call_profile.specs.Step.{next, may_nail, may_seat, world_after_all}
 use Rattle.call_profile.specs.World.{World, start, obey, pass}
 use Rattle.call_profile.proofs.ExpiringLemmas.{each_line}
-use Rattle.call_profile.proofs.RestartedSlotLemmas.{each_below, linked_by}
+use Rattle.call_profile.proofs.RestartedSlotLemmas.{each_below, line_restarted_by, linked_by}
 
 -- ---- operations leave the links as they are
 
@@ -60,6 +60,13 @@ linked_down s w down line = linked_by s.dimensions s.tones down line w (λ v. v.
     each_below s.dimensions (rule_of s.tones whole down) line (with_line w line down) (λ a. a.making.world.legs.down ≡ slice_set w.legs.down line down) refl
     (λ a place small same. performed_all_down s.dimensions a.making ((rule_of s.tones whole down).does a.making.world.legs (record { line = line; place = place })) ∙ same) 30 (omega arith))
 
+line_restart_down : (s : Setting) (w : World) (line : ℕ) → (outcome_of_line_restart s.dimensions s.tones line w).making.world.legs.down ≡ w.legs.down
+line_restart_down s w line =
+    let owed : Bool = is_down w.legs line in
+    line_restarted_by s.dimensions s.tones line w (λ v. v.legs.down ≡ w.legs.down)
+    (each_below s.dimensions (give_up_rule s.tones owed) line w (λ a. a.making.world.legs.down ≡ w.legs.down) refl
+    (λ a place small same. performed_all_down s.dimensions a.making (give_up_slot s.tones owed a.making.world.legs (record { line = line; place = place })) ∙ same) 30 (omega arith))
+
 -- ---- an event
 
 -- the links after an event
@@ -70,6 +77,7 @@ links_after links (Free x) = links
 links_after links (Message line octets) = links
 links_after links (LinkUp line) = slice_set links line false
 links_after links (LinkDown line) = slice_set links line true
+links_after links (RestartLine line) = links
 links_after links (Frame input) = links
 
 either_down : (b : Bool) (v w : World) → v.legs.down ≡ w.legs.down → (if b then v else w).legs.down ≡ w.legs.down
@@ -83,6 +91,7 @@ next_links s w (Free x) = either_down (is_nailed w x) (obey s.dimensions w (Clea
 next_links s w (Message line octets) = received_down s w line (request_of w.legs line octets)
 next_links s w (LinkUp line) = linked_down s w false line
 next_links s w (LinkDown line) = linked_down s w true line
+next_links s w (RestartLine line) = line_restart_down s w line
 next_links s w (Frame input) =
     let f : ℕ = w.holding.next in
     each_line s f (pass w input) (λ a. a.making.world.legs.down ≡ w.legs.down) refl
@@ -95,6 +104,7 @@ length-links_after links (Free x) = refl
 length-links_after links (Message line octets) = refl
 length-links_after links (LinkUp line) = length-set links line false
 length-links_after links (LinkDown line) = length-set links line true
+length-links_after links (RestartLine line) = refl
 length-links_after links (Frame input) = refl
 
 -- ---- one line
@@ -117,6 +127,7 @@ link_after external links (Free x) line size fits = refl
 link_after external links (Message other octets) line size fits = refl
 link_after external links (LinkUp other) line size fits = set_link links line other false (subst (λ (n : ℕ). other < n) (sym size) fits)
 link_after external links (LinkDown other) line size fits = set_link links line other true (subst (λ (n : ℕ). other < n) (sym size) fits)
+link_after external links (RestartLine other) line size fits = refl
 link_after external links (Frame input) line size fits = refl
 
 pub is_down_next : (s : Setting) (w : World) (e : Event) (line : ℕ) → length w.legs.down ≡ s.dimensions.external → Fits s.dimensions.external e → is_down (next s w e).legs line ≡ down_after line (is_down w.legs line) e
@@ -158,6 +169,7 @@ stays_up line (Free x) keeps = refl
 stays_up line (Message other octets) keeps = refl
 stays_up line (LinkUp other) keeps = either_up (line == other)
 stays_up line (LinkDown other) keeps = absurd keeps
+stays_up line (RestartLine other) keeps = refl
 stays_up line (Frame input) keeps = refl
 
 all_stay_up : (line : ℕ) (es : List Event) → All KeepsLinks es → down_after_all line false es ≡ false

@@ -35,6 +35,7 @@ use Rattle.call_profile.specs.Acts.{answered, in_state, in_release_request, in_d
 use Rattle.call_profile.specs.Digits.{asked_with, digits_refusal, dial_on, with_pending}
 use Rattle.call_profile.specs.Expiring.{timed_state, send_again, on_expiry, expire_slot, due_of}
 use Rattle.call_profile.specs.LegStanding.{HasPeer, IsInCall, are_matched, LegsStand}
+use Rattle.call_profile.specs.LinkChanges.{give_up_leg, give_up_slot, whole_line}
 use Rattle.call_profile.specs.Legs.{Legs, is_down, leg_at, pending_at, kept_at, with_entry}
 use Rattle.call_profile.specs.Operations as op
 use Rattle.call_profile.specs.Operations.{Operation, Making, Await, Put, begun, making_after, making_after_all}
@@ -47,6 +48,7 @@ use Rattle.call_profile.proofs.BesideLemmas.{same_or_apart}
 use Rattle.call_profile.proofs.ClearingLemmas.{held_there}
 use Rattle.call_profile.proofs.ExpiringLemmas.{at_slot}
 use Rattle.call_profile.proofs.ExpiryStateLemmas.{due_state}
+use Rattle.call_profile.proofs.LinkLemmas.{at_held}
 use Rattle.call_profile.proofs.MessageToLegLemmas.{Asked, two_ring, one_rings}
 use Rattle.call_profile.proofs.RestartLemmas.{at_slot as at_restarted}
 use Rattle.call_profile.proofs.SetupLemmas.{caller_is}
@@ -204,6 +206,10 @@ module _ (d : Dimensions) (links : List Bool) where
   pub restart_may : (tones : Tones) (r : Restart) (legs : Legs) (x : Slot) → MayAll (restart_slot tones r legs x)
   restart_may tones r legs x =
       at_restarted tones r legs x MayAll tt (λ leg at. (tt, (tt, other_may tones temporary_failure false r x.line (peer_of legs leg.peer))))
+
+  pub give_up_starts : (tones : Tones) (owed : Bool) (legs : Legs) (x : Slot) → MayAll (give_up_slot tones owed legs x)
+  give_up_starts tones owed legs x =
+      at_held legs x (give_up_leg tones owed legs x) MayAll (λ none. (tt, tt)) (λ leg at. (tt, (tt, other_may tones temporary_failure owed whole_line x.line (peer_of legs leg.peer))))
 
   -- ---- an expiry
 

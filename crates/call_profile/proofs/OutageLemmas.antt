@@ -10,7 +10,7 @@ use Rattle.circuit_model.specs.Holding.{Connect, Seat as Take_seat, Clear}
 use Rattle.circuit_model.proofs.Slots.{true_or_false}
 use Rattle.control_memory.specs.Layout.{number_of, slot_numbered}
 use Rattle.q931_codec.specs.Causes.{destination_out_of_order}
-use Rattle.q931_codec.specs.CallStates.{active, overlap_sending}
+use Rattle.q931_codec.specs.CallStates.{active, overlap_sending, release_request}
 use Rattle.q931_codec.specs.Contents.{call_state_in}
 use Rattle.call_timers.specs.declared.expiry.Expiry.TheVariants as expiry
 use Rattle.call_states.proofs.Causes.{cause_fits}
@@ -20,7 +20,7 @@ use Rattle.call_states.specs.declared.leg.Peer.{Peer}
 use Rattle.call_states.specs.declared.leg.Peer.TheVariants as peer
 use Rattle.clearing_rules.specs.UnknownReference.{answer_without_call}
 use Rattle.exchange_events.specs.declared.trace.Event.{Event}
-use Rattle.exchange_events.specs.declared.trace.Event.TheVariants.{Nail, Seat, Free, Message, Frame, LinkUp, LinkDown}
+use Rattle.exchange_events.specs.declared.trace.Event.TheVariants.{Nail, Seat, Free, Message, Frame, LinkUp, LinkDown, RestartLine}
 use Rattle.exchange_events.specs.Sizes.{Setting, Dimensions}
 use Rattle.exchange_events.specs.Sound.{Fits, IsPlanned}
 use Rattle.call_profile.specs.ActCourse.{course_of}
@@ -32,7 +32,7 @@ use Rattle.call_profile.specs.ExpiryBounds.{NoneIsLost}
 use Rattle.call_profile.specs.IdleSlots.{is_nailed, lowest_called, lowest_idle_beside}
 use Rattle.call_profile.specs.Legs.{Legs, is_down, retransmitted_from, leg_at, no_legs, is_owed}
 use Rattle.call_profile.specs.LegStanding.{CallsStand}
-use Rattle.call_profile.specs.LinkChanges.{being_cleared}
+use Rattle.call_profile.specs.LinkChanges.{being_cleared, give_up_rule, give_up_slot}
 use Rattle.call_profile.specs.Operations.{begun, making_at}
 use Rattle.call_profile.specs.Outages.{OutagesStand, NoLinkIsDown, HasNoFailure, IsOnLineUp, enquired_in}
 use Rattle.call_profile.specs.Restarts.{restart_slot, restart_rule}
@@ -43,11 +43,11 @@ use Rattle.call_profile.specs.World.{World, start, obey, pass}
 use Rattle.call_profile.proofs.DroppedLineLemmas.{others_are_gone, cleared_stay, none_stay, active_wait, other_lines_are_left}
 use Rattle.call_profile.proofs.EntryLemmas.{get_or-bare}
 use Rattle.call_profile.proofs.ExpiringLemmas.{each_line, place_within}
-use Rattle.call_profile.proofs.LinkedLegLemmas.{Follows, follows_always, Wait, performed_all, restart_may, expire_may, back_may, course_may, setup_may, due_awaits}
+use Rattle.call_profile.proofs.LinkedLegLemmas.{Follows, follows_always, Wait, performed_all, restart_may, give_up_starts, expire_may, back_may, course_may, setup_may, due_awaits}
 use Rattle.call_profile.proofs.LinkStateLemmas.{next_links, links_after, length-next_links, none_fails, all_up}
 use Rattle.call_profile.proofs.MessageToLegLemmas.{Asked-act_of}
 use Rattle.call_profile.proofs.NamedLegLemmas.{received_stands}
-use Rattle.call_profile.proofs.RestartedSlotLemmas.{each_below}
+use Rattle.call_profile.proofs.RestartedSlotLemmas.{each_below, line_restarted_by}
 use Rattle.call_profile.proofs.ResumedLineLemmas.{legs_are_resumed}
 use Rattle.call_profile.proofs.StandingLegLemmas.{start_stands, happened_kept, run_stands}
 use Rattle.call_profile.proofs.OwedEventLemmas.{next_owed}
@@ -203,7 +203,10 @@ module _ (s : Setting) (w : World) (stands : CallsStand s w) (wait : Wait s.dime
       | inl up ↦ rw up ((λ is. refl), (λ is asked. refl), (λ asked. ap (is_among enquired_in) (eqb-true l.state active up)))
       | inr not_up ↦ elim (true_or_false (l.state == overlap_sending)) [
         | inl dials ↦ rw (not_up, dials) ((λ e. absurd cc), (λ e asked. refl), (λ asked. refl))
-        | inr other ↦ rw (not_up, other) ((λ is. absurd (grind (arith, common_steps, not_up, is))), (λ is asked. refl), old.2)
+        | inr other ↦ elim (true_or_false (l.state == release_request)) [
+          | inl clears ↦ rw (not_up, other, clears) ((λ is. absurd (grind (arith, common_steps, not_up, is))), (λ is asked. refl), old.2)
+          | inr quiet ↦ rw (not_up, other, quiet) ((λ is. absurd (grind (arith, common_steps, not_up, is))), (λ is asked. refl), old.2)
+        ]
       ]
     ]
 
@@ -225,6 +228,16 @@ module _ (s : Setting) (w : World) (stands : CallsStand s w) (wait : Wait s.dime
     established : Now (set w.legs.down line false) raised
     established z leg in_z at = raised_by z leg (leg_at w.legs z) in_z refl (sym (legs_are_resumed s w line can z in_z) ∙ at)
 
+  -- ---- the exchange restarts a line
+
+  line_restarted : (line : ℕ) → Now w.legs.down (next s w (RestartLine line))
+  line_restarted line =
+      let owed : Bool = is_down w.legs line in
+      line_restarted_by d s.tones line w (Now w.legs.down)
+      (each_below d (give_up_rule s.tones owed) line w (λ a. Wait d w.legs.down a.making.world.legs) wait (λ a place small so_far.
+      let x : Slot = record { line = line; place = place } in
+      performed_all d w.legs.down a.making (give_up_slot s.tones owed a.making.world.legs x) (give_up_starts d w.legs.down s.tones owed a.making.world.legs x) so_far) 30 (omega arith))
+
   -- ---- every event
 
   either_waits : (b : Bool) (u v : World) → Now w.legs.down u → Now w.legs.down v → Now w.legs.down (if b then u else v)
@@ -238,6 +251,7 @@ module _ (s : Setting) (w : World) (stands : CallsStand s w) (wait : Wait s.dime
   next_waits (Message line octets) fits size = received line octets fits.0 (request_of w.legs line octets) refl
   next_waits (LinkUp line) fits size = established line (record { stands = stands; line_exists = fits }) size
   next_waits (LinkDown line) fits size = dropped line (record { stands = stands; line_exists = fits }) size
+  next_waits (RestartLine line) fits size = line_restarted line
   next_waits (Frame input) fits size = turned input
 
 pub outages_kept : (s : Setting) (w : World) (e : Event) → Fits s.dimensions.external e → CallsStand s w → OutagesStand s.dimensions.external w.legs → OutagesStand s.dimensions.external (next s w e).legs

@@ -1,5 +1,5 @@
 -- A RESTART is owed only on a line whose data link is down: every event.
-use Rattle.std.proofs.Common.{◌≡◌, ℕ, zero, suc, ◌<◌, ◌≤◌, ◌⊎◌, inl, inr, Bool, true, false, List, [], length, Some, refl, sym, ◌∙◌, ap, subst, arith, eqb-true, set, get_or-set_same, get_or-set_other, if◌then◌else◌}
+use Rattle.std.proofs.Common.{◌≡◌, ℕ, zero, suc, ◌<◌, ◌≤◌, ◌⊎◌, inl, inr, Bool, true, false, List, [], length, Option, None, Some, refl, sym, ◌∙◌, ap, subst, arith, eqb-true, set, get_or-set_same, get_or-set_other, if◌then◌else◌}
 use Rattle.std.specs.Prelude.{◌==◌, is_none, slice_index_or}
 use Rattle.std.proofs.lemmas.Grind.{common_steps}
 use Rattle.circuit_model.specs.declared.channel.Slot.{Slot}
@@ -10,23 +10,25 @@ use Rattle.circuit_model.proofs.Slots.{true_or_false}
 use Rattle.control_memory.specs.Layout.{number_of}
 use Rattle.q931_codec.specs.Causes.{temporary_failure}
 use Rattle.call_states.specs.Acts.{act_on}
+use Rattle.call_states.specs.declared.leg.HeldLeg.{HeldLeg}
 use Rattle.call_states.specs.declared.leg.Leg.{Leg}
 use Rattle.clearing_rules.specs.UnknownReference.{answer_without_call}
 use Rattle.exchange_events.specs.declared.trace.Event.{Event}
-use Rattle.exchange_events.specs.declared.trace.Event.TheVariants.{Nail, Seat, Free, Message, Frame, LinkUp, LinkDown}
+use Rattle.exchange_events.specs.declared.trace.Event.TheVariants.{Nail, Seat, Free, Message, Frame, LinkUp, LinkDown, RestartLine}
 use Rattle.exchange_events.specs.Sizes.{Setting, Dimensions}
 use Rattle.exchange_events.specs.Sound.{Fits}
 use Rattle.tone_rules.specs.declared.tones.Tones.{Tones}
 use Rattle.call_profile.specs.ActCourse.{course_of}
-use Rattle.call_profile.specs.Acts.{in_disconnect_indication, with_enquiry}
+use Rattle.call_profile.specs.Acts.{in_disconnect_indication, peer_of, with_enquiry}
 use Rattle.call_profile.specs.Calls.{Request, For_leg, New_call, On_no_call, Restarts, Unanswered, answer_back, outcome_for, request_of}
-use Rattle.call_profile.specs.Expiring.{expire_slot, slot_looked_at}
+use Rattle.call_profile.specs.Expiring.{expire_slot, send_again, slot_looked_at}
 use Rattle.call_profile.specs.IdleSlots.{is_nailed}
-use Rattle.call_profile.specs.Legs.{Legs, is_owed, leg_at, with_entry}
+use Rattle.call_profile.specs.Legs.{Legs, is_down, is_owed, kept_at, leg_at, retransmitted_from, with_entry, with_kept}
 use Rattle.call_profile.specs.LegStanding.{CallsStand}
-use Rattle.call_profile.specs.LinkChanges.{drop_slot, restart_channel, resume_held, resume_slot, rule_of, with_line}
+use Rattle.call_profile.specs.LinkChanges.{drop_slot, give_up_leg, give_up_rule, give_up_slot, restart_channel, whole_line, resume_held, resume_slot, rule_of, with_line}
 use Rattle.call_profile.specs.Operations.{Operation, Making, begun, making_at, making_after_all}
-use Rattle.call_profile.specs.Restarts.{MessageOutcome, outcome_below, restart_slot, restart_rule}
+use Rattle.call_profile.specs.Peers.{PeerIsThere}
+use Rattle.call_profile.specs.Restarts.{MessageOutcome, outcome_below, restart_slot, restart_rule, restarts_slot}
 use Rattle.call_profile.specs.Setup.{refusal, course_of_setup}
 use Rattle.call_profile.specs.Step.{next, may_nail, may_seat}
 use Rattle.call_profile.specs.World.{World, obey, pass}
@@ -34,11 +36,13 @@ use Rattle.call_profile.proofs.BesideLemmas.{leg_at-with_entry_here}
 use Rattle.call_profile.proofs.ClearingLemmas.{Kept}
 use Rattle.call_profile.proofs.CommandLemmas.{both_true}
 use Rattle.call_profile.proofs.ExpiringLemmas.{each_line, place_within}
+use Rattle.call_profile.proofs.GivenUpSlotLemmas.{give_up_kept}
 use Rattle.call_profile.proofs.LinkLemmas.{at_held, by_resume, linked_kept, rule_kept}
 use Rattle.call_profile.proofs.LinkedLegLemmas.{Wait, due_awaits, expire_may, performed_all}
 use Rattle.call_profile.proofs.LinkStateLemmas.{links_after, performed_all_down}
-use Rattle.call_profile.proofs.OwedSlotLemmas.{Owes, set_flag, owed_all, restart_owes, expire_owes, back_owes, course_owes, setup_owes, drop_owes, resume_owes}
-use Rattle.call_profile.proofs.RestartedSlotLemmas.{below_none, below_more, each_below, linked_by}
+use Rattle.call_profile.proofs.OwedSlotLemmas.{OweAll, Owes, set_flag, owed_all, restart_owes, expire_owes, back_owes, course_owes, setup_owes, drop_owes, other_owes, resume_owes}
+use Rattle.call_profile.proofs.PermittedActLemmas.{peer_there_too}
+use Rattle.call_profile.proofs.RestartedSlotLemmas.{below_none, below_more, each_below, line_restarted_by, linked_by}
 use Rattle.call_profile.proofs.VacantSlotLemmas.{same_parts}
 
 -- ---- once the link is up, a slot is owed nothing after its turn
@@ -64,6 +68,12 @@ module _ (d : Dimensions) (tones : Tones) (m : Making) (x : Slot) (kept : Kept d
       cc
   channel_paid false whole is after = let wrong : false ≡ true = sym is ∙ after in cc
 
+  again_paid : (leg : Leg) → leg_at m.world.legs x ≡ Some leg → (o : Option (List ℕ)) → Paid (send_again (record { slot = x; leg = leg }) o)
+  again_paid leg at None = held_paid m.world.legs leg at
+  again_paid leg at (Some octets) =
+      let anew : Leg = retransmitted_from m.world.holding.next leg in
+      held_paid (with_kept m.world.legs x anew octets) anew (leg_at-with_entry_here d.external m.world.legs x (Some anew) kept.1.count within)
+
   pub slot_paid : (whole : Bool) → Paid (resume_slot tones whole m.world.legs x)
   slot_paid whole = at_held m.world.legs x (resume_held tones whole m.world.legs x) Paid (λ none. channel_paid (is_owed m.world.legs x) whole refl) (λ leg at.
       by_resume d tones m x leg kept within at Paid
@@ -71,7 +81,30 @@ module _ (d : Dimensions) (tones : Tones) (m : Making) (x : Slot) (kept : Kept d
       (leg_at-with_entry_here d.external m.world.legs x (Some (begun m.world (with_enquiry true leg))) kept.1.count within))
       (λ dials. held_paid (with_entry m.world.legs x (Some (begun m.world (in_disconnect_indication temporary_failure leg)))) (begun m.world (in_disconnect_indication temporary_failure leg))
       (leg_at-with_entry_here d.external m.world.legs x (Some (begun m.world (in_disconnect_indication temporary_failure leg))) kept.1.count within))
-      (held_paid m.world.legs leg at))
+      (λ clears. again_paid leg at (kept_at m.world.legs x)) (held_paid m.world.legs leg at))
+
+-- ---- a slot of a line that the exchange restarts: while the link is down, each slot of the line may be owed
+
+module _ (d : Dimensions) (May : Slot → Type 0) (tones : Tones) (owed : Bool) (m : Making) (x : Slot) (kept : Kept d tones m.world) (within : IsExternal d.external x)
+    (all : owed ≡ true → (z : Slot) → IsExternal d.external z → z.line ≡ x.line → May z) where
+  peer_may : (leg : Leg) (o : Option HeldLeg) → PeerIsThere d.external (record { slot = x; leg = leg }) o
+      → (k : HeldLeg) → o ≡ Some k → restarts_slot whole_line x.line k.slot ≡ true → owed ≡ true → (k.slot.place < 30) × May k.slot
+  peer_may leg None there k is on due = absurd cc
+  peer_may leg (Some j) there k is on due =
+      let same : j ≡ k = cc in
+      let in_k : IsExternal d.external k.slot = subst (λ (h : HeldLeg). IsExternal d.external h.slot) same there.0.within in
+      (in_k.1, all due k.slot in_k (eqb-true k.slot.line x.line (both_true (k.slot.line == x.line) true on).0))
+
+  pub give_up_owes : OweAll d May (give_up_slot tones owed m.world.legs x)
+  give_up_owes = at_held m.world.legs x (give_up_leg tones owed m.world.legs x) (OweAll d May) (λ none. ((λ due. (within.1, all due x within refl)), tt)) (λ leg at.
+      let h : HeldLeg = record { slot = x; leg = leg } in (
+        tt,
+        (
+          (λ due. (within.1, all due x within refl)),
+          other_owes d May tones temporary_failure owed whole_line x.line (peer_of m.world.legs leg.peer)
+              (peer_may leg (peer_of m.world.legs leg.peer) (peer_there_too d.external tones m.world h kept.1 within at)),
+        ),
+      ))
 
 -- ---- an event
 
@@ -186,6 +219,20 @@ module _ (s : Setting) (w : World) (stands : CallsStand s w) where
         | inr later ↦ absurd (let low = in_z.1 in let high = later.1 in omega (arith, low, high))
       ])
 
+    -- ---- the exchange restarts a line
+
+    line_restarted : (line : ℕ) → line < d.external → OnlyDown w.legs.down (next s w (RestartLine line))
+    line_restarted line below =
+        let links : List Bool = w.legs.down in
+        let due : Bool = is_down w.legs line in
+        line_restarted_by d s.tones line w (OnlyDown links)
+        (each_below d (give_up_rule s.tones due) line w (λ a. OnlyDown links a.making.world × Kept d s.tones a.making.world) (before, (stands.circuits, stands.legs)) (λ a place small k.
+        let x : Slot = record { line = line; place = place } in (
+          owed_all d (Down links) a.making (give_up_slot s.tones due a.making.world.legs x) (give_up_owes d (Down links) s.tones due a.making x k.1 (below, small)
+              (λ is z in_z on. ap (λ (n : ℕ). slice_index_or links n false) on ∙ is)) k.0,
+          give_up_kept d s.tones due a.making x k.1 (below, small),
+        )) 30 (omega arith)).0
+
     either_owed : (b : Bool) (u v : World) → OnlyDown w.legs.down u → OnlyDown w.legs.down v → OnlyDown w.legs.down (if b then u else v)
     either_owed true u v one other = one
     either_owed false u v one other = other
@@ -197,4 +244,5 @@ module _ (s : Setting) (w : World) (stands : CallsStand s w) where
     next_owed wait (Message line octets) fits size = received line (request_of w.legs line octets)
     next_owed wait (LinkUp line) fits size = established line fits size
     next_owed wait (LinkDown line) fits size = dropped line fits size
+    next_owed wait (RestartLine line) fits size = line_restarted line fits
     next_owed wait (Frame input) fits size = turned wait input

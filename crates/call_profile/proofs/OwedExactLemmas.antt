@@ -9,7 +9,7 @@ use Rattle.call_states.specs.declared.leg.Leg.{Leg}
 use Rattle.call_timers.specs.declared.expiry.Expiry.{Expiry}
 use Rattle.clearing_rules.specs.UnknownReference.{answer_without_call}
 use Rattle.exchange_events.specs.declared.trace.Event.{Event}
-use Rattle.exchange_events.specs.declared.trace.Event.TheVariants.{Nail, Seat, Free, Message, Frame, LinkUp, LinkDown}
+use Rattle.exchange_events.specs.declared.trace.Event.TheVariants.{Nail, Seat, Free, Message, Frame, LinkUp, LinkDown, RestartLine}
 use Rattle.exchange_events.specs.Sizes.{Setting, Dimensions}
 use Rattle.exchange_events.specs.Sound.{Fits}
 use Rattle.call_profile.specs.ActCourse.{course_of}
@@ -181,4 +181,5 @@ module _ (s : Setting) (w : World) (stands : CallsStand s w) where
   owed_no_more (Message line octets) fits other = message_owes line (request_of w.legs line octets)
   owed_no_more (LinkUp line) fits other = up_owes line fits
   owed_no_more (LinkDown line) fits other = absurd other
+  owed_no_more (RestartLine line) fits other = absurd other
   owed_no_more (Frame input) fits other = absurd other

@@ -5,13 +5,14 @@ use Rattle.control_memory.specs.Layout.{number_of}
 use Rattle.call_states.specs.Acts.{act_on}
 use Rattle.clearing_rules.specs.UnknownReference.{answer_without_call}
 use Rattle.exchange_events.specs.declared.trace.Event.{Event}
-use Rattle.exchange_events.specs.declared.trace.Event.TheVariants.{Nail, Seat, Free, Message, Frame, LinkUp, LinkDown}
+use Rattle.exchange_events.specs.declared.trace.Event.TheVariants.{Nail, Seat, Free, Message, Frame, LinkUp, LinkDown, RestartLine}
 use Rattle.exchange_events.specs.Sizes.{Setting, Dimensions}
 use Rattle.call_profile.specs.ActCourse.{course_of}
 use Rattle.call_profile.specs.Calls.{Request, For_leg, New_call, On_no_call, Restarts, Unanswered, answer_back, outcome_for, request_of}
 use Rattle.call_profile.specs.Expiring.{expire_slot, slot_looked_at}
 use Rattle.call_profile.specs.IdleSlots.{is_nailed}
-use Rattle.call_profile.specs.LinkChanges.{outcome_of_link, rule_of, with_line}
+use Rattle.call_profile.specs.Legs.{is_down}
+use Rattle.call_profile.specs.LinkChanges.{give_up_rule, give_up_slot, outcome_of_line_restart, outcome_of_link, rule_of, with_line}
 use Rattle.call_profile.specs.Operations as op
 use Rattle.call_profile.specs.Operations.{Operation, Making, making_at, making_after, making_after_all}
 use Rattle.call_profile.specs.Restarts.{restart_slot, restart_rule}
@@ -19,7 +20,7 @@ use Rattle.call_profile.specs.Setup.{course_of_setup}
 use Rattle.call_profile.specs.Step.{next, may_nail, may_seat}
 use Rattle.call_profile.specs.World.{World, obey, pass}
 use Rattle.call_profile.proofs.ExpiringLemmas.{each_line}
-use Rattle.call_profile.proofs.RestartedSlotLemmas.{each_below, linked_by}
+use Rattle.call_profile.proofs.RestartedSlotLemmas.{each_below, line_restarted_by, linked_by}
 
 abbrev flags_of : World → ℕ
 flags_of w = length w.legs.owed
@@ -55,6 +56,13 @@ linked_flags s w down line = linked_by s.dimensions s.tones down line w (λ v. f
     each_below s.dimensions (rule_of s.tones whole down) line (with_line w line down) (λ a. flags_of a.making.world ≡ flags_of w) refl
     (λ a place small same. performed_all_flags s.dimensions a.making ((rule_of s.tones whole down).does a.making.world.legs (record { line = line; place = place })) ∙ same) 30 (omega arith))
 
+line_restart_flags : (s : Setting) (w : World) (line : ℕ) → flags_of (outcome_of_line_restart s.dimensions s.tones line w).making.world ≡ flags_of w
+line_restart_flags s w line =
+    let owed : Bool = is_down w.legs line in
+    line_restarted_by s.dimensions s.tones line w (λ v. flags_of v ≡ flags_of w)
+    (each_below s.dimensions (give_up_rule s.tones owed) line w (λ a. flags_of a.making.world ≡ flags_of w) refl
+    (λ a place small same. performed_all_flags s.dimensions a.making (give_up_slot s.tones owed a.making.world.legs (record { line = line; place = place })) ∙ same) 30 (omega arith))
+
 either_flags : (b : Bool) (v w : World) → flags_of v ≡ flags_of w → flags_of (if b then v else w) ≡ flags_of w
 either_flags true v w same = same
 either_flags false v w same = refl
@@ -66,6 +74,7 @@ next_flags s w (Free x) = either_flags (is_nailed w x) (obey s.dimensions w (Cle
 next_flags s w (Message line octets) = received_flags s w line (request_of w.legs line octets)
 next_flags s w (LinkUp line) = linked_flags s w false line
 next_flags s w (LinkDown line) = linked_flags s w true line
+next_flags s w (RestartLine line) = line_restart_flags s w line
 next_flags s w (Frame input) =
     let f : ℕ = w.holding.next in
     each_line s f (pass w input) (λ a. flags_of a.making.world ≡ flags_of w) refl

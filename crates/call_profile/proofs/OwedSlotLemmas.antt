@@ -135,7 +135,7 @@ module _ (d : Dimensions) (May : Slot → Type 0) where
 
   -- ---- a restart, of the user or of the exchange
 
-  other_owes : (tones : Tones) (cause : ℕ) (owed : Bool) (r : Restart) (line : ℕ) (o : Option HeldLeg) → ((k : HeldLeg) → o ≡ Some k → restarts_slot r line k.slot ≡ true → owed ≡ true → (k.slot.place < 30) × May k.slot)
+  pub other_owes : (tones : Tones) (cause : ℕ) (owed : Bool) (r : Restart) (line : ℕ) (o : Option HeldLeg) → ((k : HeldLeg) → o ≡ Some k → restarts_slot r line k.slot ≡ true → owed ≡ true → (k.slot.place < 30) × May k.slot)
       → OweAll (with_peer o (restart_peer tones cause owed r line))
   other_owes tones cause owed r line None may = tt
   other_owes tones cause owed r line (Some k) may = elim (true_or_false (restarts_slot r line k.slot)) [
@@ -277,4 +277,5 @@ module _ (d : Dimensions) (May : Slot → Type 0) where
 
     pub resume_owes : (whole : Bool) → OweAll (resume_slot tones whole m.world.legs x)
     resume_owes whole = at_held m.world.legs x (resume_held tones whole m.world.legs x) OweAll (λ none. channel_owes (is_owed m.world.legs x) whole) (λ leg at.
-        by_resume d tones m x leg kept within at OweAll (λ talks. (tt, (tt, tt))) (λ dials. cleared_owes tones temporary_failure (record { slot = x; leg = leg }) [] tt) tt)
+        by_resume d tones m x leg kept within at OweAll (λ talks. (tt, (tt, tt))) (λ dials. cleared_owes tones temporary_failure (record { slot = x; leg = leg }) [] tt)
+        (λ clears. again_owes (record { slot = x; leg = leg }) (kept_at m.world.legs x)) tt)

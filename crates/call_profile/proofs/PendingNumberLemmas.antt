@@ -14,14 +14,14 @@ use Rattle.call_states.specs.declared.pending.Pending.{Pending}
 use Rattle.clearing_rules.specs.UnknownReference.{answer_without_call}
 use Rattle.tone_rules.specs.declared.tones.Tones.{Tones}
 use Rattle.exchange_events.specs.declared.trace.Event.{Event}
-use Rattle.exchange_events.specs.declared.trace.Event.TheVariants.{Nail, Seat, Free, Message, Frame, LinkUp, LinkDown}
+use Rattle.exchange_events.specs.declared.trace.Event.TheVariants.{Nail, Seat, Free, Message, Frame, LinkUp, LinkDown, RestartLine}
 use Rattle.exchange_events.specs.Sizes.{Setting, Dimensions}
 use Rattle.exchange_events.specs.Sound.{Fits, IsPlanned}
 use Rattle.call_profile.specs.ActCourse.{course_of}
 use Rattle.call_profile.specs.Calls.{Request, For_leg, New_call, On_no_call, Restarts, Unanswered, request_of, answer_back, outcome_for}
 use Rattle.call_profile.specs.Expiring.{slot_looked_at, expire_slot}
 use Rattle.call_profile.specs.IdleSlots.{is_nailed}
-use Rattle.call_profile.specs.Legs.{Legs, waiting_from, retransmitted_from, leg_at, pending_at, no_legs, with_entry}
+use Rattle.call_profile.specs.Legs.{Legs, is_down, waiting_from, retransmitted_from, leg_at, pending_at, no_legs, with_entry}
 use Rattle.call_profile.specs.LegStanding.{CallsStand}
 use Rattle.call_profile.specs.Operations as op
 use Rattle.call_profile.specs.Operations.{Operation, Making, begun, with_legs, making_at, making_after, making_after_all}
@@ -41,9 +41,10 @@ use Rattle.call_profile.proofs.ToneLemmas.{with_tone_sounding_next}
 use Rattle.call_profile.proofs.Permitted.{IsPermitted, ArePermitted}
 use Rattle.call_profile.proofs.PermittedLemmas.{act_may, call_may, answer_may}
 use Rattle.call_profile.proofs.RestartLemmas.{slot_kept, slot_permitted}
-use Rattle.call_profile.proofs.RestartedSlotLemmas.{each_below, linked_by}
-use Rattle.call_profile.specs.LinkChanges.{outcome_of_link, rule_of, with_line}
+use Rattle.call_profile.proofs.RestartedSlotLemmas.{each_below, line_restarted_by, linked_by}
+use Rattle.call_profile.specs.LinkChanges.{give_up_rule, give_up_slot, outcome_of_line_restart, outcome_of_link, rule_of, with_line}
 use Rattle.call_profile.proofs.LinkLemmas.{linked_kept, rule_kept, rule_may}
+use Rattle.call_profile.proofs.GivenUpSlotLemmas.{give_up_kept, give_up_may}
 
 -- ---- one entry written
 
@@ -72,7 +73,7 @@ abbrev pub EntriesStand : ℕ → List Number → World → Type 0
 EntriesStand external plan w = NumbersPend external plan w.legs × LegsWait external w.holding.next w.legs
 
 -- which depends neither on what users are owed nor on the data links
-flags_stand : (external : ℕ) (plan : List Number) (w : World) (owed down : List Bool) → EntriesStand external plan w → EntriesStand external plan (with_legs w (record w.legs { owed = owed; down = down }))
+pub flags_stand : (external : ℕ) (plan : List Number) (w : World) (owed down : List Bool) → EntriesStand external plan w → EntriesStand external plan (with_legs w (record w.legs { owed = owed; down = down }))
 flags_stand external plan w owed down stand = (
   record { legs_count = stand.0.legs_count; count = stand.0.count; each = stand.0.each },
   record { legs_count = stand.1.legs_count; count = stand.1.count; since = stand.1.since; each = stand.1.each },
@@ -111,7 +112,7 @@ module _ (d : Dimensions) (tones : Tones) (plan : List Number) where
   performed m (op.Remove x owed) may stand = flags_stand d.external plan (with_legs m.world (with_entry m.world.legs x None)) _ _ (entered m.world x may stand None None None tt tt tt)
   performed m (op.Send line message) may stand = stand
 
-  performed_all : (m : Making) (os : List Operation) → ArePermitted d tones plan m os → Stand m.world → Stand (making_after_all d m os).world
+  pub performed_all : (m : Making) (os : List Operation) → ArePermitted d tones plan m os → Stand m.world → Stand (making_after_all d m os).world
   performed_all m [] may stand = stand
   performed_all m (o ∷ os) may stand = performed_all (making_after d m o) os may.1 (performed m o may.0 stand)
 
@@ -160,6 +161,19 @@ link_stands s w down line below stands = linked_by s.dimensions s.tones down lin
       rule_kept s.dimensions s.tones a.making x k.1 (below, small) whole down,
     )) 30 (omega arith)).0)
 
+-- ---- the exchange restarts a line
+
+line_stands : (s : Setting) (w : World) (line : ℕ) → line < s.dimensions.external → CallsStand s w → EntriesStand s.dimensions.external s.plan (outcome_of_line_restart s.dimensions s.tones line w).making.world
+line_stands s w line below stands =
+    let owed : Bool = is_down w.legs line in
+    line_restarted_by s.dimensions s.tones line w (EntriesStand s.dimensions.external s.plan)
+    (each_below s.dimensions (give_up_rule s.tones owed) line w (λ a. EntriesStand s.dimensions.external s.plan a.making.world × Kept s.dimensions s.tones a.making.world)
+    ((stands.numbers, stands.waits), (stands.circuits, stands.legs)) (λ a place small k.
+    let x : Slot = record { line = line; place = place } in (
+      performed_all s.dimensions s.tones s.plan a.making (give_up_slot s.tones owed a.making.world.legs x) (give_up_may s.dimensions s.tones owed a.making x k.1 (below, small) s.plan) k.0,
+      give_up_kept s.dimensions s.tones owed a.making x k.1 (below, small),
+    )) 30 (omega arith)).0
+
 -- ---- an event
 
 either_stand : (external : ℕ) (plan : List Number) (b : Bool) (v w : World) → EntriesStand external plan v → EntriesStand external plan w → EntriesStand external plan (if b then v else w)
@@ -173,6 +187,7 @@ entries_stand s w (Free x) planned fits stands = either_stand s.dimensions.exter
 entries_stand s w (Message line octets) planned fits stands = received s w line octets planned fits stands (request_of w.legs line octets) refl
 entries_stand s w (LinkUp line) planned fits stands = link_stands s w false line fits stands
 entries_stand s w (LinkDown line) planned fits stands = link_stands s w true line fits stands
+entries_stand s w (RestartLine line) planned fits stands = line_stands s w line fits stands
 entries_stand s w (Frame input) planned fits stands = turn_stands s w input stands
 
 -- ---- before the first event

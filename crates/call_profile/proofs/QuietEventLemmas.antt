@@ -3,7 +3,7 @@ use Rattle.std.proofs.Common.{◌≡◌, ℕ, Bool, true, false, List, [], ◌�
 use Rattle.circuit_model.specs.FrameInput.{Input}
 use Rattle.circuit_model.specs.Holding.{Connect, Seat as Take_seat, Clear}
 use Rattle.exchange_events.specs.declared.trace.Event.{Event}
-use Rattle.exchange_events.specs.declared.trace.Event.TheVariants.{Nail, Seat, Free, Message, Frame, LinkUp, LinkDown}
+use Rattle.exchange_events.specs.declared.trace.Event.TheVariants.{Nail, Seat, Free, Message, Frame, LinkUp, LinkDown, RestartLine}
 use Rattle.call_states.specs.Acts.{act_on}
 use Rattle.clearing_rules.specs.UnknownReference.{answer_without_call}
 use Rattle.call_profile.specs.ActCourse.{course_of}
@@ -18,9 +18,10 @@ use Rattle.call_profile.specs.Step.{next, may_nail, may_seat}
 use Rattle.call_profile.specs.Expiring.{slot_looked_at, expire_slot}
 use Rattle.call_profile.specs.World.{World, obey, pass}
 use Rattle.call_profile.proofs.ExpiringLemmas.{each_line}
-use Rattle.call_profile.proofs.RestartedSlotLemmas.{each_below, linked_by}
+use Rattle.call_profile.proofs.RestartedSlotLemmas.{each_below, line_restarted_by, linked_by}
 use Rattle.call_profile.proofs.ToneLemmas.{with_tone_sounding_next}
-use Rattle.call_profile.specs.LinkChanges.{outcome_of_link, rule_of, with_line}
+use Rattle.call_profile.specs.Legs.{is_down}
+use Rattle.call_profile.specs.LinkChanges.{give_up_rule, give_up_slot, outcome_of_line_restart, outcome_of_link, rule_of, with_line}
 
 -- two worlds with the same frames behind them
 pub record SameFrames (w v : World) : Type 0 where
@@ -73,6 +74,13 @@ linked_same s w down line = linked_by s.dimensions s.tones down line w (SameFram
     each_below s.dimensions (rule_of s.tones whole down) line (with_line w line down) (λ a. SameFrames w a.making.world) (record { inputs = refl; held = refl; seated = refl; next = refl })
     (λ a place small same. then_same w a.making.world _ same (performed_all_same s.dimensions a.making ((rule_of s.tones whole down).does a.making.world.legs (record { line = line; place = place })))) 30 (omega arith))
 
+line_restart_same : (s : Setting) (w : World) (line : ℕ) → SameFrames w (outcome_of_line_restart s.dimensions s.tones line w).making.world
+line_restart_same s w line =
+    let owed : Bool = is_down w.legs line in
+    line_restarted_by s.dimensions s.tones line w (SameFrames w)
+    (each_below s.dimensions (give_up_rule s.tones owed) line w (λ a. SameFrames w a.making.world) (record { inputs = refl; held = refl; seated = refl; next = refl })
+    (λ a place small same. then_same w a.making.world _ same (performed_all_same s.dimensions a.making (give_up_slot s.tones owed a.making.world.legs (record { line = line; place = place })))) 30 (omega arith))
+
 pub SameFrames-next : (s : Setting) (w : World) (e : Event) → ((input : Input) → ¬ (e ≡ Frame input)) → SameFrames w (next s w e)
 SameFrames-next s w (Nail x y) other = either_same (may_nail w x y) w (obey s.dimensions w (Connect x y)) (record { inputs = refl; held = refl; seated = refl; next = refl })
 SameFrames-next s w (Seat x room) other = either_same (may_seat s.dimensions w x) w (obey s.dimensions w (Take_seat x room)) (record { inputs = refl; held = refl; seated = refl; next = refl })
@@ -80,6 +88,7 @@ SameFrames-next s w (Free x) other = either_same (is_nailed w x) w (obey s.dimen
 SameFrames-next s w (Message line octets) other = received_same s w line (request_of w.legs line octets)
 SameFrames-next s w (LinkUp line) other = linked_same s w false line
 SameFrames-next s w (LinkDown line) other = linked_same s w true line
+SameFrames-next s w (RestartLine line) other = line_restart_same s w line
 SameFrames-next s w (Frame input) other = absurd (other input refl)
 
 -- what a frame does after its boundary leaves the frames as they are, this one among them

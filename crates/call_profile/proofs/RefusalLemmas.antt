@@ -13,7 +13,7 @@ use Rattle.call_profile.specs.Calls.{New_call, outcome_for, outcome_of_octets, a
 use Rattle.call_profile.specs.Legs.{leg_at}
 use Rattle.call_profile.specs.Restarts.{MessageOutcome}
 use Rattle.exchange_events.specs.declared.trace.Event.{Event}
-use Rattle.exchange_events.specs.declared.trace.Event.TheVariants.{Nail, Seat as Seat_event, Free, Message as Message_event, Frame, LinkUp, LinkDown}
+use Rattle.exchange_events.specs.declared.trace.Event.TheVariants.{Nail, Seat as Seat_event, Free, Message as Message_event, Frame, LinkUp, LinkDown, RestartLine}
 use Rattle.exchange_events.specs.declared.reply.Reply.{Reply}
 use Rattle.exchange_events.specs.declared.reply.Reply.TheVariants.{Busy, NoPort, Freed, NotNailed, Sent as Sent_reply}
 use Rattle.call_profile.specs.IdleSlots.{idle, is_nailed}
@@ -89,6 +89,7 @@ refused_next s w (Free x) e = refused_either (is_nailed w x) Freed NotNailed _ w
 refused_next s w (Message_event line octets) e = absurd cc
 refused_next s w (LinkUp line) e = absurd cc
 refused_next s w (LinkDown line) e = absurd cc
+refused_next s w (RestartLine line) e = absurd cc
 refused_next s w (Frame input) e = absurd cc
 
 -- there is no port exactly where the slot is idle and as many sit as there are ports

@@ -33,7 +33,7 @@ use Rattle.clearing_rules.specs.UnknownReference.{answer_without_call}
 use Rattle.tone_rules.specs.declared.tones.Tones.{Tones}
 use Rattle.tone_rules.specs.CallTones.{tone_given}
 use Rattle.exchange_events.specs.declared.trace.Event.{Event}
-use Rattle.exchange_events.specs.declared.trace.Event.TheVariants.{Nail, Seat, Free, Message, Frame, LinkUp, LinkDown}
+use Rattle.exchange_events.specs.declared.trace.Event.TheVariants.{Nail, Seat, Free, Message, Frame, LinkUp, LinkDown, RestartLine}
 use Rattle.exchange_events.specs.Sizes.{Setting, Dimensions}
 use Rattle.exchange_events.specs.Sound.{Fits, IsPlanned}
 use Rattle.call_profile.specs.Acts.{in_disconnect_indication, in_release_request, peer_of, with_peer, clear_with, remove_leg, with_enquiry}
@@ -59,6 +59,7 @@ use Rattle.call_profile.proofs.EntryLemmas.{get_or-bare}
 use Rattle.call_profile.proofs.ExpiringLemmas as expiring
 use Rattle.call_profile.proofs.ExpiringLemmas.{each_line, expiry_may, place_within, slot_fine}
 use Rattle.call_profile.proofs.ExpiryStateLemmas.{due_state}
+use Rattle.call_profile.proofs.GivenUpSlotLemmas.{give_up_kept}
 use Rattle.call_profile.proofs.KeptMessageLemmas.{each_is_kept}
 use Rattle.call_profile.proofs.MessageToLegLemmas.{Asked-act_of}
 use Rattle.call_profile.proofs.NamedLegLemmas.{received_stands}
@@ -67,11 +68,11 @@ use Rattle.call_profile.proofs.PermittedActLemmas.{peer_there_too, is_there}
 use Rattle.call_profile.proofs.PermittedLemmas.{act_may, call_may}
 use Rattle.call_profile.proofs.ReleaseEventLemmas.{IsElsewhere, PeerUnreleased, unreleased_by, sounding_of, peer_quiet_still, removed_sounds, clear_quiet, cleared_sounds, act_sounds, then_peer, answered_quiet}
 use Rattle.call_profile.proofs.ReleaseToneLemmas.{Sounding, Unreleased, AreHushed, Sounding-making_after, performed_all}
-use Rattle.call_profile.proofs.RestartedSlotLemmas.{each_below, linked_by}
+use Rattle.call_profile.proofs.RestartedSlotLemmas.{each_below, line_restarted_by, linked_by}
 use Rattle.call_profile.proofs.RestartLemmas as restarting
 use Rattle.call_profile.proofs.RestartLemmas.{slot_kept}
-use Rattle.call_profile.specs.LinkChanges.{outcome_of_link, rule_of, with_line, whole_line, drop_leg, enquire, restart_channel, resume_held, resume_leg}
-use Rattle.call_profile.proofs.LinkLemmas.{linked_kept, rule_kept, started_may, enquired_may, channel_may, by_drop, by_resume, at_held}
+use Rattle.call_profile.specs.LinkChanges.{give_up_leg, give_up_rule, give_up_slot, outcome_of_line_restart, outcome_of_link, rule_of, with_line, whole_line, drop_leg, enquire, restart_channel, resume_held, resume_leg}
+use Rattle.call_profile.proofs.LinkLemmas.{linked_kept, rule_kept, started_may, enquired_may, resent_may, channel_may, by_drop, by_resume, at_held}
 
 -- ---- a call is made, by a SETUP or for more digits
 
@@ -187,9 +188,14 @@ module _ (d : Dimensions) (tones : Tones) (m : Making) (x : Slot) (kept : Kept d
         cleared_sounds d tones plan m before k temporary_failure (is_there d.external tones m.world k kept.1 within at) (omega arith)
         (unreleased_by m.world x (Some leg) at (timed_elsewhere leg.state overlap_sending dials (λ e. absurd cc)))
 
-    resume_sounds : SoundsBy (resume_leg tones k)
+    resent_sounds : (o : Option (List ℕ)) → ArePermitted d tones plan m (send_again k o) → SoundsBy (send_again k o)
+    resent_sounds None may = before
+    resent_sounds (Some octets) may = performed_all d tones plan m (send_again k (Some octets)) may (tt, tt) before
+
+    resume_sounds : SoundsBy (resume_leg tones m.world.legs k)
     resume_sounds = by_resume d tones m x leg kept within at SoundsBy
-        (λ talks. performed_all d tones plan m (enquire k) (enquired_may d tones m x leg kept within at plan talks) (tt, (tt, tt)) before) digits_cleared before
+        (λ talks. performed_all d tones plan m (enquire k) (enquired_may d tones m x leg kept within at plan talks) (tt, (tt, tt)) before) digits_cleared
+        (λ clears. resent_sounds (kept_at m.world.legs x) (resent_may d tones m x leg kept within at plan)) before
 
   channel_sounds : leg_at m.world.legs x ≡ None → (owed whole : Bool) → Sounding d tones (making_after_all d m (if owed then restart_channel whole x else [])).world
   channel_sounds none true true = performed_all d tones plan m (restart_channel true x) (channel_may d tones m x kept within none plan true true) (tt, tt) before
@@ -200,6 +206,14 @@ module _ (d : Dimensions) (tones : Tones) (m : Making) (x : Slot) (kept : Kept d
   rule_sounds whole true = at_held m.world.legs x (drop_leg tones m.world.legs) (λ os. Sounding d tones (making_after_all d m os).world) (λ none. before) drop_sounds
   rule_sounds whole false = at_held m.world.legs x (resume_held tones whole m.world.legs x) (λ os. Sounding d tones (making_after_all d m os).world)
       (λ none. channel_sounds none (is_owed m.world.legs x) whole) resume_sounds
+
+-- ---- a slot of a line that the exchange restarts
+
+module _ (d : Dimensions) (tones : Tones) (m : Making) (x : Slot) (kept : Kept d tones m.world) (within : IsExternal d.external x) (plan : List Number) (before : Sounding d tones m.world) where
+  given_up_sounds : (owed : Bool) → Sounding d tones (making_after_all d m (give_up_slot tones owed m.world.legs x)).world
+  given_up_sounds owed = at_held m.world.legs x (give_up_leg tones owed m.world.legs x) (λ os. Sounding d tones (making_after_all d m os).world)
+      (λ none. performed_all d tones plan m (op.Remove x owed ∷ []) (within, tt) (tt, tt) before)
+      (λ leg at. leg_restarted d tones whole_line temporary_failure owed (omega arith) m x kept within plan before leg at)
 
 -- ---- a leg whose timer has run out
 
@@ -341,6 +355,16 @@ module _ (s : Setting) (w : World) (stands : CallsStand s w) where
         rule_kept s.dimensions s.tones a.making x k.1 (below, small) whole down,
       )) 30 (omega arith)).0)
 
+  line_restarted : (line : ℕ) → line < s.dimensions.external → Now (outcome_of_line_restart s.dimensions s.tones line w).making.world
+  line_restarted line below =
+      let owed : Bool = is_down w.legs line in
+      line_restarted_by s.dimensions s.tones line w Now
+      (each_below s.dimensions (give_up_rule s.tones owed) line w (λ a. Now a.making.world × Kept s.dimensions s.tones a.making.world) (now, (stands.circuits, stands.legs)) (λ a place small k.
+      let x : Slot = record { line = line; place = place } in (
+        given_up_sounds s.dimensions s.tones a.making x k.1 (below, small) s.plan k.0 owed,
+        give_up_kept s.dimensions s.tones owed a.making x k.1 (below, small),
+      )) 30 (omega arith)).0
+
   pub event_sounds : (e : Event) → IsPlanned s → Fits s.dimensions.external e → Now (next s w e)
   event_sounds (Nail x y) planned fits = elim (true_or_false (may_nail w x y)) [
     | inl may ↦ let both = both_true (idle w x) (idle w y) may in rw may (nailed x y fits both.0 both.1)
@@ -359,6 +383,7 @@ module _ (s : Setting) (w : World) (stands : CallsStand s w) where
   event_sounds (Message line octets) planned fits = message line octets planned fits (request_of w.legs line octets) refl
   event_sounds (LinkUp line) planned fits = linked false line fits
   event_sounds (LinkDown line) planned fits = linked true line fits
+  event_sounds (RestartLine line) planned fits = line_restarted line fits
   event_sounds (Frame input) planned fits = turned input
 
 -- ---- what holds of it in a world

@@ -237,7 +237,7 @@ module _ (s : Setting) (r : Restart) (line : ℕ) (w : World) (below : line < s.
         | inr not_x ↦ done.legs z in_z not_x (nobody z (so_far.empty z in_z none)) ∙ so_far.empty z in_z none
       ]
 
-      one_more : Below (suc n) v
+      pub one_more : Below (suc n) v
       one_more = record {
         kept = kept;
         gone = leg_at_more_gone;

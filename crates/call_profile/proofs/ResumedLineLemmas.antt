@@ -1,11 +1,11 @@
 -- What the establishment of a data link leaves of the legs: slot by slot.
-use Rattle.std.proofs.Common.{◌≡◌, ℕ, zero, suc, ◌<◌, ◌≤◌, ◌&&◌, Bool, true, false, inl, inr, Option, Some, None, refl, sym, ◌∙◌, ap, subst, arith, if◌then◌else◌, []}
+use Rattle.std.proofs.Common.{◌≡◌, ℕ, zero, suc, ◌<◌, ◌≤◌, ◌&&◌, Bool, true, false, inl, inr, List, [], Option, Some, None, refl, sym, ◌∙◌, ap, subst, arith, eqb-true, if◌then◌else◌}
 use Rattle.std.specs.Prelude.{nat_lt, ◌==◌, option_map}
 use Rattle.std.proofs.lemmas.Grind.{common_steps}
 use Rattle.circuit_model.specs.declared.channel.Slot.{Slot}
 use Rattle.circuit_model.specs.Extent.{IsExternal}
 use Rattle.circuit_model.proofs.Slots.{true_or_false}
-use Rattle.q931_codec.specs.CallStates.{active, overlap_sending}
+use Rattle.q931_codec.specs.CallStates.{active, overlap_sending, release_request}
 use Rattle.q931_codec.specs.Causes.{temporary_failure}
 use Rattle.call_states.specs.declared.leg.HeldLeg.{HeldLeg}
 use Rattle.call_states.specs.declared.leg.Leg.{Leg}
@@ -13,7 +13,10 @@ use Rattle.tone_rules.specs.declared.tones.Tones.{Tones}
 use Rattle.exchange_events.specs.Sizes.{Dimensions, Setting}
 use Rattle.call_profile.specs.Acts.{in_disconnect_indication, tone_of, with_enquiry}
 use Rattle.call_profile.specs.Dropped.{HasLine}
-use Rattle.call_profile.specs.Legs.{leg_at, with_entry, is_owed}
+use Rattle.call_profile.specs.Expiring.{send_again}
+use Rattle.call_profile.specs.KeptMessages.{IsKept, LegsWait}
+use Rattle.call_profile.specs.LegStanding.{CallsStand}
+use Rattle.call_profile.specs.Legs.{leg_at, kept_at, retransmitted_from, with_entry, is_owed}
 use Rattle.call_profile.specs.LinkChanges.{resume_leg, resume_slot, rule_of, with_line, outcome_of_link, restart_channel, resume_held}
 use Rattle.call_profile.specs.Operations.{Making, begun, making_after_all}
 use Rattle.call_profile.specs.Restarts.{MessageOutcome, outcome_below, restarts_slot}
@@ -22,7 +25,9 @@ use Rattle.call_profile.specs.LinkChanges.{whole_line}
 use Rattle.call_profile.specs.World.{World}
 use Rattle.call_profile.proofs.BesideLemmas.{leg_at-with_entry_here, leg_at-with_entry_else, same_or_apart, look}
 use Rattle.call_profile.proofs.ClearingLemmas.{Kept}
-use Rattle.call_profile.proofs.LinkLemmas.{linked_kept, resume_slot_kept, at_held, held_same}
+use Rattle.call_profile.proofs.KeptMessageLemmas.{stored_there}
+use Rattle.call_profile.proofs.LinkLemmas.{linked_kept, resume_slot_kept, resume_slot_may, at_held, held_same}
+use Rattle.call_profile.proofs.PendingNumberLemmas.{EntriesStand, flags_stand, performed_all}
 use Rattle.call_profile.proofs.RestartedLineLemmas.{was_restarted, same_where_apart, lt_true, lt_false, none_before}
 use Rattle.call_profile.proofs.RestartedSlotLemmas.{below_none, below_more, linked_by}
 use Rattle.call_profile.proofs.ToneLemmas.{with_tone_sounding_next}
@@ -35,7 +40,7 @@ record Resumes (external : ℕ) (u v : World) (x : Slot) : Type 0 where
   same : (z : Slot) → IsExternal external z → (z ≡ x → ⊥) → leg_at v.legs z ≡ leg_at u.legs z
   next : v.holding.next ≡ u.holding.next
 
-module _ (d : Dimensions) (tones : Tones) (m : Making) (x : Slot) (kept : Kept d tones m.world) (in_x : IsExternal d.external x) where
+module _ (d : Dimensions) (tones : Tones) (m : Making) (x : Slot) (kept : Kept d tones m.world) (waits : LegsWait d.external m.world.holding.next m.world.legs) (in_x : IsExternal d.external x) where
   abbrev u : World
   u = m.world
 
@@ -60,22 +65,33 @@ module _ (d : Dimensions) (tones : Tones) (m : Making) (x : Slot) (kept : Kept d
     abbrev h : HeldLeg
     h = record { slot = x; leg = leg }
 
-    leg_resumes : Resumes d.external u (making_after_all d m (resume_leg tones h)).world x
+    -- the message that its user is sent again
+    pub is_stored : leg.state ≡ release_request → (octets : List ℕ) × (kept_at u.legs x ≡ Some octets) × IsKept leg octets
+    is_stored asked = stored_there d.external u.holding.next u.legs x leg waits in_x at (rw asked refl)
+
+    again_resumes : leg.state ≡ release_request → Resumes d.external u (making_after_all d m (send_again h (kept_at u.legs x))).world x
+    again_resumes asked = subst (λ (o : Option (List ℕ)). Resumes d.external u (making_after_all d m (send_again h o)).world x) (sym (is_stored asked).1)
+        (entered leg (retransmitted_from u.holding.next leg) at (rw asked refl) _ (λ z. refl) refl)
+
+    leg_resumes : Resumes d.external u (making_after_all d m (resume_leg tones u.legs h)).world x
     leg_resumes = elim (true_or_false (leg.state == active)) [
       | inl up ↦ rw up (entered leg (begun u (with_enquiry true leg)) at (rw up refl) _ (λ z. refl) refl)
       | inr not_up ↦ elim (true_or_false (leg.state == overlap_sending)) [
         | inl dials ↦ rw (not_up, dials) (entered leg (begun u (in_disconnect_indication temporary_failure leg)) at (rw (not_up, dials) refl) _ (λ z. refl)
             (with_tone_sounding_next (after u.holding (Clear_slot x)) x (tone_of tones (in_disconnect_indication temporary_failure leg))))
-        | inr other ↦ rw (not_up, other) (record {
-          here = at ∙ ap (λ (l : Leg). Some l) (sym (unchanged not_up other)) ∙ ap (option_map (resumed u)) (sym at);
-          same = λ z in_z apart. refl;
-          next = refl;
-        })
+        | inr other ↦ elim (true_or_false (leg.state == release_request)) [
+          | inl asked ↦ rw (not_up, other, asked) (again_resumes (eqb-true leg.state release_request asked))
+          | inr quiet ↦ rw (not_up, other, quiet) (record {
+            here = at ∙ ap (λ (l : Leg). Some l) (sym (unchanged not_up other quiet)) ∙ ap (option_map (resumed u)) (sym at);
+            same = λ z in_z apart. refl;
+            next = refl;
+          })
+        ]
       ]
     ]
       where
-        unchanged : (leg.state == active) ≡ false → (leg.state == overlap_sending) ≡ false → resumed u leg ≡ leg
-        unchanged not_up other = rw (not_up, other) refl
+        unchanged : (leg.state == active) ≡ false → (leg.state == overlap_sending) ≡ false → (leg.state == release_request) ≡ false → resumed u leg ≡ leg
+        unchanged not_up other quiet = rw (not_up, other, quiet) refl
 
   slot_resumes : (whole : Bool) → Resumes d.external u (making_after_all d m (resume_slot tones whole u.legs x)).world x
   slot_resumes whole = at_held u.legs x (resume_held tones whole u.legs x) (λ os. Resumes d.external u (making_after_all d m os).world x)
@@ -89,6 +105,7 @@ resumed_below line w n x leg = if was_restarted whole_line line n x then resumed
 
 pub record AreResumed (s : Setting) (line : ℕ) (w : World) (n : ℕ) (v : World) : Type 0 where
   pub kept : Kept s.dimensions s.tones v
+  pub entries : EntriesStand s.dimensions.external s.plan v
   pub legs : (z : Slot) → IsExternal s.dimensions.external z → leg_at v.legs z ≡ option_map (resumed_below line w n z) (leg_at w.legs z)
   pub next : v.holding.next ≡ w.holding.next
 
@@ -115,7 +132,7 @@ module _ (s : Setting) (whole : Bool) (line : ℕ) (w : World) (n : ℕ) (below 
   v = (making_after_all d m (resume_slot s.tones whole m.world.legs here)).world
 
   done : Resumes d.external m.world v here
-  done = slot_resumes d s.tones m here so_far.kept in_here whole
+  done = slot_resumes d s.tones m here so_far.kept so_far.entries.1 in_here whole
 
   same_resumed : (l : Leg) → resumed m.world l ≡ resumed w l
   same_resumed l = ap (λ (k : ℕ). resumed (record w { holding = record w.holding { next = k } }) l) so_far.next
@@ -140,15 +157,21 @@ module _ (s : Setting) (whole : Bool) (line : ℕ) (w : World) (n : ℕ) (below 
   ]
 
   pub one_more : AreResumed s line w (suc n) v
-  one_more = record { kept = resume_slot_kept d s.tones m here so_far.kept in_here whole; legs = legs_then; next = done.next ∙ so_far.next }
+  one_more = record {
+    kept = resume_slot_kept d s.tones m here so_far.kept in_here whole;
+    entries = performed_all d s.tones s.plan m (resume_slot s.tones whole m.world.legs here) (resume_slot_may d s.tones m here so_far.kept in_here whole s.plan) so_far.entries;
+    legs = legs_then;
+    next = done.next ∙ so_far.next;
+  }
 
-module _ (s : Setting) (whole : Bool) (line : ℕ) (w : World) (below : line < s.dimensions.external) (kept : Kept s.dimensions s.tones w) where
+module _ (s : Setting) (whole : Bool) (line : ℕ) (w : World) (below : line < s.dimensions.external) (stands : CallsStand s w) where
   abbrev begins : World
   begins = with_line w line false
 
   pub start : AreResumed s line w 0 begins
   start = record {
-    kept = linked_kept s.dimensions s.tones w line false kept;
+    kept = linked_kept s.dimensions s.tones w line false (stands.circuits, stands.legs);
+    entries = flags_stand s.dimensions.external s.plan w _ _ (stands.numbers, stands.waits);
     legs = λ z in_z. sym (mapped (resumed_below line w 0 z) (leg_at w.legs z) (λ l. ap (λ (b : Bool). if b then resumed w l else l) (none_before (restarts_slot whole_line line z) (nat_lt z.place 0) (lt_false whole_line line z.place 0 (omega arith)))));
     next = refl;
   }
@@ -163,7 +186,7 @@ module _ (s : Setting) (whole : Bool) (line : ℕ) (w : World) (below : line < s
 
 pub legs_are_resumed : (s : Setting) (w : World) (line : ℕ) → HasLine s w line → LegsAreResumed s.dimensions.external line w (outcome_of_link s.dimensions s.tones false line w).making.world
 legs_are_resumed s w line can x in_x = linked_by s.dimensions s.tones false line w (λ v. leg_at v.legs x ≡ option_map (resumed_on line w x) (leg_at w.legs x)) (λ whole.
-    (resumed_so_far s whole line w can.line_exists (can.stands.circuits, can.stands.legs) 30 (omega arith)).legs x in_x
+    (resumed_so_far s whole line w can.line_exists can.stands 30 (omega arith)).legs x in_x
     ∙ both_mapped (resumed_below line w 30 x) (resumed_on line w x) (leg_at w.legs x) (λ l. ap (λ (b : Bool). if b then resumed w l else l) on_line))
   where
     both : (b : Bool) → ((b && true) && true) ≡ b

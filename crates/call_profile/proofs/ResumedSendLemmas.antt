@@ -1,6 +1,6 @@
--- What is sent when a data link is up again: an enquiry for each leg in active, and a RESTART of each channel that is owed one.
+-- What is sent when a data link is up again: an enquiry for each leg in active, RELEASE again for each in release request, and a RESTART of each channel that is owed one.
 use Rattle.std.proofs.Common.{◌≡◌, ℕ, zero, suc, ◌<◌, ◌≤◌, inl, inr, Bool, true, false, ◌&&◌, List, [], ◌∷◌, Option, Some, None, refl, sym, ◌∙◌, ap, subst, arith, eqb-true, get_or-set_other, Contains, if◌then◌else◌}
-use Rattle.std.specs.Prelude.{◌==◌, is_none, is_some, nat_lt, not, option_map, slice_index_or}
+use Rattle.std.specs.Prelude.{◌==◌, is_none, is_some, nat_lt, not, option_map, slice_index_or, slice_set}
 use Rattle.std.proofs.lemmas.Grind.{common_steps}
 use Rattle.std.proofs.lemmas.List.Elements.{Contains-push}
 use Rattle.circuit_model.specs.declared.channel.Slot.{Slot}
@@ -8,8 +8,9 @@ use Rattle.circuit_model.specs.Extent.{IsExternal}
 use Rattle.circuit_model.proofs.Slots.{true_or_false}
 use Rattle.control_memory.specs.Layout.{number_of}
 use Rattle.control_memory.proofs.Steps.{same_number}
-use Rattle.q931_codec.specs.CallStates.{active, overlap_sending}
+use Rattle.q931_codec.specs.CallStates.{active, disconnect_indication, overlap_sending, release_request}
 use Rattle.call_states.specs.Acts.{is_among}
+use Rattle.call_states.specs.declared.leg.HeldLeg.{HeldLeg}
 use Rattle.call_states.specs.declared.leg.Leg.{Leg}
 use Rattle.call_timers.specs.Expiries.{expiry_in}
 use Rattle.clearing_rules.specs.Restarting.{restart_of}
@@ -19,16 +20,18 @@ use Rattle.exchange_events.specs.declared.signal.Signal.{Signal}
 use Rattle.exchange_events.specs.declared.trace.Event.TheVariants.{LinkUp}
 use Rattle.exchange_events.specs.Sizes.{Dimensions, Setting}
 use Rattle.call_profile.specs.Dropped.{HasLine}
-use Rattle.call_profile.specs.Legs.{Legs, is_owed, leg_at, is_down}
+use Rattle.call_profile.specs.Expiring.{send_again}
+use Rattle.call_profile.specs.Legs.{Legs, is_owed, kept_at, leg_at, is_down, retransmitted_from}
 use Rattle.call_profile.specs.LinkChanges.{being_cleared, enquire, outcome_of_link, restart_channel, restarts_interface, resume_held, resume_slot, rule_of, whole_line, with_interface, with_line}
 use Rattle.call_profile.specs.Operations.{Operation, Making, making_after_all, Send}
 use Rattle.call_profile.specs.Outages.{OutagesStand}
-use Rattle.call_profile.specs.Reconciled.{enquiry_signal, restart_signal, IsRestartSent, IsReconciled, IsAccounted}
+use Rattle.call_profile.specs.Reconciled.{enquiry_signal, restart_signal, stored_signal, IsRestartSent, IsReconciled, IsAccounted, IsReleasedAgain}
 use Rattle.call_profile.specs.Restarts.{MessageOutcome, outcome_below, restarts_slot}
 use Rattle.call_profile.specs.Resumed.{resumed, resumed_on}
 use Rattle.call_profile.specs.World.{World}
 use Rattle.call_profile.proofs.ClearingLemmas.{Kept}
 use Rattle.call_profile.proofs.CommandLemmas.{both_true, is_empty}
+use Rattle.call_profile.proofs.KeptMessageLemmas.{kept_anew, stored_there}
 use Rattle.call_profile.proofs.LinkLemmas.{at_held, by_resume}
 use Rattle.call_profile.proofs.LinkStateLemmas.{is_down_next}
 use Rattle.call_profile.proofs.LostLegLemmas.{sent_still_all}
@@ -56,14 +59,40 @@ module _ (d : Dimensions) (tones : Tones) (whole : Bool) (m : Making) (x : Slot)
   channel_apart z in_z apart true false = get_or-set_other m.world.legs.owed (number_of x) (number_of z) false false (λ n. apart (same_number z x in_z.1 within.1 n))
   channel_apart z in_z apart false other = refl
 
+  flag_after_again : (z : Slot) (h : HeldLeg) (o : Option (List ℕ)) → slice_index_or (making_after_all d m (send_again h o)).world.legs.owed (number_of z) false ≡ slice_index_or m.world.legs.owed (number_of z) false
+  flag_after_again z h None = refl
+  flag_after_again z h (Some octets) = refl
+
   pub flags_apart : (z : Slot) → IsExternal d.external z → (z ≡ x → ⊥) → slice_index_or done.world.legs.owed (number_of z) false ≡ slice_index_or m.world.legs.owed (number_of z) false
   flags_apart z in_z apart =
       at_held m.world.legs x (resume_held tones whole m.world.legs x) (λ os. slice_index_or (making_after_all d m os).world.legs.owed (number_of z) false ≡ slice_index_or m.world.legs.owed (number_of z) false)
       (λ none. channel_apart z in_z apart (is_owed m.world.legs x) whole)
       (λ leg at. by_resume d tones m x leg kept within at (λ os. slice_index_or (making_after_all d m os).world.legs.owed (number_of z) false ≡ slice_index_or m.world.legs.owed (number_of z) false)
-      (λ talks. refl) (λ dials. refl) refl)
+      (λ talks. refl) (λ dials. refl) (λ clears. flag_after_again z (record { slot = x; leg = leg }) (kept_at m.world.legs x)) refl)
 
-  -- the enquiry, and the RESTART
+  -- nor has another stored message
+  abbrev stored_in : Slot → List Operation → Type 0
+  stored_in z os = kept_at (making_after_all d m os).world.legs z ≡ kept_at m.world.legs z
+
+  module _ (z : Slot) (in_z : IsExternal d.external z) (apart : z ≡ x → ⊥) where
+    other_stored : (o : Option (List ℕ)) → slice_index_or (slice_set m.world.legs.kept (number_of x) o) (number_of z) None ≡ kept_at m.world.legs z
+    other_stored o = get_or-set_other m.world.legs.kept (number_of x) (number_of z) o None (λ n. apart (same_number z x in_z.1 within.1 n))
+
+    channel_stored : (owed other : Bool) → stored_in z (if owed then restart_channel other x else [])
+    channel_stored true true = other_stored None
+    channel_stored true false = other_stored None
+    channel_stored false other = refl
+
+    again_stored : (leg : Leg) (o : Option (List ℕ)) → stored_in z (send_again (record { slot = x; leg = leg }) o)
+    again_stored leg None = refl
+    again_stored leg (Some octets) = other_stored (Some octets)
+
+    pub stored_apart : kept_at done.world.legs z ≡ kept_at m.world.legs z
+    stored_apart =
+        at_held m.world.legs x (resume_held tones whole m.world.legs x) (stored_in z) (λ none. channel_stored (is_owed m.world.legs x) whole)
+        (λ leg at. by_resume d tones m x leg kept within at (stored_in z) (λ talks. other_stored None) (λ dials. other_stored None) (λ clears. again_stored leg (kept_at m.world.legs x)) refl)
+
+  -- the enquiry, the stored message, and the RESTART
   pub enquiry_sent : (leg : Leg) → leg_at m.world.legs x ≡ Some leg → leg.state ≡ active → Contains done.sends (enquiry_signal x leg)
   enquiry_sent leg at is =
       let up : (leg.state == active) ≡ true = rw is refl in
@@ -71,6 +100,15 @@ module _ (d : Dimensions) (tones : Tones) (whole : Bool) (m : Making) (x : Slot)
     where
       enquires : (leg : Leg) → leg_at m.world.legs x ≡ Some leg → (leg.state == active) ≡ true → resume_slot tones whole m.world.legs x ≡ enquire (record { slot = x; leg = leg })
       enquires leg at up = rw (at, up) refl
+
+  pub stored_sent : (leg : Leg) (octets : List ℕ) → leg_at m.world.legs x ≡ Some leg → leg.state ≡ release_request → kept_at m.world.legs x ≡ Some octets → Contains done.sends (stored_signal x octets)
+  stored_sent leg octets at is keeps =
+      subst (λ (os : List Operation). Contains (making_after_all d m os).sends (stored_signal x octets)) (sym (repeats leg at (rw is refl) (rw is refl) (rw is refl)))
+      (subst (λ (o : Option (List ℕ)). Contains (making_after_all d m (send_again (record { slot = x; leg = leg }) o)).sends (stored_signal x octets)) (sym keeps) (Contains-push m.sends (stored_signal x octets)))
+    where
+      repeats : (leg : Leg) → leg_at m.world.legs x ≡ Some leg → (leg.state == active) ≡ false → (leg.state == overlap_sending) ≡ false → (leg.state == release_request) ≡ true
+          → resume_slot tones whole m.world.legs x ≡ send_again (record { slot = x; leg = leg }) (kept_at m.world.legs x)
+      repeats leg at not_up not_dials asked = rw (at, not_up, not_dials, asked) refl
 
   pub restart_sent : leg_at m.world.legs x ≡ None → is_owed m.world.legs x ≡ true → whole ≡ false → Contains done.sends (restart_signal x (Channel x.place))
   restart_sent none owed alone =
@@ -89,7 +127,10 @@ module _ (d : Dimensions) (tones : Tones) (whole : Bool) (m : Making) (x : Slot)
 record AreSent (s : Setting) (whole : Bool) (line : ℕ) (w : World) (n : ℕ) (m : Making) : Type 0 where
   legs : AreResumed s line w n m.world
   flags : (z : Slot) → IsExternal s.dimensions.external z → z.line ≡ line → n ≤ z.place → slice_index_or m.world.legs.owed (number_of z) false ≡ slice_index_or w.legs.owed (number_of z) false
+  stored : (z : Slot) → IsExternal s.dimensions.external z → z.line ≡ line → n ≤ z.place → kept_at m.world.legs z ≡ kept_at w.legs z
   enquiries : (z : Slot) (l : Leg) → IsExternal s.dimensions.external z → z.line ≡ line → z.place < n → leg_at w.legs z ≡ Some l → l.state ≡ active → Contains m.sends (enquiry_signal z l)
+  releases : (z : Slot) (l : Leg) (octets : List ℕ) → IsExternal s.dimensions.external z → z.line ≡ line → z.place < n → leg_at w.legs z ≡ Some l → l.state ≡ release_request → kept_at w.legs z ≡ Some octets
+      → Contains m.sends (stored_signal z octets)
   restarts : (z : Slot) → IsExternal s.dimensions.external z → z.line ≡ line → z.place < n → is_owed w.legs z ≡ true → whole ≡ false → Contains m.sends (restart_signal z (Channel z.place))
 
 module _ (s : Setting) (whole : Bool) (line : ℕ) (w : World) (n : ℕ) (below : line < s.dimensions.external) (small : n < 30) (m : Making) (so_far : AreSent s whole line w n m) where
@@ -130,6 +171,15 @@ module _ (s : Setting) (whole : Bool) (line : ℕ) (w : World) (n : ℕ) (below 
     | inr apart ↦ sent_still_all d m turn (enquiry_signal z l) (so_far.enquiries z l in_z on (place_before z on less apart) at is)
   ]
 
+  more_releases : (z : Slot) (l : Leg) (octets : List ℕ) → IsExternal d.external z → z.line ≡ line → z.place < suc n → leg_at w.legs z ≡ Some l → l.state ≡ release_request → kept_at w.legs z ≡ Some octets
+      → Contains (making_after_all d m turn).sends (stored_signal z octets)
+  more_releases z l octets in_z on less at is keeps = elim (same_or_apart z here) [
+    | inl same ↦ subst (λ (q : Slot). Contains (making_after_all d m turn).sends (stored_signal q octets)) (sym same)
+        (stored_sent d s.tones whole m here kept in_here l octets (leg_here ∙ sym (ap (leg_at w.legs) same) ∙ at) is
+        (so_far.stored here in_here refl (omega arith) ∙ sym (ap (kept_at w.legs) same) ∙ keeps))
+    | inr apart ↦ sent_still_all d m turn (stored_signal z octets) (so_far.releases z l octets in_z on (place_before z on less apart) at is keeps)
+  ]
+
   more_restarts : (z : Slot) → IsExternal d.external z → z.line ≡ line → z.place < suc n → is_owed w.legs z ≡ true → whole ≡ false → Contains (making_after_all d m turn).sends (restart_signal z (Channel z.place))
   more_restarts z in_z on less owed alone = elim (same_or_apart z here) [
     | inl same ↦
@@ -143,7 +193,9 @@ module _ (s : Setting) (whole : Bool) (line : ℕ) (w : World) (n : ℕ) (below 
   one_more = record {
     legs = legs_one_more s whole line w n below small m so_far.legs;
     flags = λ z in_z on high. flags_apart d s.tones whole m here kept in_here z in_z (apart_later z high) ∙ so_far.flags z in_z on (omega (arith, high));
+    stored = λ z in_z on high. stored_apart d s.tones whole m here kept in_here z in_z (apart_later z high) ∙ so_far.stored z in_z on (omega (arith, high));
     enquiries = more_enquiries;
+    releases = more_releases;
     restarts = more_restarts;
   }
 
@@ -156,9 +208,11 @@ module _ (s : Setting) (line : ℕ) (w : World) (can : HasLine s w line) where
 
   start : (whole : Bool) → AreSent s whole line w 0 (so_far_at whole 0).making
   start whole = subst (λ (a : MessageOutcome). AreSent s whole line w 0 a.making) (sym (below_none s.dimensions (rule_of s.tones whole false) line begins)) (record {
-    legs = legs_start s whole line w can.line_exists (can.stands.circuits, can.stands.legs);
+    legs = legs_start s whole line w can.line_exists can.stands;
     flags = λ z in_z on high. refl;
+    stored = λ z in_z on high. refl;
     enquiries = λ z l in_z on less at is. absurd (omega (arith, less));
+    releases = λ z l octets in_z on less at is keeps. absurd (omega (arith, less));
     restarts = λ z in_z on less owed alone. absurd (omega (arith, less));
   })
 
@@ -187,6 +241,19 @@ module _ (s : Setting) (line : ℕ) (w : World) (can : HasLine s w line) where
     enquired_by leg at is =
         let whole : Bool = not false && restarts_interface w.legs line in
         last_sent whole (so_far_at whole 30) (enquiry_signal x leg) ((sent_below whole 30 (omega arith)).enquiries x leg in_x on in_x.1 at is)
+
+    released_by : (l : Leg) → leg_at w.legs x ≡ Some l → l.state ≡ release_request → IsReleasedAgain w after_up x (retransmitted_from w.holding.next l)
+    released_by l at is =
+        let keeps = stored_there s.dimensions.external w.holding.next w.legs x l can.stands.waits in_x at (rw is refl) in
+        let whole : Bool = not false && restarts_interface w.legs line in
+        record {
+          octets = keeps.0;
+          stored = keeps.1;
+          release = kept_anew w.holding.next l keeps.0 keeps.2;
+          sent = last_sent whole (so_far_at whole 30) (stored_signal x keeps.0) ((sent_below whole 30 (omega arith)).releases x l keeps.0 in_x on in_x.1 at is keeps.1);
+          timer = rw is refl;
+          since = refl;
+        }
 
     restarted_by : (whole : Bool) → is_owed w.legs x ≡ true → IsRestartSent (with_interface s.dimensions whole line (so_far_at whole 30)).making x
     restarted_by true owed = (whole_line, refl, whole_sent (so_far_at true 30) x on)
@@ -218,20 +285,47 @@ module _ (s : Setting) (line : ℕ) (w : World) (can : HasLine s w line) where
             rw up (record {
               in_active = λ e. record { flag = refl; sent = enquired_by l at is };
               in_clearing = λ clears. absurd (not_both l.state is clears);
+              in_disconnect = λ e. absurd (two_states l.state active disconnect_indication is e (λ same. absurd cc));
+              in_release = λ e. absurd (two_states l.state active release_request is e (λ same. absurd cc));
               in_others = λ other goes. absurd (other is);
             })
         | inr not_up ↦ elim (true_or_false (l.state == overlap_sending)) [
-          | inl dials ↦ rw (not_up, dials) (record { in_active = λ e. absurd cc; in_clearing = λ clears. refl; in_others = λ other goes. absurd cc })
-          | inr other ↦ rw (not_up, other) (record {
-            in_active = λ is. absurd (not_equal l.state not_up is);
-            in_clearing = λ clears. runs l.state l.resent clears;
-            in_others = λ quiet goes. at;
+          | inl dials ↦ rw (not_up, dials) (record {
+            in_active = λ e. absurd cc;
+            in_clearing = λ clears. refl;
+            in_disconnect = λ e. record { timer = refl; since = inr refl };
+            in_release = λ e. absurd cc;
+            in_others = λ other goes. absurd cc;
           })
+          | inr other ↦ elim (true_or_false (l.state == release_request)) [
+            | inl asked ↦
+                let is = eqb-true l.state release_request asked in
+                rw (not_up, other, asked) (record {
+                  in_active = λ e. absurd (not_equal l.state active not_up e);
+                  in_clearing = λ clears. runs l.state true clears;
+                  in_disconnect = λ e. absurd (two_states l.state release_request disconnect_indication is e (λ same. absurd cc));
+                  in_release = λ e. released_by l at is;
+                  in_others = λ quiet goes. absurd (is_cleared l.state is goes);
+                })
+            | inr not_asked ↦ rw (not_up, other, not_asked) (record {
+              in_active = λ is. absurd (not_equal l.state active not_up is);
+              in_clearing = λ clears. runs l.state l.resent clears;
+              in_disconnect = λ is. record { timer = rw is refl; since = inl at };
+              in_release = λ is. absurd (not_equal l.state release_request not_asked is);
+              in_others = λ quiet goes. at;
+            })
+          ]
         ]
       ]
         where
-          not_equal : (state : ℕ) → (state == active) ≡ false → state ≡ active → ⊥
-          not_equal state not_up is = grind (arith, common_steps, not_up, is)
+          not_equal : (state n : ℕ) → (state == n) ≡ false → state ≡ n → ⊥
+          not_equal state n apart is = grind (arith, common_steps, apart, is)
+
+          two_states : (state n k : ℕ) → state ≡ n → state ≡ k → (n ≡ k → ⊥) → ⊥
+          two_states state n k one other apart = apart (sym one ∙ other)
+
+          is_cleared : (state : ℕ) → state ≡ release_request → is_among being_cleared state ≡ false → ⊥
+          is_cleared state is goes = grind (arith, common_steps, is, goes)
 
           not_both : (state : ℕ) → state ≡ active → is_among being_cleared state ≡ true → ⊥
           not_both state is clears = grind (arith, common_steps, is, clears)

@@ -4,7 +4,7 @@ use Rattle.std.specs.List.{cons_option}
 use Rattle.std.proofs.lemmas.List.Elements.{filter_map-append}
 use Rattle.circuit_model.specs.FrameInput.{Input}
 use Rattle.exchange_events.specs.declared.trace.Event.{Event}
-use Rattle.exchange_events.specs.declared.trace.Event.TheVariants.{Nail, Seat, Free, Message, Frame, LinkUp, LinkDown}
+use Rattle.exchange_events.specs.declared.trace.Event.TheVariants.{Nail, Seat, Free, Message, Frame, LinkUp, LinkDown, RestartLine}
 use Rattle.call_states.specs.Acts.{act_on}
 use Rattle.clearing_rules.specs.UnknownReference.{answer_without_call}
 use Rattle.call_profile.specs.ActCourse.{course_of}
@@ -20,9 +20,10 @@ use Rattle.call_profile.specs.Step.{next, world_after_all, events_of, may_nail, 
 use Rattle.call_profile.specs.Expiring.{slot_looked_at, expire_slot}
 use Rattle.call_profile.specs.World.{World, pass}
 use Rattle.call_profile.proofs.ExpiringLemmas.{each_line}
-use Rattle.call_profile.proofs.RestartedSlotLemmas.{each_below, linked_by}
+use Rattle.call_profile.proofs.RestartedSlotLemmas.{each_below, line_restarted_by, linked_by}
 use Rattle.call_profile.proofs.ToneLemmas.{with_tone_sounding_next}
-use Rattle.call_profile.specs.LinkChanges.{outcome_of_link, rule_of, with_line}
+use Rattle.call_profile.specs.Legs.{is_down}
+use Rattle.call_profile.specs.LinkChanges.{give_up_rule, give_up_slot, outcome_of_line_restart, outcome_of_link, rule_of, with_line}
 
 -- ---- one event more
 
@@ -71,6 +72,13 @@ link_next s w down line = linked_by s.dimensions s.tones down line w (λ v. v.ho
     each_below s.dimensions (rule_of s.tones whole down) line (with_line w line down) (λ a. a.making.world.holding.next ≡ w.holding.next) refl
     (λ a place small same. performed_all_next s.dimensions a.making ((rule_of s.tones whole down).does a.making.world.legs (record { line = line; place = place })) ∙ same) 30 (omega arith))
 
+line_restart_next : (s : Setting) (w : World) (line : ℕ) → (outcome_of_line_restart s.dimensions s.tones line w).making.world.holding.next ≡ w.holding.next
+line_restart_next s w line =
+    let owed : Bool = is_down w.legs line in
+    line_restarted_by s.dimensions s.tones line w (λ v. v.holding.next ≡ w.holding.next)
+    (each_below s.dimensions (give_up_rule s.tones owed) line w (λ a. a.making.world.holding.next ≡ w.holding.next) refl
+    (λ a place small same. performed_all_next s.dimensions a.making (give_up_slot s.tones owed a.making.world.legs (record { line = line; place = place })) ∙ same) 30 (omega arith))
+
 turn_next : (s : Setting) (w : World) (input : Input) → (next s w (Frame input)).holding.next ≡ w.holding.next + 1
 turn_next s w input =
     let f : ℕ = w.holding.next in
@@ -88,6 +96,7 @@ next_next s w (Free x) = either_next (is_nailed w x) _ w refl
 next_next s w (Message line octets) = let same = received_next s w line (request_of w.legs line octets) in omega (arith, same)
 next_next s w (LinkUp line) = let same = link_next s w false line in omega (arith, same)
 next_next s w (LinkDown line) = let same = link_next s w true line in omega (arith, same)
+next_next s w (RestartLine line) = let same = line_restart_next s w line in omega (arith, same)
 next_next s w (Frame input) = let one = turn_next s w input in omega (arith, one)
 
 pub world_next : (s : Setting) (w : World) (es : List Event) → (world_after_all s w es).holding.next ≤ w.holding.next + length es

@@ -12,13 +12,13 @@ use Rattle.clearing_rules.specs.UnknownReference.{answer_without_call}
 use Rattle.call_profile.specs.Calls.{Request, For_leg, New_call, On_no_call, Restarts, Unanswered, request_of, answer_back, outcome_for, making_by}
 use Rattle.call_profile.specs.Course.{only}
 use Rattle.exchange_events.specs.declared.trace.Event.{Event}
-use Rattle.exchange_events.specs.declared.trace.Event.TheVariants.{Nail, Seat, Free, Message, Frame, LinkUp, LinkDown}
+use Rattle.exchange_events.specs.declared.trace.Event.TheVariants.{Nail, Seat, Free, Message, Frame, LinkUp, LinkDown, RestartLine}
 use Rattle.exchange_events.specs.Sound.{Fits, IsPlanned}
 use Rattle.call_profile.specs.Step.{next, world_after_all}
 use Rattle.call_profile.specs.LegStanding.{CallsStand}
 use Rattle.control_memory.specs.Layout.{number_of}
 use Rattle.call_states.specs.declared.leg.Leg.{Leg}
-use Rattle.call_profile.specs.Legs.{leg_at, no_legs}
+use Rattle.call_profile.specs.Legs.{is_down, leg_at, no_legs}
 use Rattle.exchange_events.specs.Sizes.{Setting}
 use Rattle.call_profile.specs.World.{World, start, pass}
 use Rattle.call_profile.proofs.ClearingLemmas.{Kept}
@@ -34,9 +34,10 @@ use Rattle.call_profile.proofs.EntryLemmas.{get_or-bare}
 use Rattle.call_profile.proofs.ReleaseRunLemmas.{event_sounds, none_release}
 use Rattle.call_profile.proofs.ReleaseToneLemmas.{Sounding}
 use Rattle.call_profile.proofs.SetupLemmas.{setup_kept, new_from}
-use Rattle.call_profile.specs.LinkChanges.{outcome_of_link, rule_of, with_line}
+use Rattle.call_profile.specs.LinkChanges.{give_up_rule, outcome_of_line_restart, outcome_of_link, rule_of, with_line}
 use Rattle.call_profile.proofs.LinkLemmas.{linked_kept, rule_kept}
-use Rattle.call_profile.proofs.RestartedSlotLemmas.{each_below, linked_by}
+use Rattle.call_profile.proofs.GivenUpSlotLemmas.{give_up_kept}
+use Rattle.call_profile.proofs.RestartedSlotLemmas.{each_below, line_restarted_by, linked_by}
 
 -- a message that is sent changes nothing else
 kept_without : (s : Setting) (w : World) (line : ℕ) (o : Option OutgoingMessage) → Kept s.dimensions s.tones w → Kept s.dimensions s.tones (making_by s w (only (answer_back line o))).world
@@ -71,6 +72,14 @@ link_kept s w down line below stands = linked_by s.dimensions s.tones down line 
     each_below s.dimensions (rule_of s.tones whole down) line (with_line w line down) (λ a. Kept s.dimensions s.tones a.making.world) (linked_kept s.dimensions s.tones w line down (stands.circuits, stands.legs))
     (λ a place small k. rule_kept s.dimensions s.tones a.making (record { line = line; place = place }) k (below, small) whole down) 30 (omega arith))
 
+-- the slots of a line that the exchange restarts
+line_restart_kept : (s : Setting) (w : World) (line : ℕ) → line < s.dimensions.external → CallsStand s w → Kept s.dimensions s.tones (outcome_of_line_restart s.dimensions s.tones line w).making.world
+line_restart_kept s w line below stands =
+    let owed : Bool = is_down w.legs line in
+    line_restarted_by s.dimensions s.tones line w (Kept s.dimensions s.tones)
+    (each_below s.dimensions (give_up_rule s.tones owed) line w (λ a. Kept s.dimensions s.tones a.making.world) (stands.circuits, stands.legs)
+    (λ a place small k. give_up_kept s.dimensions s.tones owed a.making (record { line = line; place = place }) k (below, small)) 30 (omega arith))
+
 pub happened_kept : (s : Setting) (w : World) (e : Event) → IsPlanned s → Fits s.dimensions.external e → CallsStand s w → CallsStand s (next s w e)
 happened_kept s w (Nail x y) planned fits stands = kept_stands s (next s w (Nail x y)) (nail_kept s w stands.circuits stands.legs x y fits) (entries_stand s w (Nail x y) planned fits stands) (event_sounds s w stands (Nail x y) planned fits)
 happened_kept s w (Seat x room) planned fits stands = kept_stands s (next s w (Seat x room)) (seat_kept s w stands.circuits stands.legs x room fits) (entries_stand s w (Seat x room) planned fits stands) (event_sounds s w stands (Seat x room) planned fits)
@@ -82,6 +91,8 @@ happened_kept s w (LinkUp line) planned fits stands =
     kept_stands s (next s w (LinkUp line)) (link_kept s w false line fits stands) (entries_stand s w (LinkUp line) planned fits stands) (event_sounds s w stands (LinkUp line) planned fits)
 happened_kept s w (LinkDown line) planned fits stands =
     kept_stands s (next s w (LinkDown line)) (link_kept s w true line fits stands) (entries_stand s w (LinkDown line) planned fits stands) (event_sounds s w stands (LinkDown line) planned fits)
+happened_kept s w (RestartLine line) planned fits stands =
+    kept_stands s (next s w (RestartLine line)) (line_restart_kept s w line fits stands) (entries_stand s w (RestartLine line) planned fits stands) (event_sounds s w stands (RestartLine line) planned fits)
 happened_kept s w (Frame input) planned fits stands = kept_stands s (next s w (Frame input)) (turn_kept s w input stands) (entries_stand s w (Frame input) planned fits stands) (event_sounds s w stands (Frame input) planned fits)
 
 -- ---- whole runs

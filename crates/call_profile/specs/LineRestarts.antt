@@ -5,16 +5,22 @@ use Rattle.circuit_model.specs.declared.channel.Slot.{Slot}
 use Rattle.circuit_model.specs.Extent.{IsExternal}
 use Rattle.q931_codec.specs.Causes.{temporary_failure}
 use Rattle.q931_codec.specs.Outgoing.{encoding}
+use Rattle.call_states.specs.declared.leg.HeldLeg.{HeldLeg}
 use Rattle.call_states.specs.declared.leg.Leg.{Leg}
 use Rattle.call_states.specs.declared.leg.Peer.{Peer}
 use Rattle.call_states.specs.declared.leg.Peer.TheVariants as peer
 use Rattle.clearing_rules.specs.Restarting.{restart_of}
+use Rattle.exchange_events.specs.declared.record.CallRecord.{CallRecord}
 use Rattle.exchange_events.specs.declared.signal.Signal.{Signal}
+use Rattle.exchange_events.specs.declared.trace.Event.TheVariants.{RestartLine}
 use Rattle.exchange_events.specs.Sizes.{Setting}
 use Rattle.call_profile.specs.Acts.{in_disconnect_indication}
+use Rattle.call_profile.specs.CallRecords.{record_of}
 use Rattle.call_profile.specs.Legs.{is_down, leg_at}
 use Rattle.call_profile.specs.LinkChanges.{outcome_of_line_restart, whole_line}
 use Rattle.call_profile.specs.Operations.{begun}
+use Rattle.call_profile.specs.Recorded.{HasEnded}
+use Rattle.call_profile.specs.Step.{next}
 use Rattle.call_profile.specs.World.{World}
 
 -- RESTART of the whole interface to the user of a line
@@ -42,3 +48,14 @@ abbrev pub IsRequestSent : Setting → World → ℕ → Type 0
 IsRequestSent s before line =
     is_down before.legs line ≡ false
     → Contains (outcome_of_line_restart s.dimensions s.tones line before).making.sends (interface_restart line)
+
+-- ---- the calls that end
+
+-- a call ended by the restart of a line, with cause 41, and this is its record
+pub record IsLineRecord (s : Setting) (w : World) (line : ℕ) (h : HeldLeg) (told : CallRecord) : Type 0 where
+  pub ended : HasEnded s.dimensions.external w (next s w (RestartLine line)) h
+  pub is : record_of w temporary_failure h ≡ Some told
+
+-- the record of a call is among those of the restart
+abbrev pub IsInLineRestart : Setting → World → ℕ → HeldLeg → Type 0
+IsInLineRestart s w line h = (told : CallRecord) × IsLineRecord s w line h told × Contains (outcome_of_line_restart s.dimensions s.tones line w).recorded told

@@ -1,19 +1,20 @@
 -- What the establishment of a data link leaves of each channel of its line. Source: ITU-T Q.931 (05/98), 5.8.8 to 5.8.10
 -- and 5.5.
-use Rattle.std.specs.Prelude.{◌≡◌, ◌≢◌, true, false, is_some, Contains, List, Option, Some, None, ℕ}
+use Rattle.std.specs.Prelude.{◌≡◌, ◌≢◌, ◌⊎◌, true, false, is_some, Contains, List, Option, Some, None, ℕ}
 use Rattle.circuit_model.specs.declared.channel.Slot.{Slot}
-use Rattle.q931_codec.specs.CallStates.{active, release_request}
+use Rattle.q931_codec.specs.CallStates.{active, disconnect_indication, release_request}
 use Rattle.q931_codec.specs.Outgoing.{encoding}
 use Rattle.q931_codec.specs.declared.kind.MessageKind.TheVariants as kind
 use Rattle.call_states.specs.Acts.{is_among}
 use Rattle.call_states.specs.declared.leg.Leg.{Leg}
 use Rattle.call_timers.specs.Expiries.{expiry_in}
+use Rattle.call_timers.specs.declared.expiry.Expiry.TheVariants as expiry
 use Rattle.clearing_rules.specs.Restarting.{is_restarted, restart_of}
 use Rattle.clearing_rules.specs.declared.scope.Restart.{Restart}
 use Rattle.exchange_events.specs.declared.signal.Signal.{Signal}
 use Rattle.call_profile.specs.Acts.{message_to}
 use Rattle.call_profile.specs.KeptMessages.{IsKept}
-use Rattle.call_profile.specs.Legs.{is_owed, leg_at}
+use Rattle.call_profile.specs.Legs.{is_owed, kept_at, leg_at}
 use Rattle.call_profile.specs.LinkChanges.{being_cleared, outcome_of_link}
 use Rattle.call_profile.specs.Operations.{Making}
 use Rattle.call_profile.specs.World.{World}
@@ -42,16 +43,31 @@ pub record IsEnquired (m : Making) (x : Slot) (leg : Leg) : Type 0 where
   pub flag : leg.enquired ≡ true
   pub sent : Contains m.sends (enquiry_signal x leg)
 
--- a leg in release request: its user was sent RELEASE again
-abbrev pub IsReleasedAgain : Making → Slot → Leg → Type 0
-IsReleasedAgain m x leg = (octets : List ℕ) × IsKept leg octets × Contains m.sends (record { line = x.line; octets = octets })
+-- the stored message of a leg, to the user of its slot
+abbrev pub stored_signal : Slot → List ℕ → Signal
+stored_signal x octets = record { line = x.line; octets = octets }
 
--- a channel with a leg: in active its user was sent STATUS ENQUIRY; while it is being cleared it has a timer, and in
--- release request its user was sent RELEASE again; in every other state it is unchanged
+-- a leg in release request: its user was sent the stored RELEASE again, and T308 restarts; its expiry ends the leg
+pub record IsReleasedAgain (before : World) (m : Making) (x : Slot) (leg : Leg) : Type 0 where
+  pub octets : List ℕ
+  pub stored : kept_at before.legs x ≡ Some octets
+  pub release : IsKept leg octets
+  pub sent : Contains m.sends (stored_signal x octets)
+  pub timer : expiry_in leg.state leg.resent ≡ Some expiry.ReleaseOver
+  pub since : leg.since ≡ before.holding.next
+
+-- a leg in disconnect indication: T305 goes on, or it starts, since the leg is cleared by the event
+pub record IsToRelease (before : World) (x : Slot) (leg : Leg) : Type 0 where
+  pub timer : expiry_in leg.state leg.resent ≡ Some expiry.Disconnect
+  pub since : (leg_at before.legs x ≡ Some leg) ⊎ (leg.since ≡ before.holding.next)
+
+-- a channel with a leg: in active its user was sent STATUS ENQUIRY; while it is being cleared it has a timer, which is
+-- T305 or T308, and in release request its user was sent RELEASE again; in every other state it is unchanged
 pub record IsAccounted (before : World) (m : Making) (x : Slot) (leg : Leg) : Type 0 where
   pub in_active : leg.state ≡ active → IsEnquired m x leg
   pub in_clearing : is_among being_cleared leg.state ≡ true → is_some (expiry_in leg.state leg.resent) ≡ true
-  pub in_release : leg.state ≡ release_request → IsReleasedAgain m x leg
+  pub in_disconnect : leg.state ≡ disconnect_indication → IsToRelease before x leg
+  pub in_release : leg.state ≡ release_request → IsReleasedAgain before m x leg
   pub in_others : leg.state ≢ active → is_among being_cleared leg.state ≡ false → leg_at before.legs x ≡ Some leg
 
 -- a channel, by the leg that holds it

@@ -1,10 +1,11 @@
--- Worked calls on lines whose data links go down and come up, on which the definitions are evaluated. Source: this
--- project; the octets are from ITU-T Q.931 (05/98), section 4.
+-- Worked calls on lines whose data links go down and come up, and on lines that the exchange restarts, on which the
+-- definitions are evaluated. Source: this project; the octets are from ITU-T Q.931 (05/98), section 4.
 use Rattle.std.specs.Prelude.{ℕ, true, false, List, [], ◌∷◌, ◌++◌}
+use Rattle.exchange_events.specs.declared.record.CallRecord.{CallRecord}
 use Rattle.exchange_events.specs.declared.record.Party.TheVariants as party
 use Rattle.exchange_events.specs.declared.reply.Reply.{Reply}
 use Rattle.exchange_events.specs.declared.trace.Event.{Event}
-use Rattle.exchange_events.specs.declared.trace.Event.TheVariants.{Message, LinkUp, LinkDown}
+use Rattle.exchange_events.specs.declared.trace.Event.TheVariants.{Message, LinkUp, LinkDown, RestartLine}
 use Rattle.call_profile.specs.Step.{reply, next}
 use Rattle.call_profile.specs.World.{World}
 use Rattle.call_profile.specs.WorkedCalls.{at, to, own_call_offered, records_reply, sends_reply}
@@ -93,6 +94,13 @@ release_given_up = after_turn (in_frame 90 release_asked_again)
 abbrev pub asked_to_release : Signal
 asked_to_release = to 1 (0x08 ∷ 0x02 ∷ 0x00 ∷ 0x01 ∷ 0x4D ∷ 0x08 ∷ 0x02 ∷ 0x82 ∷ 0x90 ∷ [])
 
+-- the link of line 1 comes up in frame 90, after both RELEASEs: T308 restarts, so the leg is left in that frame
+abbrev pub up_before_given_up : World
+up_before_given_up = next hasty_lines (in_frame 90 release_asked_again) (LinkUp 1)
+
+abbrev pub released_anew : World
+released_anew = after_turn up_before_given_up
+
 -- the link of line 1 goes down while its user is alerted, and up again: the line has no leg, so it is restarted
 abbrev pub alerted_then_up : Reply
 alerted_then_up = reply hasty_lines (next hasty_lines (world_in 9 alerted) (LinkDown 1)) (LinkUp 1)
@@ -143,3 +151,43 @@ abbrev pub lost_after_answer : Reply
 lost_after_answer =
     ended_in 30 (to 1 (0x08 ∷ 0x02 ∷ 0x00 ∷ 0x01 ∷ 0x45 ∷ 0x08 ∷ 0x02 ∷ 0x82 ∷ 0x9B ∷ []) ∷ [])
     (record { caller = at 0 0; called = party.Line (at 1 0); answered = true; from = 0; to = 31; cause = 27 })
+
+-- ---- the exchange restarts a line
+
+-- line 1 in a conversation: its leg is removed, and the user of line 0 is sent DISCONNECT with cause 41
+abbrev pub conversation_restarted : World
+conversation_restarted = next hasty_lines (world_in 9 answered) (RestartLine 1)
+
+abbrev pub restarted_conversation : CallRecord
+restarted_conversation = record { caller = at 0 0; called = party.Line (at 1 0); answered = true; from = 0; to = 9; cause = 41 }
+
+-- the same while the link of line 1 is down: nothing is sent to line 1
+abbrev pub down_in_conversation : List Event
+down_in_conversation = answered ++ LinkDown 1 ∷ []
+
+abbrev pub restarted_while_down : World
+restarted_while_down = next hasty_lines (world_in 9 down_in_conversation) (RestartLine 1)
+
+-- after the restart, line 0 calls number 101 with call reference 2: channel 1 of line 1 is idle
+abbrev pub call_after_restart : Event
+call_after_restart = Message 0 (0x08 ∷ 0x02 ∷ 0x00 ∷ 0x02 ∷ 0x05 ∷ 0x04 ∷ 0x03 ∷ 0x80 ∷ 0x90 ∷ 0xA3 ∷ 0x70 ∷ 0x04 ∷ 0x80 ∷ 0x31 ∷ 0x30 ∷ 0x31 ∷ [])
+
+-- CALL PROCEEDING with this channel of line 0, and SETUP with channel 1 of line 1
+abbrev pub offered_on_first : ℕ → Reply
+offered_on_first channel = sends_reply (
+    to 0 (0x08 ∷ 0x02 ∷ 0x80 ∷ 0x02 ∷ 0x02 ∷ 0x18 ∷ 0x03 ∷ 0xA9 ∷ 0x83 ∷ channel ∷ [])
+    ∷ to 1 (0x08 ∷ 0x02 ∷ 0x00 ∷ 0x01 ∷ 0x05 ∷ 0xA1 ∷ 0x04 ∷ 0x03 ∷ 0x80 ∷ 0x90 ∷ 0xA3 ∷ 0x18 ∷ 0x03 ∷ 0xA9 ∷ 0x83 ∷ 0x81 ∷ 0x70 ∷ 0x04 ∷ 0x80 ∷ 0x31 ∷ 0x30 ∷ 0x31 ∷ [])
+    ∷ [])
+
+-- a line that calls itself: both legs are removed
+abbrev pub own_line_restarted : List Event
+own_line_restarted =
+    Message 0 (0x08 ∷ 0x02 ∷ 0x00 ∷ 0x01 ∷ 0x05 ∷ 0x04 ∷ 0x03 ∷ 0x80 ∷ 0x90 ∷ 0xA3 ∷ 0x70 ∷ 0x03 ∷ 0x80 ∷ 0x31 ∷ 0x30 ∷ [])
+    ∷ RestartLine 0
+    ∷ []
+
+abbrev pub own_line_restart_answered : List Reply
+own_line_restart_answered =
+    own_call_offered
+    ∷ records_reply (restart_of_line 0 ∷ []) (record { caller = at 0 0; called = party.Line (at 0 1); answered = false; from = 0; to = 0; cause = 41 })
+    ∷ []

@@ -14,7 +14,7 @@ ghost use Rattle.exchange_events.specs.declared.record.CallRecord.{CallRecord};
 ghost use Rattle.exchange_events.specs.Sizes.{Setting};
 ghost use Rattle.call_profile.specs.ActCourse.{course_of};
 ghost use Rattle.call_profile.specs.Calls.{after_message, answer_back, answer_to};
-ghost use Rattle.exchange_events.specs.declared.trace.Event.TheVariants.{LinkDown, LinkUp};
+ghost use Rattle.exchange_events.specs.declared.trace.Event.TheVariants.{LinkDown, LinkUp, RestartLine};
 ghost use Rattle.call_profile.specs.Dropped.{HasLine, OthersAreGone, ClearedStay, ActiveWait, OtherLinesAreLeft};
 ghost use Rattle.call_profile.specs.Resumed.{LegsAreResumed};
 ghost use Rattle.call_profile.specs.Step.{next};
@@ -23,6 +23,8 @@ ghost use Rattle.call_profile.specs.ExpiryBounds.{NoneIsLost};
 ghost use Rattle.call_profile.specs.ExpiryRecords.{IsFrameRecord, IsInFrame, ComeByLine};
 ghost use Rattle.call_profile.specs.LegStanding.{CallsStand};
 ghost use Rattle.call_profile.specs.Legs.{Legs, leg_at, lowest_free_reference};
+ghost use Rattle.call_profile.specs.LineRestarts.{IsInLineRestart, IsLineEmpty, IsLineRecord, IsRequestSent, OtherLinesAreCleared};
+ghost use Rattle.call_profile.specs.LinkChanges.{outcome_of_line_restart, whole_line};
 ghost use Rattle.call_profile.specs.Progress.{TellsOfTones};
 ghost use Rattle.call_profile.specs.Recorded.{Arrive, ComeByPlace, HasEnded, IsRecordOf, IsRecorded, RestartsNothing};
 ghost use Rattle.call_profile.specs.References.{HasReference, HasSlotLeft};
@@ -100,7 +102,26 @@ pub fn law_of_link_failures()
 {}
 
 /// After the establishment of a data link, no leg of the line in state 10 waits for the link, and an enquiry of each is
-/// open. Each in state 2 is in disconnect indication with cause 41, and every other leg is unchanged.
+/// open. Each in state 2 is in disconnect indication with cause 41. T308 of each in state 19 restarts, as after a
+/// retransmission, and every other leg is unchanged.
 pub fn law_of_link_establishments()
     ensures legs { (s : Setting) (w : World) (line : ℕ) → HasLine s w line → LegsAreResumed s.dimensions.external line w (next s w (LinkUp line)) }
+{}
+
+/// After the exchange restarts a line, no leg holds a channel of the line. At the other lines, a leg whose peer was removed
+/// is in disconnect indication with cause 41, and each other leg is unchanged. A slot without a leg keeps its circuit, so
+/// that nails and seats stay. The user of the line is sent RESTART of the interface, unless the data link of the line is
+/// down. The restart has the record of a call if and only if a caller's leg left states 3, 4 and 10 by it, with cause 41.
+/// The records come by the place of the first leg of their call on the line, each once.
+pub fn law_of_line_restarts()
+    ensures gone { (s : Setting) (w : World) (line : ℕ) → HasLine s w line → IsLineEmpty s.dimensions.external line (next s w (RestartLine line)) }
+    ensures others { (s : Setting) (w : World) (line : ℕ) → HasLine s w line → OtherLinesAreCleared s.dimensions.external line w (next s w (RestartLine line)) }
+    ensures unheld { (s : Setting) (w : World) (line : ℕ) → HasLine s w line → UnheldStay s.dimensions.external w (next s w (RestartLine line)) }
+    ensures sent { (s : Setting) (w : World) (line : ℕ) → IsRequestSent s w line }
+    ensures told { (s : Setting) (w : World) (line : ℕ) → HasLine s w line → (told : CallRecord)
+        → Contains (outcome_of_line_restart s.dimensions s.tones line w).recorded told → (h : HeldLeg) × IsLineRecord s w line h told }
+    ensures ended { (s : Setting) (w : World) (line : ℕ) → HasLine s w line → (h : HeldLeg)
+        → HasEnded s.dimensions.external w (next s w (RestartLine line)) h → IsInLineRestart s w line h }
+    ensures order { (s : Setting) (w : World) (line : ℕ) → HasLine s w line
+        → ComeByPlace whole_line line (outcome_of_line_restart s.dimensions s.tones line w).recorded }
 {}

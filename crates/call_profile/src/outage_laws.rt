@@ -11,7 +11,7 @@ ghost use Rattle.call_states.specs.declared.leg.Leg.{Leg};
 ghost use Rattle.number_plan.specs.declared.target.Found.{Found};
 ghost use Rattle.exchange_events.specs.declared.record.CallRecord.{CallRecord};
 ghost use Rattle.exchange_events.specs.declared.trace.Event.{Event};
-ghost use Rattle.exchange_events.specs.declared.trace.Event.TheVariants.{Frame, LinkDown};
+ghost use Rattle.exchange_events.specs.declared.trace.Event.TheVariants.{Frame, LinkDown, RestartLine};
 ghost use Rattle.exchange_events.specs.Sizes.{Setting};
 ghost use Rattle.exchange_events.specs.Sound.{Fits, IsPlanned};
 ghost use Rattle.call_profile.specs.Calls.{outcome_of_octets};
@@ -25,7 +25,7 @@ ghost use Rattle.call_profile.specs.LegStanding.{CallsStand};
 ghost use Rattle.call_profile.specs.Legs.{is_down, is_owed};
 ghost use Rattle.call_profile.specs.LostLegs.{IsDisconnected, IsLeftBehind, IsLossRecorded, IsLostFirst, IsUnchanged, IsVacated, NeitherIsLost};
 ghost use Rattle.call_profile.specs.Outages.{down_after_all, HasNoFailure, IsOnLineUp, NoLinkIsDown, OutagesStand};
-ghost use Rattle.call_profile.specs.OwedRestarts.{AreOwedByFailure, AreOwedByFrame, NoMoreAreOwed, OwesNoMore};
+ghost use Rattle.call_profile.specs.OwedRestarts.{AreOwedByFailure, AreOwedByFrame, AreOwedByRestart, NoMoreAreOwed, OwesNoMore};
 ghost use Rattle.call_profile.specs.Reconciled.{AreReconciled};
 ghost use Rattle.call_profile.specs.Recorded.{HasEnded};
 ghost use Rattle.call_profile.specs.Setup.{called_slot};
@@ -89,9 +89,10 @@ pub fn law_of_lost_legs()
 {}
 
 /// The establishment of a data link accounts for each channel of the line. One without a leg is owed no RESTART, and if
-/// it was owed one, a RESTART that covers it was sent. The user of each leg in state 10 was sent STATUS ENQUIRY. A leg
-/// that is being cleared, in state 12 or 19, has a timer. A leg in any other state is unchanged. No call is offered on a
-/// channel that is owed a RESTART.
+/// it was owed one, a RESTART that covers it was sent. The user of each leg in state 10 was sent STATUS ENQUIRY. The user
+/// of each leg in state 19 was sent its stored RELEASE again, and T308 restarts: its expiry removes the leg. At each leg
+/// in state 12 T305 goes on, or it starts if the establishment cleared the leg. A leg in any other state is unchanged. No
+/// call is offered on a channel that is owed a RESTART.
 pub fn law_of_reconciliation()
     ensures channels { (s : Setting) (w : World) (line : ℕ) → HasLine s w line → OutagesStand s.dimensions.external w.legs → AreReconciled s w line }
     ensures offered { (s : Setting) (w : World) → OutagesStand s.dimensions.external w.legs → (x : Slot) (t : Found) (y : Slot)
@@ -112,12 +113,15 @@ pub fn law_of_enquiry_replies()
 
 /// After the failure of a data link, a channel is owed a RESTART if and only if it was owed one, or its leg was removed by
 /// the failure. After a frame, if and only if it was owed one, or T309 removed its leg, or T308 did while the link of its
-/// line was down. No other event adds a channel to these.
+/// line was down. After the restart of a line, each of its channels is owed one if and only if its data link is down, and
+/// each channel of another line if and only if it was. No other event adds a channel to these.
 pub fn law_of_owed_restarts()
     ensures failure { (s : Setting) (w : World) (line : ℕ) → HasLine s w line → OutagesStand s.dimensions.external w.legs
         → AreOwedByFailure s.dimensions.external w (next s w (LinkDown line)) }
     ensures frame { (s : Setting) (w : World) (input : Input) → CallsStand s w → OutagesStand s.dimensions.external w.legs
         → AreOwedByFrame s.dimensions.external w (next s w (Frame input)) }
+    ensures restart { (s : Setting) (w : World) (line : ℕ) → HasLine s w line → OutagesStand s.dimensions.external w.legs
+        → AreOwedByRestart s.dimensions.external line w (next s w (RestartLine line)) }
     ensures others { (s : Setting) (w : World) (e : Event) → Fits s.dimensions.external e → CallsStand s w → OwesNoMore e
         → NoMoreAreOwed s.dimensions.external w (next s w e) }
 {}

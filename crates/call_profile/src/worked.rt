@@ -1,13 +1,13 @@
 //! Worked messages.
 ghost use Rattle.std.specs.Prelude.{◌≡◌, None, Some, [], ◌∷◌, option_map};
-ghost use Rattle.call_profile.specs.WorkedCalls.{at, two_lines, one_line, own_line, answers, sends_reply};
+ghost use Rattle.call_profile.specs.WorkedCalls.{at, two_lines, one_line, own_line, answers, records_reply, sends_reply};
 ghost use Rattle.call_profile.specs.WorkedMessages.{refused_by_element, refused_by_element_answered, unreadable_cause, unreadable_cause_answered, null_status_received, null_status_answered, release_collision, release_collision_answered, reference_given_again, reference_given_again_answered, compatibility, compatibility_answered};
 ghost use Rattle.call_profile.specs.WorkedDigits.{begun_later, ended_later, ended_later_answered, faulty_digits, faulty_digits_answered, in_other_states, in_other_states_answered, in_three_messages, in_three_messages_answered, line_full_later, line_full_later_answered, longest_numbers, longest_numbers_answered, no_port_later_answered, own_line_later, own_line_later_answered, passed_on_later, passed_on_later_answered, room_later, room_later_answered, two_digits, wrong_digit, wrong_digit_answered};
 ghost use Rattle.call_profile.specs.Legs.{leg_at, no_legs};
 ghost use Rattle.call_profile.specs.WorkedExpiries.{cleared_with, hasty_lines, turn_of, after_turn, world_in, in_frame, nothing_in, sent_in, offered, setup_again, setup_over, proceeds, proceeding_over, both_proceed, both_over, alerted, alerting_over, alerted_again, answered_in_time, begun_on_both, digits_over, first_turn, second_turn, third_turn, released};
-ghost use Rattle.exchange_events.specs.declared.trace.Event.TheVariants.{LinkUp};
+ghost use Rattle.exchange_events.specs.declared.trace.Event.TheVariants.{LinkUp, RestartLine};
 ghost use Rattle.call_profile.specs.Step.{reply};
-ghost use Rattle.call_profile.specs.WorkedLinks.{down_while_alerted, alerted_dropped, call_to_down, refused_as_down, own_line_down, own_line_dropped, outage, outage_over, down_again, up_again, state_enquired, reset_while_dialling, alerted_then_up, answered, answered_on_down, asked_to_release, beside_conversation, both_cleared, cleared_as_it_fails, confirmed, connect_lost, lost_after_answer, one_restarted, release_asked, release_asked_again, release_given_up, reports, restart_of_line, up_too_late};
+ghost use Rattle.call_profile.specs.WorkedLinks.{down_while_alerted, alerted_dropped, call_to_down, refused_as_down, own_line_down, own_line_dropped, outage, outage_over, down_again, up_again, state_enquired, reset_while_dialling, alerted_then_up, answered, answered_on_down, asked_to_release, beside_conversation, both_cleared, call_after_restart, cleared_as_it_fails, confirmed, connect_lost, conversation_restarted, down_in_conversation, lost_after_answer, offered_on_first, one_restarted, own_line_restarted, own_line_restart_answered, release_asked, release_asked_again, release_given_up, released_anew, reports, restart_of_line, restarted_conversation, restarted_while_down, up_before_given_up, up_too_late};
 ghost use Rattle.call_profile.specs.WorkedOverlap.{dialled_in_part, dialled_in_part_answered, pending_after, first_digit, refused_at_once, refused_at_once_answered, no_numbers, dials_nothing, dials_nothing_answered, given_up, given_up_answered};
 
 /// The definitions of the operations for messages, evaluated on more messages.
@@ -83,6 +83,11 @@ pub fn worked_outages()
     ensures clearing_again { turn_of (in_frame 60 release_asked) ≡ sent_in 60 (asked_to_release ∷ []) }
     ensures given_up { turn_of (in_frame 90 release_asked_again) ≡ nothing_in 90 }
     ensures restarted { reply hasty_lines release_given_up (LinkUp 1) ≡ sends_reply (restart_of_line 1 ∷ []) }
+    ensures released { reply hasty_lines (in_frame 90 release_asked_again) (LinkUp 1) ≡ sends_reply (asked_to_release ∷ []) }
+    ensures waits_anew { turn_of up_before_given_up ≡ nothing_in 90 }
+    ensures left { option_map (λ leg. leg.state) (leg_at released_anew.legs (at 1 0)) ≡ Some 19 }
+    ensures over { turn_of (in_frame 120 released_anew) ≡ nothing_in 120 }
+    ensures gone { (after_turn (in_frame 120 released_anew)).legs ≡ no_legs 2 }
     ensures alerted { alerted_then_up ≡ sends_reply (restart_of_line 1 ∷ []) }
     ensures beside { reply hasty_lines (world_in 9 beside_conversation) (LinkUp 1) ≡ one_restarted }
     ensures late { up_too_late ≡ sends_reply (restart_of_line 1 ∷ []) }
@@ -91,4 +96,17 @@ pub fn worked_outages()
     ensures ended { reply hasty_lines confirmed (reports 1) ≡ sends_reply [] }
     ensures unasked { reply hasty_lines (world_in 9 answered) (reports 1) ≡ sends_reply [] }
     ensures answered { turn_of (world_in 30 answered_on_down) ≡ lost_after_answer }
+{}
+
+/// The definitions, evaluated on lines that the exchange restarts.
+pub fn worked_line_restarts()
+    ensures conversation { reply hasty_lines (world_in 9 answered) (RestartLine 1)
+        ≡ records_reply (cleared_with 0 0xA9 ∷ restart_of_line 1 ∷ []) restarted_conversation }
+    ensures called_again { reply hasty_lines conversation_restarted call_after_restart ≡ offered_on_first 0x82 }
+    ensures down { reply hasty_lines (world_in 9 down_in_conversation) (RestartLine 1)
+        ≡ records_reply (cleared_with 0 0xA9 ∷ []) restarted_conversation }
+    ensures up { reply hasty_lines restarted_while_down (LinkUp 1) ≡ sends_reply (restart_of_line 1 ∷ []) }
+    ensures empty { reply hasty_lines (world_in 9 []) (RestartLine 1) ≡ sends_reply (restart_of_line 1 ∷ []) }
+    ensures called { reply hasty_lines (world_in 9 (RestartLine 1 ∷ [])) call_after_restart ≡ offered_on_first 0x81 }
+    ensures own_line { answers own_line own_line_restarted ≡ own_line_restart_answered }
 {}

@@ -1,4 +1,5 @@
 use Rattle.call_profile.proofs.OwedExactLemmas.{owed_by_failure, owed_by_frame, owed_no_more}
+use Rattle.call_profile.proofs.OwedLineLemmas.{owed_by_restart}
 use Rattle.call_profile.proofs.outage_laws.law_of_owed_restarts.Goals as goal
 
 pub returns-clause-failure : goal.returns-clause-failure
@@ -9,3 +10,6 @@ returns-clause-frame c s w input stands outages = owed_by_frame s w input stands
 
 pub returns-clause-others : goal.returns-clause-others
 returns-clause-others c s w e fits stands other x in_x owed = owed_no_more s w stands e fits other x in_x owed
+
+pub returns-clause-restart : goal.returns-clause-restart
+returns-clause-restart c = owed_by_restart

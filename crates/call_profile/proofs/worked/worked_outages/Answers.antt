@@ -21,6 +21,26 @@ pub returns-clause-restarted : goal.returns-clause-restarted
 unfolding elements_of elements_within outcome_of_lines outcome_below slots_of
 returns-clause-restarted c = refl
 
+pub returns-clause-released : goal.returns-clause-released
+unfolding elements_of elements_within outcome_of_lines outcome_below slots_of
+returns-clause-released c = refl
+
+pub returns-clause-waits_anew : goal.returns-clause-waits_anew
+unfolding elements_of elements_within outcome_of_lines outcome_below slots_of
+returns-clause-waits_anew c = refl
+
+pub returns-clause-left : goal.returns-clause-left
+unfolding elements_of elements_within outcome_of_lines outcome_below slots_of
+returns-clause-left c = refl
+
+pub returns-clause-over : goal.returns-clause-over
+unfolding elements_of elements_within outcome_of_lines outcome_below slots_of
+returns-clause-over c = refl
+
+pub returns-clause-gone : goal.returns-clause-gone
+unfolding elements_of elements_within outcome_of_lines outcome_below slots_of
+returns-clause-gone c = refl
+
 pub returns-clause-alerted : goal.returns-clause-alerted
 unfolding elements_of elements_within outcome_of_lines outcome_below slots_of
 returns-clause-alerted c = refl
