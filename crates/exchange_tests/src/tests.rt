@@ -1,6 +1,5 @@
 //! Tests of facts that no clause states: the calls end, also in threads. A worked example has numbers that were found
 //! by hand.
-mod circuits;
 mod core_steps;
 mod gates;
 mod lock;

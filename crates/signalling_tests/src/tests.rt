@@ -2,6 +2,5 @@
 mod call_table;
 mod clearing;
 mod elements;
-mod links;
 mod messages;
 mod number_plans;

@@ -19,8 +19,6 @@ mod headings;
 #[cfg(test)]
 mod keeper;
 #[cfg(test)]
-mod link_lines;
-#[cfg(test)]
 mod refusals;
 #[cfg(test)]
 mod reports;
