@@ -6,16 +6,19 @@ from dataclasses import dataclass
 from pathlib import Path
 
 TOP = Path(__file__).resolve().parents[3]
+NOT_IN_CODE = "not in code: "
 
 
 @dataclass(frozen=True)
 class Crate:
-    """A crate with its line, the heading above it, and the libraries that its line states."""
+    """A crate with its line, the heading above it, the libraries that its line states, and those that its code does not
+    use, by the comment of the line."""
 
     name: str
     line: str
     layer: str
     libraries: tuple[str, ...]
+    not_in_code: frozenset[str]
 
     @property
     def folder(self) -> Path:
@@ -34,8 +37,9 @@ def read_crates() -> list[Crate]:
     for line in (TOP / "crates.txt").read_text(encoding="utf-8").splitlines():
         if line.startswith("## "):
             layer = line[3:].strip()
-        text = line.partition("#")[0].strip()
+        text, _, comment = (part.strip() for part in line.partition("#"))
         name, colon, libraries = text.partition(":")
         if colon:
-            crates.append(Crate(name.split()[0], text, layer, tuple(libraries.split())))
+            others = comment.removeprefix(NOT_IN_CODE).split() if comment.startswith(NOT_IN_CODE) else []
+            crates.append(Crate(name.split()[0], text, layer, tuple(libraries.split()), frozenset(others)))
     return crates
