@@ -1,7 +1,7 @@
 -- The output of the command `gen`. Source: this project.
 use Rattle.std.specs.Prelude.{ℕ, ◌++◌, Bool, true, false, List, length, count_by, codes, decimal}
 use Rattle.exchange_events.specs.declared.trace.Event.{Event}
-use Rattle.exchange_events.specs.declared.trace.Event.TheVariants.{Nail, Seat, Free, Message, Frame, LinkUp, LinkDown}
+use Rattle.exchange_events.specs.declared.trace.Event.TheVariants.{Nail, Seat, Free, Message, Frame, LinkUp, LinkDown, RestartLine}
 use Rattle.exchange_events.specs.declared.trace.Trace.{Trace}
 
 abbrev pub is_frame : Event → Bool
@@ -11,6 +11,7 @@ is_frame (Free x) = false
 is_frame (Message line octets) = false
 is_frame (LinkUp line) = false
 is_frame (LinkDown line) = false
+is_frame (RestartLine line) = false
 is_frame (Frame input) = true
 
 -- the line that counts the events and the frames of a trace, and then the summaries of its meters

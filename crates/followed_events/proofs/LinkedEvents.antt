@@ -14,7 +14,7 @@ use Rattle.exchange_events.specs.declared.reply.Reply.{Reply}
 use Rattle.exchange_events.specs.declared.reply.Reply.TheVariants.{Busy, Freed, NotNailed, Frame as Framed}
 use Rattle.exchange_events.specs.declared.signal.Signal.{Signal}
 use Rattle.exchange_events.specs.declared.trace.Event.{Event}
-use Rattle.exchange_events.specs.declared.trace.Event.TheVariants.{Nail, Seat, Free, Message, LinkUp, LinkDown, Frame}
+use Rattle.exchange_events.specs.declared.trace.Event.TheVariants.{Nail, Seat, Free, Message, LinkUp, LinkDown, RestartLine, Frame}
 use Rattle.exchange_events.specs.Responses.{reply_of}
 use Rattle.exchange_events.specs.Sizes.{Setting}
 use Rattle.call_profile.specs.Expiring.{outcome_of_frame}
@@ -88,6 +88,7 @@ framed_is s w (Free x) n sends records is =
 framed_is s w (Message line octets) n sends records is = absurd (cc)
 framed_is s w (LinkUp line) n sends records is = absurd (cc)
 framed_is s w (LinkDown line) n sends records is = absurd (cc)
+framed_is s w (RestartLine line) n sends records is = absurd (cc)
 framed_is s w (Frame input) n sends records is = (input, refl)
 
 noticed_framed : (s : Setting) (w : World) (line : ℕ) (r : Result (Option Notice) NoLinkError) (n : ℕ) (sends : List Signal) (records : List CallRecord) → Framed n sends records ≡ reply_to s w (noticed_events line r) → ⊥
@@ -116,6 +117,7 @@ event_frame (Free x) = inr (λ input is. absurd (cc))
 event_frame (Message line octets) = inr (λ input is. absurd (cc))
 event_frame (LinkUp line) = inr (λ input is. absurd (cc))
 event_frame (LinkDown line) = inr (λ input is. absurd (cc))
+event_frame (RestartLine line) = inr (λ input is. absurd (cc))
 
 pub frame_or_not : (i : LinkedInput) → ((input : Input) × (i ≡ Happens (Frame input))) ⊎ IsNoFrame i
 frame_or_not (Happens e) = event_frame e
@@ -151,6 +153,7 @@ module _ (p : Played) (s : Setting) (timers : Link_timers) (j : Joint) (n : ℕ)
   plain_steps (Message line octets) other = refl
   plain_steps (LinkUp line) other = refl
   plain_steps (LinkDown line) other = refl
+  plain_steps (RestartLine line) other = refl
   plain_steps (Frame input) other = absurd (other input refl)
 
   pub steps_other : (e : LinkedEvent) → IsNoFrame (input_of e)
@@ -170,6 +173,7 @@ plain_inputs (Free x) other = refl
 plain_inputs (Message line octets) other = refl
 plain_inputs (LinkUp line) other = refl
 plain_inputs (LinkDown line) other = refl
+plain_inputs (RestartLine line) other = refl
 plain_inputs (Frame input) other = absurd (other input refl)
 
 pub inputs_other : (e : LinkedEvent) → IsNoFrame (input_of e) → inputs_at (content_of e) ≡ input_of e ∷ []
@@ -293,6 +297,7 @@ event_frames s timers j (Free x) = step_frames s timers j (Happens (Free x))
 event_frames s timers j (Message line octets) = step_frames s timers j (Happens (Message line octets))
 event_frames s timers j (LinkUp line) = step_frames s timers j (Happens (LinkUp line))
 event_frames s timers j (LinkDown line) = step_frames s timers j (Happens (LinkDown line))
+event_frames s timers j (RestartLine line) = step_frames s timers j (Happens (RestartLine line))
 event_frames s timers j (Frame input) =
     let first = step_frames s timers j (Happens (Frame input)) in
     let second = turn_frames s timers (next_joint s timers j (Happens (Frame input))) in

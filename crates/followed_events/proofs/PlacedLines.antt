@@ -16,7 +16,7 @@ use Rattle.trace_text.specs.declared.said.Said.TheVariants.{Nothing, Header, Num
 use Rattle.trace_text.specs.declared.timing.GivenTimer.{GivenTimer}
 use Rattle.trace_text.specs.TraceFields.{header}
 use Rattle.trace_text.specs.TraceWords.{words, is_blank, is_comment, is_printable}
-use Rattle.trace_text.specs.TraceLines.{◌>>=◌, SoFar, alone, before_events, by_kind, by_place, by_words, frame, free, happens, kind_of, message, nail, number, numbered, reads, seat, timed, timer, tone, toned, link_up, link_down}
+use Rattle.trace_text.specs.TraceLines.{◌>>=◌, SoFar, alone, before_events, by_kind, by_place, by_words, frame, free, happens, kind_of, message, nail, number, numbered, reads, seat, timed, timer, tone, toned, link_up, link_down, restart}
 
 -- the header was read
 abbrev pub IsKnown : SoFar → Type 0
@@ -67,6 +67,7 @@ kind_placed s external kind.Seat others said known h = event_placed s (seat exte
 kind_placed s external kind.Free others said known h = event_placed s (free external others) said known h
 kind_placed s external kind.LinkUp others said known h = event_placed s (link_up external others) said known h
 kind_placed s external kind.LinkDown others said known h = event_placed s (link_down external others) said known h
+kind_placed s external kind.RestartLine others said known h = event_placed s (restart external others) said known h
 kind_placed s external kind.Number others said known h =
     let before = none_before s (numbered (number external others)) said h in number_placed s (number external others) said before.0 before.1
 kind_placed s external kind.Tone others said known h =

@@ -7,7 +7,7 @@ use Rattle.circuit_model.specs.Hears.{Plays}
 use Rattle.tone_rules.specs.Tables.{table_of}
 use Rattle.number_plan.specs.Plan.{is_listed}
 use Rattle.exchange_events.specs.declared.trace.Event.{Event}
-use Rattle.exchange_events.specs.declared.trace.Event.TheVariants.{Nail, Seat, Free, Message, LinkUp, LinkDown, Frame}
+use Rattle.exchange_events.specs.declared.trace.Event.TheVariants.{Nail, Seat, Free, Message, LinkUp, LinkDown, RestartLine, Frame}
 use Rattle.exchange_events.specs.Sizes.{Setting}
 use Rattle.call_profile.specs.World.{World, start}
 use Rattle.link_procedures.specs.declared.state.Timers.{Timers as Link_timers}
@@ -80,6 +80,7 @@ after_inputs p s timers j (Free at) = refl
 after_inputs p s timers j (Message line octets) = refl
 after_inputs p s timers j (LinkUp line) = refl
 after_inputs p s timers j (LinkDown line) = refl
+after_inputs p s timers j (RestartLine line) = refl
 after_inputs p s timers j (Frame input) = refl
 
 -- the inputs of one line

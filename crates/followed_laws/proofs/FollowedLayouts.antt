@@ -7,7 +7,7 @@ use Rattle.number_plan.specs.declared.plan.Number.{Number}
 use Rattle.number_plan.specs.Plan.{all_targets, is_listed, with_number}
 use Rattle.number_plan.proofs.OrderFacts.{all_with}
 use Rattle.exchange_events.specs.declared.trace.Event.{Event}
-use Rattle.exchange_events.specs.declared.trace.Event.TheVariants.{Nail, Seat, Free, Message, LinkUp, LinkDown, Frame}
+use Rattle.exchange_events.specs.declared.trace.Event.TheVariants.{Nail, Seat, Free, Message, LinkUp, LinkDown, RestartLine, Frame}
 use Rattle.exchange_events.specs.Sound.{Fits, is_reached}
 use Rattle.exchange_core.specs.LaidOut.{IsFitting, IsLegalIn, JoinsCircuitsIn}
 use Rattle.exchange_core.proofs.LaidWorldLemmas.{joins_reached, legal_reached}
@@ -57,6 +57,7 @@ module _ (external : ℕ) where
   event_inputs (Message line octets) fits = one_input (Message line octets) fits
   event_inputs (LinkUp line) fits = one_input (LinkUp line) fits
   event_inputs (LinkDown line) fits = one_input (LinkDown line) fits
+  event_inputs (RestartLine line) fits = one_input (RestartLine line) fits
   event_inputs (Frame input) fits =
       All-cons (FitsLinked external) (linked.Happens (Frame input)) (Turns ∷ []) fits
       (All-cons (FitsLinked external) Turns [] tt (All-nil (FitsLinked external)))

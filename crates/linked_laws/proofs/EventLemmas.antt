@@ -32,6 +32,7 @@ use Rattle.linked_laws.proofs.StepLemmas.{outcome_read, outcome_in}
 other_event : (line : ℕ) (d : Bool) (e : Event) → LeavesLink line e → down_after line d e ≡ d
 other_event line d (event.LinkUp n) other = ap (λ b. if b then false else d) (ne_eqb line n (λ e. other (sym e)))
 other_event line d (event.LinkDown n) other = ap (λ b. if b then true else d) (ne_eqb line n (λ e. other (sym e)))
+other_event line d (event.RestartLine n) h = refl
 other_event line d (event.Message n m) h = refl
 other_event line d (event.Nail x y) h = refl
 other_event line d (event.Seat x room) h = refl
@@ -42,6 +43,7 @@ other_message : (line : ℕ) (e : Event) → IsBeside line e → message_from li
 other_message line (event.Message n m) other = ap (λ b. if b then m ∷ [] else []) (ne_eqb n line other)
 other_message line (event.LinkUp n) h = refl
 other_message line (event.LinkDown n) h = refl
+other_message line (event.RestartLine n) h = refl
 other_message line (event.Nail x y) h = refl
 other_message line (event.Seat x room) h = refl
 other_message line (event.Free x) h = refl
@@ -50,6 +52,7 @@ other_message line (event.Frame input) h = refl
 other_epoch : (line : ℕ) (e : Event) (epochs : List (List (List ℕ))) → IsBeside line e → epochs_after_event line e epochs ≡ epochs
 other_epoch line (event.LinkUp n) epochs other = ap (λ b. if b then [] ∷ epochs else epochs) (ne_eqb n line other)
 other_epoch line (event.LinkDown n) epochs other = ap (λ b. if b then [] ∷ epochs else epochs) (ne_eqb n line other)
+other_epoch line (event.RestartLine n) epochs h = refl
 other_epoch line (event.Message n m) epochs h = refl
 other_epoch line (event.Nail x y) epochs h = refl
 other_epoch line (event.Seat x room) epochs h = refl

@@ -110,7 +110,7 @@ abbrev pub timed_line : Result GivenLinkTimer Reason → Result LinkSaid Reason
 timed_line reading = reading >>= λ given. Ok (Timed given)
 
 -- a line of a kind, from the fields after the first, in an exchange with `external` external lines; a message and a change of a link are refused on a
--- line with a data link
+-- line with a data link, and the restart of a line is not
 abbrev pub by_link_kind : LinkSoFar → ℕ → LinkKind → List (List ℕ) → Result (Option LinkSaid) Reason
 by_link_kind k external kind.Received others = found (received external k.linked others)
 by_link_kind k external kind.Link others = found (before_first k (linked_line (link external k.linked others)))

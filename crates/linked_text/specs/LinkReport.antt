@@ -29,7 +29,7 @@ indication_text (Some indication.Released) = codes " down"
 abbrev pub link_line : ℕ → Option Indication → Option (ℕ × ℕ) → List ℕ → List (List ℕ) → List ℕ
 link_line n told moved lines sent = decimal n ++ codes " link" ++ indication_text told ++ moves moved ++ on_lines lines sent ++ codes "\n"
 
--- the line of a message, or of a change of a link that is not in this exchange
+-- the line of a message, of the restart of a line, or of a change of a link that is not in this exchange
 abbrev pub sent_message_line : ℕ → Option (ℕ × ℕ) → List ℕ → List (List ℕ) → List ℕ
 sent_message_line n moved lines sent = decimal n ++ codes " message" ++ moves moved ++ on_lines lines sent ++ codes "\n"
 

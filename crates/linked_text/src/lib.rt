@@ -3,10 +3,10 @@
 //! - [`LinkHeading::read_line`] reads one line after the lines before it, within the limits, and returns its
 //!   [`LinkHappening`] (`read`, `refused`). If it fails, the heading is unchanged (`kept`). Lines that concern a data link
 //!   are read here: `link`, `L`, and `timer` with T200 or T203. A line with a data link refuses `M`, `up` and `down`.
-//!   `trace_text` reads all other lines.
+//!   `trace_text` reads all other lines, among them `restart` of any line.
 //! - A trace without data links is read as such ([`law_of_plain_lines`]).
 //! - [`append_link_line`] and [`append_message_line`] append the line of a frame that a link received, and the line of a
-//!   message (`line`). If an allocation fails, the text is unchanged (`kept`).
+//!   message or of a restarted line (`line`). If an allocation fails, the text is unchanged (`kept`).
 //! - [`put_frame_start`], [`put_turn`] and [`put_frame_end`] append the parts of the line of a frame of the exchange. If
 //!   an allocation fails, the text may have a prefix of the part (`front`).
 #![tactic(auto)]

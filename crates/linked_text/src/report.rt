@@ -34,8 +34,8 @@ pub fn append_link_line(
     done
 }
 
-/// Appends the line of a message, or of a change of a link that is not in this exchange: the numbers of live paths that
-/// were moved, and the messages and frames that were sent, each after the number of its line.
+/// Appends the line of a message, of the restart of a line, or of a change of a link that is not in this exchange: the
+/// numbers of live paths that were moved, and the messages and frames that were sent, each after the number of its line.
 ///
 /// # Errors
 ///

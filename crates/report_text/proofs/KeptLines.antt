@@ -5,7 +5,7 @@ use Rattle.circuit_model.specs.FrameInput.{Input}
 use Rattle.circuit_model.specs.Ports.{port_of, ports_with}
 use Rattle.exchange_events.specs.declared.reply.Reply.{Reply}
 use Rattle.exchange_events.specs.declared.trace.Event.{Event}
-use Rattle.exchange_events.specs.declared.trace.Event.TheVariants.{Nail, Seat, Free, Message, Frame, LinkUp, LinkDown}
+use Rattle.exchange_events.specs.declared.trace.Event.TheVariants.{Nail, Seat, Free, Message, Frame, LinkUp, LinkDown, RestartLine}
 use Rattle.exchange_events.specs.Kept.{kept_of}
 use Rattle.exchange_events.specs.Sizes.{Setting}
 use Rattle.call_profile.specs.IdleSlots.{idle, is_nailed}
@@ -38,4 +38,5 @@ module _ (rows : List (List ℕ)) (n : ℕ) where
   same_line s w others Known frame (Message line octets) known = refl
   same_line s w others Known frame (LinkUp line) known = refl
   same_line s w others Known frame (LinkDown line) known = refl
+  same_line s w others Known frame (RestartLine line) known = refl
   same_line s w others Known frame (Frame input) known = frame input known

@@ -9,7 +9,7 @@ use Rattle.std.proofs.lemmas.List.Elements.{All-contains, Contains-append_cases,
 use Rattle.std.proofs.lemmas.List.FromFn.{length-range_with_len, get_or-range_with_len}
 use Rattle.std.proofs.Math.Nat.{mod-lt}
 use Rattle.exchange_events.specs.declared.trace.Event.{Event}
-use Rattle.exchange_events.specs.declared.trace.Event.TheVariants.{Nail, Seat, Free, Message, Frame, LinkUp, LinkDown}
+use Rattle.exchange_events.specs.declared.trace.Event.TheVariants.{Nail, Seat, Free, Message, Frame, LinkUp, LinkDown, RestartLine}
 use Rattle.exchange_events.specs.declared.trace.Trace.{Trace}
 use Rattle.exchange_events.specs.Orders.{Worker, Processor, Frame_worker, IsEvent, Precedes, SameWorker, file_order, segment_of, worker_of}
 use Rattle.exchange_events.specs.Sound.{IsSound}
@@ -28,6 +28,7 @@ small_place trace (Free x) sound = let some = sound.processors.0 in let few = so
 small_place trace (Message line octets) sound = let some = sound.processors.0 in let few = sound.processors.1 in let rest : line % trace.processors < trace.processors = mod-lt line some in omega (arith, few, rest)
 small_place trace (LinkUp line) sound = let some = sound.processors.0 in let few = sound.processors.1 in let rest : line % trace.processors < trace.processors = mod-lt line some in omega (arith, few, rest)
 small_place trace (LinkDown line) sound = let some = sound.processors.0 in let few = sound.processors.1 in let rest : line % trace.processors < trace.processors = mod-lt line some in omega (arith, few, rest)
+small_place trace (RestartLine line) sound = let some = sound.processors.0 in let few = sound.processors.1 in let rest : line % trace.processors < trace.processors = mod-lt line some in omega (arith, few, rest)
 small_place trace (Frame input) sound = omega arith
 
 pub place_small : (trace : Trace) (n : ℕ) → IsSound trace → IsEvent trace n → place_at trace n < 9
@@ -57,6 +58,7 @@ back trace (Free x) sound = not_eight trace x.line sound
 back trace (Message line octets) sound = not_eight trace line sound
 back trace (LinkUp line) sound = not_eight trace line sound
 back trace (LinkDown line) sound = not_eight trace line sound
+back trace (RestartLine line) sound = not_eight trace line sound
 back trace (Frame input) sound = refl
 
 one_worker : (trace : Trace) (m n : ℕ) → IsSound trace → IsEvent trace m → IsEvent trace n → place_at trace m ≡ place_at trace n → SameWorker trace m n

@@ -21,6 +21,8 @@ const TRACES: [&[&str]; 3] = [
         "down 0",
         "M 0 08fF05",
         "up  0",
+        " restart  1",
+        "restart 0",
         "sync",
         "F",
         "#",
@@ -122,6 +124,7 @@ fn is_same(one: &Event, other: &Event) -> bool {
         }
         (Event::LinkUp(a), Event::LinkUp(b)) => *a == *b,
         (Event::LinkDown(a), Event::LinkDown(b)) => *a == *b,
+        (Event::RestartLine(a), Event::RestartLine(b)) => *a == *b,
         (Event::Frame(a), Event::Frame(b)) => a.as_slice() == b.as_slice(),
         _ => false,
     }
@@ -174,7 +177,7 @@ fn a_heading_tells_what_a_trace_says(rt: HostRuntime) -> Result<(), Fail> {
 }
 
 // Lines that are refused after the lines of `BEFORE`, each for its reason.
-const REFUSED: [(&str, Reason); 12] = [
+const REFUSED: [(&str, Reason); 17] = [
     ("exchange 1 2 1 3", Reason::Word),
     ("number 121 line 0", Reason::Prefix),
     ("number 4x line 0", Reason::Number),
@@ -187,6 +190,11 @@ const REFUSED: [(&str, Reason); 12] = [
     ("down 00", Reason::Slot),
     ("down", Reason::Word),
     ("up 0 1", Reason::Word),
+    ("restart", Reason::Word),
+    ("restart 2", Reason::Slot),
+    ("restart 0/1", Reason::Slot),
+    ("restart 0 1", Reason::Word),
+    ("restarts 0", Reason::Word),
 ];
 
 const BEFORE: [&str; 4] = [

@@ -23,7 +23,7 @@ use Rattle.trace_text.specs.declared.said.Said.TheVariants.{Nothing, Header, Num
 use Rattle.trace_text.specs.declared.said.Kind.{Kind}
 use Rattle.trace_text.specs.declared.said.Kind.TheVariants as kind
 use Rattle.exchange_events.specs.declared.trace.Event.{Event}
-use Rattle.exchange_events.specs.declared.trace.Event.TheVariants.{Nail, Seat, Free, Message, LinkUp, LinkDown, Frame}
+use Rattle.exchange_events.specs.declared.trace.Event.TheVariants.{Nail, Seat, Free, Message, LinkUp, LinkDown, RestartLine, Frame}
 use Rattle.number_plan.specs.declared.plan.Number.{Number}
 use Rattle.number_plan.specs.declared.target.Target.{Target}
 use Rattle.number_plan.specs.declared.target.Target.TheVariants as goal
@@ -32,7 +32,7 @@ use Rattle.number_plan.proofs.OrderFacts.{all_with}
 use Rattle.exchange_events.specs.declared.trace.Trace.{Trace}
 use Rattle.trace_text.specs.TraceFields.{slash, numeral_in, external_line, slot, room, octets_written, thirty, at_most, max_message_len, exchange_sizes, header}
 use Rattle.trace_text.specs.TraceWords.{cut_at, numeral, lines, words, two, one_or_two, digits_and_target, is_comment, is_blank, is_printable}
-use Rattle.trace_text.specs.TraceLines.{◌>>=◌, colon, with_part, with_parts, with_line, with_lines, frame, message, nail, seat, free, only_line, link_up, link_down, target, number, numbered, tone, timer, toned, timed, happens, SoFar, before_events, by_kind, kind_of, by_words, by_place, reads, joins, says, trace_limits}
+use Rattle.trace_text.specs.TraceLines.{◌>>=◌, colon, with_part, with_parts, with_line, with_lines, frame, message, nail, seat, free, only_line, link_up, link_down, restart, target, number, numbered, tone, timer, toned, timed, happens, SoFar, before_events, by_kind, kind_of, by_words, by_place, reads, joins, says, trace_limits}
 use Rattle.trace_text.specs.TraceGrammar.{sizes_in, number_said, numbers_in, plan_of, event_said, events_in, changes_in, so_far, EachSays, IsTrace}
 use Rattle.exchange_events.specs.Sound.{Fits, line_exists, is_reached, IsSound}
 use Rattle.trace_text.proofs.TraceOctets.{in_range, are_octets}
@@ -233,6 +233,10 @@ up_on line = Ok (LinkUp line)
 abbrev down_on : ℕ → Result Event Reason
 down_on line = Ok (LinkDown line)
 
+-- the event of a line that the exchange restarts
+abbrev restart_on : ℕ → Result Event Reason
+restart_on line = Ok (RestartLine line)
+
 pub link_up_fits : (external : ℕ) (words : List (List ℕ)) (e : Event) → link_up external words ≡ Ok e → Fits external e
 link_up_fits external words e h =
     let line = passed_first (only_line external words) up_on e h in
@@ -243,6 +247,12 @@ pub link_down_fits : (external : ℕ) (words : List (List ℕ)) (e : Event) → 
 link_down_fits external words e h =
     let line = passed_first (only_line external words) down_on e h in
     let is : LinkDown line.0 ≡ e = grind (arith, line.2) in
+    rw (← is) (only_line_inside external words line.0 line.1)
+
+pub restart_fits : (external : ℕ) (words : List (List ℕ)) (e : Event) → restart external words ≡ Ok e → Fits external e
+restart_fits external words e h =
+    let line = passed_first (only_line external words) restart_on e h in
+    let is : RestartLine line.0 ≡ e = grind (arith, line.2) in
     rw (← is) (only_line_inside external words line.0 line.1)
 
 -- the steps by which two words name where a number leads
@@ -418,6 +428,7 @@ kind_fine s sizes kind.Seat others said known h = event_fine s sizes (seat sizes
 kind_fine s sizes kind.Free others said known h = event_fine s sizes (free sizes.external others) said known (free_fits sizes.external others) h
 kind_fine s sizes kind.LinkUp others said known h = event_fine s sizes (link_up sizes.external others) said known (link_up_fits sizes.external others) h
 kind_fine s sizes kind.LinkDown others said known h = event_fine s sizes (link_down sizes.external others) said known (link_down_fits sizes.external others) h
+kind_fine s sizes kind.RestartLine others said known h = event_fine s sizes (restart sizes.external others) said known (restart_fits sizes.external others) h
 kind_fine s sizes kind.Number others said known h = number_fine s sizes (number sizes.external others) said known (number_reached sizes.external others) (read_before s _ said h)
 kind_fine s sizes kind.Tone others said known h = tone_fine s (tone s.tones others) said (read_before s _ said h)
 kind_fine s sizes kind.Timer others said known h = timer_fine s (timer s.timers others) said (read_before s _ said h)

@@ -13,7 +13,7 @@ use Rattle.number_plan.specs.Plan.{is_listed, is_number, is_number_taken}
 use Rattle.tone_rules.specs.declared.tones.Tones.{Tones}
 use Rattle.tone_rules.specs.CallTones.{is_given}
 use Rattle.exchange_events.specs.declared.trace.Event.{Event}
-use Rattle.exchange_events.specs.declared.trace.Event.TheVariants.{Nail, Seat, Free, Message, LinkUp, LinkDown, Frame}
+use Rattle.exchange_events.specs.declared.trace.Event.TheVariants.{Nail, Seat, Free, Message, LinkUp, LinkDown, RestartLine, Frame}
 use Rattle.exchange_events.specs.Limits.{max_changes, max_events}
 use Rattle.trace_text.specs.declared.fault.Reason.{Reason}
 use Rattle.trace_text.specs.declared.fault.Reason.TheVariants as reason
@@ -107,6 +107,12 @@ abbrev pub link_down : ℕ → List (List ℕ) → Result Event Reason
 link_down external others = do
   line ← only_line external others
   Ok (LinkDown line)
+
+-- a restart of a line by the exchange: the external line
+abbrev pub restart : ℕ → List (List ℕ) → Result Event Reason
+restart external others = do
+  line ← only_line external others
+  Ok (RestartLine line)
 
 -- a line that is an event
 abbrev pub happens : Result Event Reason → Result Said Reason
@@ -208,6 +214,7 @@ kind_of word =
     else if bytes_eq word (codes "timer") then kind.Timer
     else if bytes_eq word (codes "up") then kind.LinkUp
     else if bytes_eq word (codes "down") then kind.LinkDown
+    else if bytes_eq word (codes "restart") then kind.RestartLine
     else if bytes_eq word (codes "change") then kind.Change
     else kind.Unknown
 
@@ -234,6 +241,7 @@ by_kind so_far external kind.Seat others = happens (seat external others)
 by_kind so_far external kind.Free others = happens (free external others)
 by_kind so_far external kind.LinkUp others = happens (link_up external others)
 by_kind so_far external kind.LinkDown others = happens (link_down external others)
+by_kind so_far external kind.RestartLine others = happens (restart external others)
 by_kind so_far external kind.Number others = before_events so_far (numbered (number external others))
 by_kind so_far external kind.Tone others = before_events so_far (toned (tone so_far.tones others))
 by_kind so_far external kind.Timer others = before_events so_far (timed (timer so_far.timers others))

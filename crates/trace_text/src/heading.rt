@@ -8,7 +8,7 @@ use crate::fields::header_of;
 use crate::limits::Limits;
 use crate::line::{
     alone, frame_of, free_of, kind_of, link_down_of, link_up_of, message_of, nail_of, number_of,
-    seat_of, timer_of, tone_of,
+    restart_of, seat_of, timer_of, tone_of,
 };
 use crate::plain::{ends_word, plain_frame, plain_free, plain_message, plain_nail};
 use crate::said::{GivenTone, Kind, Said, Sizes};
@@ -244,6 +244,7 @@ impl Heading {
             Kind::Free => Ok(Said::Happens(free_of(external, line)?)),
             Kind::LinkUp => Ok(Said::Happens(link_up_of(external, line)?)),
             Kind::LinkDown => Ok(Said::Happens(link_down_of(external, line)?)),
+            Kind::RestartLine => Ok(Said::Happens(restart_of(external, line)?)),
             Kind::Number => Ok(self.number_line(external, line)?),
             Kind::Tone => Ok(self.tone_line(alloc, line)?),
             Kind::Timer => Ok(self.timer_line(line)?),

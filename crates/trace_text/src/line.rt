@@ -2,7 +2,7 @@
 ghost use Rattle.std.specs.Prelude.{◌≡◌, ◌<◌, ◌∷◌, [], IsTrue, length, MatchResult, IfOk, Ok, Err};
 ghost use Rattle.number_plan.specs.Plan.{is_number};
 ghost use Rattle.trace_text.specs.TraceWords.{words};
-ghost use Rattle.trace_text.specs.TraceLines.{with_part, with_line, with_lines, frame, message, nail, seat, free, only_line, link_up, link_down, target, number, tone, tone_named, timer, alone, kind_of, Gives};
+ghost use Rattle.trace_text.specs.TraceLines.{with_part, with_line, with_lines, frame, message, nail, seat, free, only_line, link_up, link_down, restart, target, number, tone, tone_named, timer, alone, kind_of, Gives};
 ghost use Rattle.trace_text.specs.TraceTimers.{timer_named};
 
 use crate::cut::{
@@ -120,6 +120,13 @@ pub(crate) fn link_down_of(external: u8, line: &[u8]) -> Result<Event, Reason>
     ensures { result ≡ link_down external (words line.now) }
 {
     Ok(Event::LinkDown(only_line(external, line)?))
+}
+
+/// Returns the restart of the field's line.
+pub(crate) fn restart_of(external: u8, line: &[u8]) -> Result<Event, Reason>
+    ensures { result ≡ restart external (words line.now) }
+{
+    Ok(Event::RestartLine(only_line(external, line)?))
 }
 
 // Appends the line of a field to a list.
@@ -282,6 +289,8 @@ pub(crate) fn kind_of(word: &[u8]) -> Kind
         Kind::LinkUp
     } else if word == b"down".as_slice() {
         Kind::LinkDown
+    } else if word == b"restart".as_slice() {
+        Kind::RestartLine
     } else if word == b"change".as_slice() {
         Kind::Change
     } else {

@@ -37,6 +37,8 @@ pub enum Kind {
     LinkUp,
     /// The data link of a line is down.
     LinkDown,
+    /// The exchange restarts the interface of a line.
+    RestartLine,
     /// A number routes to a line, a list of lines or a conference room.
     Number,
     /// The octets of a tone.

@@ -39,7 +39,7 @@ const UNLINKED: [(&str, Came); 9] = [
 ];
 
 // Lines of a trace with data links.
-const LINKED: [(&str, Came); 39] = [
+const LINKED: [(&str, Came); 43] = [
     ("exchange 1 3 1 2", Came::Read),
     ("link", Came::Refused(Reason::Word)),
     ("link 0 1", Came::Refused(Reason::Word)),
@@ -62,6 +62,8 @@ const LINKED: [(&str, Came); 39] = [
     ("up 0", Came::Refused(Reason::Slot)),
     ("down 2", Came::Refused(Reason::Slot)),
     ("M 3", Came::Refused(Reason::Slot)),
+    ("restart 3", Came::Refused(Reason::Slot)),
+    ("restart 0 2", Came::Refused(Reason::Word)),
     ("M 1 0", Came::Refused(Reason::Hex)),
     ("L", Came::Refused(Reason::Word)),
     ("L 0 00 01", Came::Refused(Reason::Word)),
@@ -78,6 +80,8 @@ const LINKED: [(&str, Came); 39] = [
     ("M 1 0802800107", Came::Event),
     ("up 1", Came::Event),
     ("down 1", Came::Event),
+    ("restart 1", Came::Event),
+    (" restart  2", Came::Event),
     ("F", Came::Event),
 ];
 
@@ -113,7 +117,7 @@ fn lines_with_data_links_are_read(rt: HostRuntime) -> Result<(), Fail> {
     assert!(rt; heading.link_timers().t200 == 9);
     assert!(rt; heading.link_timers().t203 == 80_000);
     assert!(rt; heading.plain().timers().t303 == 8);
-    assert!(rt; heading.plain().event_count() == 6);
+    assert!(rt; heading.plain().event_count() == 8);
     Ok(())
 }
 
