@@ -6,3 +6,4 @@ pub mod SideLemmas
 pub mod EventLemmas
 pub mod LayerLemmas
 pub mod PeerLemmas
+pub mod LastingLemmas

@@ -1,3 +1,4 @@
 pub mod Layers
 pub mod Sides
 pub mod Peers
+pub mod Lasting

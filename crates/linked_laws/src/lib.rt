@@ -3,6 +3,7 @@
 //! - [`layers_agree`]: a line is down for call control if and only if its link is not up, unless the link has lost messages
 //!   of which call control is not informed yet (`down`). Such a link is not up (`owing`). The release of it comes before an
 //!   establishment (`first`).
+//! - [`calls_last`]: while the data links of the lines of a call are up, no frame ends the call.
 //! - [`in_order_on_a_line`]: the theorem [`in_order_or_told`](link_laws::in_order_or_told) holds of each line of a running
 //!   exchange and its user. The messages of call control and of the user are delivered at most once and in order, and only
 //!   the last ones before an indication can be lost.
@@ -14,7 +15,9 @@
 #![tactic(auto)]
 
 ghost use Rattle.std.specs.Prelude.{◌≡◌, Bool, List, ℕ};
+ghost use Rattle.circuit_model.specs.FrameInput.{Input};
 ghost use Rattle.exchange_events.specs.Sizes.{Setting};
+ghost use Rattle.exchange_events.specs.Sound.{IsPlanned};
 ghost use Rattle.link_frames.specs.declared.frame.Frame.{Frame};
 ghost use Rattle.link_frames.specs.declared.frame.Sender.TheVariants.{Network, User};
 ghost use Rattle.link_frames.specs.Reading.{reading};
@@ -22,6 +25,7 @@ ghost use Rattle.link_frames.specs.Writing.{encoding};
 ghost use Rattle.link_procedures.specs.declared.state.Timers.{Timers};
 ghost use Rattle.linked_exchange.specs.Steps.{LinkedInput};
 ghost use Rattle.linked_exchange.specs.Runs.{joint_after_all, start_joint};
+ghost use Rattle.linked_laws.specs.Lasting.{LastsOnLinks};
 ghost use Rattle.linked_laws.specs.Layers.{AreInputs, LayersAgree, OwesIfDown, ReleasesFirst};
 ghost use Rattle.linked_laws.specs.Peers.{AlwaysOn, HasArrived, IsInOrderOrTold};
 ghost use Rattle.linked_laws.specs.Sides.{as_user};
@@ -36,6 +40,14 @@ pub fn layers_agree()
         → AreInputs s linked line is → OwesIfDown line (joint_after_all s timers (start_joint s linked) is) }
     ensures first { (s : Setting) (timers : Timers) (linked : List Bool) (line : ℕ) (is : List LinkedInput)
         → AreInputs s linked line is → ReleasesFirst s timers line (joint_after_all s timers (start_joint s linked) is) }
+{}
+
+/// After any inputs, a frame changes no leg in state 10, and neither its connection nor its membership, if the data link
+/// of its line is up, and so is that of the other leg of its call. Both lines begin with a link, and no other input
+/// changes it. The links of all other lines may fail. So T309 ends no such call.
+pub fn calls_last()
+    ensures { (s : Setting) (timers : Timers) (linked : List Bool) (is : List LinkedInput) (input : Input)
+        → IsPlanned s → LastsOnLinks s timers linked is input }
 {}
 
 /// On a line with a data link, for every loss and across establishments, each message is delivered at most once and in
