@@ -1,6 +1,6 @@
 -- Only clearing messages, a RESTART and expiries end a call.
-use Rattle.std.proofs.Common.{◌≡◌, ℕ, ◌*◌, ◌<◌, ◌⊎◌, inl, inr, Bool, true, false, List, [], ◌∷◌, Option, Some, None, length, length-set, refl, sym, ◌∙◌, ap, subst, arith, eqb-true}
-use Rattle.std.specs.Prelude.{◌==◌, ◌&&◌, not, option_map, if◌then◌else◌}
+use Rattle.std.proofs.Common.{◌≡◌, ◌≢◌, ℕ, ◌*◌, ◌<◌, ◌⊎◌, inl, inr, Bool, true, false, List, [], ◌∷◌, Option, Some, None, length, length-set, refl, sym, ◌∙◌, ap, subst, arith, eqb-true}
+use Rattle.std.specs.Prelude.{◌==◌, ◌&&◌, ◌↔◌, not, option_map, if◌then◌else◌}
 use Rattle.std.proofs.lemmas.Bool.Decides.{nat_tests}
 use Rattle.std.proofs.lemmas.Grind.{common_steps}
 use Rattle.circuit_model.specs.declared.channel.Slot.{Slot}
@@ -24,7 +24,7 @@ use Rattle.call_states.specs.declared.leg.Side.{Side}
 use Rattle.call_states.specs.declared.leg.Side.TheVariants.{Caller}
 use Rattle.clearing_rules.specs.declared.scope.Restart.{Restart}
 use Rattle.clearing_rules.specs.UnknownReference.{answer_without_call}
-use Rattle.exchange_events.specs.declared.trace.Event.TheVariants.{LinkUp, LinkDown}
+use Rattle.exchange_events.specs.declared.trace.Event.TheVariants.{LinkUp, LinkDown, RestartLine}
 use Rattle.exchange_events.specs.Sizes.{Setting, Dimensions}
 use Rattle.exchange_events.specs.Sound.{IsPlanned}
 use Rattle.call_profile.specs.ActCourse.{course_of}
@@ -52,10 +52,10 @@ use Rattle.call_profile.proofs.ReportLemmas.{state_agrees, state_differs}
 use Rattle.call_profile.proofs.ResumedLineLemmas.{legs_are_resumed}
 use Rattle.call_profile.proofs.StandingLegLemmas.{happened_kept}
 use Rattle.privacy.specs.Ending.{IsClearing, By_disconnect, By_release, By_release_complete, By_status, By_report, IsEnding, Of_leg, Of_slot, Lasts}
-use Rattle.privacy.specs.Undisturbed.{AreCalling}
+use Rattle.privacy.specs.Undisturbed.{AreCalling, IsTheirOwn}
 use Rattle.privacy.proofs.LegStateLemmas.{digits_overlap}
 use Rattle.privacy.proofs.LineLemmas.{IsStrange, act_skip, answer_skip, by_skip, setup_skip}
-use Rattle.privacy.proofs.StayingLemmas.{one_leg, used_by_leg}
+use Rattle.privacy.proofs.StayingLemmas.{one_leg, slots_stay, used_by_leg}
 
 -- ---- a leg that stays in its call
 
@@ -315,19 +315,21 @@ module _ (s : Setting) (w : World) (line : ℕ) (planned : IsPlanned s) (stands 
 
   -- ---- a change of the data link
 
-  resumed_same : (leg : Leg) (b e o : Bool) (other : Leg) → o ≡ false → IsSameCall leg (if b then (if e then begun w (with_enquiry true leg) else if o then other else leg) else leg)
-  resumed_same leg true true o other not_so = record { side = refl; reference = refl; peer = refl }
-  resumed_same leg true false true other not_so = absurd cc
-  resumed_same leg true false false other not_so = same_call leg
-  resumed_same leg false e o other not_so = same_call leg
+  resumed_same : (leg : Leg) (b e o r : Bool) (other : Leg) → o ≡ false
+      → IsSameCall leg (if b then (if e then begun w (with_enquiry true leg) else if o then other else if r then retransmitted_from w.holding.next leg else leg) else leg)
+  resumed_same leg true true o r other not_so = record { side = refl; reference = refl; peer = refl }
+  resumed_same leg true false true r other not_so = absurd cc
+  resumed_same leg true false false true other not_so = record { side = refl; reference = refl; peer = refl }
+  resumed_same leg true false false false other not_so = same_call leg
+  resumed_same leg false e o r other not_so = same_call leg
 
   pub up_lasts : line < s.dimensions.external → LastsIn (next s w (LinkUp line))
   up_lasts exists =
       let can : HasLine s w line = record { stands = stands; line_exists = exists } in
       let overlap = unmatched caller.state called.state c.call.matched in
       last_both (next s w (LinkUp line)) (happened_kept s w (LinkUp line) planned exists stands)
-      (resumed_on line w x caller, legs_are_resumed s w line can x c.in_x ∙ ap (option_map (resumed_on line w x)) c.at_x, resumed_same caller _ _ _ _ (not_state caller.state overlap_sending overlap.0))
-      (resumed_on line w y called, legs_are_resumed s w line can y c.in_y ∙ ap (option_map (resumed_on line w y)) c.at_y, resumed_same called _ _ _ _ (not_state called.state overlap_sending overlap.1))
+      (resumed_on line w x caller, legs_are_resumed s w line can x c.in_x ∙ ap (option_map (resumed_on line w x)) c.at_x, resumed_same caller _ _ _ _ _ (not_state caller.state overlap_sending overlap.0))
+      (resumed_on line w y called, legs_are_resumed s w line can y c.in_y ∙ ap (option_map (resumed_on line w y)) c.at_y, resumed_same called _ _ _ _ _ (not_state called.state overlap_sending overlap.1))
 
   waits_same : (leg : Leg) (b : Bool) → IsSameCall leg (if b then leg else retransmitted_from w.holding.next (with_enquiry false leg))
   waits_same leg true = same_call leg
@@ -358,6 +360,35 @@ module _ (s : Setting) (w : World) (line : ℕ) (planned : IsPlanned s) (stands 
       last_both (next s w (LinkDown line)) (happened_kept s w (LinkDown line) planned exists stands)
       (down_stays exists x y caller c.in_x c.at_x c.call.there is)
       (down_stays exists y x called c.in_y c.at_y c.call.back ((call_active Caller x y caller called c.call).0 is))
+
+  -- ---- the restart of a line
+
+  not_their_own : (x.line ≢ line) → (y.line ≢ line) → ¬ (IsTheirOwn s w x y caller called (RestartLine line))
+  not_their_own off_x off_y (inl on) = elim on [
+    | inl same ↦ off_x (sym same)
+    | inr same ↦ off_y (sym same)
+  ]
+  not_their_own off_x off_y (inr runs) = elim runs [
+    | inl never ↦ never
+    | inr never ↦ never
+  ]
+
+  pub others_last : line < s.dimensions.external → (x.line ≢ line) → (y.line ≢ line) → LastsIn (next s w (RestartLine line))
+  others_last exists off_x off_y =
+      let stay = slots_stay s w planned stands x y caller called c (RestartLine line) exists (not_their_own off_x off_y) in
+      same_legs (next s w (RestartLine line)) (happened_kept s w (RestartLine line) planned exists stands) stay.0.leg stay.1.leg
+
+  -- a call that lasts has a leg at both slots, and no leg is left on the line
+  none_left : line < s.dimensions.external → LastsIn (next s w (RestartLine line)) → (x.line ≢ line) × (y.line ≢ line)
+  none_left exists lasts =
+      let after : World = next s w (RestartLine line) in
+      let empty = line_is_emptied s w line (record { stands = stands; line_exists = exists }) in (
+        λ on. let wrong : None ≡ Some lasts.0 = sym (empty x c.in_x on) ∙ lasts.2.at_x in cc,
+        λ on. let wrong : None ≡ Some lasts.1 = sym (empty y c.in_y on) ∙ lasts.2.at_y in cc,
+      )
+
+  pub restart_ends : line < s.dimensions.external → LastsIn (next s w (RestartLine line)) ↔ ((x.line ≢ line) × (y.line ≢ line))
+  restart_ends exists = (none_left exists, λ off. others_last exists off.0 off.1)
 
   -- ---- a message
 

@@ -29,7 +29,7 @@ use Rattle.clearing_rules.specs.UnknownReference.{answer_without_call}
 use Rattle.number_plan.specs.declared.target.Found.{Found}
 use Rattle.number_plan.specs.declared.target.Found.TheVariants.{Line, Lines, Room, More, Nothing}
 use Rattle.exchange_events.specs.declared.trace.Event.{Event}
-use Rattle.exchange_events.specs.declared.trace.Event.TheVariants.{Nail, Seat, Free, Message as Message_event, LinkUp, LinkDown, Frame}
+use Rattle.exchange_events.specs.declared.trace.Event.TheVariants.{Nail, Seat, Free, Message as Message_event, LinkUp, LinkDown, RestartLine, Frame}
 use Rattle.exchange_events.specs.Sizes.{Setting, Dimensions}
 use Rattle.exchange_events.specs.Sound.{Fits, IsPlanned}
 use Rattle.call_profile.specs.ActCourse.{course_of}
@@ -52,7 +52,7 @@ use Rattle.privacy.specs.Lines.{IsAsBefore}
 use Rattle.privacy.specs.Undisturbed.{IsOnLine, IsSingle}
 use Rattle.privacy.proofs.CalledLemmas.{called_idle}
 use Rattle.privacy.proofs.FootprintLemmas.{MissAll, Misses}
-use Rattle.privacy.proofs.LineLemmas.{IsStrange, own_cleared, course_skip, answer_skip, linked, restarted}
+use Rattle.privacy.proofs.LineLemmas.{IsStrange, own_cleared, course_skip, answer_skip, linked, given_up, restarted}
 use Rattle.privacy.proofs.StayingLemmas.{turn_leaves}
 use Rattle.privacy.proofs.VoicedLemmas.{tone_before_pair, tone_before_seat}
 
@@ -299,6 +299,7 @@ module _ (s : Setting) (w : World) (planned : IsPlanned s) (stands : CallsStand 
   spares (Message_event line octets) fits off = message_spares line octets fits.0 (λ same. off (sym same))
   spares (LinkUp line) fits off = same_out (next s w (LinkUp line)) (linked s w line z stands in_z (λ v same x l on at. no_leg v same x l at) fits false)
   spares (LinkDown line) fits off = same_out (next s w (LinkDown line)) (linked s w line z stands in_z (λ v same x l on at. no_leg v same x l at) fits true)
+  spares (RestartLine line) fits off = same_out (next s w (RestartLine line)) (given_up s w line z stands in_z (λ v same x l on at. no_leg v same x l at) fits)
   spares (Frame input) fits off =
       same_out (next s w (Frame input)) (turn_leaves s w z z stands in_z in_z (λ v same same_too x l e place at due. (no_leg v same x l at, no_leg v same x l at)) input).0
 
@@ -316,6 +317,7 @@ module _ (s : Setting) (w : World) (planned : IsPlanned s) (stands : CallsStand 
   on_or_off line (Message_event other octets) = at_line line other
   on_or_off line (LinkUp other) = at_line line other
   on_or_off line (LinkDown other) = at_line line other
+  on_or_off line (RestartLine other) = at_line line other
   on_or_off line (Frame input) = inr (λ never. never)
 
   pub own_line_gives_leg : (e : Event) → Fits s.dimensions.external e → (leg : Leg) → leg_at (next s w e).legs z ≡ Some leg → IsSingle leg → IsOnLine z.line e

@@ -1,9 +1,9 @@
--- A property of each list of operations at a slot is one of both rules of a data link.
+-- A property of each list of operations at a slot is one of both rules of a data link, and of the rule of a restart.
 use Rattle.std.proofs.Common.{◌≡◌, Bool, true, false, List, [], ◌∷◌, Some, None, inl, inr, if◌then◌else◌}
 use Rattle.std.specs.Prelude.{◌==◌}
 use Rattle.circuit_model.specs.declared.channel.Slot.{Slot}
 use Rattle.circuit_model.proofs.Slots.{true_or_false}
-use Rattle.q931_codec.specs.CallStates.{active, overlap_sending}
+use Rattle.q931_codec.specs.CallStates.{active, overlap_sending, release_request}
 use Rattle.q931_codec.specs.Causes.{destination_out_of_order, temporary_failure}
 use Rattle.call_states.specs.Acts.{is_among}
 use Rattle.call_states.specs.declared.leg.HeldLeg.{HeldLeg}
@@ -12,8 +12,9 @@ use Rattle.clearing_rules.specs.Restarting.{restart_of}
 use Rattle.clearing_rules.specs.declared.scope.Restart.TheVariants.{Channel}
 use Rattle.tone_rules.specs.declared.tones.Tones.{Tones}
 use Rattle.call_profile.specs.Acts.{clear_with, with_enquiry}
-use Rattle.call_profile.specs.Legs.{Legs, is_owed, leg_at}
-use Rattle.call_profile.specs.LinkChanges.{being_cleared, drop_leg, enquire, restart_channel, resume_held, resume_leg, rule_of, whole_line}
+use Rattle.call_profile.specs.Expiring.{send_again}
+use Rattle.call_profile.specs.Legs.{Legs, is_owed, kept_at, leg_at}
+use Rattle.call_profile.specs.LinkChanges.{being_cleared, drop_leg, enquire, give_up_leg, give_up_rule, restart_channel, resume_held, resume_leg, rule_of, whole_line}
 use Rattle.call_profile.specs.Operations.{Operation, Await, Remove, Send}
 use Rattle.call_profile.specs.Restarts.{restart_leg}
 use Rattle.call_profile.proofs.LinkLemmas.{at_held}
@@ -24,6 +25,7 @@ pub record IsAtLeg (tones : Tones) (legs : Legs) (P : List Operation → Type 0)
   pub goes : P (restart_leg tones destination_out_of_order true whole_line legs (Some h))
   pub asks : P (enquire h)
   pub clears : P (clear_with tones temporary_failure h)
+  pub again : P (send_again h (kept_at legs h.slot))
 
 pub record IsAtEmpty (P : List Operation → Type 0) (x : Slot) : Type 0 where
   pub forgets : P (Remove x false ∷ [])
@@ -44,12 +46,15 @@ module _ (tones : Tones) (legs : Legs) (P : List Operation → Type 0) (none : P
       ]
     ]
 
-    resumed : P (resume_leg tones h)
+    resumed : P (resume_leg tones legs h)
     resumed = elim (true_or_false (h.leg.state == active)) [
       | inl up ↦ rw up at.asks
       | inr not_up ↦ elim (true_or_false (h.leg.state == overlap_sending)) [
         | inl dials ↦ rw (not_up, dials) at.clears
-        | inr other ↦ rw (not_up, other) none
+        | inr not_dialling ↦ elim (true_or_false (h.leg.state == release_request)) [
+          | inl releases ↦ rw (not_up, not_dialling, releases) at.again
+          | inr other ↦ rw (not_up, not_dialling, other) none
+        ]
       ]
     ]
 
@@ -62,3 +67,11 @@ module _ (tones : Tones) (legs : Legs) (P : List Operation → Type 0) (none : P
       → (whole down : Bool) → P ((rule_of tones whole down).does legs x)
   rule_by x held empty whole true = at_held legs x (drop_leg tones legs) P (λ at. none) (λ leg at. dropped (record { slot = x; leg = leg }) (held leg at))
   rule_by x held empty whole false = at_held legs x (resume_held tones whole legs x) P (λ at. channel x (empty at) (is_owed legs x) whole) (λ leg at. resumed (record { slot = x; leg = leg }) (held leg at))
+
+-- ---- the restart of a line
+
+-- what holds if no leg holds the slot, and if a leg that holds it is removed, holds of the operations at the slot
+pub give_up_by : (tones : Tones) (legs : Legs) (P : List Operation → Type 0) (x : Slot) (owed : Bool)
+    → ((leg : Leg) → leg_at legs x ≡ Some leg → P (restart_leg tones temporary_failure owed whole_line legs (Some (record { slot = x; leg = leg }))))
+    → (leg_at legs x ≡ None → P (Remove x owed ∷ [])) → P ((give_up_rule tones owed).does legs x)
+give_up_by tones legs P x owed held empty = at_held legs x (give_up_leg tones owed legs x) P empty held

@@ -26,7 +26,7 @@ use Rattle.number_plan.specs.declared.target.Found.TheVariants.{Line, Lines, Roo
 use Rattle.tone_rules.specs.declared.tones.Tones.{Tones}
 use Rattle.exchange_events.specs.declared.signal.Signal.{Signal}
 use Rattle.exchange_events.specs.declared.trace.Event.{Event}
-use Rattle.exchange_events.specs.declared.trace.Event.TheVariants.{Nail, Seat, Free, Message as Message_event, Frame, LinkUp, LinkDown}
+use Rattle.exchange_events.specs.declared.trace.Event.TheVariants.{Nail, Seat, Free, Message as Message_event, Frame, LinkUp, LinkDown, RestartLine}
 use Rattle.exchange_events.specs.Sizes.{Setting, Dimensions}
 use Rattle.exchange_events.specs.Sound.{Fits, IsPlanned}
 use Rattle.call_profile.specs.ActCourse.{course_of}
@@ -35,8 +35,9 @@ use Rattle.call_profile.specs.Calls.{Request, For_leg, New_call, On_no_call, Res
 use Rattle.call_profile.specs.Digits.{asked_with, digits_refusal, dial_on, with_pending}
 use Rattle.call_profile.specs.IdleSlots.{idle}
 use Rattle.call_profile.specs.LegStanding.{CallsStand, LegsStand, HasPeer}
-use Rattle.call_profile.specs.Legs.{leg_at, pending_at, lowest_free_reference}
-use Rattle.call_profile.specs.LinkChanges.{rule_of, outcome_of_link, whole_line, with_interface, with_line, restarts_interface}
+use Rattle.call_profile.specs.Expiring.{send_again}
+use Rattle.call_profile.specs.Legs.{leg_at, pending_at, kept_at, is_down, lowest_free_reference}
+use Rattle.call_profile.specs.LinkChanges.{give_up_rule, rule_of, outcome_of_line_restart, outcome_of_link, whole_line, with_interface, with_line, restarts_interface}
 use Rattle.call_profile.specs.Operations as op
 use Rattle.call_profile.specs.Operations.{Operation, Making, begun, making_at, making_after, making_after_all}
 use Rattle.call_profile.specs.Restarts.{MessageOutcome, restart_peer, restart_leg, restart_slot, restarts_slot, restart_rule, outcome_below}
@@ -45,6 +46,7 @@ use Rattle.call_profile.specs.Step.{next, reply}
 use Rattle.call_profile.specs.World.{World}
 use Rattle.call_profile.proofs.BesideLemmas.{leg_at-with_entry_here}
 use Rattle.call_profile.proofs.ClearingLemmas.{held_there}
+use Rattle.call_profile.proofs.GivenUpSlotLemmas.{give_up_kept}
 use Rattle.call_profile.proofs.LinkLemmas.{rule_kept}
 use Rattle.call_profile.proofs.NamedLegLemmas.{received_stands}
 use Rattle.call_profile.proofs.RestartLemmas as restarts
@@ -52,13 +54,13 @@ use Rattle.call_profile.proofs.RestartedSlotLemmas.{each_below}
 use Rattle.call_profile.proofs.SetupLemmas.{caller_is}
 use Rattle.call_profile.proofs.ReportLemmas.{report_does}
 use Rattle.call_profile.proofs.AnsweredLegLemmas.{answered_does}
-use Rattle.privacy.specs.Lines.{IsConcerned, Itself, In_call, Offered, sends_of}
+use Rattle.privacy.specs.Lines.{IsChange, IsConcerned, Itself, In_call, Offered, IsInCallWith, Own, Other_leg, sends_of}
 use Rattle.privacy.specs.Undisturbed.{IsOnLine}
 use Rattle.privacy.proofs.CalledLemmas.{called_idle}
-use Rattle.privacy.proofs.CourseLemmas.{restart_slot_orderly, rule_orderly}
+use Rattle.privacy.proofs.CourseLemmas.{give_up_orderly, restart_slot_orderly, rule_orderly}
 use Rattle.privacy.proofs.GrowthLemmas.{IsWalked, walk, walk_first, linked_first}
 use Rattle.privacy.proofs.OrderlyLemmas.{none}
-use Rattle.privacy.proofs.LinkRuleLemmas.{IsAtLeg, rule_by}
+use Rattle.privacy.proofs.LinkRuleLemmas.{IsAtLeg, give_up_by, rule_by}
 
 -- ---- operations that send only to some lines
 
@@ -136,13 +138,113 @@ module _ (d : Dimensions) (tones : Tones) (u : World) (stand : LegsStand d.exter
   pub restart_sends : (cause : ℕ) (owed : Bool) (r : Restart) → SendOut (restart_leg tones cause owed r u.legs (Some h))
   restart_sends cause owed r = (tt, (tt, peer_sends h.leg.peer (restart_peer tones cause owed r h.slot.line) refl (restarted_peer cause owed r)))
 
+  again : (o : Option (List ℕ)) → SendOut (send_again h o)
+  again None = tt
+  again (Some octets) = (own, tt)
+
   pub link_sends : IsAtLeg tones u.legs SendOut h
   link_sends = record {
     waits = (tt, tt);
     goes = restart_sends destination_out_of_order true whole_line;
     asks = (tt, (own, tt));
     clears = own_cleared temporary_failure;
+    again = again (kept_at u.legs h.slot);
   }
+
+-- ---- a walk over the slots of a line: it sends to the line, and to the lines of the peers of its legs
+
+module _ (s : Setting) (w : World) (e : Event) (line : ℕ) (planned : IsPlanned s) (stands : CallsStand s w) (exists : line < s.dimensions.external) (To : ℕ → Type 0) (own : To line)
+    (other : (x z : Slot) (leg : Leg) → IsExternal s.dimensions.external x → leg_at w.legs x ≡ Some leg → leg.peer ≡ peer.Leg z → x.line ≡ line → To z.line) where
+  abbrev Out : List Operation → Type 0
+  Out os = SendAll s.dimensions To os
+
+  abbrev AllTo : List Signal → Type 0
+  AllTo sends = AreTo s.dimensions To sends
+
+  none_sent : AllTo []
+  none_sent = All-nil (λ (m : Signal). To m.line)
+
+  abbrev HasWalked : MessageOutcome → Type 0
+  HasWalked a = IsWalked s w e planned stands a.making.world × AllTo a.making.sends
+
+  -- a leg of a slot of the line had its peer before the walk
+  walked_to : (a : MessageOutcome) → HasWalked a → (x : Slot) (leg : Leg) → IsExternal s.dimensions.external x → x.line ≡ line → leg_at a.making.world.legs x ≡ Some leg → (y : Slot) → leg.peer ≡ peer.Leg y → To y.line
+  walked_to a so_far x leg in_x on at y names = elim (so_far.0.legs.each x leg in_x at y names) [
+    | inl had ↦ other x y had.old in_x had.at had.names on
+    | inr never ↦ absurd never
+  ]
+
+  pub restarted : (r : Restart) → HasWalked (outcome_below s.dimensions (restart_rule s.tones r) line w 30)
+  restarted r =
+      each_below s.dimensions (restart_rule s.tones r) line w HasWalked (walk_first s w e planned stands, none_sent)
+      (λ a place small so_far.
+      let x : Slot = record { line = line; place = place } in
+      let m : Making = a.making in
+      let os = restart_slot s.tones r m.world.legs x in
+      let out : Out os = restarts.at_slot s.tones r m.world.legs x Out tt (λ leg at.
+      restart_sends s.dimensions s.tones m.world so_far.0.kept.1 To (record { slot = x; leg = leg }) (exists, small) at own (walked_to a so_far x leg (exists, small) refl at) temporary_failure false r) in (
+        walk s w e planned stands m os so_far.0 (restart_slot_orderly s.dimensions s.tones m.world so_far.0.kept.1 none x (exists, small) r) (restarts.slot_kept s.dimensions s.tones r m x so_far.0.kept (exists, small)),
+        all_sent s.dimensions To m os out so_far.1,
+      ))
+      30 (omega arith)
+
+  -- the RESTART of the interface goes to the line itself
+  interface_sends : (whole : Bool) (a : MessageOutcome) → AllTo a.making.sends → AllTo (with_interface s.dimensions whole line a).making.sends
+  interface_sends true a so_far = All-push (λ (m : Signal). To m.line) a.making.sends _ so_far own
+  interface_sends false a so_far = so_far
+
+  -- ---- a change of the data link
+
+  rule_sends : (a : MessageOutcome) → HasWalked a → (place : ℕ) → place < 30 → (whole down : Bool) → Out ((rule_of s.tones whole down).does a.making.world.legs (record { line = line; place = place }))
+  rule_sends a so_far place small =
+      let x : Slot = record { line = line; place = place } in
+      rule_by s.tones a.making.world.legs Out tt x
+      (λ leg at. link_sends s.dimensions s.tones a.making.world so_far.0.kept.1 To (record { slot = x; leg = leg }) (exists, small) at own (walked_to a so_far x leg (exists, small) refl at))
+      (λ none. record { forgets = (tt, tt); restarts = (tt, (own, tt)) })
+
+  slots_send : (whole down : Bool) → HasWalked (outcome_below s.dimensions (rule_of s.tones whole down) line (with_line w line down) 30)
+  slots_send whole down =
+      each_below s.dimensions (rule_of s.tones whole down) line _ HasWalked (linked_first s w e planned stands line down, none_sent)
+      (λ a place small so_far.
+      let x : Slot = record { line = line; place = place } in
+      let m : Making = a.making in
+      let os = (rule_of s.tones whole down).does m.world.legs x in (
+        walk s w e planned stands m os so_far.0 (rule_orderly s.dimensions s.tones m.world so_far.0.kept.1 none x (exists, small) whole down) (rule_kept s.dimensions s.tones m x so_far.0.kept (exists, small) whole down),
+        all_sent s.dimensions To m os (rule_sends a so_far place small whole down) so_far.1,
+      ))
+      30 (omega arith)
+
+  pub linked_sends : (down : Bool) → AllTo (outcome_of_link s.dimensions s.tones down line w).making.sends
+  linked_sends down =
+      let whole : Bool = not down && restarts_interface w.legs line in
+      interface_sends whole (outcome_below s.dimensions (rule_of s.tones whole down) line (with_line w line down) 30) (slots_send whole down).1
+
+  -- ---- the restart of the line
+
+  give_up_sends : (a : MessageOutcome) → HasWalked a → (place : ℕ) → place < 30 → (owed : Bool) → Out ((give_up_rule s.tones owed).does a.making.world.legs (record { line = line; place = place }))
+  give_up_sends a so_far place small owed =
+      let x : Slot = record { line = line; place = place } in
+      give_up_by s.tones a.making.world.legs Out x owed
+      (λ leg at.
+      restart_sends s.dimensions s.tones a.making.world so_far.0.kept.1 To (record { slot = x; leg = leg }) (exists, small) at own (walked_to a so_far x leg (exists, small) refl at) temporary_failure owed whole_line)
+      (λ none. (tt, tt))
+
+  line_sends : (owed : Bool) → HasWalked (outcome_below s.dimensions (give_up_rule s.tones owed) line w 30)
+  line_sends owed =
+      each_below s.dimensions (give_up_rule s.tones owed) line w HasWalked (walk_first s w e planned stands, none_sent)
+      (λ a place small so_far.
+      let x : Slot = record { line = line; place = place } in
+      let m : Making = a.making in
+      let os = (give_up_rule s.tones owed).does m.world.legs x in (
+        walk s w e planned stands m os so_far.0 (give_up_orderly s.dimensions s.tones m.world so_far.0.kept.1 none x (exists, small) owed) (give_up_kept s.dimensions s.tones owed m x so_far.0.kept (exists, small)),
+        all_sent s.dimensions To m os (give_up_sends a so_far place small owed) so_far.1,
+      ))
+      30 (omega arith)
+
+  pub given_up_sends : AllTo (outcome_of_line_restart s.dimensions s.tones line w).making.sends
+  given_up_sends =
+      let owed : Bool = is_down w.legs line in
+      interface_sends (not owed) (outcome_below s.dimensions (give_up_rule s.tones owed) line w 30) (line_sends owed).1
 
 -- ---- an event on a line
 
@@ -165,6 +267,15 @@ module _ (s : Setting) (w : World) (e : Event) (line : ℕ) (planned : IsPlanned
 
   by_list : (os : List Operation) → Out os → AllTo (making_after_all s.dimensions (making_at w) os).sends
   by_list os out = all_sent s.dimensions To (making_at w) os out none_sent
+
+  in_call : (x z : Slot) (leg : Leg) → IsExternal s.dimensions.external x → leg_at w.legs x ≡ Some leg → leg.peer ≡ peer.Leg z → x.line ≡ line → To z.line
+  in_call x z leg in_x at names on = In_call x z leg in_x at names on refl
+
+  pub linked_to : (down : Bool) → AllTo (outcome_of_link s.dimensions s.tones down line w).making.sends
+  linked_to = linked_sends s w e line planned stands exists To (Itself refl) in_call
+
+  pub given_up_to : AllTo (outcome_of_line_restart s.dimensions s.tones line w).making.sends
+  given_up_to = given_up_sends s w e line planned stands exists To (Itself refl) in_call
 
   -- the legs of the line, and their peers
   module _ (h : HeldLeg) (at : leg_at w.legs h.slot ≡ Some h.leg) (in_h : IsExternal s.dimensions.external h.slot) (on : h.slot.line ≡ line) where
@@ -269,66 +380,12 @@ module _ (s : Setting) (w : World) (e : Event) (line : ℕ) (planned : IsPlanned
     answer_sends None = tt
     answer_sends (Some message) = (Itself refl, tt)
 
-  -- ---- a walk over the slots of the line
-
-  abbrev HasWalked : MessageOutcome → Type 0
-  HasWalked a = IsWalked s w e planned stands a.making.world × AllTo a.making.sends
-
-  -- a leg of a slot of the line had its peer before the walk
-  walked_to : (a : MessageOutcome) → HasWalked a → (x : Slot) (leg : Leg) → IsExternal s.dimensions.external x → x.line ≡ line → leg_at a.making.world.legs x ≡ Some leg → (y : Slot) → leg.peer ≡ peer.Leg y → To y.line
-  walked_to a so_far x leg in_x on at y names = elim (so_far.0.legs.each x leg in_x at y names) [
-    | inl had ↦ In_call x y had.old in_x had.at had.names on refl
-    | inr never ↦ absurd never
-  ]
-
-  restarted : (r : Restart) → HasWalked (outcome_below s.dimensions (restart_rule s.tones r) line w 30)
-  restarted r =
-      each_below s.dimensions (restart_rule s.tones r) line w HasWalked (walk_first s w e planned stands, none_sent)
-      (λ a place small so_far.
-      let x : Slot = record { line = line; place = place } in
-      let m : Making = a.making in
-      let os = restart_slot s.tones r m.world.legs x in
-      let out : Out os = restarts.at_slot s.tones r m.world.legs x Out tt (λ leg at.
-      restart_sends s.dimensions s.tones m.world so_far.0.kept.1 To (record { slot = x; leg = leg }) (exists, small) at (Itself refl) (walked_to a so_far x leg (exists, small) refl at) temporary_failure false r) in (
-        walk s w e planned stands m os so_far.0 (restart_slot_orderly s.dimensions s.tones m.world so_far.0.kept.1 none x (exists, small) r) (restarts.slot_kept s.dimensions s.tones r m x so_far.0.kept (exists, small)),
-        all_sent s.dimensions To m os out so_far.1,
-      ))
-      30 (omega arith)
-
-  rule_sends : (a : MessageOutcome) → HasWalked a → (x : Slot) → IsExternal s.dimensions.external x → x.line ≡ line → (whole down : Bool) → Out ((rule_of s.tones whole down).does a.making.world.legs x)
-  rule_sends a so_far x in_x on =
-      rule_by s.tones a.making.world.legs Out tt x
-      (λ leg at. link_sends s.dimensions s.tones a.making.world so_far.0.kept.1 To (record { slot = x; leg = leg }) in_x at (Itself on) (walked_to a so_far x leg in_x on at))
-      (λ none. record { forgets = (tt, tt); restarts = (tt, (Itself on, tt)) })
-
-  -- the RESTART of the interface goes to the line itself
-  interface_sends : (whole : Bool) (a : MessageOutcome) → AllTo a.making.sends → AllTo (with_interface s.dimensions whole line a).making.sends
-  interface_sends true a so_far = All-push (λ (m : Signal). To m.line) a.making.sends _ so_far (Itself refl)
-  interface_sends false a so_far = so_far
-
-  slots_send : (whole down : Bool) → HasWalked (outcome_below s.dimensions (rule_of s.tones whole down) line (with_line w line down) 30)
-  slots_send whole down =
-      each_below s.dimensions (rule_of s.tones whole down) line _ HasWalked (linked_first s w e planned stands line down, none_sent)
-      (λ a place small so_far.
-      let x : Slot = record { line = line; place = place } in
-      let m : Making = a.making in
-      let os = (rule_of s.tones whole down).does m.world.legs x in (
-        walk s w e planned stands m os so_far.0 (rule_orderly s.dimensions s.tones m.world so_far.0.kept.1 none x (exists, small) whole down) (rule_kept s.dimensions s.tones m x so_far.0.kept (exists, small) whole down),
-        all_sent s.dimensions To m os (rule_sends a so_far x (exists, small) refl whole down) so_far.1,
-      ))
-      30 (omega arith)
-
-  pub linked_sends : (down : Bool) → AllTo (outcome_of_link s.dimensions s.tones down line w).making.sends
-  linked_sends down =
-      let whole : Bool = not down && restarts_interface w.legs line in
-      interface_sends whole (outcome_below s.dimensions (rule_of s.tones whole down) line (with_line w line down) 30) (slots_send whole down).1
-
   module _ (octets : List ℕ) (is : e ≡ Message_event line octets) where
     request_sends : (r : Request) → request_of w.legs line octets ≡ r → next s w e ≡ (outcome_for s w line r).making.world → AllTo (outcome_for s w line r).making.sends
     request_sends (For_leg h m) asks after = by_list (course_of s w h m (act_on h.leg.state m)).operations (course_sends octets is h m asks (act_on h.leg.state m) after)
     request_sends (New_call m) asks after = by_list (setup s w line m (refusal s w line m)) (setup_sends octets is m (refusal s w line m) after)
     request_sends (On_no_call m) asks after = by_list (answer_back line (answer_without_call m)) (answer_sends octets is (answer_without_call m))
-    request_sends (Restarts r) asks after = All-push (λ (m : Signal). To m.line) (outcome_below s.dimensions (restart_rule s.tones r) line w 30).making.sends _ (restarted r).1 (Itself refl)
+    request_sends (Restarts r) asks after = All-push (λ (m : Signal). To m.line) (outcome_below s.dimensions (restart_rule s.tones r) line w 30).making.sends _ (restarted s w e line planned stands exists To (Itself refl) in_call r).1 (Itself refl)
     request_sends Unanswered asks after = none_sent
 
     pub message_sends : AllTo (outcome_of_octets s w line octets).making.sends
@@ -342,7 +399,34 @@ sent_by s w (Message_event other octets) line planned fits stands on =
     subst (λ n. All (λ (m : Signal). IsConcerned s w (Message_event other octets) n m.line) (sends_of (reply s w (Message_event other octets)))) on
     (message_sends s w (Message_event other octets) other planned stands fits.0 octets refl)
 sent_by s w (LinkUp other) line planned fits stands on =
-    subst (λ n. All (λ (m : Signal). IsConcerned s w (LinkUp other) n m.line) (sends_of (reply s w (LinkUp other)))) on (linked_sends s w (LinkUp other) other planned stands fits false)
+    subst (λ n. All (λ (m : Signal). IsConcerned s w (LinkUp other) n m.line) (sends_of (reply s w (LinkUp other)))) on (linked_to s w (LinkUp other) other planned stands fits false)
 sent_by s w (LinkDown other) line planned fits stands on =
-    subst (λ n. All (λ (m : Signal). IsConcerned s w (LinkDown other) n m.line) (sends_of (reply s w (LinkDown other)))) on (linked_sends s w (LinkDown other) other planned stands fits true)
+    subst (λ n. All (λ (m : Signal). IsConcerned s w (LinkDown other) n m.line) (sends_of (reply s w (LinkDown other)))) on (linked_to s w (LinkDown other) other planned stands fits true)
+sent_by s w (RestartLine other) line planned fits stands on =
+    subst (λ n. All (λ (m : Signal). IsConcerned s w (RestartLine other) n m.line) (sends_of (reply s w (RestartLine other)))) on (given_up_to s w (RestartLine other) other planned stands fits)
 sent_by s w (Frame input) line planned fits stands on = absurd on
+
+-- ---- a change of the data link of a line, and its restart
+
+module _ (s : Setting) (w : World) (e : Event) (line : ℕ) (planned : IsPlanned s) (stands : CallsStand s w) (exists : line < s.dimensions.external) where
+  own_or_called : (x z : Slot) (leg : Leg) → IsExternal s.dimensions.external x → leg_at w.legs x ≡ Some leg → leg.peer ≡ peer.Leg z → x.line ≡ line → IsInCallWith s w line z.line
+  own_or_called x z leg in_x at names on = Other_leg x z leg in_x at names on refl
+
+  pub link_to : (down : Bool) → All (λ (m : Signal). IsInCallWith s w line m.line) (outcome_of_link s.dimensions s.tones down line w).making.sends
+  link_to = linked_sends s w e line planned stands exists (IsInCallWith s w line) (Own refl) own_or_called
+
+  pub restart_to : All (λ (m : Signal). IsInCallWith s w line m.line) (outcome_of_line_restart s.dimensions s.tones line w).making.sends
+  restart_to = given_up_sends s w e line planned stands exists (IsInCallWith s w line) (Own refl) own_or_called
+
+pub changed_by : (s : Setting) (w : World) (e : Event) (line : ℕ) → IsPlanned s → Fits s.dimensions.external e → CallsStand s w → IsChange line e → All (λ (m : Signal). IsInCallWith s w line m.line) (sends_of (reply s w e))
+changed_by s w (Nail x y) line planned fits stands on = absurd on
+changed_by s w (Seat x room) line planned fits stands on = absurd on
+changed_by s w (Free x) line planned fits stands on = absurd on
+changed_by s w (Message_event other octets) line planned fits stands on = absurd on
+changed_by s w (LinkUp other) line planned fits stands on =
+    subst (λ n. All (λ (m : Signal). IsInCallWith s w n m.line) (sends_of (reply s w (LinkUp other)))) on (link_to s w (LinkUp other) other planned stands fits false)
+changed_by s w (LinkDown other) line planned fits stands on =
+    subst (λ n. All (λ (m : Signal). IsInCallWith s w n m.line) (sends_of (reply s w (LinkDown other)))) on (link_to s w (LinkDown other) other planned stands fits true)
+changed_by s w (RestartLine other) line planned fits stands on =
+    subst (λ n. All (λ (m : Signal). IsInCallWith s w n m.line) (sends_of (reply s w (RestartLine other)))) on (restart_to s w (RestartLine other) other planned stands fits)
+changed_by s w (Frame input) line planned fits stands on = absurd on
