@@ -46,6 +46,7 @@ use Rattle.call_profile.proofs.AnsweredLegLemmas.{answered_does}
 use Rattle.call_profile.proofs.BesideLemmas.{leg_at-with_entry_here, leg_at-with_entry_else, same_or_apart}
 use Rattle.call_profile.proofs.ClearingLemmas.{held_there}
 use Rattle.call_profile.proofs.DroppedLineLemmas.{active_wait, call_active, other_lines_are_left}
+use Rattle.call_profile.proofs.LineRestartLemmas.{line_is_empty}
 use Rattle.call_profile.proofs.NamedLegLemmas.{received_stands}
 use Rattle.call_profile.proofs.RestartedLineLemmas.{leg_at_restarted_others}
 use Rattle.call_profile.proofs.ReportLemmas.{state_agrees, state_differs}
@@ -382,7 +383,7 @@ module _ (s : Setting) (w : World) (line : ℕ) (planned : IsPlanned s) (stands 
   none_left : line < s.dimensions.external → LastsIn (next s w (RestartLine line)) → (x.line ≢ line) × (y.line ≢ line)
   none_left exists lasts =
       let after : World = next s w (RestartLine line) in
-      let empty = line_is_emptied s w line (record { stands = stands; line_exists = exists }) in (
+      let empty = line_is_empty s w line (record { stands = stands; line_exists = exists }) in (
         λ on. let wrong : None ≡ Some lasts.0 = sym (empty x c.in_x on) ∙ lasts.2.at_x in cc,
         λ on. let wrong : None ≡ Some lasts.1 = sym (empty y c.in_y on) ∙ lasts.2.at_y in cc,
       )
