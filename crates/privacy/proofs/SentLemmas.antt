@@ -8,7 +8,7 @@ use Rattle.circuit_model.proofs.Slots.{true_or_false}
 use Rattle.control_memory.specs.Layout.{number_of}
 use Rattle.q931_codec.specs.declared.message.Message.{Message}
 use Rattle.q931_codec.specs.CallStates.{active, overlap_sending}
-use Rattle.q931_codec.specs.Causes.{destination_out_of_order, temporary_failure, message_not_compatible_with_call_state}
+use Rattle.q931_codec.specs.Causes.{destination_out_of_order, invalid_number_format, message_not_compatible_with_call_state, no_answer_from_user, no_user_responding, recovery_on_timer_expiry, temporary_failure}
 use Rattle.q931_codec.specs.Contents.{called_in, channel_in}
 use Rattle.q931_codec.specs.Outgoing.{OutgoingMessage}
 use Rattle.call_states.specs.Acts.{act_on}
@@ -35,7 +35,9 @@ use Rattle.call_profile.specs.Calls.{Request, For_leg, New_call, On_no_call, Res
 use Rattle.call_profile.specs.Digits.{asked_with, digits_refusal, dial_on, with_pending}
 use Rattle.call_profile.specs.IdleSlots.{idle}
 use Rattle.call_profile.specs.LegStanding.{CallsStand, LegsStand, HasPeer}
-use Rattle.call_profile.specs.Expiring.{send_again}
+use Rattle.call_profile.specs.Expiring.{send_again, on_expiry}
+use Rattle.call_timers.specs.declared.expiry.Expiry.{Expiry}
+use Rattle.call_timers.specs.declared.expiry.Expiry.TheVariants as expiry
 use Rattle.call_profile.specs.Legs.{leg_at, pending_at, kept_at, is_down, lowest_free_reference}
 use Rattle.call_profile.specs.LinkChanges.{give_up_rule, rule_of, outcome_of_line_restart, outcome_of_link, whole_line, with_interface, with_line, restarts_interface}
 use Rattle.call_profile.specs.Operations as op
@@ -141,6 +143,21 @@ module _ (d : Dimensions) (tones : Tones) (u : World) (stand : LegsStand d.exter
   again : (o : Option (List ℕ)) → SendOut (send_again h o)
   again None = tt
   again (Some octets) = (own, tt)
+
+  -- an expiry of its timer
+  peer_cleared : (cause : ℕ) → SendOut (with_peer (peer_of u.legs h.leg.peer) (clear_with tones cause))
+  peer_cleared cause = peer_sends h.leg.peer (clear_with tones cause) refl (clear_sends cause)
+
+  pub expiry_sends : (e : Expiry) → SendOut (on_expiry tones u.legs h e)
+  expiry_sends expiry.Digits = own_cleared invalid_number_format
+  expiry_sends expiry.SetupAgain = again (kept_at u.legs h.slot)
+  expiry_sends expiry.SetupOver = (tt, (tt, (own, peer_cleared no_user_responding)))
+  expiry_sends expiry.Proceeding = and_peer (clear_with tones recovery_on_timer_expiry h) no_user_responding (own_cleared recovery_on_timer_expiry)
+  expiry_sends expiry.Alerting = and_peer (clear_with tones recovery_on_timer_expiry h) no_answer_from_user (own_cleared recovery_on_timer_expiry)
+  expiry_sends expiry.Outage = (tt, (tt, peer_cleared destination_out_of_order))
+  expiry_sends expiry.Disconnect = (own, tt)
+  expiry_sends expiry.ReleaseAgain = again (kept_at u.legs h.slot)
+  expiry_sends expiry.ReleaseOver = (tt, (tt, tt))
 
   pub link_sends : IsAtLeg tones u.legs SendOut h
   link_sends = record {
