@@ -172,17 +172,17 @@ module _ (d : Dimensions) (tones : Tones) (u : World) (stand : LegsStand d.exter
 
 module _ (s : Setting) (w : World) (e : Event) (line : ℕ) (planned : IsPlanned s) (stands : CallsStand s w) (exists : line < s.dimensions.external) (To : ℕ → Type 0) (own : To line)
     (other : (x z : Slot) (leg : Leg) → IsExternal s.dimensions.external x → leg_at w.legs x ≡ Some leg → leg.peer ≡ peer.Leg z → x.line ≡ line → To z.line) where
-  abbrev Out : List Operation → Type 0
-  Out os = SendAll s.dimensions To os
+  abbrev Reach : List Operation → Type 0
+  Reach os = SendAll s.dimensions To os
 
-  abbrev AllTo : List Signal → Type 0
-  AllTo sends = AreTo s.dimensions To sends
+  abbrev ReachAll : List Signal → Type 0
+  ReachAll sends = AreTo s.dimensions To sends
 
-  none_sent : AllTo []
-  none_sent = All-nil (λ (m : Signal). To m.line)
+  none_reached : ReachAll []
+  none_reached = All-nil (λ (m : Signal). To m.line)
 
   abbrev HasWalked : MessageOutcome → Type 0
-  HasWalked a = IsWalked s w e planned stands a.making.world × AllTo a.making.sends
+  HasWalked a = IsWalked s w e planned stands a.making.world × ReachAll a.making.sends
 
   -- a leg of a slot of the line had its peer before the walk
   walked_to : (a : MessageOutcome) → HasWalked a → (x : Slot) (leg : Leg) → IsExternal s.dimensions.external x → x.line ≡ line → leg_at a.making.world.legs x ≡ Some leg → (y : Slot) → leg.peer ≡ peer.Leg y → To y.line
@@ -193,12 +193,12 @@ module _ (s : Setting) (w : World) (e : Event) (line : ℕ) (planned : IsPlanned
 
   pub restarted : (r : Restart) → HasWalked (outcome_below s.dimensions (restart_rule s.tones r) line w 30)
   restarted r =
-      each_below s.dimensions (restart_rule s.tones r) line w HasWalked (walk_first s w e planned stands, none_sent)
+      each_below s.dimensions (restart_rule s.tones r) line w HasWalked (walk_first s w e planned stands, none_reached)
       (λ a place small so_far.
       let x : Slot = record { line = line; place = place } in
       let m : Making = a.making in
       let os = restart_slot s.tones r m.world.legs x in
-      let out : Out os = restarts.at_slot s.tones r m.world.legs x Out tt (λ leg at.
+      let out : Reach os = restarts.at_slot s.tones r m.world.legs x Reach tt (λ leg at.
       restart_sends s.dimensions s.tones m.world so_far.0.kept.1 To (record { slot = x; leg = leg }) (exists, small) at own (walked_to a so_far x leg (exists, small) refl at) temporary_failure false r) in (
         walk s w e planned stands m os so_far.0 (restart_slot_orderly s.dimensions s.tones m.world so_far.0.kept.1 none x (exists, small) r) (restarts.slot_kept s.dimensions s.tones r m x so_far.0.kept (exists, small)),
         all_sent s.dimensions To m os out so_far.1,
@@ -206,22 +206,22 @@ module _ (s : Setting) (w : World) (e : Event) (line : ℕ) (planned : IsPlanned
       30 (omega arith)
 
   -- the RESTART of the interface goes to the line itself
-  interface_sends : (whole : Bool) (a : MessageOutcome) → AllTo a.making.sends → AllTo (with_interface s.dimensions whole line a).making.sends
+  interface_sends : (whole : Bool) (a : MessageOutcome) → ReachAll a.making.sends → ReachAll (with_interface s.dimensions whole line a).making.sends
   interface_sends true a so_far = All-push (λ (m : Signal). To m.line) a.making.sends _ so_far own
   interface_sends false a so_far = so_far
 
   -- ---- a change of the data link
 
-  rule_sends : (a : MessageOutcome) → HasWalked a → (place : ℕ) → place < 30 → (whole down : Bool) → Out ((rule_of s.tones whole down).does a.making.world.legs (record { line = line; place = place }))
+  rule_sends : (a : MessageOutcome) → HasWalked a → (place : ℕ) → place < 30 → (whole down : Bool) → Reach ((rule_of s.tones whole down).does a.making.world.legs (record { line = line; place = place }))
   rule_sends a so_far place small =
       let x : Slot = record { line = line; place = place } in
-      rule_by s.tones a.making.world.legs Out tt x
+      rule_by s.tones a.making.world.legs Reach tt x
       (λ leg at. link_sends s.dimensions s.tones a.making.world so_far.0.kept.1 To (record { slot = x; leg = leg }) (exists, small) at own (walked_to a so_far x leg (exists, small) refl at))
       (λ none. record { forgets = (tt, tt); restarts = (tt, (own, tt)) })
 
   slots_send : (whole down : Bool) → HasWalked (outcome_below s.dimensions (rule_of s.tones whole down) line (with_line w line down) 30)
   slots_send whole down =
-      each_below s.dimensions (rule_of s.tones whole down) line _ HasWalked (linked_first s w e planned stands line down, none_sent)
+      each_below s.dimensions (rule_of s.tones whole down) line _ HasWalked (linked_first s w e planned stands line down, none_reached)
       (λ a place small so_far.
       let x : Slot = record { line = line; place = place } in
       let m : Making = a.making in
@@ -231,24 +231,24 @@ module _ (s : Setting) (w : World) (e : Event) (line : ℕ) (planned : IsPlanned
       ))
       30 (omega arith)
 
-  pub linked_sends : (down : Bool) → AllTo (outcome_of_link s.dimensions s.tones down line w).making.sends
+  pub linked_sends : (down : Bool) → ReachAll (outcome_of_link s.dimensions s.tones down line w).making.sends
   linked_sends down =
       let whole : Bool = not down && restarts_interface w.legs line in
       interface_sends whole (outcome_below s.dimensions (rule_of s.tones whole down) line (with_line w line down) 30) (slots_send whole down).1
 
   -- ---- the restart of the line
 
-  give_up_sends : (a : MessageOutcome) → HasWalked a → (place : ℕ) → place < 30 → (owed : Bool) → Out ((give_up_rule s.tones owed).does a.making.world.legs (record { line = line; place = place }))
+  give_up_sends : (a : MessageOutcome) → HasWalked a → (place : ℕ) → place < 30 → (owed : Bool) → Reach ((give_up_rule s.tones owed).does a.making.world.legs (record { line = line; place = place }))
   give_up_sends a so_far place small owed =
       let x : Slot = record { line = line; place = place } in
-      give_up_by s.tones a.making.world.legs Out x owed
+      give_up_by s.tones a.making.world.legs Reach x owed
       (λ leg at.
       restart_sends s.dimensions s.tones a.making.world so_far.0.kept.1 To (record { slot = x; leg = leg }) (exists, small) at own (walked_to a so_far x leg (exists, small) refl at) temporary_failure owed whole_line)
       (λ none. (tt, tt))
 
   line_sends : (owed : Bool) → HasWalked (outcome_below s.dimensions (give_up_rule s.tones owed) line w 30)
   line_sends owed =
-      each_below s.dimensions (give_up_rule s.tones owed) line w HasWalked (walk_first s w e planned stands, none_sent)
+      each_below s.dimensions (give_up_rule s.tones owed) line w HasWalked (walk_first s w e planned stands, none_reached)
       (λ a place small so_far.
       let x : Slot = record { line = line; place = place } in
       let m : Making = a.making in
@@ -258,7 +258,7 @@ module _ (s : Setting) (w : World) (e : Event) (line : ℕ) (planned : IsPlanned
       ))
       30 (omega arith)
 
-  pub given_up_sends : AllTo (outcome_of_line_restart s.dimensions s.tones line w).making.sends
+  pub given_up_sends : ReachAll (outcome_of_line_restart s.dimensions s.tones line w).making.sends
   given_up_sends =
       let owed : Bool = is_down w.legs line in
       interface_sends (not owed) (outcome_below s.dimensions (give_up_rule s.tones owed) line w 30) (line_sends owed).1
