@@ -48,7 +48,7 @@ use Rattle.call_profile.proofs.CommandLemmas.{both_true, is_empty}
 use Rattle.call_profile.proofs.NamedLegLemmas.{received_stands}
 use Rattle.call_profile.proofs.SetupLemmas.{caller_is}
 use Rattle.call_profile.proofs.AnsweredLegLemmas.{answered_does}
-use Rattle.privacy.specs.Lines.{IsAsBefore}
+use Rattle.privacy.specs.Lines.{IsAsBefore, IsChange}
 use Rattle.privacy.specs.Undisturbed.{IsOnLine, IsSingle}
 use Rattle.privacy.proofs.CalledLemmas.{called_idle}
 use Rattle.privacy.proofs.FootprintLemmas.{MissAll, Misses}
@@ -302,6 +302,17 @@ module _ (s : Setting) (w : World) (planned : IsPlanned s) (stands : CallsStand 
   spares (RestartLine line) fits off = same_out (next s w (RestartLine line)) (given_up s w line z stands in_z (λ v same x l on at. no_leg v same x l at) fits)
   spares (Frame input) fits off =
       same_out (next s w (Frame input)) (turn_leaves s w z z stands in_z in_z (λ v same same_too x l e place at due. (no_leg v same x l at, no_leg v same x l at)) input).0
+
+  -- a change of a data link, and the restart of a line
+  pub change_leaves : (e : Event) (line : ℕ) → Fits s.dimensions.external e → IsChange line e → IsAsBefore w (next s w e) z
+  change_leaves (Nail x y) line fits on = absurd on
+  change_leaves (Seat x room) line fits on = absurd on
+  change_leaves (Free x) line fits on = absurd on
+  change_leaves (Message_event other octets) line fits on = absurd on
+  change_leaves (LinkUp other) line fits on = linked s w other z stands in_z (λ v same x l there at. no_leg v same x l at) fits false
+  change_leaves (LinkDown other) line fits on = linked s w other z stands in_z (λ v same x l there at. no_leg v same x l at) fits true
+  change_leaves (RestartLine other) line fits on = given_up s w other z stands in_z (λ v same x l there at. no_leg v same x l at) fits
+  change_leaves (Frame input) line fits on = absurd on
 
   -- an event is of a line, or it is not
   at_line : (line other : ℕ) → (other ≡ line) ⊎ (other ≡ line → ⊥)
