@@ -1,5 +1,5 @@
-// The same job by hand: a trace of nails, seats, frees, messages, data links and frames on standard input, its report
-// on standard output. It has the same tables as the proved exchange, so that it is a measure of the speed
+// The same job by hand: a trace of nails, seats, frees, messages, data links, restarts and frames on standard input, its
+// report on standard output. It has the same tables as the proved exchange, so that it is a measure of the speed
 // of the proved program; nothing is proved of it. It is written to be fast: rows are worked through
 // whole, without a test for each octet, a frame costs what is connected and not what could be, and each leg
 // of a call, slot and number is found in a table. It is one program in parts, compiled as one. With the word
@@ -77,6 +77,7 @@ int main(int count, char **words) {
         case SIGNAL: message(e->x.line, messages + e->first, e->length); break;
         case UP: link_up(e->x.line); break;
         case DOWN: link_down(e->x.line); break;
+        case RENEW: restart_line(e->x.line); break;
         case FRAME: expire(frame(e)); break;
         }
         put("\n");

@@ -87,6 +87,11 @@ static void keep(Slot x, size_t from) {
     memcpy(kept[x.line][x.place].text, out + from, out_len - from);
 }
 
+static void send_again(Slot x) {
+    wait_again(x);
+    put_text((const char *)kept[x.line][x.place].text, kept[x.line][x.place].length);
+}
+
 static void add_leg(Slot x, Leg l) {
     *leg(x) = l;
     wait(x);
@@ -545,8 +550,19 @@ static void link_up(unsigned line) {
             enter(x, ACTIVE);
             leg(x)->asked = 1;
             put_to(x, leg(x), STATUS_ENQUIRY);
+        } else if (leg(x)->state == RELEASE_REQUEST) {
+            send_again(x);
         }
     }
     if (whole) put_restart(line, NULL);
     owed[line] = 0;
+}
+
+// The exchange restarts a line. While its data link is down, its user is owed the RESTART of all its channels.
+static void restart_line(unsigned line) {
+    put(" message");
+    for (uint32_t left = held[line]; left; left &= left - 1)
+        restart_leg((Slot){ line, __builtin_ctz(left) }, ALL_SLOTS, TEMPORARY_FAILURE);
+    owed[line] = down >> line & 1 ? ALL_SLOTS : 0;
+    if (!owed[line]) put_restart(line, NULL);
 }

@@ -1,10 +1,5 @@
 // What is done in the turn of a frame for the legs that have waited too long.
 
-static void send_again(Slot x) {
-    wait_again(x);
-    put_text((const char *)kept[x.line][x.place].text, kept[x.line][x.place].length);
-}
-
 static void give_up(Slot x) {
     Leg l = *leg(x);
     remove_leg(x);

@@ -1,6 +1,6 @@
 // The reader of traces. It ends the program at the first line that fails.
 
-typedef enum { NAIL, SEAT, FREE, FRAME, SIGNAL, UP, DOWN } Kind;
+typedef enum { NAIL, SEAT, FREE, FRAME, SIGNAL, UP, DOWN, RENEW } Kind;
 
 // A frame has a row for each external line from `first` on; a message has `length` octets from there on.
 typedef struct {
@@ -299,6 +299,8 @@ static void read_words(Word *words, size_t count) {
         read_link(UP, words, count);
     } else if (is(words[0], "down")) {
         read_link(DOWN, words, count);
+    } else if (is(words[0], "restart")) {
+        read_link(RENEW, words, count);
     } else if (is(words[0], "number")) {
         read_number(words, count);
     } else if (is(words[0], "tone")) {
