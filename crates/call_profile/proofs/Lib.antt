@@ -68,6 +68,8 @@ pub mod RestartedLineLemmas
 pub mod DroppedLineLemmas
 pub mod ResumedLineLemmas
 pub mod LinkStateLemmas
+mod RemovedSlotLemmas
+mod OwedStillLemmas
 mod OwedEventLemmas
 mod OwedSlotLemmas
 mod OwedTrackLemmas

@@ -98,7 +98,7 @@ module _ (s : Setting) (line : ℕ) (w : World) (owed : Bool) (below : line < s.
         (held_done d s.tones whole_line temporary_failure owed line a.making here refl so_far.legs.kept (below, small) None none))
         (λ leg at. leg_done d s.tones whole_line temporary_failure owed line a.making here refl so_far.legs.kept (below, small) leg at)
 
-    -- its record is that of a call whose first restarted leg is here
+    -- it has the record of a call whose first restarted leg is here
     place_of : (o : Option Leg) → leg_at u.legs here ≡ o → (c : CallRecord)
         → option_and_then (λ h. record_ended u h temporary_failure) (option_map (λ (leg : Leg). let h : HeldLeg = record { slot = here; leg = leg } in h) o) ≡ Some c → first_restarted whole_line line c ≡ n
     place_of None at c e = absurd (cc e)

@@ -33,6 +33,7 @@ use Rattle.call_profile.proofs.LineRestartLemmas.{legs_below, line_is_empty, oth
 use Rattle.call_profile.proofs.LinkLemmas.{at_held}
 use Rattle.call_profile.proofs.LinkedLegLemmas.{entry_or_before}
 use Rattle.call_profile.proofs.PermittedActLemmas.{peer_there_too}
+use Rattle.call_profile.proofs.RemovedSlotLemmas.{FlagAll, MayFlag}
 use Rattle.call_profile.proofs.RestartedSlotLemmas.{below_none, below_more, line_restarted_by}
 use Rattle.call_profile.proofs.VacantSlotLemmas.{same_parts}
 
@@ -55,24 +56,11 @@ module _ (d : Dimensions) (line : ℕ) (owed : Bool) where
     others = λ z in_z off. ap (λ (flags : List Bool). slice_index_or flags (number_of z) false) same;
   }
 
-  abbrev MaySet : Operation → Type 0
-  MaySet (op.Clear x) = Unit {0}
-  MaySet (op.Pair x y) = Unit {0}
-  MaySet (op.Seat x room) = Unit {0}
-  MaySet (op.Sound x kind) = Unit {0}
-  MaySet (op.Put x leg) = Unit {0}
-  MaySet (op.Wait x leg p) = Unit {0}
-  MaySet (op.Expect x leg message) = Unit {0}
-  MaySet (op.Repeat h octets) = Unit {0}
-  MaySet (op.Await x leg) = Unit {0}
-  MaySet (op.Remove x flag) = IsExternal d.external x × (x.line ≡ line) × (flag ≡ owed)
-  MaySet (op.Send line message) = Unit {0}
+  -- the legs of its slots are removed with this flag
+  abbrev Here : Slot → Bool → Type 0
+  Here x flag = IsExternal d.external x × (x.line ≡ line) × (flag ≡ owed)
 
-  abbrev MaySetAll : List Operation → Type 0
-  MaySetAll [] = Unit {0}
-  MaySetAll (o ∷ os) = MaySet o × MaySetAll os
-
-  removed_sets : (m : Making) (x : Slot) (flag : Bool) → MaySet (op.Remove x flag) → Sets m.world (making_after d m (op.Remove x flag)).world
+  removed_sets : (m : Making) (x : Slot) (flag : Bool) → Here x flag → Sets m.world (making_after d m (op.Remove x flag)).world
   removed_sets m x flag may = record {
     size = length-set m.world.legs.owed (number_of x) flag;
     stays = λ z is. elim (entry_or_before m.world.legs.owed (number_of x) (number_of z) flag false) [
@@ -83,7 +71,7 @@ module _ (d : Dimensions) (line : ℕ) (owed : Bool) where
         (λ n. off (ap (λ (q : Slot). q.line) (same_number z x in_z.1 may.0.1 n) ∙ may.1));
   }
 
-  performed : (m : Making) (o : Operation) → MaySet o → Sets m.world (making_after d m o).world
+  performed : (m : Making) (o : Operation) → MayFlag Here o → Sets m.world (making_after d m o).world
   performed m (op.Clear x) may = sets_none m.world (making_after d m (op.Clear x)).world refl
   performed m (op.Pair x y) may = sets_none m.world (making_after d m (op.Pair x y)).world refl
   performed m (op.Seat x room) may = sets_none m.world (making_after d m (op.Seat x room)).world refl
@@ -103,7 +91,7 @@ module _ (d : Dimensions) (line : ℕ) (owed : Bool) where
     others = λ z in_z off. other.others z in_z off ∙ one.others z in_z off;
   }
 
-  performed_all : (m : Making) (os : List Operation) → MaySetAll os → Sets m.world (making_after_all d m os).world
+  performed_all : (m : Making) (os : List Operation) → FlagAll Here os → Sets m.world (making_after_all d m os).world
   performed_all m [] may = sets_none m.world m.world refl
   performed_all m (o ∷ os) may =
       sets_both m.world (making_after d m o).world (making_after_all d (making_after d m o) os).world (performed m o may.0) (performed_all (making_after d m o) os may.1)
@@ -119,7 +107,7 @@ module _ (d : Dimensions) (line : ℕ) (owed : Bool) where
     set_here : slice_index_or (set m.world.legs.owed (number_of x) owed) (number_of x) false ≡ owed
     set_here = get_or-set_same m.world.legs.owed (number_of x) owed false (let inside = number_inside d.external x within in omega (arith, inside, size))
 
-    peer_sets : (leg : Leg) (o : Option HeldLeg) → PeerIsThere d.external (record { slot = x; leg = leg }) o → MaySetAll (with_peer o (restart_peer tones temporary_failure owed whole_line x.line))
+    peer_sets : (leg : Leg) (o : Option HeldLeg) → PeerIsThere d.external (record { slot = x; leg = leg }) o → FlagAll Here (with_peer o (restart_peer tones temporary_failure owed whole_line x.line))
     peer_sets leg None there = tt
     peer_sets leg (Some k) there = elim (true_or_false (restarts_slot whole_line x.line k.slot)) [
       | inl too ↦ rw too (tt, ((there.0.within, eqb-true k.slot.line x.line (both_true (k.slot.line == x.line) true too).0 ∙ on_line, refl), tt))

@@ -56,6 +56,6 @@ pub record IsLineRecord (s : Setting) (w : World) (line : ℕ) (h : HeldLeg) (to
   pub ended : HasEnded s.dimensions.external w (next s w (RestartLine line)) h
   pub is : record_of w temporary_failure h ≡ Some told
 
--- the record of a call is among those of the restart
+-- the restart has the record of a call
 abbrev pub IsInLineRestart : Setting → World → ℕ → HeldLeg → Type 0
 IsInLineRestart s w line h = (told : CallRecord) × IsLineRecord s w line h told × Contains (outcome_of_line_restart s.dimensions s.tones line w).recorded told

@@ -58,7 +58,7 @@ drop_rule tones = record { does = drop_slot tones; cause = destination_out_of_or
 abbrev pub enquire : HeldLeg → List Operation
 enquire h = Put h.slot (with_enquiry true h.leg) ∷ send_to h (message_to h.leg kind.StatusEnquiry) ∷ []
 
--- a leg in overlap sending is cleared with cause 41, since digits may be lost; RELEASE is sent again, since it may be
+-- a leg in overlap sending is cleared with cause 41, since digits may be lost; RELEASE is retransmitted, since it may be
 -- lost too; in all other states the call goes on
 abbrev pub resume_leg : Tones → Legs → HeldLeg → List Operation
 resume_leg tones legs h =

@@ -1,11 +1,11 @@
 -- The channels for which a RESTART is owed after an event. Source: ITU-T Q.931 (05/98), 5.8.9 and 5.5; that a user is owed
 -- it until the data link is up is this project's profile.
-use Rattle.std.specs.Prelude.{◌&&◌, ◌||◌, ◌==◌, Bool, false, is_none, is_some, Option, Some, None, ◌≡◌, ℕ, true, if◌then◌else◌}
+use Rattle.std.specs.Prelude.{◌&&◌, ◌||◌, ◌==◌, not, Bool, false, is_none, is_some, Option, Some, None, ◌≡◌, ℕ, true, if◌then◌else◌}
 use Rattle.circuit_model.specs.declared.channel.Slot.{Slot}
 use Rattle.q931_codec.specs.CallStates.{active, release_request}
 use Rattle.call_states.specs.declared.leg.Leg.{Leg}
 use Rattle.exchange_events.specs.declared.trace.Event.{Event}
-use Rattle.exchange_events.specs.declared.trace.Event.TheVariants.{Frame, LinkDown, RestartLine}
+use Rattle.exchange_events.specs.declared.trace.Event.TheVariants.{Frame, LinkDown, LinkUp, RestartLine}
 use Rattle.call_profile.specs.Legs.{Legs, is_down, leg_at, is_owed}
 use Rattle.call_profile.specs.World.{World}
 use Rattle.circuit_model.specs.Extent.{IsExternal}
@@ -50,3 +50,14 @@ AreOwedByRestart external line before afterwards =
 -- after any other event: at most those for which it was owed
 abbrev pub NoMoreAreOwed : ℕ → World → World → Type 0
 NoMoreAreOwed external before afterwards = (x : Slot) → IsExternal external x → is_owed afterwards.legs x ≡ true → is_owed before.legs x ≡ true
+
+-- the establishment of a data link pays what the users of the channels of its line are owed
+abbrev pub is_paid : Event → Slot → Bool
+is_paid (LinkUp line) x = x.line == line
+is_paid other x = false
+
+-- exactly those for which it was owed, unless the event pays it or their slot gets a leg
+abbrev pub AreStillOwed : ℕ → Event → World → World → Type 0
+AreStillOwed external e before afterwards =
+    (x : Slot) → IsExternal external x
+    → is_owed afterwards.legs x ≡ ((is_owed before.legs x && not (is_paid e x)) && is_none (leg_at afterwards.legs x))

@@ -11,8 +11,8 @@ use Rattle.call_profile.specs.Operations.{begun}
 use Rattle.call_profile.specs.World.{World}
 
 -- a leg of the line: in active it waits for the link no longer, and its user is sent STATUS ENQUIRY; in overlap
--- sending it is cleared with cause 41; in release request its user is sent RELEASE again, and T308 starts anew; in every
--- other state it is unchanged
+-- sending it is cleared with cause 41; in release request RELEASE is retransmitted to its user, and T308 restarts; in
+-- every other state it is unchanged
 abbrev pub resumed : World → Leg → Leg
 resumed w leg =
     if leg.state == active then begun w (with_enquiry true leg)

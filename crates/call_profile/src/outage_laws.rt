@@ -25,7 +25,7 @@ ghost use Rattle.call_profile.specs.LegStanding.{CallsStand};
 ghost use Rattle.call_profile.specs.Legs.{is_down, is_owed};
 ghost use Rattle.call_profile.specs.LostLegs.{IsDisconnected, IsLeftBehind, IsLossRecorded, IsLostFirst, IsUnchanged, IsVacated, NeitherIsLost};
 ghost use Rattle.call_profile.specs.Outages.{down_after_all, HasNoFailure, IsOnLineUp, NoLinkIsDown, OutagesStand};
-ghost use Rattle.call_profile.specs.OwedRestarts.{AreOwedByFailure, AreOwedByFrame, AreOwedByRestart, NoMoreAreOwed, OwesNoMore};
+ghost use Rattle.call_profile.specs.OwedRestarts.{AreOwedByFailure, AreOwedByFrame, AreOwedByRestart, AreStillOwed, NoMoreAreOwed, OwesNoMore};
 ghost use Rattle.call_profile.specs.Reconciled.{AreReconciled};
 ghost use Rattle.call_profile.specs.Recorded.{HasEnded};
 ghost use Rattle.call_profile.specs.Setup.{called_slot};
@@ -114,7 +114,8 @@ pub fn law_of_enquiry_replies()
 /// After the failure of a data link, a channel is owed a RESTART if and only if it was owed one, or its leg was removed by
 /// the failure. After a frame, if and only if it was owed one, or T309 removed its leg, or T308 did while the link of its
 /// line was down. After the restart of a line, each of its channels is owed one if and only if its data link is down, and
-/// each channel of another line if and only if it was. No other event adds a channel to these.
+/// each channel of another line if and only if it was. No other event adds a channel to these. The establishment of a data
+/// link removes the channels of its line, and a leg removes the channel that it gets. Every other channel stays owed.
 pub fn law_of_owed_restarts()
     ensures failure { (s : Setting) (w : World) (line : ℕ) → HasLine s w line → OutagesStand s.dimensions.external w.legs
         → AreOwedByFailure s.dimensions.external w (next s w (LinkDown line)) }
@@ -124,4 +125,6 @@ pub fn law_of_owed_restarts()
         → AreOwedByRestart s.dimensions.external line w (next s w (RestartLine line)) }
     ensures others { (s : Setting) (w : World) (e : Event) → Fits s.dimensions.external e → CallsStand s w → OwesNoMore e
         → NoMoreAreOwed s.dimensions.external w (next s w e) }
+    ensures still { (s : Setting) (w : World) (e : Event) → Fits s.dimensions.external e → CallsStand s w
+        → OutagesStand s.dimensions.external w.legs → OwesNoMore e → AreStillOwed s.dimensions.external e w (next s w e) }
 {}

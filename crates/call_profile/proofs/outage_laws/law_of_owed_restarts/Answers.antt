@@ -1,5 +1,6 @@
 use Rattle.call_profile.proofs.OwedExactLemmas.{owed_by_failure, owed_by_frame, owed_no_more}
 use Rattle.call_profile.proofs.OwedLineLemmas.{owed_by_restart}
+use Rattle.call_profile.proofs.OwedStillLemmas.{still_owed}
 use Rattle.call_profile.proofs.outage_laws.law_of_owed_restarts.Goals as goal
 
 pub returns-clause-failure : goal.returns-clause-failure
@@ -13,3 +14,6 @@ returns-clause-others c s w e fits stands other x in_x owed = owed_no_more s w s
 
 pub returns-clause-restart : goal.returns-clause-restart
 returns-clause-restart c = owed_by_restart
+
+pub returns-clause-still : goal.returns-clause-still
+returns-clause-still c s w e fits stands outages other = still_owed s w stands outages e fits other
