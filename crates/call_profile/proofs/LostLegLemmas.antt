@@ -370,12 +370,16 @@ module _ (s : Setting) (frame : ℕ) (w : World) (kept : Kept s.dimensions s.ton
       sent_here : Contains (made (suc x.line)).sends (outage_signal s.tones y other)
       sent_here = subst (λ (n : Making). Contains n.sends (outage_signal s.tones y other)) (sym made_both) (Contains-push now.sends (outage_signal s.tones y other))
 
-      pub other_cleared : leg_at (legs_after d.external) y ≡ Some cleared
-      other_cleared = through (λ n. leg_at (legs_after n) y ≡ Some cleared) (suc x.line) d.external cleared_here (λ line low small so_far.
+      pub other_cleared_from : (n : ℕ) → suc x.line ≤ n → n ≤ d.external → leg_at (legs_after n) y ≡ Some cleared
+      other_cleared_from n low few = through (λ k. leg_at (legs_after k) y ≡ Some cleared) (suc x.line) n cleared_here (λ line lower high so_far.
+          let small : line < d.external = omega (arith, high, few) in
           leg_then line small y within (leg_aside line small y within cleared so_far
           (λ same. late_quiet s.timers frame cleared later (due_of s.timers frame cleared) refl)
           (λ names_line l at_l. let wrong : peer.Alone ≡ peer.Leg (slot_looked_at frame line) = names_line in absurd cc))
-          ∙ so_far) (omega (arith, below))
+          ∙ so_far) low
+
+      pub other_cleared : leg_at (legs_after d.external) y ≡ Some cleared
+      other_cleared = other_cleared_from d.external (omega (arith, below)) (omega arith)
 
       pub other_sent : Contains (made d.external).sends (outage_signal s.tones y other)
       other_sent = through (λ n. Contains (made n).sends (outage_signal s.tones y other)) (suc x.line) d.external sent_here (λ line low small so_far. sent_then line small (outage_signal s.tones y other) so_far)

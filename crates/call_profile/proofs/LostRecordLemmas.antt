@@ -281,6 +281,9 @@ module _ (s : Setting) (frame : ℕ) (w : World) (kept : Kept s.dimensions s.ton
     same_heard None heard may = absurd (may.0 up)
     same_heard (Some c) heard may = heard_now c heard ∙ sym heard
 
+    pub heard_here : heard_by now.holding.circuits x ≡ heard_by w.holding.circuits x
+    heard_here = same_heard (heard_by w.holding.circuits x) refl (kept.1.each x leg in_x lost.at).hears
+
     module _ (y : Slot) (other : Leg) (named : leg.peer ≡ peer.Leg y) (at_y : leg_at w.legs y ≡ Some other) where
       other_up : other.state ≡ active
       other_up = other_active s frame w kept later x leg in_x lost first y other named at_y
@@ -308,6 +311,9 @@ module _ (s : Setting) (frame : ℕ) (w : World) (kept : Kept s.dimensions s.ton
       same_other_heard : (o : Option Circuit) → heard_by w.holding.circuits y ≡ o → MayHear s.tones other o → heard_by now.holding.circuits y ≡ heard_by w.holding.circuits y
       same_other_heard None heard may = absurd (may.0 other_up)
       same_other_heard (Some c) heard may = other_heard c heard ∙ sym heard
+
+      pub heard_there : heard_by now.holding.circuits y ≡ heard_by w.holding.circuits y
+      heard_there = same_other_heard (heard_by w.holding.circuits y) refl (kept.1.each y other (there y other named at_y) at_y).hears
 
     -- ---- the record
 

@@ -20,7 +20,7 @@ ghost use Rattle.call_profile.specs.Resumed.{LegsAreResumed};
 ghost use Rattle.call_profile.specs.Step.{next};
 ghost use Rattle.call_profile.specs.Expiring.{on_expiry, outcome_of_frame};
 ghost use Rattle.call_profile.specs.ExpiryBounds.{NoneIsLost};
-ghost use Rattle.call_profile.specs.ExpiryRecords.{IsFrameRecord, IsInFrame, ComeByLine};
+ghost use Rattle.call_profile.specs.ExpiryRecords.{ComeByExpiry, ComeByLine, IsEndRecord, IsFrameRecord, IsInFrame, IsInTurn};
 ghost use Rattle.call_profile.specs.LegStanding.{CallsStand};
 ghost use Rattle.call_profile.specs.Legs.{Legs, leg_at, lowest_free_reference};
 ghost use Rattle.call_profile.specs.LineRestarts.{IsInLineRestart, IsLineEmpty, IsLineRecord, IsRequestSent, OtherLinesAreCleared};
@@ -79,15 +79,24 @@ pub fn law_of_records()
         → RestartsNothing w line octets → length (answer_to s w line octets).records ≤ 1 }
 {}
 
-/// Let no leg's T309 expire in a frame. The frame has the record of a call if and only if a caller's leg leaves states 3,
-/// 4 and 10 in it. The timer of its called leg expired. The cause is 19 if the caller's leg was in state 4, since the
-/// called user is then alerted, and otherwise 18. The records come by the line of the called slot, lowest first.
+/// A frame has the record of a call if and only if a caller's leg leaves states 3, 4 and 10 in it. The timer of a leg of
+/// the call expired. The cause is 27 if the caller's leg was in state 10, since T309 expired. It is 19 if that leg was in
+/// state 4, since the called user is then alerted, and otherwise 18. The records come by the line on which the timer
+/// expired, lowest first. If T309 of both legs expires, that is the lower line. Let no leg's T309 expire in the frame.
+/// Then the timer is the one of the called leg, the cause is 18 or 19, and the records come by the line of the called
+/// slot.
 pub fn law_of_frame_records()
-    ensures told { (s : Setting) (w : World) (input : Input) → CallsStand s w → NoneIsLost s.timers w.holding.next w.legs → (told : CallRecord)
+    ensures told { (s : Setting) (w : World) (input : Input) → CallsStand s w → (told : CallRecord)
+        → Contains (outcome_of_frame s w input).recorded told → (h : HeldLeg) × IsEndRecord s w input h told }
+    ensures ended { (s : Setting) (w : World) (input : Input) → CallsStand s w → (h : HeldLeg)
+        → HasEnded s.dimensions.external w (outcome_of_frame s w input).making.world h → IsInTurn s w input h }
+    ensures order { (s : Setting) (w : World) (input : Input) → CallsStand s w
+        → ComeByExpiry s w (outcome_of_frame s w input).recorded }
+    ensures calm_told { (s : Setting) (w : World) (input : Input) → CallsStand s w → NoneIsLost s.timers w.holding.next w.legs → (told : CallRecord)
         → Contains (outcome_of_frame s w input).recorded told → (h : HeldLeg) × IsFrameRecord s w input h told }
-    ensures ended { (s : Setting) (w : World) (input : Input) → CallsStand s w → NoneIsLost s.timers w.holding.next w.legs → (h : HeldLeg)
+    ensures calm_ended { (s : Setting) (w : World) (input : Input) → CallsStand s w → NoneIsLost s.timers w.holding.next w.legs → (h : HeldLeg)
         → HasEnded s.dimensions.external w (outcome_of_frame s w input).making.world h → IsInFrame s w input h }
-    ensures order { (s : Setting) (w : World) (input : Input) → CallsStand s w → NoneIsLost s.timers w.holding.next w.legs
+    ensures calm_order { (s : Setting) (w : World) (input : Input) → CallsStand s w → NoneIsLost s.timers w.holding.next w.legs
         → ComeByLine (outcome_of_frame s w input).recorded }
 {}
 

@@ -56,8 +56,8 @@ pub fn law_of_outages()
 
 /// In a trace in which no data link fails, a frame changes no leg in state 10, no connection, no membership, no path and
 /// no port. It has the record of a call if and only if a caller's leg leaves states 3, 4 and 10 in it. The records come
-/// by the line of the called slot. So [`law_of_expiries`](crate::law_of_expiries) and
-/// [`law_of_frame_records`](crate::law_of_frame_records) need no premise on T309 there.
+/// by the line of the called slot. So [`law_of_expiries`](crate::law_of_expiries), and the clauses `calm_told`,
+/// `calm_ended` and `calm_order` of [`law_of_frame_records`](crate::law_of_frame_records), need no premise on T309 there.
 pub fn law_of_unfailing_links()
     ensures untimed { (s : Setting) (es : List Event) (input : Input) → HasNoFailure s es → UntimedStay s (world_of_run s es) input }
     ensures conversations { (s : Setting) (es : List Event) (input : Input) → HasNoFailure s es → ConversationsStay s (world_of_run s es) input }
