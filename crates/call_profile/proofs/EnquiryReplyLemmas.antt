@@ -1,12 +1,16 @@
 -- The reply of a user to an enquiry: the call goes on, or both its legs are cleared.
-use Rattle.std.proofs.Common.{◌≡◌, ◌≢◌, ℕ, ◌<◌, inl, inr, Bool, true, false, List, [], ◌∷◌, ◌++◌, Option, Some, None, refl, sym, ◌∙◌, ap, subst, arith, if◌then◌else◌, eqb-true}
-use Rattle.std.specs.Prelude.{◌==◌}
+use Rattle.std.proofs.Common.{◌≡◌, ◌≢◌, ℕ, ◌<◌, inl, inr, Bool, true, false, List, [], ◌∷◌, ◌++◌, Option, Some, None, refl, sym, ◌∙◌, ap, subst, append-nil, arith, filter, if◌then◌else◌, eqb-true}
+use Rattle.std.specs.Prelude.{◌==◌, not}
 use Rattle.std.specs.List.{cons_option}
 use Rattle.std.proofs.lemmas.Grind.{common_steps}
 use Rattle.circuit_model.specs.declared.channel.Slot.{Slot}
+use Rattle.circuit_model.specs.declared.circuit.Circuit.{Circuit}
+use Rattle.circuit_model.specs.declared.circuit.Circuit.TheVariants.{Tone}
+use Rattle.circuit_model.specs.declared.circuit.Kind.{Kind}
+use Rattle.circuit_model.specs.Circuits.{names}
 use Rattle.circuit_model.specs.Extent.{IsExternal}
-use Rattle.circuit_model.specs.Holding.{Clear as Clear_slot, after}
-use Rattle.circuit_model.proofs.Slots.{true_or_false}
+use Rattle.circuit_model.specs.Holding.{Holding, Clear as Clear_slot, after, circuits_naming}
+use Rattle.circuit_model.proofs.Slots.{filter_filter, naming-idle, same_slot-false, same_slot-refl, true_or_false}
 use Rattle.q931_codec.specs.CallStates.{active, null}
 use Rattle.q931_codec.specs.Causes.{message_not_compatible_with_call_state}
 use Rattle.q931_codec.specs.Contents.{call_state_in}
@@ -27,10 +31,10 @@ use Rattle.call_profile.specs.Acts.{clear_with, in_disconnect_indication, peer_o
 use Rattle.call_profile.specs.Calls.{outcome_by, outcome_for, outcome_of_octets}
 use Rattle.call_profile.specs.Course.{only, nothing}
 use Rattle.call_profile.specs.EndedCalls.{record_ended}
-use Rattle.call_profile.specs.EnquiryReplies.{IsStatus, IsReply, IsClearedByReply, cleared_as_differing, confirmed, differing_signal, peer_signals, unchanged}
+use Rattle.call_profile.specs.EnquiryReplies.{HasOnlyTone, IsStatus, IsReply, IsClearedByReply, cleared_as_differing, confirmed, differing_signal, peer_signals, tone_circuits, unchanged}
 use Rattle.call_profile.specs.LegStanding.{HasPeer, IsInCall, LegsStand, alone}
 use Rattle.call_profile.specs.Legs.{waiting_from, leg_at, with_entry}
-use Rattle.call_profile.specs.Operations.{Making, making_at, making_after_all}
+use Rattle.call_profile.specs.Operations.{Making, making_at, making_after_all, with_tone}
 use Rattle.call_profile.specs.Restarts.{MessageOutcome}
 use Rattle.call_profile.specs.World.{World}
 use Rattle.call_profile.proofs.BesideLemmas.{leg_at-with_entry_here, leg_at-with_entry_else}
@@ -41,8 +45,39 @@ use Rattle.call_profile.proofs.NamedLegLemmas.{received_stands}
 use Rattle.call_profile.proofs.RecordedCallLemmas.{calling_record}
 use Rattle.call_profile.proofs.RecordOfActLemmas.{cleared_records, disconnected_silent}
 use Rattle.call_profile.proofs.ReportLemmas.{state_agrees, state_differs}
-use Rattle.call_profile.proofs.ToneLemmas.{with_tone_sounding_next}
+use Rattle.call_profile.proofs.ToneLemmas.{cleared_is_idle, with_tone_sounding_next}
 use Rattle.call_profile.proofs.DroppedLineLemmas.{call_active}
+
+-- ---- the circuits of slots that are cleared, and get a tone
+
+naming_added : (x : Slot) (circuits : List Circuit) (c : Circuit) (b : Bool) → names x c ≡ b → circuits_naming (circuits ++ c ∷ []) x ≡ circuits_naming circuits x ++ (if b then c ∷ [] else [])
+naming_added x [] c b is = rw is refl
+naming_added x (a ∷ rest) c b is = elim (true_or_false (names x a)) [
+  | inl named ↦ rw named (ap (λ (l : List Circuit). a ∷ l) (naming_added x rest c b is))
+  | inr other ↦ rw other (naming_added x rest c b is)
+]
+
+tone_only : (h : Holding) (x : Slot) (o : Option Kind) → circuits_naming (with_tone (after h (Clear_slot x)) x o).circuits x ≡ tone_circuits h.next x o
+tone_only h x None = naming-idle (after h (Clear_slot x)).circuits x (cleared_is_idle h x)
+tone_only h x (Some kind) =
+    naming_added x (after h (Clear_slot x)).circuits (Tone kind x h.next) true (same_slot-refl x)
+    ∙ ap (λ (l : List Circuit). l ++ Tone kind x h.next ∷ []) (naming-idle (after h (Clear_slot x)).circuits x (cleared_is_idle h x))
+
+-- another slot
+module _ (h : Holding) (x y : Slot) (apart : x ≡ y → ⊥) where
+  without_other : (next : ℕ) (o : Option Kind) → filter (λ c. not (names y c)) (tone_circuits next x o) ≡ tone_circuits next x o
+  without_other next None = refl
+  without_other next (Some kind) = let other = same_slot-false y x (λ same. apart (sym same)) in rw other refl
+
+  naming_apart : (o : Option Kind) → circuits_naming (with_tone (after h (Clear_slot y)) y o).circuits x ≡ filter (λ c. not (names y c)) (circuits_naming h.circuits x)
+  naming_apart None = filter_filter (names x) (λ c. not (names y c)) h.circuits
+  naming_apart (Some kind) =
+      naming_added x (after h (Clear_slot y)).circuits (Tone kind y h.next) false (same_slot-false x y apart)
+      ∙ append-nil (circuits_naming (after h (Clear_slot y)).circuits x)
+      ∙ filter_filter (names x) (λ c. not (names y c)) h.circuits
+
+  tone_still : (next : ℕ) (o p : Option Kind) → circuits_naming h.circuits x ≡ tone_circuits next x p → circuits_naming (with_tone (after h (Clear_slot y)) y o).circuits x ≡ tone_circuits next x p
+  tone_still next o p is = naming_apart o ∙ ap (filter (λ c. not (names y c))) is ∙ without_other next p
 
 -- ---- the act
 
@@ -152,12 +187,19 @@ module _ (s : Setting) (w : World) (line : ℕ) (octets : List ℕ) (h : HeldLeg
     own : leg_at v.legs h.slot ≡ own_entry
     other : (y : Slot) (leg : Leg) → p ≡ peer.Leg y → leg_at w.legs y ≡ Some leg → leg_at v.legs y ≡ Some (cleared_as_differing w leg)
     others : (z : Slot) → IsExternal d.external z → z ≢ h.slot → p ≢ peer.Leg z → leg_at v.legs z ≡ leg_at w.legs z
+    own_circuits : HasOnlyTone s.tones w v h.slot h.leg
+    other_circuits : (y : Slot) (leg : Leg) → p ≡ peer.Leg y → leg_at w.legs y ≡ Some leg → HasOnlyTone s.tones w v y leg
+
+  own_tone : HasOnlyTone s.tones w cleared_one.world h.slot h.leg
+  own_tone = tone_only w.holding h.slot (tone_of s.tones (in_disconnect_indication cause h.leg))
 
   alone_facts : (p : Peer) → ((y : Slot) → p ≡ peer.Leg y → ⊥) → LegFacts p cleared_one.world
   alone_facts p alone = record {
     own = leg_at-with_entry_here d.external w.legs h.slot own_entry stand.count in_h;
     other = λ y leg is_y at_y. absurd (alone y is_y);
     others = λ z in_z apart not_peer. leg_at-with_entry_else d.external w.legs h.slot z own_entry in_h in_z apart;
+    own_circuits = own_tone;
+    other_circuits = λ y leg is_y at_y. absurd (alone y is_y);
   }
 
   both_facts : (y : Slot) (k : Leg) → IsExternal d.external y → leg_at w.legs y ≡ Some k → (y ≡ h.slot → ⊥)
@@ -175,6 +217,17 @@ module _ (s : Setting) (w : World) (line : ℕ) (octets : List ℕ) (h : HeldLeg
             ∙ leg_at_both_second d.external w.legs h.slot y own_entry (Some now) stand.count in_h in_y apart
             ∙ ap (λ (l : Leg). Some l) (same ∙ ap (cleared_as_differing w) leg_is);
         others = λ z in_z not_h not_peer. leg_at_both_else d.external w.legs h.slot y own_entry (Some now) stand.count in_h in_y apart z in_z not_h (λ is_y. not_peer (ap (λ (q : Slot). let p : Peer = peer.Leg q in p) (sym is_y)));
+        own_circuits =
+            tone_still cleared_one.world.holding h.slot y (λ same. apart (sym same)) w.holding.next (tone_of s.tones (in_disconnect_indication cause k))
+            (tone_of s.tones (in_disconnect_indication cause h.leg)) own_tone;
+        other_circuits = λ z leg is_z at_z.
+            let is_y : y ≡ z = cc in
+            let e : Some k ≡ Some leg = sym at_y ∙ ap (leg_at w.legs) is_y ∙ at_z in
+            let leg_is : k ≡ leg = cc in
+            subst (λ (q : Slot). HasOnlyTone s.tones w (making_after_all d cleared_one (clear_with s.tones cause (record { slot = y; leg = k }))).world q leg) is_y
+            (subst (λ (l : Leg). HasOnlyTone s.tones w (making_after_all d cleared_one (clear_with s.tones cause (record { slot = y; leg = k }))).world y l) leg_is
+            (tone_only cleared_one.world.holding y (tone_of s.tones (in_disconnect_indication cause k))
+            ∙ ap (λ (n : ℕ). tone_circuits n y (tone_of s.tones (in_disconnect_indication cause k))) next_same));
       }
 
   facts_by : (p : Peer) → HasPeer d.external w.legs h.slot h.leg p → LegFacts p (making_for p).world
@@ -227,6 +280,8 @@ module _ (s : Setting) (w : World) (line : ℕ) (octets : List ℕ) (h : HeldLeg
         own = facts.own;
         other = facts.other;
         others = facts.others;
+        own_circuits = facts.own_circuits;
+        other_circuits = facts.other_circuits;
         sent = sent_by (peer_of w.legs h.leg.peer);
         told = told.0;
         told_is = told.1;

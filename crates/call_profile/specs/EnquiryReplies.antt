@@ -2,7 +2,11 @@
 -- another state than 10 loses its call is this project's profile.
 use Rattle.std.specs.Prelude.{◌≡◌, ◌≢◌, ◌<◌, ℕ, true, false, List, [], ◌∷◌, Option, Some, None}
 use Rattle.circuit_model.specs.declared.channel.Slot.{Slot}
+use Rattle.circuit_model.specs.declared.circuit.Circuit.{Circuit}
+use Rattle.circuit_model.specs.declared.circuit.Circuit.TheVariants.{Tone}
+use Rattle.circuit_model.specs.declared.circuit.Kind.{Kind}
 use Rattle.circuit_model.specs.Extent.{IsExternal}
+use Rattle.circuit_model.specs.Holding.{circuits_naming}
 use Rattle.q931_codec.specs.CallStates.{active, null}
 use Rattle.q931_codec.specs.Causes.{message_not_compatible_with_call_state}
 use Rattle.q931_codec.specs.Contents.{call_state_in}
@@ -67,12 +71,25 @@ abbrev pub peer_signals : Tones → Option HeldLeg → List Signal
 peer_signals tones None = []
 peer_signals tones (Some h) = differing_signal tones h ∷ []
 
+-- the circuits of a slot that has only a tone, from this frame on; none without a tone
+abbrev pub tone_circuits : ℕ → Slot → Option Kind → List Circuit
+tone_circuits next x None = []
+tone_circuits next x (Some kind) = Tone kind x next ∷ []
+
+-- no circuit uses the slot but the tone of cause 101, from the next frame on, if the trace gives it
+abbrev pub HasOnlyTone : Tones → World → World → Slot → Leg → Type 0
+HasOnlyTone tones before afterwards x leg =
+    circuits_naming afterwards.holding.circuits x
+    ≡ tone_circuits before.holding.next x (tone_of tones (in_disconnect_indication message_not_compatible_with_call_state leg))
+
 -- both legs of the call are cleared, all others are unchanged, each of the two users is sent DISCONNECT, and the call is
--- recorded
+-- recorded; the slot of each cleared leg is idle, or has only its tone
 pub record IsClearedByReply (s : Setting) (w : World) (h : HeldLeg) (o : MessageOutcome) : Type 0 where
   pub own : leg_at o.making.world.legs h.slot ≡ Some (cleared_as_differing w h.leg)
   pub other : (y : Slot) (leg : Leg) → h.leg.peer ≡ peer.Leg y → leg_at w.legs y ≡ Some leg → leg_at o.making.world.legs y ≡ Some (cleared_as_differing w leg)
   pub others : (z : Slot) → IsExternal s.dimensions.external z → z ≢ h.slot → h.leg.peer ≢ peer.Leg z → leg_at o.making.world.legs z ≡ leg_at w.legs z
+  pub own_circuits : HasOnlyTone s.tones w o.making.world h.slot h.leg
+  pub other_circuits : (y : Slot) (leg : Leg) → h.leg.peer ≡ peer.Leg y → leg_at w.legs y ≡ Some leg → HasOnlyTone s.tones w o.making.world y leg
   pub sent : o.making.sends ≡ differing_signal s.tones h ∷ peer_signals s.tones (peer_of w.legs h.leg.peer)
   pub told : CallRecord
   pub told_is : record_ended w h message_not_compatible_with_call_state ≡ Some told

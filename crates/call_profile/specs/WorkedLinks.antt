@@ -143,6 +143,10 @@ confirmed = next hasty_lines (world_in 9 connect_lost) (reports 10)
 
 -- ---- a call is answered on a line that is down
 
+-- both links go down in a conversation: T309 of both legs is due in frame 30, and the leg on the lower line expires
+abbrev pub both_down : List Event
+both_down = answered ++ LinkDown 0 ∷ LinkDown 1 ∷ []
+
 -- T309 of the caller runs from the answer on
 abbrev pub answered_on_down : List Event
 answered_on_down = LinkDown 0 ∷ answered

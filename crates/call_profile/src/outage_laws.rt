@@ -101,7 +101,8 @@ pub fn law_of_reconciliation()
 
 /// The reply to an enquiry with state 10 ends the enquiry. No other leg changes, and nothing is sent or recorded. With
 /// another state that is not null, both legs of the call are cleared with cause 101, both users are sent DISCONNECT, and
-/// the call is recorded. At a leg whose user was not asked, a STATUS that does not report the null state changes nothing.
+/// the call is recorded. The slot of each leg is then idle, or has only the tone of the cause. At a leg whose user was not
+/// asked, a STATUS that does not report the null state changes nothing.
 pub fn law_of_enquiry_replies()
     ensures agrees { (s : Setting) (w : World) (line : ℕ) (octets : List ℕ) (h : HeldLeg) (m : Message) → IsReply s w line octets h m active
         → outcome_of_octets s w line octets ≡ confirmed w h }

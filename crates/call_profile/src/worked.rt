@@ -7,7 +7,7 @@ ghost use Rattle.call_profile.specs.Legs.{leg_at, no_legs};
 ghost use Rattle.call_profile.specs.WorkedExpiries.{cleared_with, hasty_lines, turn_of, after_turn, world_in, in_frame, nothing_in, sent_in, offered, setup_again, setup_over, proceeds, proceeding_over, both_proceed, both_over, alerted, alerting_over, alerted_again, answered_in_time, begun_on_both, digits_over, first_turn, second_turn, third_turn, released};
 ghost use Rattle.exchange_events.specs.declared.trace.Event.TheVariants.{LinkUp, RestartLine};
 ghost use Rattle.call_profile.specs.Step.{reply};
-ghost use Rattle.call_profile.specs.WorkedLinks.{down_while_alerted, alerted_dropped, call_to_down, refused_as_down, own_line_down, own_line_dropped, outage, outage_over, down_again, up_again, state_enquired, reset_while_dialling, alerted_then_up, answered, answered_on_down, asked_to_release, beside_conversation, both_cleared, call_after_restart, cleared_as_it_fails, confirmed, connect_lost, conversation_restarted, down_in_conversation, lost_after_answer, offered_on_first, one_restarted, own_line_restarted, own_line_restart_answered, release_asked, release_asked_again, release_given_up, released_anew, reports, restart_of_line, restarted_conversation, restarted_while_down, up_before_given_up, up_too_late};
+ghost use Rattle.call_profile.specs.WorkedLinks.{down_while_alerted, alerted_dropped, call_to_down, refused_as_down, own_line_down, own_line_dropped, outage, outage_over, down_again, up_again, state_enquired, reset_while_dialling, alerted_then_up, answered, answered_on_down, asked_to_release, beside_conversation, both_cleared, both_down, call_after_restart, cleared_as_it_fails, confirmed, connect_lost, conversation_restarted, down_in_conversation, lost_after_answer, offered_on_first, one_restarted, own_line_restarted, own_line_restart_answered, release_asked, release_asked_again, release_given_up, released_anew, reports, restart_of_line, restarted_conversation, restarted_while_down, up_before_given_up, up_too_late};
 ghost use Rattle.call_profile.specs.WorkedOverlap.{dialled_in_part, dialled_in_part_answered, pending_after, first_digit, refused_at_once, refused_at_once_answered, no_numbers, dials_nothing, dials_nothing_answered, given_up, given_up_answered};
 
 /// The definitions of the operations for messages, evaluated on more messages.
@@ -96,6 +96,7 @@ pub fn worked_outages()
     ensures ended { reply hasty_lines confirmed (reports 1) ≡ sends_reply [] }
     ensures unasked { reply hasty_lines (world_in 9 answered) (reports 1) ≡ sends_reply [] }
     ensures answered { turn_of (world_in 30 answered_on_down) ≡ lost_after_answer }
+    ensures both_lost { turn_of (world_in 30 both_down) ≡ lost_after_answer }
 {}
 
 /// The definitions, evaluated on lines that the exchange restarts.

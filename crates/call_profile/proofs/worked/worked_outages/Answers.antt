@@ -72,3 +72,7 @@ returns-clause-unasked c = refl
 pub returns-clause-answered : goal.returns-clause-answered
 unfolding elements_of elements_within outcome_of_lines outcome_below slots_of
 returns-clause-answered c = refl
+
+pub returns-clause-both_lost : goal.returns-clause-both_lost
+unfolding elements_of elements_within outcome_of_lines outcome_below slots_of
+returns-clause-both_lost c = refl
