@@ -9,5 +9,6 @@ pub mod ActMakingLemmas
 pub mod SetupMakingLemmas
 pub mod RestartMakingLemmas
 pub mod LinkMakingLemmas
+pub mod LineRestartMakingLemmas
 pub mod ExpireMakingLemmas
 pub mod DigitsMakingLemmas

@@ -23,9 +23,8 @@ use Rattle.call_profile.specs.CallRecords.{is_calling, records}
 use Rattle.call_profile.specs.EndedCalls.{caller_in, dropped_record, dropped_records, record_calling, record_ended}
 use Rattle.call_profile.specs.LegStanding.{HasPeer}
 use Rattle.call_profile.specs.Legs.{Legs, leg_at, with_link}
-use Rattle.clearing_rules.specs.Restarting.{restart_of}
-use Rattle.call_profile.specs.LinkChanges.{being_cleared, outcome_of_link, restarts_interface, rule_of, whole_line, with_interface, with_line}
-use Rattle.call_profile.specs.Operations.{Making, Send, making_after, making_after_all}
+use Rattle.call_profile.specs.LinkChanges.{being_cleared, outcome_of_link, restarts_interface, rule_of, with_interface, with_line}
+use Rattle.call_profile.specs.Operations.{making_after_all}
 use Rattle.call_profile.specs.Restarts.{MessageOutcome, SlotRule, outcome_at_slot, outcome_below}
 use Rattle.call_profile.specs.World.{World}
 use Rattle.call_profile.proofs.ClearingLemmas.{Kept}
@@ -73,15 +72,6 @@ pub ruled_kept : (d : Dimensions) (tones : Tones) (whole down : Bool) (line : �
 ruled_kept d tones whole down line w below kept =
     each_below d (rule_of tones whole down) line (with_line w line down) (λ a. Kept d tones a.making.world) (linked_kept d tones w line down kept)
     (λ a place small k. rule_kept d tones a.making (record { line = line; place = place }) k (below, small) whole down)
-
--- the RESTART of the interface was sent, if it is restarted
-pub interface_made : (d : Dimensions) (map : Connections) (legs : Legs) (sends : List Signal) (moved : Option (ℕ × ℕ)) (line : ℕ) (a : MessageOutcome) (whole : Bool) → whole ≡ true
-    → Makes d map legs sends moved (making_after d a.making (Send line (restart_of whole_line))) → Makes d map legs sends moved (with_interface d whole line a).making
-interface_made d map legs sends moved line a whole is made = rw is made
-
-pub no_interface_made : (d : Dimensions) (map : Connections) (legs : Legs) (sends : List Signal) (moved : Option (ℕ × ℕ)) (line : ℕ) (a : MessageOutcome) (whole : Bool) → whole ≡ false
-    → Makes d map legs sends moved a.making → Makes d map legs sends moved (with_interface d whole line a).making
-no_interface_made d map legs sends moved line a whole is made = rw is made
 
 -- the establishment of the link, by whether the interface is restarted
 pub established_made : (d : Dimensions) (tones : Tones) (map : Connections) (legs : Legs) (sends : List Signal) (moved : Option (ℕ × ℕ)) (line : ℕ) (w : World) (whole : Bool) → whole ≡ restarts_interface w.legs line

@@ -124,8 +124,8 @@ impl<P: PathMap> CallControl<P> {
         }
     }
 
-    // Retransmits the stored message to the user of a leg.
-    fn send_again(&mut self, out: &mut Outbox, held: HeldLeg)
+    /// Retransmits the stored message to the user of a leg.
+    pub(crate) fn send_again(&mut self, out: &mut Outbox, held: HeldLeg)
         requires there { IsThere self.old.map.external held }
         requires count { length self.old.legs.held ≡ 30 * self.old.map.external }
         requires state { is_among awaiting_answer held.leg.state ≡ true }

@@ -7,6 +7,7 @@
 //!   `records`), for any octets. It moves few paths (`few`), and does not allocate.
 //! - `handle_timers` processes the legs of a frame whose timers have expired (`makes`, `records`).
 //! - `link_down` and `link_up` process a failure and the establishment of a line's data link (`makes`, `records`).
+//!   `restart_interface` restarts a line (`makes`, `records`).
 //! - [`preparse`] parses a message before its turn: the result depends only on the octets and the number plan
 //!   (`read`).
 #![tactic(auto)]
@@ -16,6 +17,7 @@ mod asked;
 mod digits;
 mod ended_calls;
 mod expiring;
+mod line_restarts;
 mod link_changes;
 mod messages;
 mod new_call;

@@ -19,7 +19,7 @@ ghost use Rattle.call_profile.specs.World.{World};
 
 use crate::acts::with_enquiry;
 use crate::operations::CallControl;
-use crate::restarting::Removal;
+use crate::restarting::{Removal, WHOLE_LINE, request_restart};
 use crate::sending::{send, send_bare};
 use call_states::HeldLeg;
 use circuit_model::{CHANNELS_PER_LINE, Slot};
@@ -28,12 +28,8 @@ use control_memory::PathMap;
 use exchange_events::{Outbox, Records};
 use q931_codec::MessageKind;
 use q931_codec::causes::{DESTINATION_OUT_OF_ORDER, TEMPORARY_FAILURE};
-use q931_codec::restart_classes::SINGLE_INTERFACE;
 use q931_codec::states::{ACTIVE, DISCONNECT_INDICATION, OVERLAP_SENDING, RELEASE_REQUEST};
 use tone_rules::Tones;
-
-// Every slot of the line.
-const WHOLE_LINE: Restart = Restart::Interface(SINGLE_INTERFACE);
 
 impl<P: PathMap> CallControl<P> {
     /// Processes a failure of the data link of a line (Q.931, 5.8.9): each leg of the line in state 10 waits for the link,
@@ -59,8 +55,9 @@ impl<P: PathMap> CallControl<P> {
     }
 
     /// Processes the establishment of the data link of a line (Q.931, 5.8.8 to 5.8.10): clears each leg of the line in
-    /// state 2, and sends STATUS ENQUIRY to the user of each in state 10, which waits for the link no longer. Sends each
-    /// RESTART that is owed, or one for the whole interface if no leg is left on the line (5.5). Ends no call.
+    /// state 2, sends STATUS ENQUIRY to the user of each in state 10, which waits for the link no longer, and RELEASE again
+    /// to the user of each in state 19. Sends each RESTART that is owed, or one for the whole interface if no leg is left
+    /// on the line (5.5). Ends no call.
     pub fn link_up(&mut self, out: &mut Outbox, tones: &Tones, line: u8)
         requires work { (s : Setting) × (w : World) × (s.tones ≡ tones.now) × IsInOrder s self.old.map self.old.legs w }
         requires line { line < self.old.map.external }
@@ -77,9 +74,7 @@ impl<P: PathMap> CallControl<P> {
         for place in 0..CHANNELS_PER_LINE {
             self.resume_slot(out, tones, whole, Slot { line, place });
         }
-        if whole {
-            send(out, line, &restart_request(WHOLE_LINE));
-        }
+        request_restart(out, line, whole);
         out.records.clear();
     }
 
@@ -126,8 +121,9 @@ impl<P: PathMap> CallControl<P> {
         self.await_link(held.slot, with_enquiry(false, held.leg));
     }
 
-    // Clears the leg that holds a slot of a line whose data link is up again if it is in state 2, and enquires of it if it is
-    // in state 10. Restarts the channel if no leg holds the slot, and its user is owed a RESTART.
+    // Clears the leg that holds a slot of a line whose data link is up again if it is in state 2, enquires of it if it is in
+    // state 10, and sends RELEASE again if it is in state 19. Restarts the channel if no leg holds the slot, and its user is
+    // owed a RESTART.
     fn resume_slot(&mut self, out: &mut Outbox, tones: &Tones, whole: bool, x: Slot)
         requires work { (d : Dimensions) × (w : World) × Holds d self.old.map self.old.legs w × LegsStand d.external tones.now w }
         requires external { IsExternal self.old.map.external x }
@@ -148,6 +144,7 @@ impl<P: PathMap> CallControl<P> {
         match leg.state {
             ACTIVE => self.enquire(out, held),
             OVERLAP_SENDING => self.clear_leg(out, tones, held, TEMPORARY_FAILURE),
+            RELEASE_REQUEST => self.send_again(out, held),
             _ => {}
         }
     }

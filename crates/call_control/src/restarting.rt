@@ -2,31 +2,36 @@
 ghost use Rattle.std.specs.Prelude.{◌≡◌, ◌+◌, ◌*◌, ◌++◌, ◌<◌, ◌≤◌, [], None, Some, IfSome, length};
 ghost use Rattle.std.specs.List.{cons_option};
 ghost use Rattle.circuit_model.specs.Extent.{IsExternal};
-ghost use Rattle.circuit_map.specs.Connections.{SameSizes};
+ghost use Rattle.circuit_map.specs.Connections.{Connections, SameSizes};
 ghost use Rattle.clearing_rules.specs.Restarting.{IsOnLine};
 ghost use Rattle.call_profile.specs.Acts.{with_peer};
 ghost use Rattle.call_control.specs.AtWork.{IsAtWork, EachWithTones};
 ghost use Rattle.call_profile.specs.EndedCalls.{record_ended, slot_records};
-ghost use Rattle.call_profile.specs.Legs.{leg_at};
+ghost use Rattle.call_profile.specs.Legs.{Legs, leg_at};
 ghost use Rattle.call_profile.specs.LegStanding.{LegsStand};
+ghost use Rattle.call_profile.specs.LinkChanges.{with_interface};
 ghost use Rattle.exchange_events.specs.Limits.{max_records, max_sends};
 ghost use Rattle.call_profile.specs.Peers.{IsThere};
-ghost use Rattle.call_profile.specs.Restarts.{restart_leg, restart_peer, restart_slot, restarts_slot, outcome_of_restart};
+ghost use Rattle.call_profile.specs.Restarts.{MessageOutcome as The_outcome, restart_leg, restart_peer, restart_slot, restarts_slot, outcome_of_restart};
 ghost use Rattle.exchange_events.specs.Sizes.{Setting, Dimensions};
-ghost use Rattle.call_control.specs.Standing.{Holds, HasMade, Performs, PerformsBy};
+ghost use Rattle.call_control.specs.Standing.{Holds, HasMade, Makes, Performs, PerformsBy};
 ghost use Rattle.call_profile.specs.World.{World};
 
 use crate::operations::CallControl;
 use crate::sending::{record_also, send};
 use call_states::HeldLeg;
 use circuit_model::{CHANNELS_PER_LINE, Slot};
-use clearing_rules::{Restart, restart_acknowledge};
+use clearing_rules::{Restart, restart_acknowledge, restart_request};
 use control_memory::PathMap;
 use exchange_events::{Outbox, Records};
 use q931_codec::causes::TEMPORARY_FAILURE;
+use q931_codec::restart_classes::SINGLE_INTERFACE;
 use tone_rules::Tones;
 
-/// The removal of legs by a restart or a failure of the data link.
+/// Every slot of a line.
+pub(crate) const WHOLE_LINE: Restart = Restart::Interface(SINGLE_INTERFACE);
+
+/// The removal of legs by a restart, by the user or the exchange, or by a failure of the data link.
 #[derive(Clone, Copy)]
 pub(crate) struct Removal {
     /// The slots whose legs are removed.
@@ -155,6 +160,18 @@ impl<P: PathMap> CallControl<P> {
         } else {
             self.clear_peer(out, tones, peer, removal.cause);
         }
+    }
+}
+
+/// Sends RESTART of the whole interface to the user of a line, if the interface is restarted.
+pub(crate) fn request_restart(out: &mut Outbox, line: u8, whole: bool)
+    requires room { length out.old.sends < max_sends }
+    ensures makes { (d : Dimensions) (map : Connections) (legs : Legs) (a : The_outcome) → Makes d map legs out.old.sends out.old.moved a.making
+        → Makes d map legs out.new.sends out.new.moved (with_interface d whole line a).making }
+    ensures moved { out.new.moved ≡ out.old.moved }
+{
+    if whole {
+        send(out, line, &restart_request(WHOLE_LINE));
     }
 }
 

@@ -3,7 +3,7 @@ use Rattle.std.proofs.Common.{rules, ◌≡◌, ℕ, true, Option, Some, None, r
 use Rattle.exchange_core.specs.declared.tool.Tool.{Tool}
 use Rattle.exchange_core.specs.declared.tool.Tool.TheVariants.{Nothing, Image}
 use Rattle.exchange_events.specs.declared.trace.Event.{Event}
-use Rattle.exchange_events.specs.declared.trace.Event.TheVariants.{Nail, Seat, Free, Message, Frame, LinkUp, LinkDown}
+use Rattle.exchange_events.specs.declared.trace.Event.TheVariants.{Nail, Seat, Free, Message, Frame, LinkUp, LinkDown, RestartLine}
 use Rattle.exchange_events.specs.declared.trace.Trace.{Trace}
 use Rattle.exchange_events.specs.Orders.{Processor, event_at, worker_of}
 use Rattle.exchange_core.specs.Boards.{Board, IsToolAt, setting_at}
@@ -20,6 +20,7 @@ none_asked d q p (Free x) its = search rules
 none_asked d q p (Message line octets) its = search rules
 none_asked d q p (LinkUp line) its = search rules
 none_asked d q p (LinkDown line) its = search rules
+none_asked d q p (RestartLine line) its = search rules
 
 -- and none other serves for it
 none_other : (d : Dimensions) (processors p : ℕ) (e : Event) (t : Tool) → is_worker (worker_of processors e) (Processor p) ≡ true → IsToolFor d e t → t ≡ Nothing
@@ -31,6 +32,7 @@ none_other d q p (Free x) (Image image) its serves = absurd serves
 none_other d q p (Message line octets) (Image image) its serves = absurd serves
 none_other d q p (LinkUp line) (Image image) its serves = absurd serves
 none_other d q p (LinkDown line) (Image image) its serves = absurd serves
+none_other d q p (RestartLine line) (Image image) its serves = absurd serves
 
 module _ (board : Board) (trace : Trace) (same : trace ≡ board.trace) (p n : ℕ) (its : is_its trace (Processor p) n ≡ true) where
   its_there : is_its board.trace (Processor p) n ≡ true

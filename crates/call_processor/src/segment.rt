@@ -38,6 +38,7 @@ pub fn processor_of(processors: u8, event: &Event) -> Option<u32>
         Event::Message(line, _) => *line,
         Event::LinkUp(line) => *line,
         Event::LinkDown(line) => *line,
+        Event::RestartLine(line) => *line,
         Event::Frame(_) => return None,
     };
     Some(u32::from(line % processors))
@@ -79,5 +80,6 @@ pub(crate) fn input_of(trace: &Trace, event: u32) -> Option<&Input>
         Event::Message(_, _) => None,
         Event::LinkUp(_) => None,
         Event::LinkDown(_) => None,
+        Event::RestartLine(_) => None,
     }
 }

@@ -223,6 +223,10 @@ pub fn happen<P: PathMap>(
             control.link_down(&mut context.out, tones, *line);
             Response::Sent
         }
+        Event::RestartLine(line) => {
+            control.restart_interface(&mut context.out, tones, *line);
+            Response::Sent
+        }
         Event::Frame(_) => {
             let number = frame(
                 control,

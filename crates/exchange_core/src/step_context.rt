@@ -60,6 +60,7 @@ fn event_ahead(plan: &Plan, event: &Event) -> Option<PreparsedMessage>
         Event::Free(_) => None,
         Event::LinkUp(_) => None,
         Event::LinkDown(_) => None,
+        Event::RestartLine(_) => None,
         Event::Frame(_) => None,
     }
 }

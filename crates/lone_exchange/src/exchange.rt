@@ -108,6 +108,7 @@ impl<P: PathMap, C: Carrier> LoneExchange<P, C> {
             Event::Message(_, _) => self.command(plan, tones, timers, event),
             Event::LinkUp(_) => self.command(plan, tones, timers, event),
             Event::LinkDown(_) => self.command(plan, tones, timers, event),
+            Event::RestartLine(_) => self.command(plan, tones, timers, event),
         }
     }
 

@@ -7,7 +7,7 @@ use Rattle.std.proofs.lemmas.Bool.Decides.{nat_tests}
 use Rattle.std.proofs.lemmas.Nat.{mod_below}
 use Rattle.std.proofs.lemmas.List.Elements.{filter-append}
 use Rattle.exchange_events.specs.declared.trace.Event.{Event}
-use Rattle.exchange_events.specs.declared.trace.Event.TheVariants.{Nail, Seat, Free, Message, Frame, LinkUp, LinkDown}
+use Rattle.exchange_events.specs.declared.trace.Event.TheVariants.{Nail, Seat, Free, Message, Frame, LinkUp, LinkDown, RestartLine}
 use Rattle.exchange_events.specs.declared.trace.Trace.{Trace}
 use Rattle.exchange_events.specs.Orders.{Worker, Processor, Frame_worker, IsEvent, event_at, segment_of, worker_of}
 use Rattle.seat_history.specs.declared.seat_knowledge.SeatKnowledge.{SeatKnowledge}
@@ -74,6 +74,7 @@ no_part trace segment p some_one past = filter_none (λ n. nat_eq (segment_of tr
     off (Some (Message line octets)) = of_line line
     off (Some (LinkUp line)) = of_line line
     off (Some (LinkDown line)) = of_line line
+    off (Some (RestartLine line)) = of_line line
     off (Some (Frame input)) = refl
 
     none : (b : Bool) (o : Option Event) → (b && does trace.processors (Processor p) o) ≡ false

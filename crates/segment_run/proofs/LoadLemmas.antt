@@ -4,7 +4,7 @@ use Rattle.std.specs.List.{range_with_len}
 use Rattle.std.proofs.lemmas.Bool.{cases_lt}
 use Rattle.std.proofs.lemmas.Nat.{mod_below}
 use Rattle.exchange_events.specs.declared.trace.Event.{Event}
-use Rattle.exchange_events.specs.declared.trace.Event.TheVariants.{Nail, Seat, Free, Message, Frame, LinkUp, LinkDown}
+use Rattle.exchange_events.specs.declared.trace.Event.TheVariants.{Nail, Seat, Free, Message, Frame, LinkUp, LinkDown, RestartLine}
 use Rattle.exchange_events.specs.declared.trace.Trace.{Trace}
 use Rattle.exchange_events.specs.Orders.{Worker, IsEvent, worker_of}
 use Rattle.exchange_events.specs.Sound.{AreSegments, IsSound}
@@ -36,6 +36,7 @@ worker_is trace some_one (Free x) = let h = mod_below x.line trace.processors so
 worker_is trace some_one (Message line octets) = let h = mod_below line trace.processors some_one in (line % trace.processors, omega (arith, h), numbered_processor trace.processors (line % trace.processors) h)
 worker_is trace some_one (LinkUp line) = let h = mod_below line trace.processors some_one in (line % trace.processors, omega (arith, h), numbered_processor trace.processors (line % trace.processors) h)
 worker_is trace some_one (LinkDown line) = let h = mod_below line trace.processors some_one in (line % trace.processors, omega (arith, h), numbered_processor trace.processors (line % trace.processors) h)
+worker_is trace some_one (RestartLine line) = let h = mod_below line trace.processors some_one in (line % trace.processors, omega (arith, h), numbered_processor trace.processors (line % trace.processors) h)
 worker_is trace some_one (Frame input) = (trace.processors, omega arith, numbered_frames trace.processors trace.processors (omega arith))
 
 module _ (trace : Trace) (x i : ℕ) (le : i ≤ trace.processors) (its : (w : Worker) → is_its trace w x ≡ is_worker (worker_numbered trace.processors i) w) where

@@ -58,6 +58,18 @@ returns-in-LinkDown-clause-reply g c s w plan tones timers work =
 pub returns-in-LinkDown-clause-world : goal.returns-in-LinkDown-clause-world
 returns-in-LinkDown-clause-world g c s w plan tones timers work = rw c.in-LinkDown.is (c.link_down.ensures.makes s w tones (in_order s w _ _ work)).holds
 
+pub restart_interface-requires-clause-work : goal.restart_interface-requires-clause-work
+restart_interface-requires-clause-work g c = (c.requires.work.0, c.requires.work.1, c.requires.work.3, in_order _ _ _ _ c.requires.work.5)
+
+pub returns-in-RestartLine-clause-reply : goal.returns-in-RestartLine-clause-reply
+returns-in-RestartLine-clause-reply g c s w plan tones timers work =
+    let order = in_order s w _ _ work in
+    let made = c.restart_interface.ensures.makes s w tones order in
+    rw c.in-RestartLine.is (λ i. An_answer.Sent (made.sent i) (c.restart_interface.ensures.moved i) (c.restart_interface.ensures.records s w tones order i))
+
+pub returns-in-RestartLine-clause-world : goal.returns-in-RestartLine-clause-world
+returns-in-RestartLine-clause-world g c s w plan tones timers work = rw c.in-RestartLine.is (c.restart_interface.ensures.makes s w tones (in_order s w _ _ work)).holds
+
 pub returns-in-Frame-clause-world : goal.returns-in-Frame-clause-world
 returns-in-Frame-clause-world g c s w plan tones timers work = rw c.in-Frame.is (c.frame-number.ensures.world s w tones timers work c.in-Frame.field-0)
 

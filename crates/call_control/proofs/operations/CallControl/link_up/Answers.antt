@@ -5,19 +5,14 @@ use Rattle.exchange_events.specs.declared.signal.Signal.{Signal}
 use Rattle.exchange_events.specs.Sizes.{Dimensions}
 use Rattle.call_profile.specs.LegStanding.{LegsStand}
 use Rattle.call_profile.specs.Legs.{Legs}
-use Rattle.clearing_rules.specs.Restarting.{restart_of}
-use Rattle.q931_codec.specs.Outgoing.{outgoing_of}
-use Rattle.exchange_events.specs.declared.outbox.Outbox.{Outbox}
-use Rattle.call_profile.specs.LinkChanges.{resume_slot, restarts_interface, rule_of, whole_line, with_interface, with_line}
+use Rattle.call_profile.specs.LinkChanges.{resume_slot, restarts_interface, rule_of, with_line}
 use Rattle.call_profile.specs.Operations.{making_after_all}
 use Rattle.call_profile.specs.Restarts.{MessageOutcome, outcome_below}
 use Rattle.call_profile.proofs.LinkLemmas.{resume_slot_told}
 use Rattle.call_control.specs.Standing.{Holds, Makes}
-use Rattle.call_control.proofs.MakingLemmas.{makes_send}
-use Rattle.call_control.proofs.LinkMakingLemmas.{established_made, interface_made, no_interface_made, linked_holds, none_ruled, ruled_kept, step_ruled}
+use Rattle.call_control.proofs.LinkMakingLemmas.{established_made, linked_holds, none_ruled, ruled_kept, step_ruled}
 use Rattle.call_control.proofs.RestartMakingLemmas.{same_sizes, sizes_then}
 use Rattle.call_control.proofs.operations.CallControl.link_up.Goals as goal
-use Rattle.call_control.proofs.operations.CallControl.link_up.Goals.{then-whole, else-whole}
 
 pub loop-place-init : goal.loop-place-init
 loop-place-init g c = (
@@ -79,10 +74,4 @@ returns-clause-makes g c s w tones work =
     let base = subst (λ n. Makes d map legs c.loop-place.out.sends c.loop-place.out.moved (outcome_below d (rule_of s.tones whole false) line (with_line w line false) n).making) end (c.loop-place.invariant.0 s w tones work).0 in
     let a : MessageOutcome = outcome_below d (rule_of s.tones whole false) line (with_line w line false) 30 in
     let is = c.restarts_interface-whole.ensures ∙ ap (λ (ls : Legs). restarts_interface ls line) work.holds.legs_are in
-    established_made d s.tones map legs c.if-whole.out.sends c.if-whole.out.moved line w whole is (elim c.if-whole.branch [
-      | then-whole t ↦ subst (λ (o : Outbox). Makes d map legs o.sends o.moved (with_interface d whole line a).making) (sym t.out-is)
-          (interface_made d map legs t.send.new.out.sends t.send.new.out.moved line a whole t.if-whole.true
-          (makes_send d map map legs legs c.loop-place.out.sends t.send.new.out.sends c.loop-place.out.moved t.send.new.out.moved a.making base line (outgoing_of t.restart_request.result) (restart_of whole_line) t.restart_request.ensures t.send.ensures.sends t.send.ensures.moved))
-      | else-whole e ↦ subst (λ (o : Outbox). Makes d map legs o.sends o.moved (with_interface d whole line a).making) (sym e.out-is)
-          (no_interface_made d map legs c.loop-place.out.sends c.loop-place.out.moved line a whole e.if-whole.false base)
-    ])
+    established_made d s.tones map legs c.request_restart.new.out.sends c.request_restart.new.out.moved line w whole is (c.request_restart.ensures.makes d map legs a base)
