@@ -12,6 +12,14 @@ pub returns-clause-caller : goal.returns-clause-caller
 unfolding elements_of elements_within outcome_below slots_of
 returns-clause-caller c = refl
 
+pub returns-clause-silent : goal.returns-clause-silent
+unfolding elements_of elements_within outcome_below slots_of
+returns-clause-silent c = refl
+
+pub returns-clause-deaf : goal.returns-clause-deaf
+unfolding elements_of elements_within outcome_below slots_of
+returns-clause-deaf c = refl
+
 pub returns-clause-sent : goal.returns-clause-sent
 unfolding elements_of elements_within outcome_below slots_of
 returns-clause-sent c = refl
