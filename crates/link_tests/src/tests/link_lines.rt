@@ -104,20 +104,29 @@ fn read_each(heading: &mut LinkHeading, alloc: Global, rows: &[(&str, Came)]) ->
     true
 }
 
+// Whether the lines have their results, and set nothing.
+fn unlinked_are_read(alloc: Global) -> bool {
+    let mut heading = LinkHeading::new(alloc);
+    read_each(&mut heading, alloc, &UNLINKED)
+        && heading.linked().as_slice().is_empty()
+        && heading.link_timers().t200 == 8000
+}
+
+// Whether the lines have their results, and set the links, the timers and the number of events.
+fn linked_are_read(alloc: Global) -> bool {
+    let mut heading = LinkHeading::new(alloc);
+    read_each(&mut heading, alloc, &LINKED)
+        && heading.linked().as_slice() == [2, 0].as_slice()
+        && heading.link_timers().t200 == 9
+        && heading.link_timers().t203 == 80_000
+        && heading.plain().timers().t303 == 8
+        && heading.plain().event_count() == 8
+}
+
 #[test]
 fn lines_with_data_links_are_read(rt: HostRuntime) -> Result<(), Fail> {
-    let alloc = rt.alloc();
-    let mut first = LinkHeading::new(alloc);
-    assert!(rt; read_each(&mut first, alloc, &UNLINKED));
-    assert!(rt; first.linked().as_slice().is_empty());
-    assert!(rt; first.link_timers().t200 == 8000);
-    let mut heading = LinkHeading::new(alloc);
-    assert!(rt; read_each(&mut heading, alloc, &LINKED));
-    assert!(rt; heading.linked().as_slice() == [2, 0].as_slice());
-    assert!(rt; heading.link_timers().t200 == 9);
-    assert!(rt; heading.link_timers().t203 == 80_000);
-    assert!(rt; heading.plain().timers().t303 == 8);
-    assert!(rt; heading.plain().event_count() == 8);
+    assert!(rt; unlinked_are_read(rt.alloc()));
+    assert!(rt; linked_are_read(rt.alloc()));
     Ok(())
 }
 
@@ -131,34 +140,33 @@ fn long_line(alloc: Global, octets: usize) -> Result<Vec<u8>, AllocError> {
     Ok(line)
 }
 
-#[test]
-fn a_received_frame_has_at_most_265_octets(rt: HostRuntime) -> Result<(), Fail> {
-    let alloc = rt.alloc();
+// Whether a frame of 265 octets is read once in a trace of one event, and a longer one is refused.
+fn longest_is_read(alloc: Global) -> Result<bool, AllocError> {
+    let longest = long_line(alloc, 265)?;
+    let long = long_line(alloc, 266)?;
     let mut heading = LinkHeading::new(alloc);
-    assert!(rt;
-        read_each(
-            &mut heading,
-            alloc,
-            &[("exchange 1 1 0 1", Came::Read), ("link 0", Came::Read)]
-        )
-    );
     let most = Limits {
         max_events: 1,
         max_changes: 0,
     };
-    let longest = long_line(alloc, 265)?;
-    let long = long_line(alloc, 266)?;
-    assert!(rt;
-        result_of(heading.read_line(alloc, most, long.as_slice())) == Came::Refused(Reason::Length)
-    );
-    assert!(rt;
-        result_of(heading.read_line(alloc, most, longest.as_slice())) == Came::Frame(0, 265)
-    );
-    assert!(rt;
-        result_of(heading.read_line(alloc, most, longest.as_slice()))
-            == Came::Refused(Reason::Limit)
-    );
-    assert!(rt; heading.plain().event_count() == 1);
+    let rows = [("exchange 1 1 0 1", Came::Read), ("link 0", Came::Read)];
+    let is_begun = read_each(&mut heading, alloc, &rows);
+    let came = [
+        result_of(heading.read_line(alloc, most, long.as_slice())),
+        result_of(heading.read_line(alloc, most, longest.as_slice())),
+        result_of(heading.read_line(alloc, most, longest.as_slice())),
+    ];
+    let wanted = [
+        Came::Refused(Reason::Length),
+        Came::Frame(0, 265),
+        Came::Refused(Reason::Limit),
+    ];
+    Ok(is_begun && came == wanted && heading.plain().event_count() == 1)
+}
+
+#[test]
+fn a_received_frame_has_at_most_265_octets(rt: HostRuntime) -> Result<(), Fail> {
+    assert!(rt; longest_is_read(rt.alloc())?);
     Ok(())
 }
 
