@@ -7,12 +7,12 @@ use Rattle.std.specs.Option.{option_map}
 use Rattle.meters.specs.Changing.{handed_in, steps_text}
 use Rattle.linked_exchange.specs.declared.exchange.LinkedExchange.{LinkedExchange}
 use Rattle.linked_text.specs.LinkLines.{LinkSoFar}
-use Rattle.followed_events.specs.InTurn.{setting_in_turn, world_in_turn}
+use Rattle.linked_exchange.specs.InTurn.{setting_in_turn, world_in_turn}
 use Rattle.lone_exchange.specs.declared.exchange.LoneExchange.{LoneExchange}
 use Rattle.lone_exchange.specs.At.{Carrying}
 use Rattle.exchange_follow.specs.Following.{AreAnswered, FollowsTo, HasReturned, HaveMovedFew, IsAnswered, IsEngineOf, course, dues_of, follow_parties}
 use Rattle.exchange_follow.specs.Handling.{HasHandled, IsEngineAfter, engine_returned, exchange_of, handler_dues}
-use Rattle.followed_events.specs.Parties.{HandsOut}
+use Rattle.linked_exchange.specs.Parties.{HandsOut}
 use Rattle.exchange_follow.proofs.Handled.{few_handled}
 use Rattle.line_wire.specs.Following.{Dues, HasFollowed, IsSettled}
 use Rattle.line_wire.specs.declared.following.Following.{Following}

@@ -21,27 +21,27 @@ use Rattle.trace_text.specs.TraceLines.{SoFar, line_limits}
 use Rattle.trace_text.proofs.TraceHolds.{events_more, push, step}
 use Rattle.lone_exchange.specs.declared.exchange.LoneExchange.{LoneExchange}
 use Rattle.lone_exchange.specs.At.{Carrying, IsAt}
-use Rattle.followed_events.specs.Told.{MovesFewIn, MovesFewSaid, setting_said, world_said}
-use Rattle.followed_events.specs.InTurn.{MovesFewInTurn, events_by, events_in_turn, follows_in_turn, setting_in_turn, story_in_turn}
+use Rattle.linked_exchange.specs.Told.{MovesFewIn, MovesFewSaid, setting_said, world_said}
+use Rattle.linked_exchange.specs.InTurn.{MovesFewInTurn, events_by, events_in_turn, follows_in_turn, setting_in_turn, story_in_turn}
 use Rattle.exchange_follow.specs.Following.{HaveMovedFew, IsInterrupted, IsLineRefused, No_line, Read, Unread, course}
 use Rattle.exchange_follow.specs.Handling.{AreDriven, HasHandled, IsDriven, IsDrivenBy, IsLinkedDriven, IsSaid}
 use Rattle.run_verifier.specs.Refusals.{refusal}
-use Rattle.followed_events.specs.Telling.{AreToldFront}
-use Rattle.followed_events.proofs.FollowedSteps.{setting_by}
-use Rattle.followed_events.proofs.LinkedSteppingLemmas.{early_few}
-use Rattle.followed_events.proofs.LinkedRuns.{IsAtKnown, after_known, known_after}
-use Rattle.followed_events.proofs.PlacedLines.{IsKnown, IsPlaced}
-use Rattle.followed_events.proofs.SaidLines.{quiet_before, said_event, said_more, said_none}
-use Rattle.followed_events.proofs.TurnLines.{IsTurnFine, IsTurnLine, each_length, each_push, follows_as, follows_long, follows_many, turn_line}
-use Rattle.followed_events.proofs.TurnSteps.{IsTurnPlaced, due_in_turn, inputs_at, inputs_more, linked_more, no_events, no_inputs, plain_known, plain_more, turn_more}
+use Rattle.linked_exchange.specs.Telling.{AreToldFront}
+use Rattle.linked_exchange.proofs.FollowedSteps.{setting_by}
+use Rattle.linked_exchange.proofs.LinkedSteppingLemmas.{early_few}
+use Rattle.linked_exchange.proofs.LinkedRuns.{IsAtKnown, after_known, known_after}
+use Rattle.linked_exchange.proofs.PlacedLines.{IsKnown, IsPlaced}
+use Rattle.linked_exchange.proofs.SaidLines.{quiet_before, said_event, said_more, said_none}
+use Rattle.linked_exchange.proofs.TurnLines.{IsTurnFine, IsTurnLine, each_length, each_push, follows_as, follows_long, follows_many, turn_line}
+use Rattle.linked_exchange.proofs.TurnSteps.{IsTurnPlaced, due_in_turn, inputs_at, inputs_more, linked_more, no_events, no_inputs, plain_known, plain_more, turn_more}
 use Rattle.linked_exchange.specs.declared.exchange.LinkedExchange.{LinkedExchange}
 use Rattle.linked_exchange.specs.Steps.{LinkedInput}
-use Rattle.linked_lines.specs.LinkedStory.{inputs_in}
+use Rattle.linked_exchange.specs.LinkedStory.{inputs_in}
 use Rattle.linked_text.specs.declared.said.LinkHappening.{LinkHappening}
 use Rattle.linked_text.specs.declared.said.LinkSaid.TheVariants.{Linked, Received, Timed as Link_timed}
 use Rattle.linked_text.specs.LinkEffects.{IsInTurnRead, in_turn, linked_in, plain_told}
 use Rattle.linked_text.specs.LinkLines.{Content, LinkSoFar, On_link, Plain, plain_of, says_in_turn, with_content}
-use Rattle.followed_events.proofs.Tellings.{beyond_none, both_beyond}
+use Rattle.linked_exchange.proofs.Tellings.{beyond_none, both_beyond}
 
 -- ---- one more line at an exchange
 

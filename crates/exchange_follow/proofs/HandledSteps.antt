@@ -31,32 +31,32 @@ use Rattle.trace_text.proofs.SoundLemmas.{IsFine}
 use Rattle.trace_text.proofs.TraceHolds.{events_more}
 use Rattle.lone_exchange.specs.declared.exchange.LoneExchange.{LoneExchange}
 use Rattle.lone_exchange.specs.At.{Carrying, IsAt}
-use Rattle.followed_events.specs.Told.{MovesFewIn, setting_said, story_by, world_said}
-use Rattle.followed_events.specs.InTurn.{events_by, events_in_turn, joint_said, link_timers_said, linked_story, setting_in_turn, story_by_links, story_in_turn, world_in_turn}
+use Rattle.linked_exchange.specs.Told.{MovesFewIn, setting_said, story_by, world_said}
+use Rattle.linked_exchange.specs.InTurn.{events_by, events_in_turn, joint_said, link_timers_said, linked_story, setting_in_turn, story_by_links, story_in_turn, world_in_turn}
 use Rattle.exchange_follow.specs.Following.{IsEndRefused, IsInterrupted, IsLineRefused, course}
 use Rattle.exchange_follow.specs.Handling.{AreDriven, HasFinished, HasRead, IsDriven, IsDrivenBy, IsLinkedDriven, exchange_of}
-use Rattle.followed_events.specs.LinkedStepping.{HasLinkedHappened, IsLinkedDue, IsLinkedGiven, IsLinkedHeard, IsLinkedRunning, content_of, effect_in, steps_at}
-use Rattle.followed_events.specs.Stepping.{HasHappened, IsEventDue, IsHeard, IsRunning, calls_at}
+use Rattle.linked_exchange.specs.LinkedStepping.{HasLinkedHappened, IsLinkedDue, IsLinkedGiven, IsLinkedHeard, IsLinkedRunning, content_of, effect_in, steps_at}
+use Rattle.linked_exchange.specs.Stepping.{HasHappened, IsEventDue, IsHeard, IsRunning, calls_at}
 use Rattle.run_verifier.specs.Refusals.{refusal}
-use Rattle.followed_events.specs.Telling.{AreTold, AreToldFront}
-use Rattle.followed_events.proofs.FollowedSteps.{due_by, setting_by}
+use Rattle.linked_exchange.specs.Telling.{AreTold, AreToldFront}
+use Rattle.linked_exchange.proofs.FollowedSteps.{due_by, setting_by}
 use Rattle.exchange_follow.proofs.Handled.{Handled, driven_by, few_same, handled_more, interrupted_more, linked_driven, line_is, more, refused_long, refused_more, split_driven}
-use Rattle.followed_events.proofs.LinkedRuns.{events_linked}
-use Rattle.followed_events.proofs.TurnLines.{IsTurnFine, IsTurnLine, each_few, each_length}
-use Rattle.followed_events.proofs.TurnSteps.{IsTurnPlaced, due_by_links, due_in_turn, linked_due, plain_known, plain_more, with_plain}
+use Rattle.linked_exchange.proofs.LinkedRuns.{events_linked}
+use Rattle.linked_exchange.proofs.TurnLines.{IsTurnFine, IsTurnLine, each_few, each_length}
+use Rattle.linked_exchange.proofs.TurnSteps.{IsTurnPlaced, due_by_links, due_in_turn, linked_due, plain_known, plain_more, with_plain}
 use Rattle.linked_exchange.specs.declared.exchange.LinkedExchange.{LinkedExchange}
 use Rattle.linked_exchange.specs.Runs.{FitsLinked}
 use Rattle.linked_exchange.proofs.PlainLemmas.{trace_world}
-use Rattle.linked_lines.specs.declared.steps.LinkedEvent.{LinkedEvent}
-use Rattle.linked_lines.specs.declared.steps.LinkedEvent.TheVariants as event
-use Rattle.linked_lines.specs.LinkedLines.{input_of}
-use Rattle.linked_lines.specs.LinkedStory.{inputs_in}
+use Rattle.linked_exchange.specs.declared.steps.LinkedEvent.{LinkedEvent}
+use Rattle.linked_exchange.specs.declared.steps.LinkedEvent.TheVariants as event
+use Rattle.linked_exchange.specs.LinkedLines.{input_of}
+use Rattle.linked_exchange.specs.LinkedStory.{inputs_in}
 use Rattle.linked_text.specs.declared.said.LinkHappening.{LinkHappening}
 use Rattle.linked_text.specs.declared.said.LinkHappening.TheVariants as effect
 use Rattle.linked_text.specs.declared.said.LinkSaid.TheVariants.{Linked, Received, Timed as Link_timed}
 use Rattle.linked_text.specs.LinkEffects.{IsInTurnRead, in_turn, link_row, linked_in, plain_told}
 use Rattle.linked_text.specs.LinkLines.{Content, LinkSoFar, On_link, Plain, effect_of, plain_of, says_in_turn, with_content}
-use Rattle.followed_events.proofs.PlacedLines.{IsKnown}
+use Rattle.linked_exchange.proofs.PlacedLines.{IsKnown}
 
 pub length-events_in-le : (told : List Said) → length (events_in told) ≤ length told
 length-events_in-le [] = omega arith

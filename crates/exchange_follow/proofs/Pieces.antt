@@ -9,9 +9,9 @@ use Rattle.trace_text.specs.TraceGrammar.{sizes_in}
 use Rattle.trace_text.specs.TraceWords.{lines}
 use Rattle.linked_text.specs.LinkEffects.{plain_told}
 use Rattle.linked_text.specs.LinkLines.{Content}
-use Rattle.followed_events.specs.InTurn.{EachInTurn, follows_in_turn, story_in_turn}
-use Rattle.followed_events.proofs.PlainInTurn.{one_in_turn}
-use Rattle.followed_events.proofs.TurnLines.{follows_long}
+use Rattle.linked_exchange.specs.InTurn.{EachInTurn, follows_in_turn, story_in_turn}
+use Rattle.linked_exchange.proofs.PlainInTurn.{one_in_turn}
+use Rattle.linked_exchange.proofs.TurnLines.{follows_long}
 use Rattle.run_verifier.specs.Refusals.{refusal}
 use Rattle.line_wire.specs.Following.{AreFirst, At_end, At_line, HasFollowed, IsRefused}
 use Rattle.line_wire.specs.declared.following.Following.{Following}

@@ -14,12 +14,12 @@ use Rattle.line_wire.specs.Following.{Dues, HasFollowed, IsSettled}
 use Rattle.line_wire.specs.declared.following.Following.{Following}
 use Rattle.line_wire.specs.declared.following.Following.TheVariants as followed
 use Rattle.call_processor.specs.Frames.{Carrying}
-use Rattle.followed_events.specs.Parties.{HandsOut, MeterStory, meter_story}
+use Rattle.linked_exchange.specs.Parties.{HandsOut, MeterStory, meter_story}
 use Rattle.run_verifier.specs.Refusals.{refusal}
 use Rattle.linked_text.specs.LinkEffects.{plain_told}
 use Rattle.linked_text.specs.LinkLines.{Content}
-use Rattle.followed_events.specs.InTurn.{EachInTurn, MovesFewInTurn, follows_in_turn, setting_in_turn, story_in_turn, world_in_turn}
-pub use Rattle.followed_events.specs.Told.{max_line, max_lines, follows, EachFollows, setting_said, world_said, MovesFewIn, MovesFewSaid, steps_said, story_by, story_said}
+use Rattle.linked_exchange.specs.InTurn.{EachInTurn, MovesFewInTurn, follows_in_turn, setting_in_turn, story_in_turn, world_in_turn}
+pub use Rattle.linked_exchange.specs.Told.{max_line, max_lines, follows, EachFollows, setting_said, world_said, MovesFewIn, MovesFewSaid, steps_said, story_by, story_said}
 
 -- ---- the facts about lines that were followed
 

@@ -17,9 +17,9 @@ use Rattle.linked_text.specs.declared.said.LinkHappening.TheVariants as effect
 use Rattle.trace_text.specs.declared.heading.Happening.TheVariants as happening
 use Rattle.linked_text.specs.LinkEffects.{IsInTurnRead, in_turn, linked_in, plain_told}
 use Rattle.linked_text.specs.LinkLines.{Content, LinkSoFar}
-use Rattle.followed_events.specs.InTurn.{EachInTurn, setting_in_turn, story_in_turn, world_in_turn}
+use Rattle.linked_exchange.specs.InTurn.{EachInTurn, setting_in_turn, story_in_turn, world_in_turn}
 use Rattle.exchange_follow.specs.Following.{Course, IsEndRefused, IsInterrupted, IsLineRefused, IsWhole, course}
-pub use Rattle.followed_events.specs.States.{IsSaid, IsAfter, IsDriven, IsLinkedAfter, IsLinkedDriven}
+pub use Rattle.linked_exchange.specs.States.{IsSaid, IsAfter, IsDriven, IsLinkedAfter, IsLinkedDriven}
 
 -- without links, only an exchange without them processes the events, and with links, only an exchange with them
 abbrev pub IsDrivenBy : {P E : Type 0} → Carrying E → (E → ℕ) → (E → Dimensions) → ℕ → (ℕ → ℕ) → List ℕ → List Content → Option (LoneExchange P E) → Option (LinkedExchange P E) → Type 0

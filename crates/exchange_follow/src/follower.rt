@@ -7,11 +7,9 @@ use crate::changing::change_once;
 use crate::linked_stepping::advance_linked;
 use crate::stepping::advance;
 use control_memory::PathMap;
-use followed_events::{Fabric, ready, ready_linked};
 use frame_engine::Carrier;
 use line_wire::Stop;
-use linked_exchange::LinkedExchange;
-use linked_lines::LinkedEvent;
+use linked_exchange::{Fabric, LinkedEvent, LinkedExchange, ready, ready_linked};
 use linked_text::{LinkHappening, LinkHeading};
 use lone_exchange::LoneExchange;
 use meters::Meter;
@@ -51,7 +49,7 @@ pub struct TraceFollower<'a, P: PathMap + Drop, C: Carrier, R> {
 impl<'a, P: Fabric, C: Carrier, R: Threads + Sync> TraceFollower<'a, P, C, R> {
     ghost use Rattle.exchange_follow.specs.Followers.{FinishesLines, HandlesLine, IsAtLine, IsFollowing, RefusesEnd, RefusesLine, StrandsAt, StrandsEnd, StrandsIn, TakesLine};
     ghost use Rattle.exchange_follow.specs.Handling.{OnlyCounts};
-    ghost use Rattle.followed_events.specs.LinkedStepping.{effect_in};
+    ghost use Rattle.linked_exchange.specs.LinkedStepping.{effect_in};
 
     // Processes the effect of a line.
     fn take(&mut self, happening: LinkHappening, out: &mut Vec<u8>) -> Result<(), AllocError>

@@ -1,15 +1,15 @@
 //! One event of a trace with data links that is followed.
 ghost use Rattle.std.specs.Prelude.{◌≡◌, OnOk, OnErr, Some, length, take};
-ghost use Rattle.followed_events.specs.Statements.{EachLinkedDue, EachLinkedReady, IsLinkedDueSome, IsLinkedReadySome, LinkedHappensBy};
-ghost use Rattle.followed_events.specs.LinkedStepping.{calls_in, steps_at};
-ghost use Rattle.followed_events.specs.Telling.{AreToldFront};
+ghost use Rattle.linked_exchange.specs.Statements.{EachLinkedDue, EachLinkedReady, IsLinkedDueSome, IsLinkedReadySome, LinkedHappensBy};
+ghost use Rattle.linked_exchange.specs.LinkedStepping.{calls_in, steps_at};
+ghost use Rattle.linked_exchange.specs.Telling.{AreToldFront};
 
 use crate::telling::tell;
 use exchange_events::Response;
-use followed_events::{Fabric, ready_linked};
 use frame_engine::Carrier;
-use linked_exchange::{LinkedExchange, Settings};
-use linked_lines::{LinkedEvent, put_step, put_turn_step};
+use linked_exchange::{
+    Fabric, LinkedEvent, LinkedExchange, Settings, put_step, put_turn_step, ready_linked,
+};
 use linked_text::LinkHeading;
 use meters::Meter;
 use std::alloc::{AllocError, Global};

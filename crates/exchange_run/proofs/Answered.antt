@@ -33,7 +33,7 @@ use Rattle.exchange_run.specs.Running.{GrewFew, fabric_at, grown_calls}
 use Rattle.exchange_run.specs.Telling.{calls_answered}
 use Rattle.call_profile.specs.CallsTold.{calls_ended, calls_kept}
 use Rattle.report_text.proofs.KeptLines.{same_line}
-use Rattle.followed_events.proofs.Runs.{run-append}
+use Rattle.linked_exchange.proofs.Runs.{run-append}
 use Rattle.exchange_run.proofs.Reports.{sent_played}
 
 -- ---- an order that goes on

@@ -19,12 +19,12 @@ use Rattle.line_list.specs.declared.listing.Listing.TheVariants as listing
 use Rattle.run_verifier.specs.declared.ending.Ending.{Ending}
 use Rattle.run_verifier.specs.declared.ending.Ending.TheVariants as ended
 use Rattle.exchange_run.specs.Outcomes.{Fabric, IsIdle, IsRunWhole, IsRunWritten, Parties, Runs, SumsUp, parties}
-use Rattle.followed_events.specs.Parties.{HandsOut, MeterStory, meter_story}
+use Rattle.linked_exchange.specs.Parties.{HandsOut, MeterStory, meter_story}
 use Rattle.run_verifier.specs.Checking.{Checks, Said, Not_read, No_memory, Finds, IsChecked, IsUnchecked, Too_much, No_trace, max_checked}
 use Rattle.ex_io.specs.Inputs.{IsInputWithin}
 use Rattle.run_verifier.specs.Statuses.{status_of}
 use Rattle.ex_io.specs.Streams.{AppendsFront, ConsumesAtMost, IsUntouched, IsWritten, Stream}
-use Rattle.followed_events.specs.Story.{story}
+use Rattle.linked_exchange.specs.Story.{story}
 use Rattle.exchange_run.specs.Summary.{summary_text}
 use Rattle.run_verifier.specs.Refusals.{Says, Told_so, Untold, line_of}
 use Rattle.exchange_run.specs.Commands.{max_read, max_read_by, IsCheck, IsCheckOn, IsReading, IsRun, IsGeneration, IsNoCommand, fabric_of}

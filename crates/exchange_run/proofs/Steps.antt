@@ -25,12 +25,12 @@ use Rattle.meters.proofs.Placed.{NoneBetween, records-at, records-with, with-seg
 use Rattle.exchange_run.specs.Changes.{AreChangesDone}
 use Rattle.exchange_run.specs.Outcomes.{IsRunInterrupted, IsRunUnwritten}
 use Rattle.exchange_run.specs.Running.{GrewFew, GrowthIsTold, IsAdded, grown_calls, grown_lines}
-use Rattle.followed_events.specs.Story.{story}
+use Rattle.linked_exchange.specs.Story.{story}
 use Rattle.ex_io.specs.Streams.{AppendsFront}
-use Rattle.followed_events.specs.Parties.{AreLeft, AreMeteredBeyond, meter_story}
-use Rattle.followed_events.specs.Telling.{AreTold, AreToldFront}
+use Rattle.linked_exchange.specs.Parties.{AreLeft, AreMeteredBeyond, meter_story}
+use Rattle.linked_exchange.specs.Telling.{AreTold, AreToldFront}
 use Rattle.exchange_run.proofs.Stories.{grown_are_events, grown_length, grown_records, grown_steps, lines_of-grown_steps_text, lines-append, lines-at, story_grown, story_records}
-use Rattle.followed_events.proofs.Tellings.{beyond_none, both_beyond, none_beyond}
+use Rattle.linked_exchange.proofs.Tellings.{beyond_none, both_beyond, none_beyond}
 use Rattle.exchange_run.proofs.Underway.{IsUnderway, begun_flush, IsRunInterrupted_none, begun_segment, party, underway_first, underway_more}
 
 -- the place of a segment's beginning: how many events come before it

@@ -27,9 +27,9 @@ use Rattle.meters.specs.Changing.{Step, Event_done, Meters_changed, Metering, Ar
 use Rattle.meters.proofs.Changes.{law_of_lines, law_of_times, records-append}
 use Rattle.meters.proofs.Placed.{records-at, records-with, with-append, with-none}
 use Rattle.exchange_run.specs.Running.{grown_calls, grown_lines}
-use Rattle.followed_events.specs.Story.{event_steps, story}
-use Rattle.followed_events.specs.Parties.{AreLeft}
-use Rattle.followed_events.specs.Telling.{AreTold}
+use Rattle.linked_exchange.specs.Story.{event_steps, story}
+use Rattle.linked_exchange.specs.Parties.{AreLeft}
+use Rattle.linked_exchange.specs.Telling.{AreTold}
 use Rattle.exchange_run.proofs.Answered.{events_append, events_long}
 
 module _ (played : Played) (l : Listing) (s : Setting) where

@@ -21,8 +21,8 @@ use Rattle.line_list.specs.declared.listing.Listing.{Listing}
 use Rattle.run_verifier.specs.declared.ending.Ending.TheVariants as ended
 use Rattle.exchange_run.specs.Outcomes.{AreOfSegments, No_segments, Some_segments, IsFlushed, IsRunInterrupted, IsRunUnwritten, IsRunWritten, MovesFew, Parties}
 use Rattle.meters.specs.Changing.{Step, changes_at, lines_of, records_of}
-use Rattle.followed_events.specs.Story.{story}
-use Rattle.followed_events.specs.Parties.{MeterStory}
+use Rattle.linked_exchange.specs.Story.{story}
+use Rattle.linked_exchange.specs.Parties.{MeterStory}
 use Rattle.call_profile.specs.CallsTold.{calls_told}
 use Rattle.exchange_run.specs.declared.run.RunError.{RunError}
 use Rattle.exchange_run.specs.declared.run.RunError.TheVariants.{Memory, Write}

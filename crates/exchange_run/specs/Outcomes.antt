@@ -30,10 +30,10 @@ use Rattle.exchange_run.specs.declared.call.Outcome.{Outcome}
 use Rattle.run_verifier.specs.declared.ending.Ending.{Ending}
 use Rattle.run_verifier.specs.declared.ending.Ending.TheVariants as ended
 use Rattle.exchange_run.specs.declared.call_context.Metering.{Metering}
-use Rattle.followed_events.specs.Story.{story}
+use Rattle.linked_exchange.specs.Story.{story}
 use Rattle.ex_io.specs.Streams.{HasFailed, IsWritten, IsWrittenInPart, Stream, stream}
-use Rattle.followed_events.specs.Parties.{AreLeft, HandsOut, MeterStory}
-use Rattle.followed_events.specs.Telling.{AreTold}
+use Rattle.linked_exchange.specs.Parties.{AreLeft, HandsOut, MeterStory}
+use Rattle.linked_exchange.specs.Telling.{AreTold}
 use Rattle.exchange_run.specs.Telling.{metered, metered_together}
 use Rattle.call_profile.specs.CallsTold.{calls_told}
 

@@ -28,7 +28,7 @@ use Rattle.exchange_run.specs.Commands.{fabric_of}
 use Rattle.exchange_run.specs.Outcomes.{Fabric, Part, Runs, output, parties}
 use Rattle.exchange_events.specs.declared.record.CallRecord.{CallRecord}
 use Rattle.report_text.specs.RunReport.{event_lines}
-use Rattle.followed_events.specs.Telling.{Telling}
+use Rattle.linked_exchange.specs.Telling.{Telling}
 use Rattle.exchange_run.specs.Telling.{metered_together}
 use Rattle.call_profile.specs.CallsTold.{calls_ended}
 

@@ -9,7 +9,7 @@ use Rattle.exchange_events.specs.declared.answer.Answer.{Answer}
 use Rattle.exchange_events.specs.declared.record.CallRecord.{CallRecord}
 use Rattle.call_profile.specs.CallsTold.{calls_kept}
 use Rattle.exchange_run.specs.declared.call_context.Metering.{Metering as Meters}
-use Rattle.followed_events.specs.Parties.{MeterStory, meter_story}
+use Rattle.linked_exchange.specs.Parties.{MeterStory, meter_story}
 
 -- the calls of these answers, in order
 abbrev pub calls_answered : List Answer → List CallRecord

@@ -9,7 +9,7 @@ ghost use Rattle.line_list.specs.Lines.{listed};
 ghost use Rattle.meters.specs.Changing.{handed_in, steps_text};
 ghost use Rattle.exchange_run.specs.Commands.{fabric_of};
 ghost use Rattle.exchange_run.specs.Outcomes.{MovesFew, MovesNone, NotesAll};
-ghost use Rattle.followed_events.specs.Story.{story};
+ghost use Rattle.linked_exchange.specs.Story.{story};
 
 use meters::Meter;
 

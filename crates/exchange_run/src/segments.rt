@@ -13,7 +13,7 @@ ghost use Rattle.run_verifier.specs.declared.ending.Ending.TheVariants.{WriteFai
 ghost use Rattle.exchange_run.specs.Outcomes.{IsFlushed};
 ghost use Rattle.exchange_run.specs.Running.{AreOfAnswers, GrowthIsTold, HasMachine, IsAdded, RunsOn, ending_of, run_part};
 ghost use Rattle.ex_io.specs.Streams.{AppendsFront};
-ghost use Rattle.followed_events.specs.Telling.{AreTold, AreToldFront};
+ghost use Rattle.linked_exchange.specs.Telling.{AreTold, AreToldFront};
 
 use crate::call_context::{Metering, PendingText};
 use crate::changing::change_at;

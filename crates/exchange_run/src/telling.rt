@@ -1,7 +1,7 @@
 //! The meters record the calls that ended.
 ghost use Rattle.std.specs.Prelude.{[], ◌∷◌, OnOk, OnErr};
 ghost use Rattle.meters.specs.Telling.{IsTold};
-ghost use Rattle.followed_events.specs.Telling.{AreTold, AreToldFront};
+ghost use Rattle.linked_exchange.specs.Telling.{AreTold, AreToldFront};
 
 use exchange_events::CallRecord;
 use meters::Meter;

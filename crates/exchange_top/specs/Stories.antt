@@ -8,7 +8,7 @@ use Rattle.trace_text.specs.declared.said.Said.{Said}
 use Rattle.trace_text.specs.TraceGrammar.{IsTrace}
 use Rattle.trace_text.specs.TraceWords.{lines}
 use Rattle.run_verifier.specs.Verdicts.{IsValid}
-use Rattle.followed_events.specs.Told.{EachFollows, story_said}
+use Rattle.linked_exchange.specs.Told.{EachFollows, story_said}
 
 -- If the bytes that are followed are a trace that changes no meters, the text of their story is a valid report of the
 -- trace, on every fabric and for all meters of this type.

@@ -7,9 +7,9 @@ ghost use Rattle.line_list.specs.declared.listing.Listing.TheVariants.{Report};
 ghost use Rattle.trace_text.specs.declared.said.Said.{Said};
 ghost use Rattle.trace_text.specs.TraceGrammar.{IsTrace};
 ghost use Rattle.trace_text.specs.TraceWords.{lines};
-ghost use Rattle.followed_events.specs.Told.{EachFollows, story_said};
+ghost use Rattle.linked_exchange.specs.Told.{EachFollows, story_said};
 ghost use Rattle.exchange_top.specs.Stories.{HasValidStories};
-ghost use Rattle.followed_events.specs.Story.{story};
+ghost use Rattle.linked_exchange.specs.Story.{story};
 
 use meters::Meter;
 

@@ -38,6 +38,6 @@ mod laws;
 
 pub use exchange_follow::{FollowOutcome, follow, law_of_pieces};
 pub use exchange_run::{Outcome, exchange, law_of_unchanged_meters, strict_runs_move_nothing};
-pub use followed_events::{plain_lines_are_followed, traces_are_followed};
 pub use laws::followed_traces_are_runs;
+pub use linked_exchange::{plain_lines_are_followed, traces_are_followed};
 pub use run_verifier::{Ending, law_of_divisions};

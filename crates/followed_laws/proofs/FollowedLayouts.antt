@@ -21,14 +21,14 @@ use Rattle.linked_exchange.specs.Runs.{FitsLinked}
 use Rattle.linked_exchange.specs.Steps.{Receives, Turns}
 use Rattle.linked_exchange.specs.Steps as linked
 use Rattle.linked_exchange.proofs.PlainLemmas.{trace_fits}
-use Rattle.linked_lines.specs.LinkedStory.{inputs_in, inputs_of}
+use Rattle.linked_exchange.specs.LinkedStory.{inputs_in, inputs_of}
 use Rattle.linked_text.specs.declared.said.LinkSaid.TheVariants.{Linked, Received, Timed as Link_timed}
 use Rattle.linked_text.specs.LinkEffects.{in_turn, link_row, linked_in, linked_said, plain_told}
 use Rattle.linked_text.specs.LinkLines.{Content, On_link, Plain, plain_of}
 use Rattle.followed_laws.specs.Followed.{AreFollowed}
-use Rattle.followed_events.specs.InTurn.{EachInTurn, events_by, events_in_turn, link_timers_said, setting_in_turn, world_in_turn}
-use Rattle.followed_events.proofs.TurnLines.{IsTurnFine, IsTurnLine, follows_turn, turn_line}
-use Rattle.followed_events.proofs.TurnSteps.{IsTurnPlaced, inputs_at, inputs_more, linked_more, plain_more}
+use Rattle.linked_exchange.specs.InTurn.{EachInTurn, events_by, events_in_turn, link_timers_said, setting_in_turn, world_in_turn}
+use Rattle.linked_exchange.proofs.TurnLines.{IsTurnFine, IsTurnLine, follows_turn, turn_line}
+use Rattle.linked_exchange.proofs.TurnSteps.{IsTurnPlaced, inputs_at, inputs_more, linked_more, plain_more}
 
 -- ---- the plan, the events and the inputs of some lines
 

@@ -4,7 +4,7 @@ use Rattle.trace_text.specs.declared.said.Sizes.{Sizes}
 use Rattle.trace_text.specs.TraceGrammar.{sizes_in}
 use Rattle.linked_text.specs.LinkEffects.{plain_told}
 use Rattle.linked_text.specs.LinkLines.{Content}
-use Rattle.followed_events.specs.InTurn.{EachInTurn}
+use Rattle.linked_exchange.specs.InTurn.{EachInTurn}
 
 -- these lines have these contents and this header, over a fabric of 30 to 59 internal slots
 pub record AreFollowed (slots : ℕ) (rows : List (List ℕ)) (told : List Content) (sizes : Sizes) : Type 0 where

@@ -3,7 +3,7 @@ ghost use Rattle.std.specs.Prelude.{ℕ, List};
 ghost use Rattle.exchange_core.specs.LaidOut.{IsLegalIn, JoinsCircuitsIn};
 ghost use Rattle.trace_text.specs.declared.said.Sizes.{Sizes};
 ghost use Rattle.linked_text.specs.LinkLines.{Content};
-ghost use Rattle.followed_events.specs.InTurn.{setting_in_turn, world_in_turn};
+ghost use Rattle.linked_exchange.specs.InTurn.{setting_in_turn, world_in_turn};
 ghost use Rattle.followed_laws.specs.Followed.{AreFollowed};
 
 /// After any lines that are followed, with or without data links and however many, the layout of the paths is legal on

@@ -2,3 +2,17 @@ pub mod LinkLemmas
 pub mod PlainLemmas
 pub mod QuietLemmas
 pub mod AtLemmas
+pub mod Runs
+pub mod LinkedRuns
+pub mod FollowedLines
+pub mod PlacedLines
+pub mod FollowedSteps
+pub mod SaidLines
+pub mod TurnSteps
+pub mod TurnLines
+pub mod SteppingLemmas
+pub mod LinkedEvents
+pub mod LinkedSteppingLemmas
+pub mod FollowedStories
+pub mod PlainInTurn
+pub mod Tellings

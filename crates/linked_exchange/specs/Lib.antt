@@ -1,3 +1,15 @@
 pub mod Steps
 pub mod Runs
 pub mod At
+pub mod LinkedLines
+pub mod LinkedStory
+pub mod FollowedTraces
+pub mod Telling
+pub mod Story
+pub mod Told
+pub mod InTurn
+pub mod States
+pub mod Stepping
+pub mod LinkedStepping
+pub mod Statements
+pub mod Parties

@@ -19,8 +19,8 @@ use Rattle.trace_text.specs.declared.said.Said.{Said}
 use Rattle.trace_text.specs.declared.said.Said.TheVariants.{Nothing, Header, Numbered, Toned, Timed, Happens, Sync, Change}
 use Rattle.trace_text.specs.declared.said.Sizes.{Sizes}
 use Rattle.trace_text.specs.TraceGrammar.{changes_after, events_in, sizes_in}
-use Rattle.followed_events.specs.Story.{event_steps, story}
-use Rattle.followed_events.specs.Told.{setting_said, steps_said, story_by, story_said}
+use Rattle.linked_exchange.specs.Story.{event_steps, story}
+use Rattle.linked_exchange.specs.Told.{setting_said, steps_said, story_by, story_said}
 use Rattle.privacy_text.specs.Stories.{lines_said}
 use Rattle.privacy_text.proofs.PrintedLemmas.{all_lines}
 

@@ -7,8 +7,8 @@ use Rattle.trace_text.specs.declared.said.Sizes.{Sizes}
 use Rattle.trace_text.specs.TraceGrammar.{changes_in, events_in, sizes_in}
 use Rattle.linked_text.specs.LinkEffects.{plain_told}
 use Rattle.linked_text.specs.LinkLines.{Content}
-use Rattle.followed_events.specs.InTurn.{ArePlain}
-use Rattle.followed_events.specs.Told.{setting_said}
+use Rattle.linked_exchange.specs.InTurn.{ArePlain}
+use Rattle.linked_exchange.specs.Told.{setting_said}
 use Rattle.privacy_text.specs.Printed.{items_text, lines_with}
 
 -- the report lines of the events of these lines, in file order

@@ -9,8 +9,8 @@ ghost use Rattle.meters.specs.Changing as changing;
 ghost use Rattle.trace_text.specs.declared.said.Sizes.{Sizes};
 ghost use Rattle.linked_text.specs.LinkEffects.{plain_told};
 ghost use Rattle.linked_text.specs.LinkLines.{Content};
-ghost use Rattle.followed_events.specs.InTurn.{story_in_turn};
-ghost use Rattle.followed_events.specs.Story.{story};
+ghost use Rattle.linked_exchange.specs.InTurn.{story_in_turn};
+ghost use Rattle.linked_exchange.specs.Story.{story};
 ghost use Rattle.privacy_text.specs.Stories.{IsPlainTrace, lines_said};
 
 use meters::Meter;

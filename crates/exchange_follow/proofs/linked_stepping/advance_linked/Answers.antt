@@ -1,6 +1,6 @@
-use Rattle.followed_events.proofs.LinkedSteppingLemmas.{linked_ready, no_linked}
-use Rattle.followed_events.proofs.SteppingLemmas.{on_err}
-use Rattle.followed_events.proofs.Tellings.{none_front}
+use Rattle.linked_exchange.proofs.LinkedSteppingLemmas.{linked_ready, no_linked}
+use Rattle.linked_exchange.proofs.SteppingLemmas.{on_err}
+use Rattle.linked_exchange.proofs.Tellings.{none_front}
 use Rattle.exchange_follow.proofs.linked_stepping.advance_linked.Goals as goal
 
 pub returns-in_err-ready_linked-clause-front : goal.returns-in_err-ready_linked-clause-front

@@ -3,12 +3,12 @@ use Rattle.exchange_events.specs.declared.outbox.Response.TheVariants as respons
 use Rattle.exchange_events.specs.Responses.{reply_of}
 use Rattle.call_profile.specs.Step.{MovesAtMost}
 use Rattle.linked_exchange.specs.Steps.{Turns, derived, next_joint, reply_to}
-use Rattle.linked_lines.specs.LinkedLines.{input_of, text_of}
-use Rattle.followed_events.specs.InTurn.{joint_said, setting_in_turn}
-use Rattle.followed_events.proofs.LinkedEvents.{frame_input, other_input}
-use Rattle.followed_events.proofs.LinkedSteppingLemmas.{at_ready, front_both, front_first, front_whole, happened_frame, happened_other, has_settings, linked_room, played_frame, settings_are, settings_of, step_records, told_all, told_first, turn_room}
-use Rattle.followed_events.proofs.SteppingLemmas.{on_err, on_err_then, on_ok_then}
-use Rattle.followed_events.proofs.Tellings.{none_front}
+use Rattle.linked_exchange.specs.LinkedLines.{input_of, text_of}
+use Rattle.linked_exchange.specs.InTurn.{joint_said, setting_in_turn}
+use Rattle.linked_exchange.proofs.LinkedEvents.{frame_input, other_input}
+use Rattle.linked_exchange.proofs.LinkedSteppingLemmas.{at_ready, front_both, front_first, front_whole, happened_frame, happened_other, has_settings, linked_room, played_frame, settings_are, settings_of, step_records, told_all, told_first, turn_room}
+use Rattle.linked_exchange.proofs.SteppingLemmas.{on_err, on_err_then, on_ok_then}
+use Rattle.linked_exchange.proofs.Tellings.{none_front}
 use Rattle.exchange_follow.proofs.linked_stepping.process_linked.Goals as goal
 
 pub put_step-requires-clause-room : goal.put_step-requires-clause-room

@@ -1,7 +1,7 @@
 use Rattle.std.proofs.Common.{◌∙◌}
 use Rattle.exchange_follow.specs.Following.{setting_said, world_said}
-use Rattle.followed_events.proofs.SteppingLemmas.{at_driver, driver_bound, event_fits, few_more, frames_few, given_here, happened_ok, no_driver, on_err}
-use Rattle.followed_events.proofs.Tellings.{none_front}
+use Rattle.linked_exchange.proofs.SteppingLemmas.{at_driver, driver_bound, event_fits, few_more, frames_few, given_here, happened_ok, no_driver, on_err}
+use Rattle.linked_exchange.proofs.Tellings.{none_front}
 use Rattle.exchange_follow.proofs.stepping.advance.Goals as goal
 
 pub returns-in_err-ready-clause-front : goal.returns-in_err-ready-clause-front

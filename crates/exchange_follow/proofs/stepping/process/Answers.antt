@@ -4,8 +4,8 @@ use Rattle.exchange_events.specs.Kept.{kept_of}
 use Rattle.call_profile.specs.CallsTold.{calls_kept}
 use Rattle.call_profile.specs.Step.{MovesAtMost}
 use Rattle.lone_exchange.specs.At.{IsGiven}
-use Rattle.followed_events.specs.Telling.{AreTold, AreToldFront}
-use Rattle.followed_events.proofs.SteppingLemmas.{on_err, on_ok, told_front}
+use Rattle.linked_exchange.specs.Telling.{AreTold, AreToldFront}
+use Rattle.linked_exchange.proofs.SteppingLemmas.{on_err, on_ok, told_front}
 use Rattle.exchange_follow.proofs.stepping.process.Goals as goal
 
 pub returns-in_err-tell-clause-told_front : goal.returns-in_err-tell-clause-told_front

@@ -2,7 +2,7 @@ use Rattle.std.proofs.Common.{refl, ap, ◌∙◌, Err, Some, inl, inr}
 use Rattle.run_verifier.specs.declared.ending.Ending.TheVariants as ended
 use Rattle.exchange_run.proofs.Endings.{ends_at_once, ends_check, ends_line, ConsumesAtMost_none, stops_by}
 use Rattle.exchange_run.proofs.Sums.{keeps}
-use Rattle.followed_events.proofs.Tellings.{none_left}
+use Rattle.linked_exchange.proofs.Tellings.{none_left}
 use Rattle.exchange_run.proofs.call.answer_words.Goals as goal
 
 pub returns-in-Ok-Run-clause-ends : goal.returns-in-Ok-Run-clause-ends

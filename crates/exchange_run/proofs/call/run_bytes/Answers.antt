@@ -3,7 +3,7 @@ use Rattle.run_verifier.specs.declared.ending.Ending.TheVariants as ended
 use Rattle.exchange_run.specs.Endings.{For_run}
 use Rattle.exchange_run.proofs.Endings.{ends_at_once, ends_line, ends_run}
 use Rattle.exchange_run.proofs.Sums.{keeps}
-use Rattle.followed_events.proofs.Tellings.{none_left}
+use Rattle.linked_exchange.proofs.Tellings.{none_left}
 use Rattle.trace_text.proofs.SoundLemmas.{sound_trace}
 use Rattle.exchange_run.proofs.call.run_bytes.Goals as goal
 

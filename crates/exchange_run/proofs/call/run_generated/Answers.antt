@@ -9,7 +9,7 @@ use Rattle.meters.specs.Changing.{handed_in}
 use Rattle.exchange_run.proofs.Endings.{ends_at_once, ends_generated, ends_summed}
 use Rattle.exchange_run.proofs.Stories.{unchanged_text}
 use Rattle.exchange_run.proofs.Sums.{keeps}
-use Rattle.followed_events.proofs.Tellings.{none_left}
+use Rattle.linked_exchange.proofs.Tellings.{none_left}
 use Rattle.trace_text.proofs.SoundLemmas.{sound_trace}
 use Rattle.exchange_run.proofs.call.run_generated.Goals as goal
 

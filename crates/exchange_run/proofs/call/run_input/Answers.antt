@@ -2,7 +2,7 @@ use Rattle.std.proofs.Common.{ap, Err, inl}
 use Rattle.run_verifier.specs.declared.ending.Ending.TheVariants as ended
 use Rattle.exchange_run.proofs.Endings.{ends_at_once, ends_so}
 use Rattle.exchange_run.proofs.Sums.{keeps}
-use Rattle.followed_events.proofs.Tellings.{none_left}
+use Rattle.linked_exchange.proofs.Tellings.{none_left}
 use Rattle.exchange_run.proofs.call.run_input.Goals as goal
 
 pub returns-in-Ok-clause-ends : goal.returns-in-Ok-clause-ends

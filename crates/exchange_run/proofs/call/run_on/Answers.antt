@@ -1,7 +1,7 @@
 use Rattle.std.proofs.Common.{refl}
 use Rattle.run_verifier.specs.declared.ending.Ending.TheVariants as ended
 use Rattle.exchange_run.proofs.Endings.{runs_so}
-use Rattle.followed_events.proofs.Tellings.{none_beyond}
+use Rattle.linked_exchange.proofs.Tellings.{none_beyond}
 use Rattle.exchange_run.proofs.Underway.{IsRunInterrupted_none}
 use Rattle.exchange_run.proofs.call.run_on.Goals as goal
 

@@ -5,7 +5,7 @@ use Rattle.run_verifier.specs.declared.ending.Ending.TheVariants as ended
 use Rattle.exchange_run.specs.Commands.{fabric_of}
 use Rattle.exchange_run.specs.Outcomes.{Fabric}
 use Rattle.exchange_run.proofs.Endings.{runs_on, runs_so}
-use Rattle.followed_events.proofs.Tellings.{none_beyond}
+use Rattle.linked_exchange.proofs.Tellings.{none_beyond}
 use Rattle.exchange_run.proofs.Underway.{IsRunInterrupted_none}
 use Rattle.exchange_run.proofs.call.run_trace.Goals as goal
 

@@ -5,10 +5,10 @@ use Rattle.run_verifier.specs.declared.ending.Ending.TheVariants as ended
 use Rattle.exchange_run.specs.Outcomes.{Runs, parties}
 use Rattle.exchange_run.specs.Running.{ending_of, engine_of, fabric_at}
 use Rattle.ex_io.specs.Streams.{stream}
-use Rattle.followed_events.specs.Parties.{meter_story}
+use Rattle.linked_exchange.specs.Parties.{meter_story}
 use Rattle.exchange_run.proofs.Endings.{runs_so}
 use Rattle.exchange_run.proofs.Sums.{fits_order, moved}
-use Rattle.followed_events.proofs.Tellings.{none_beyond}
+use Rattle.linked_exchange.proofs.Tellings.{none_beyond}
 use Rattle.exchange_run.proofs.Underway.{IsRunInterrupted_none, ending_memory, no_engine_of}
 use Rattle.exchange_run.proofs.run.run.Goals as goal
 

@@ -2,11 +2,11 @@ use Rattle.std.proofs.Common.{length, ap, sym, ◌∙◌, arith, subst}
 use Rattle.call_processor.specs.Frames.{IsReady}
 use Rattle.segment_run.proofs.LoadLemmas.{length-events_of_segment-le}
 use Rattle.segment_run.proofs.OrderLemmas.{numbers_left, seen_done}
-use Rattle.followed_events.specs.Telling.{AreTold, AreToldFront}
+use Rattle.linked_exchange.specs.Telling.{AreTold, AreToldFront}
 use Rattle.exchange_run.proofs.Kept.{added, told_behind, told_within}
-use Rattle.followed_events.proofs.SteppingLemmas.{on_err, on_err_then, on_ok, on_ok_then}
+use Rattle.linked_exchange.proofs.SteppingLemmas.{on_err, on_err_then, on_ok, on_ok_then}
 use Rattle.exchange_run.proofs.Pending.{at_some}
-use Rattle.followed_events.proofs.Tellings.{none_front}
+use Rattle.linked_exchange.proofs.Tellings.{none_front}
 use Rattle.exchange_run.proofs.segments.report_segment.Goals as goal
 
 pub run_segment_with-requires-clause-may : goal.run_segment_with-requires-clause-may

@@ -1,7 +1,7 @@
 use Rattle.std.proofs.Common.{◌+◌, drop, take_all, OnErr, Result, Ok, Err}
 use Rattle.meters.proofs.Zips.{zip-same, zip-then, zip-weaker}
 use Rattle.meters.proofs.Told.{told-same, told-then, told-then_front, told-equal, told_front-equal, told_front-append}
-use Rattle.followed_events.proofs.Tellings.{take_read, read_more}
+use Rattle.linked_exchange.proofs.Tellings.{take_read, read_more}
 use Rattle.exchange_run.proofs.telling.tell_calls.Goals as goal
 
 on_err : {T E P : Type 0} (r : Result T E) → P → OnErr r P

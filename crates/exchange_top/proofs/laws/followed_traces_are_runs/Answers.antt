@@ -4,7 +4,7 @@ use Rattle.exchange_events.specs.Orders.{file_order}
 use Rattle.exchange_events.proofs.FileOrder.{lawful_whole}
 use Rattle.line_list.specs.declared.listing.Listing.TheVariants.{Report}
 use Rattle.meters.specs.Changing.{Step, handed_in, steps_text}
-use Rattle.followed_events.proofs.FollowedStories.{followed_story}
+use Rattle.linked_exchange.proofs.FollowedStories.{followed_story}
 use Rattle.exchange_run.proofs.Stories.{unchanged_text}
 use Rattle.exchange_top.proofs.laws.followed_traces_are_runs.Goals as goal
 

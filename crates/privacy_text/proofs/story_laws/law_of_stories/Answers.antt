@@ -2,7 +2,7 @@ use Rattle.std.proofs.Common.{List, ◌∙◌, ap}
 use Rattle.circuit_model.specs.Hears.{hears}
 use Rattle.meters.specs.Changing.{Step, handed_in, steps_text}
 use Rattle.linked_text.specs.LinkEffects.{plain_told}
-use Rattle.followed_events.proofs.PlainInTurn.{plain_story}
+use Rattle.linked_exchange.proofs.PlainInTurn.{plain_story}
 use Rattle.privacy_text.proofs.StoryLemmas.{run_lines, plain_lines}
 use Rattle.privacy_text.proofs.story_laws.law_of_stories.Goals as goal
 

@@ -2,7 +2,7 @@ use Rattle.std.proofs.Common.{◌++◌, ◌≤◌, ◌∙◌, [], List, ℕ, ap,
 use Rattle.linked_text.specs.LinkEffects.{plain_told}
 use Rattle.exchange_follow.proofs.Handled.{interrupted_last}
 use Rattle.exchange_follow.proofs.HandledSteps.{count_few, finish_heard, finish_linked, finished, finished_linked, known_there, none_listed, of_ok, some_listed}
-use Rattle.followed_events.proofs.SteppingLemmas.{err_is}
+use Rattle.linked_exchange.proofs.SteppingLemmas.{err_is}
 use Rattle.exchange_follow.proofs.follower.TraceFollower.finish.Goals as goal
 use Rattle.exchange_follow.proofs.follower.TraceFollower.finish.Goals.{then-is_empty, else-is_empty}
 

@@ -1,7 +1,7 @@
 use Rattle.std.proofs.Common.{◌++◌, ◌<◌, ◌≤◌, ◌⊎◌, [], length, arith, inl, inr}
 use Rattle.exchange_follow.proofs.Handled.{interrupted_here}
 use Rattle.exchange_follow.proofs.HandledSteps.{count_few, is_read, refused_at, refused_by}
-use Rattle.followed_events.proofs.SteppingLemmas.{err_is}
+use Rattle.linked_exchange.proofs.SteppingLemmas.{err_is}
 use Rattle.exchange_follow.proofs.follower.TraceFollower.handle.Goals as goal
 use Rattle.exchange_follow.proofs.follower.TraceFollower.handle.Goals.{then-line-gt-MAX_LINE-via-then-line-gt-MAX_LINE, then-line-gt-MAX_LINE-via-else-line-gt-MAX_LINE+then-self-ge-MAX_LINES}
 

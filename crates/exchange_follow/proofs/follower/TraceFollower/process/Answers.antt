@@ -1,5 +1,5 @@
 use Rattle.std.proofs.Common.{◌∙◌, ◌≤◌, [], List, ℕ, length, ap, refl, sym, subst}
-use Rattle.followed_events.specs.LinkedStepping.{effect_in}
+use Rattle.linked_exchange.specs.LinkedStepping.{effect_in}
 use Rattle.linked_text.specs.LinkEffects.{plain_told}
 use Rattle.exchange_follow.proofs.HandledSteps.{err_each, event_due, handled_event, handled_linked, interrupted_event, interrupted_linked, linked_is_due, none_listed, of_err, of_ok, ok_each, plain_header, received_linked, some_listed}
 use Rattle.exchange_follow.proofs.follower.TraceFollower.process.Goals as goal

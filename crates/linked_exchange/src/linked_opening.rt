@@ -1,0 +1,69 @@
+//! The exchange of a trace with data links before its first event.
+ghost use Rattle.std.specs.Prelude.{◌≡◌, OnOk, false, is_some};
+ghost use Rattle.linked_exchange.specs.Statements.{EachLinkedHeard, IsLinkedHeardSome, LinkedRunsAfter};
+
+use crate::fabrics::Fabric;
+use crate::{LinkedExchange, Settings};
+use frame_engine::Carrier;
+use linked_text::LinkHeading;
+use std::alloc::{AllocError, Global};
+use std::thread::Threads;
+
+/// Makes the exchange of a heading with data links before its first event. It does nothing if there is one.
+///
+/// # Errors
+///
+/// [`AllocError`] if an allocation fails.
+pub fn ready_linked<P: Fabric, C: Carrier, R: Threads + Sync>(
+    rt: &R,
+    alloc: Global,
+    heading: &LinkHeading,
+    exchange: &mut Option<LinkedExchange<P, C>>,
+) -> Result<(), AllocError>
+    requires heard { IsLinkedHeardSome C.Carrier P.Fabric.own heading.now exchange.old }
+    ensures running { EachLinkedHeard C.Carrier P.Fabric.own heading.now exchange.old
+        (λ told z. OnOk result (LinkedRunsAfter C.Carrier P.Fabric.own told z exchange.new)) }
+{
+    if exchange.is_none() {
+        return open_linked_into(rt, alloc, heading, exchange);
+    }
+    Ok(())
+}
+
+// Makes the exchange of a heading with data links.
+fn open_linked_into<P: Fabric, C: Carrier, R: Threads + Sync>(
+    rt: &R,
+    alloc: Global,
+    heading: &LinkHeading,
+    exchange: &mut Option<LinkedExchange<P, C>>,
+) -> Result<(), AllocError>
+    requires none { is_some exchange.old ≡ false }
+    requires heard { IsLinkedHeardSome C.Carrier P.Fabric.own heading.now exchange.old }
+    ensures running { EachLinkedHeard C.Carrier P.Fabric.own heading.now exchange.old
+        (λ told z. OnOk result (LinkedRunsAfter C.Carrier P.Fabric.own told z exchange.new)) }
+{
+    let plain = heading.plain();
+    let Some(sizes) = plain.sizes() else {
+        unreachable!()
+    };
+    let timers = plain.timers();
+    let link_timers = heading.link_timers();
+    let settings = Settings {
+        plan: plain.plan(),
+        tones: plain.tones(),
+        timers: &timers,
+        link_timers: &link_timers,
+    };
+    let row = heading.link_row(alloc, sizes.external)?;
+    let paths = P::unused(alloc, sizes.external + sizes.bridges)?;
+    *exchange = Some(LinkedExchange::new(
+        rt,
+        alloc,
+        sizes.external,
+        sizes.bridges,
+        &settings,
+        row.as_slice(),
+        paths,
+    )?);
+    Ok(())
+}

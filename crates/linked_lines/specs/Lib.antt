@@ -1,2 +1,0 @@
-pub mod LinkedLines
-pub mod LinkedStory
