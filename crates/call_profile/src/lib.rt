@@ -3,64 +3,16 @@
 //! `Restarts` its list of operations (`Operations`). `LinkChanges` gives the operations of a data link that goes down or
 //! comes up, and of the restart of a line. `Expiring` gives the turn of a frame. A few functions read a leg or a circuit
 //! ([`is_addressed_to`], [`waiting_from`], [`retransmitted_from`], [`is_calling`], [`party_of`], [`first_frame_of`]).
-//! The other functions are theorems on these definitions:
-//!
-//! - Every event keeps the legs consistent ([`law_of_legs`]). A number is pending at exactly those legs that wait for
-//!   further digits. The state of a leg determines the circuit by which its slot receives. In release request, the
-//!   stored RELEASE determines it. A refused command changes nothing ([`law_of_refusals`]), and neither does a refused
-//!   SETUP ([`law_of_refused_calls`]).
-//! - The turn of a frame, in which timers expire (`Expiring`), sends at most two messages and records at most one call
-//!   for each external line. It changes only legs of calls with an expired timer, and no connection unless T309 expires
-//!   ([`law_of_expiries`]).
-//! - T309 of a leg in state 10 runs if and only if the data link of its line is down ([`law_of_outages`]). In a trace in
-//!   which no link fails it never expires ([`law_of_unfailing_links`]). If it expires, the call is cleared and recorded
-//!   ([`law_of_lost_legs`]).
-//! - After an outage no call is left on one side only ([`law_of_reconciliation`]). When the data link is up again, the
-//!   user is sent RESTART for each channel whose leg the outage removed, STATUS ENQUIRY for each leg in state 10, and the
-//!   stored RELEASE for each leg in state 19. T305 of each leg in state 12 runs, and its expiry sends RELEASE. After a
-//!   failure no other leg of the line is left ([`law_of_link_failures`]). Theorems state which RESTARTs are owed
-//!   ([`law_of_owed_restarts`]) and the effect of a reply to an enquiry ([`law_of_enquiry_replies`]).
-//! - A number of several lines gets the lowest idle slot of the first line that has one ([`law_of_hunting`]).
-//! - Further digits are refused with cause 34 only if each called line is down or has no idle slot, and with cause 42
-//!   only if no port is free. They end no call, so nothing is recorded ([`law_of_digits`]).
-//! - The layout of the paths and the number of internal slots decide only how many paths move
-//!   ([`law_of_paths`], [`law_of_fabrics`]). An answered call and a granted nail get both paths
-//!   ([`law_of_answered_calls`], [`law_of_granted_nails`]).
-//! - Theorems state the calls that a message and a frame record ([`law_of_records`], [`law_of_frame_records`]) and the
-//!   call reference of a new leg ([`law_of_references`]). They also state the legs after a RESTART
-//!   ([`law_of_restarts`]), after the failure of a data link ([`law_of_link_failures`]) and after its establishment
-//!   ([`law_of_link_establishments`]), and the messages that inform a user of a tone ([`law_of_progress`]). The exchange
-//!   restarts a line, and records the calls that this ends ([`law_of_line_restarts`]).
-//! - Allowed commands made the circuits of each frame ([`worlds_are_made`]), and later events do not change its octets
-//!   ([`later_frames_change_nothing`]).
+//! The definitions are evaluated on small exchanges ([`worked_calls`]). The crate `call_laws` has the theorems on them.
 #![tactic(auto)]
 
-mod call_laws;
-mod command_laws;
-mod laws;
-mod leg_laws;
 mod legs;
-mod outage_laws;
 mod records;
 mod worked;
 
-pub use call_laws::{
-    law_of_answered_calls, law_of_digits, law_of_expiries, law_of_hunting, law_of_legs,
-    law_of_paths, law_of_refused_calls, worked_calls,
-};
-pub use command_laws::{law_of_granted_nails, law_of_refusals};
-pub use laws::{later_frames_change_nothing, law_of_fabrics, worlds_are_made};
-pub use leg_laws::{
-    law_of_frame_records, law_of_line_restarts, law_of_link_establishments, law_of_link_failures,
-    law_of_progress, law_of_records, law_of_references, law_of_restarts,
-};
 pub use legs::{is_addressed_to, retransmitted_from, waiting_from};
-pub use outage_laws::{
-    law_of_enquiry_replies, law_of_lost_legs, law_of_outages, law_of_owed_restarts,
-    law_of_reconciliation, law_of_unfailing_links,
-};
 pub use records::{first_frame_of, is_calling, party_of};
 pub use worked::{
-    worked_digits, worked_expiries, worked_line_restarts, worked_links, worked_messages,
-    worked_outages, worked_overlap,
+    worked_calls, worked_digits, worked_expiries, worked_line_restarts, worked_links,
+    worked_messages, worked_outages, worked_overlap,
 };

@@ -1,6 +1,6 @@
-//! Worked messages.
+//! Worked calls.
 ghost use Rattle.std.specs.Prelude.{◌≡◌, None, Some, [], ◌∷◌, option_map};
-ghost use Rattle.call_profile.specs.WorkedCalls.{at, two_lines, one_line, own_line, answers, records_reply, sends_reply};
+ghost use Rattle.call_profile.specs.WorkedCalls.{at, two_lines, one_line, own_line, answers, records_reply, sends_reply, whole_call, whole_call_answered, refused_or_moved, refused_or_moved_answered, clear_collision, clear_collision_answered, without_call, without_call_answered, restart_of_called, restart_of_called_answered, restart_of_both, restart_of_both_answered, restart_of_one, restart_of_one_answered, lenient_reading, lenient_reading_answered, call_to_room, call_to_room_answered, no_port_answered, unexpected, unexpected_answered, line_full, line_full_answered, hunting_lines, line_hunted_answered, sounding_lines, circuits_after, rings, rings_answered, ringing_tone, found_busy, found_busy_answered, busy_tone, found_gone, found_gone_answered, found_there, conversation};
 ghost use Rattle.call_profile.specs.WorkedMessages.{refused_by_element, refused_by_element_answered, unreadable_cause, unreadable_cause_answered, null_status_received, null_status_answered, release_collision, release_collision_answered, reference_given_again, reference_given_again_answered, compatibility, compatibility_answered};
 ghost use Rattle.call_profile.specs.WorkedDigits.{begun_later, ended_later, ended_later_answered, faulty_digits, faulty_digits_answered, in_other_states, in_other_states_answered, in_three_messages, in_three_messages_answered, line_full_later, line_full_later_answered, longest_numbers, longest_numbers_answered, no_port_later_answered, own_line_later, own_line_later_answered, passed_on_later, passed_on_later_answered, room_later, room_later_answered, two_digits, wrong_digit, wrong_digit_answered};
 ghost use Rattle.call_profile.specs.Legs.{leg_at, no_legs};
@@ -9,6 +9,31 @@ ghost use Rattle.exchange_events.specs.declared.trace.Event.TheVariants.{LinkUp,
 ghost use Rattle.call_profile.specs.Step.{reply};
 ghost use Rattle.call_profile.specs.WorkedLinks.{down_while_alerted, alerted_dropped, call_to_down, refused_as_down, own_line_down, own_line_dropped, outage, outage_over, down_again, up_again, state_enquired, reset_while_dialling, alerted_then_up, answered, answered_on_down, asked_to_release, beside_conversation, both_cleared, both_down, call_after_restart, cleared_as_it_fails, confirmed, connect_lost, conversation_restarted, down_in_conversation, lost_after_answer, offered_on_first, one_restarted, own_line_restarted, own_line_restart_answered, release_asked, release_asked_again, release_given_up, released_anew, reports, restart_of_line, restarted_conversation, restarted_while_down, up_before_given_up, up_too_late};
 ghost use Rattle.call_profile.specs.WorkedOverlap.{dialled_in_part, dialled_in_part_answered, pending_after, first_digit, refused_at_once, refused_at_once_answered, no_numbers, dials_nothing, dials_nothing_answered, given_up, given_up_answered};
+
+/// The definitions of the operations for messages, evaluated on small exchanges.
+pub fn worked_calls()
+    ensures whole { answers two_lines whole_call ≡ whole_call_answered }
+    ensures channel { answers two_lines refused_or_moved ≡ refused_or_moved_answered }
+    ensures collision { answers two_lines clear_collision ≡ clear_collision_answered }
+    ensures no_call { answers two_lines without_call ≡ without_call_answered }
+    ensures lenient { answers two_lines lenient_reading ≡ lenient_reading_answered }
+    ensures room { answers (one_line 1) call_to_room ≡ call_to_room_answered }
+    ensures no_port { answers (one_line 0) call_to_room ≡ no_port_answered }
+    ensures unexpected { answers two_lines unexpected ≡ unexpected_answered }
+    ensures restart_called { answers two_lines restart_of_called ≡ restart_of_called_answered }
+    ensures restart_both { answers own_line restart_of_both ≡ restart_of_both_answered }
+    ensures restart_one { answers own_line restart_of_one ≡ restart_of_one_answered }
+    ensures full { answers two_lines line_full ≡ line_full_answered }
+    ensures hunt { answers hunting_lines line_full ≡ line_hunted_answered }
+    ensures ringback { answers sounding_lines rings ≡ rings_answered }
+    ensures rings { circuits_after sounding_lines rings ≡ ringing_tone }
+    ensures busy { answers sounding_lines found_busy ≡ found_busy_answered }
+    ensures sounds_busy { circuits_after sounding_lines found_busy ≡ busy_tone }
+    ensures other_cause { answers sounding_lines found_gone ≡ found_gone_answered }
+    ensures no_tone { circuits_after sounding_lines found_gone ≡ [] }
+    ensures answered { circuits_after sounding_lines found_there ≡ conversation }
+    ensures not_given { circuits_after two_lines rings ≡ [] }
+{}
 
 /// The definitions of the operations for messages, evaluated on more messages.
 pub fn worked_messages()

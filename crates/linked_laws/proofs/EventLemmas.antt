@@ -5,7 +5,7 @@ use Rattle.std.proofs.lemmas.Bool.{cases_eq, ne_eqb}
 use Rattle.std.proofs.lemmas.List.Elements.{All-nil, All-cons, All-head, All-tail}
 use Rattle.exchange_events.specs.declared.trace.Event.{Event}
 use Rattle.exchange_events.specs.declared.trace.Event.TheVariants as event
-use Rattle.call_profile.specs.Outages.{down_after, down_after_all}
+use Rattle.call_laws.specs.Outages.{down_after, down_after_all}
 use Rattle.link_frames.specs.declared.frame.Frame.{Frame}
 use Rattle.link_frames.specs.declared.frame.Sender.TheVariants.{User}
 use Rattle.link_frames.specs.Reading.{reading}

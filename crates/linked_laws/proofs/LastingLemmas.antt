@@ -12,11 +12,11 @@ use Rattle.exchange_events.specs.Sizes.{Setting}
 use Rattle.exchange_events.specs.Sound.{Fits, IsPlanned}
 use Rattle.call_profile.specs.Legs.{is_down}
 use Rattle.call_profile.specs.LegStanding.{CallsStand, HasPeer}
-use Rattle.call_profile.specs.LostLegs.{IsLost, IsUnchanged}
-use Rattle.call_profile.specs.Outages.{OutagesStand}
+use Rattle.call_laws.specs.LostLegs.{IsLost, IsUnchanged}
+use Rattle.call_laws.specs.Outages.{OutagesStand}
 use Rattle.call_profile.specs.World.{World, start}
-use Rattle.call_profile.proofs.LastingCallLemmas.{neither_changes}
-use Rattle.call_profile.proofs.OutageLemmas.{outages_stand, up_not_lost}
+use Rattle.call_laws.proofs.LastingCallLemmas.{neither_changes}
+use Rattle.call_laws.proofs.OutageLemmas.{outages_stand, up_not_lost}
 use Rattle.call_profile.proofs.StandingLegLemmas.{run_stands, start_stands}
 use Rattle.link_procedures.specs.declared.state.Timers.{Timers}
 use Rattle.linked_exchange.specs.Steps.{LinkedInput}

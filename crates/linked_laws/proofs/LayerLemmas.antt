@@ -6,8 +6,8 @@ use Rattle.exchange_events.specs.declared.trace.Event.{Event}
 use Rattle.exchange_events.specs.declared.trace.Event.TheVariants.{LinkDown}
 use Rattle.exchange_events.specs.Sizes.{Setting}
 use Rattle.call_profile.specs.Legs.{is_down}
-use Rattle.call_profile.specs.Outages.{down_after, down_after_all}
-use Rattle.call_profile.proofs.LinkStateLemmas.{links_are}
+use Rattle.call_laws.specs.Outages.{down_after, down_after_all}
+use Rattle.call_laws.proofs.LinkStateLemmas.{links_are}
 use Rattle.link_procedures.specs.declared.state.Timers.{Timers}
 use Rattle.link_procedures.specs.Links.{DataLink, Step, step, initial, is_up}
 use Rattle.link_procedures.specs.Sending.{finished}

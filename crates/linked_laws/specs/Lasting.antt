@@ -8,7 +8,7 @@ use Rattle.call_states.specs.declared.leg.Leg.{Leg}
 use Rattle.call_states.specs.declared.leg.Peer.TheVariants as peer
 use Rattle.exchange_events.specs.Sizes.{Setting}
 use Rattle.call_profile.specs.Legs.{leg_at}
-use Rattle.call_profile.specs.LostLegs.{IsUnchanged}
+use Rattle.call_laws.specs.LostLegs.{IsUnchanged}
 use Rattle.link_procedures.specs.declared.state.Timers.{Timers}
 use Rattle.link_procedures.specs.Links.{DataLink}
 use Rattle.link_table.specs.Tables.{IsLinkOf}

@@ -4,7 +4,7 @@ use Rattle.exchange_events.specs.declared.trace.Event.{Event}
 use Rattle.exchange_events.specs.declared.trace.Event.TheVariants.{LinkUp, LinkDown}
 use Rattle.exchange_events.specs.Sizes.{Setting}
 use Rattle.call_profile.specs.Legs.{is_down}
-use Rattle.call_profile.specs.Outages.{down_after_all}
+use Rattle.call_laws.specs.Outages.{down_after_all}
 use Rattle.link_procedures.specs.declared.state.Timers.{Timers}
 use Rattle.link_procedures.specs.Links.{DataLink, is_awaiting, is_up}
 use Rattle.link_table.specs.Tables.{IsLinkOf}

@@ -3,7 +3,7 @@ ghost use Rattle.std.specs.Prelude.{◌≡◌, ℕ, Bool, Contains, List, None};
 ghost use Rattle.circuit_model.specs.declared.channel.Slot.{Slot};
 ghost use Rattle.circuit_model.specs.declared.circuit.Circuit.TheVariants.{Pair};
 ghost use Rattle.exchange_events.specs.Sizes.{Setting};
-ghost use Rattle.call_profile.specs.Fabrics.{world_of_run};
+ghost use Rattle.call_laws.specs.Fabrics.{world_of_run};
 ghost use Rattle.call_profile.specs.Step.{world_after_all};
 ghost use Rattle.link_procedures.specs.declared.state.Timers.{Timers};
 ghost use Rattle.link_table.specs.Tables.{link_of};

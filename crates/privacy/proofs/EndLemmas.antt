@@ -31,26 +31,26 @@ use Rattle.call_profile.specs.ActCourse.{course_of}
 use Rattle.call_profile.specs.Acts.{answered, in_state, with_enquiry, peer_of, with_peer, on_alerting, on_connect}
 use Rattle.call_profile.specs.Calls.{Request, For_leg, New_call, On_no_call, Restarts, Unanswered, request_of, answer_back, outcome_for, after_message}
 use Rattle.call_profile.specs.Course.{only, nothing}
-use Rattle.call_profile.specs.Dropped.{HasLine, left_by_failure, waiting_for_link}
+use Rattle.call_laws.specs.Dropped.{HasLine, left_by_failure, waiting_for_link}
 use Rattle.call_profile.specs.LegStanding.{CallsStand, HasPeer, IsInCall, AreOneCall, are_matched}
 use Rattle.call_profile.specs.Legs.{Legs, leg_at, with_entry, retransmitted_from}
 use Rattle.call_profile.specs.Operations as op
 use Rattle.call_profile.specs.Operations.{Operation, Making, begun, making_at, making_after, making_after_all}
-use Rattle.call_profile.specs.Restarted.{IsRestart, left_with}
+use Rattle.call_laws.specs.Restarted.{IsRestart, left_with}
 use Rattle.call_profile.specs.Restarts.{restarts_slot}
-use Rattle.call_profile.specs.Resumed.{resumed_on}
+use Rattle.call_laws.specs.Resumed.{resumed_on}
 use Rattle.call_profile.specs.Setup.{setup, refusal}
 use Rattle.call_profile.specs.Step.{next}
 use Rattle.call_profile.specs.World.{World}
 use Rattle.call_profile.proofs.AnsweredLegLemmas.{answered_does}
 use Rattle.call_profile.proofs.BesideLemmas.{leg_at-with_entry_here, leg_at-with_entry_else, same_or_apart}
 use Rattle.call_profile.proofs.ClearingLemmas.{held_there}
-use Rattle.call_profile.proofs.DroppedLineLemmas.{active_wait, call_active, other_lines_are_left}
-use Rattle.call_profile.proofs.LineRestartLemmas.{line_is_empty}
+use Rattle.call_laws.proofs.DroppedLineLemmas.{active_wait, call_active, other_lines_are_left}
+use Rattle.call_laws.proofs.LineRestartLemmas.{line_is_empty}
 use Rattle.call_profile.proofs.NamedLegLemmas.{received_stands}
-use Rattle.call_profile.proofs.RestartedLineLemmas.{leg_at_restarted_others}
+use Rattle.call_laws.proofs.RestartedLineLemmas.{leg_at_restarted_others}
 use Rattle.call_profile.proofs.ReportLemmas.{state_agrees, state_differs}
-use Rattle.call_profile.proofs.ResumedLineLemmas.{legs_are_resumed}
+use Rattle.call_laws.proofs.ResumedLineLemmas.{legs_are_resumed}
 use Rattle.call_profile.proofs.StandingLegLemmas.{happened_kept}
 use Rattle.privacy.specs.Ending.{IsClearing, By_disconnect, By_release, By_release_complete, By_status, By_report, IsEnding, Of_leg, Of_slot, Lasts}
 use Rattle.privacy.specs.Undisturbed.{AreCalling, IsTheirOwn}

@@ -2,7 +2,7 @@
 use Rattle.std.proofs.Common.{◌≡◌, List, [], ◌∷◌, ◌++◌, refl, ◌∙◌, ap, append_assoc}
 use Rattle.exchange_events.specs.declared.trace.Event.{Event}
 use Rattle.exchange_events.specs.Sizes.{Setting}
-use Rattle.call_profile.specs.Fabrics.{world_of_run}
+use Rattle.call_laws.specs.Fabrics.{world_of_run}
 use Rattle.call_profile.specs.Step.{next, world_after_all}
 use Rattle.call_profile.specs.World.{World, start}
 use Rattle.privacy.specs.Throughout.{Throughout}

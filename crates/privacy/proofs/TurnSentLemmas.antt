@@ -10,7 +10,7 @@ use Rattle.call_states.specs.declared.leg.Leg.{Leg}
 use Rattle.exchange_events.specs.declared.signal.Signal.{Signal}
 use Rattle.exchange_events.specs.Sizes.{Setting}
 use Rattle.call_profile.specs.Expiring.{due_of, expire_slot, slot_looked_at, outcome_of_lines, outcome_of_frame}
-use Rattle.call_profile.specs.ExpiryBounds.{RunsOut}
+use Rattle.call_laws.specs.ExpiryBounds.{RunsOut}
 use Rattle.call_profile.specs.LegStanding.{CallsStand}
 use Rattle.call_profile.specs.Legs.{leg_at}
 use Rattle.call_profile.specs.Restarts.{MessageOutcome}
@@ -18,7 +18,7 @@ use Rattle.call_profile.specs.World.{World, pass}
 use Rattle.call_profile.proofs.ClearingLemmas.{Kept}
 use Rattle.call_profile.proofs.CommandLemmas.{pass_kept}
 use Rattle.call_profile.proofs.ExpiringLemmas as expiring
-use Rattle.call_profile.proofs.ExpiryChangeLemmas.{unchanged_due}
+use Rattle.call_laws.proofs.ExpiryChangeLemmas.{unchanged_due}
 use Rattle.privacy.specs.Lines.{IsTimed, Own_timer, Other_timer}
 use Rattle.privacy.proofs.SentLemmas.{SendAll, AreTo, all_sent, expiry_sends}
 

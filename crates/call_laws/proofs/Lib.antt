@@ -1,0 +1,39 @@
+pub mod EarlierFrameLemmas
+pub mod ExpirySendLemmas
+pub mod ExpirySinceLemmas
+pub mod ExpiryChangeLemmas
+pub mod ExpiryCircuitLemmas
+pub mod FabricLemmas
+pub mod HuntingLemmas
+pub mod RecordOrderLemmas
+pub mod NoCallEndedLemmas
+pub mod GrantedNailLemmas
+pub mod ReferenceLemmas
+pub mod ProgressLemmas
+pub mod RestartedLegLemmas
+pub mod RestartedLineLemmas
+pub mod DroppedLineLemmas
+pub mod ResumedLineLemmas
+pub mod LinkStateLemmas
+mod RemovedSlotLemmas
+mod OwedStillLemmas
+mod OwedEventLemmas
+mod OwedSlotLemmas
+mod OwedTrackLemmas
+mod OwedFlagLemmas
+mod OwedExactLemmas
+mod ResumedSendLemmas
+mod EnquiryReplyLemmas
+pub mod LinkedLegLemmas
+pub mod OutageLemmas
+pub mod UnfailingLinkLemmas
+pub mod LostLegLemmas
+pub mod LostRecordLemmas
+pub mod LastingCallLemmas
+pub mod RecordedCallLemmas
+pub mod RecordedMessageLemmas
+pub mod LineRestartLemmas
+mod OwedLineLemmas
+pub mod FrameRecordLemmas
+pub mod FullPortLemmas
+pub mod DigitsLawLemmas

@@ -1,0 +1,184 @@
+-- A RESTART is owed only on a line whose data link is down: the operations.
+use Rattle.std.proofs.Common.{◌≡◌, ℕ, zero, suc, ◌<◌, inl, inr, Bool, true, false, ◌&&◌, List, [], ◌∷◌, Option, Some, None, refl, sym, ◌∙◌, ap, subst, arith, eqb-true, set, get_or, get_or-set_other, if◌then◌else◌}
+use Rattle.std.specs.Prelude.{◌==◌, is_none, slice_index_or}
+use Rattle.std.proofs.lemmas.Grind.{common_steps}
+use Rattle.circuit_model.specs.declared.channel.Slot.{Slot}
+use Rattle.circuit_model.specs.Extent.{IsExternal}
+use Rattle.circuit_model.proofs.Slots.{true_or_false}
+use Rattle.control_memory.specs.Layout.{number_of}
+use Rattle.control_memory.proofs.Steps.{same_number}
+use Rattle.q931_codec.specs.Causes.{destination_out_of_order, invalid_number_format, no_answer_from_user, no_user_responding, recovery_on_timer_expiry, temporary_failure}
+use Rattle.q931_codec.specs.declared.message.Message.{Message as Q931}
+use Rattle.q931_codec.specs.Outgoing.{OutgoingMessage}
+use Rattle.call_timers.specs.declared.expiry.Expiry.{Expiry}
+use Rattle.call_timers.specs.declared.expiry.Expiry.TheVariants as expiry
+use Rattle.call_states.specs.declared.act.Act.{Act}
+use Rattle.call_states.specs.declared.leg.HeldLeg.{HeldLeg}
+use Rattle.call_states.specs.declared.leg.Leg.{Leg}
+use Rattle.clearing_rules.specs.declared.scope.Restart.{Restart}
+use Rattle.tone_rules.specs.declared.tones.Tones.{Tones}
+use Rattle.exchange_events.specs.Sizes.{Setting, Dimensions}
+use Rattle.call_profile.specs.ActCourse.{course_of}
+use Rattle.call_profile.specs.Acts.{peer_of, with_enquiry, with_peer}
+use Rattle.call_profile.specs.Calls.{answer_back}
+use Rattle.call_profile.specs.Expiring.{due_of, on_expiry, expire_slot}
+use Rattle.call_profile.specs.LinkChanges.{whole_line, drop_leg, drop_slot, restart_channel, resume_held, resume_slot}
+use Rattle.call_profile.specs.Legs.{Legs, is_down, is_owed, leg_at, kept_at, with_entry, without_leg}
+use Rattle.call_profile.specs.Operations as op
+use Rattle.call_profile.specs.Operations.{Operation, Making, Await, Put, begun, making_after, making_after_all}
+use Rattle.call_profile.specs.Peers.{PeerIsThere}
+use Rattle.call_profile.specs.Restarts.{restarts_slot, restart_peer, restart_slot}
+use Rattle.call_profile.specs.Setup.{setup}
+use Rattle.call_profile.specs.World.{World}
+use Rattle.call_profile.proofs.ClearingLemmas.{Kept}
+use Rattle.call_profile.proofs.CommandLemmas.{both_true}
+use Rattle.call_profile.proofs.ExpiringLemmas.{at_slot}
+use Rattle.call_profile.proofs.LinkLemmas.{at_held, by_drop, by_resume}
+use Rattle.call_laws.proofs.LinkedLegLemmas.{entry_or_before}
+use Rattle.call_profile.proofs.PermittedActLemmas.{peer_there_too}
+use Rattle.call_laws.proofs.RemovedSlotLemmas.{FlagAll, MayFlag, again_flags, back_flags, cleared_flags, course_flags, other_flags, peer_flags, restart_flags, setup_flags}
+
+-- ---- one flag written
+
+pub set_flag : (l : List Bool) (n : ℕ) (b : Bool) → get_or (set l n b) n false ≡ true → b ≡ true
+set_flag [] n b e = absurd cc
+set_flag (a ∷ rest) zero b e = e
+set_flag (a ∷ rest) (suc n) b e = set_flag rest n b e
+
+both_and : (a b : Bool) → a ≡ true → b ≡ true → (a && b) ≡ true
+both_and a b one other = rw (one, other) refl
+
+-- a slot with a leg is owed nothing
+pub owed_by_put : (legs : Legs) (x z : Slot) (leg : Leg) → is_owed (with_entry legs x (Some leg)) z ≡ true → is_owed legs z ≡ true
+owed_by_put legs x z leg owed =
+    let both = both_true (slice_index_or legs.owed (number_of z) false) (is_none (leg_at (with_entry legs x (Some leg)) z)) owed in
+    elim (entry_or_before legs.held (number_of x) (number_of z) (Some leg) None) [
+      | inl new ↦ let wrong : false ≡ true = sym (ap is_none new) ∙ both.1 in absurd cc
+      | inr old ↦ both_and (slice_index_or legs.owed (number_of z) false) (is_none (leg_at legs z)) both.0 (sym (ap is_none old) ∙ both.1)
+    ]
+
+-- ---- the operations, by the slots that may be owed a RESTART
+
+module _ (d : Dimensions) (May : Slot → Type 0) where
+  abbrev pub Owes : Legs → Type 0
+  Owes legs = (z : Slot) → IsExternal d.external z → is_owed legs z ≡ true → May z
+
+  -- a flag is set only at a slot that may be owed
+  abbrev pub Due : Slot → Bool → Type 0
+  Due x owed = owed ≡ true → (x.place < 30) × May x
+
+  abbrev pub OweAll : List Operation → Type 0
+  OweAll = FlagAll Due
+
+  put_owes : (legs : Legs) (x : Slot) (leg : Leg) → Owes legs → Owes (with_entry legs x (Some leg))
+  put_owes legs x leg before z in_z owed = before z in_z (owed_by_put legs x z leg owed)
+
+  removed_owes : (legs : Legs) (x : Slot) (owed : Bool) → (owed ≡ true → (x.place < 30) × May x) → Owes legs → Owes (without_leg legs x owed)
+  removed_owes legs x owed may before z in_z is =
+      let both = both_true (slice_index_or (without_leg legs x owed).owed (number_of z) false) (is_none (leg_at (without_leg legs x owed) z)) is in
+      elim (true_or_false (number_of z == number_of x)) [
+        | inl same ↦
+            let n = eqb-true (number_of z) (number_of x) same in
+            let flag = set_flag legs.owed (number_of x) owed (sym (ap (λ (k : ℕ). slice_index_or (without_leg legs x owed).owed k false) n) ∙ both.0) in
+            let here = may flag in
+            subst May (sym (same_number z x in_z.1 here.0 n)) here.1
+        | inr apart ↦
+            let other : number_of z ≡ number_of x → ⊥ = λ n. grind (arith, common_steps, apart, n) in
+            before z in_z (both_and (slice_index_or legs.owed (number_of z) false) (is_none (leg_at legs z))
+            (sym (get_or-set_other legs.owed (number_of x) (number_of z) owed false other) ∙ both.0)
+            (sym (ap is_none (get_or-set_other legs.held (number_of x) (number_of z) None None other)) ∙ both.1))
+      ]
+
+  performed : (m : Making) (o : Operation) → MayFlag Due o → Owes m.world.legs → Owes (making_after d m o).world.legs
+  performed m (op.Clear x) may before = before
+  performed m (op.Pair x y) may before = before
+  performed m (op.Seat x room) may before = before
+  performed m (op.Sound x kind) may before = before
+  performed m (op.Put x leg) may before = put_owes m.world.legs x (begun m.world leg) before
+  performed m (op.Wait x leg p) may before = put_owes m.world.legs x (begun m.world leg) before
+  performed m (op.Expect x leg message) may before = put_owes m.world.legs x (begun m.world leg) before
+  performed m (op.Repeat h octets) may before = put_owes m.world.legs h.slot (record h.leg { since = m.world.holding.next; resent = true }) before
+  performed m (op.Await x leg) may before = put_owes m.world.legs x (record leg { since = m.world.holding.next; resent = true }) before
+  performed m (op.Remove x owed) may before = removed_owes m.world.legs x owed may before
+  performed m (op.Send line message) may before = before
+
+  pub owed_all : (m : Making) (os : List Operation) → OweAll os → Owes m.world.legs → Owes (making_after_all d m os).world.legs
+  owed_all m [] may before = before
+  owed_all m (o ∷ os) may before = owed_all (making_after d m o) os may.1 (performed m o may.0 before)
+
+  -- ---- a restart, of the user or of the exchange
+
+  pub other_owes : (tones : Tones) (cause : ℕ) (owed : Bool) (r : Restart) (line : ℕ) (o : Option HeldLeg) → ((k : HeldLeg) → o ≡ Some k → restarts_slot r line k.slot ≡ true → owed ≡ true → (k.slot.place < 30) × May k.slot)
+      → OweAll (with_peer o (restart_peer tones cause owed r line))
+  other_owes = other_flags Due
+
+  pub restart_owes : (tones : Tones) (r : Restart) (legs : Legs) (x : Slot) → OweAll (restart_slot tones r legs x)
+  restart_owes tones r legs x = restart_flags Due tones r legs x (λ leg at. ((λ e. absurd cc), (λ k is on e. absurd cc)))
+
+  -- ---- an expiry
+
+  expiry_owes : (tones : Tones) (legs : Legs) (h : HeldLeg) (e : Expiry) → h.slot.place < 30 → (e ≡ expiry.Outage → May h.slot) → (is_down legs h.slot.line ≡ true → May h.slot) → OweAll (on_expiry tones legs h e)
+  expiry_owes tones legs h expiry.Digits small lost down = cleared_flags Due tones invalid_number_format h [] tt
+  expiry_owes tones legs h expiry.SetupAgain small lost down = again_flags Due h (kept_at legs h.slot)
+  expiry_owes tones legs h expiry.SetupOver small lost down = (tt, ((λ e. absurd cc), (tt, peer_flags Due tones no_user_responding (peer_of legs h.leg.peer))))
+  expiry_owes tones legs h expiry.Proceeding small lost down = cleared_flags Due tones recovery_on_timer_expiry h _ (peer_flags Due tones no_user_responding (peer_of legs h.leg.peer))
+  expiry_owes tones legs h expiry.Alerting small lost down = cleared_flags Due tones recovery_on_timer_expiry h _ (peer_flags Due tones no_answer_from_user (peer_of legs h.leg.peer))
+  expiry_owes tones legs h expiry.Outage small lost down = (tt, ((λ e. (small, lost refl)), peer_flags Due tones destination_out_of_order (peer_of legs h.leg.peer)))
+  expiry_owes tones legs h expiry.Disconnect small lost down = (tt, tt)
+  expiry_owes tones legs h expiry.ReleaseAgain small lost down = again_flags Due h (kept_at legs h.slot)
+  expiry_owes tones legs h expiry.ReleaseOver small lost down = (tt, ((λ e. (small, down e)), tt))
+
+  pub expire_owes : (s : Setting) (frame : ℕ) (legs : Legs) (x : Slot) → x.place < 30 → ((leg : Leg) → leg_at legs x ≡ Some leg → due_of s.timers frame leg ≡ Some expiry.Outage → May x) → (is_down legs x.line ≡ true → May x)
+      → OweAll (expire_slot s frame legs x)
+  expire_owes s frame legs x small lost down = at_slot s frame legs x OweAll tt (λ leg e at is.
+      expiry_owes s.tones legs (record { slot = x; leg = leg }) e small (λ same. lost leg at (is ∙ ap (λ (k : Expiry). Some k) same)) down)
+
+  -- ---- a message
+
+  pub back_owes : (line : ℕ) (o : Option OutgoingMessage) → OweAll (answer_back line o)
+  back_owes = back_flags Due
+
+  pub course_owes : (s : Setting) (w : World) (h : HeldLeg) (m : Q931) (a : Act) → OweAll (course_of s w h m a).operations
+  course_owes s w h m a = course_flags Due s w h m (λ e. absurd cc) a
+
+  pub setup_owes : (s : Setting) (w : World) (line : ℕ) (m : Q931) (o : Option ℕ) → OweAll (setup s w line m o)
+  setup_owes = setup_flags Due
+
+  -- ---- a data link
+
+  module _ (tones : Tones) (m : Making) (x : Slot) (kept : Kept d tones m.world) (within : IsExternal d.external x) where
+    -- the link of its line fails, and each slot of the line may be owed
+    module _ (all : (z : Slot) → IsExternal d.external z → z.line ≡ x.line → May z) where
+      waits_owes : (leg : Leg) (runs : Bool) → OweAll (if runs then [] else Await x (with_enquiry false leg) ∷ [])
+      waits_owes leg true = tt
+      waits_owes leg false = (tt, tt)
+
+      too_owes : (leg : Leg) (o : Option HeldLeg) → PeerIsThere d.external (record { slot = x; leg = leg }) o
+          → (k : HeldLeg) → o ≡ Some k → restarts_slot whole_line x.line k.slot ≡ true → true ≡ true → (k.slot.place < 30) × May k.slot
+      too_owes leg None there k is on owed = absurd cc
+      too_owes leg (Some j) there k is on owed =
+          let same : j ≡ k = cc in
+          let in_k : IsExternal d.external k.slot = subst (λ (h : HeldLeg). IsExternal d.external h.slot) same there.0.within in
+          (in_k.1, all k.slot in_k (eqb-true k.slot.line x.line (both_true (k.slot.line == x.line) true on).0))
+
+      pub drop_owes : OweAll (drop_slot tones m.world.legs x)
+      drop_owes = at_held m.world.legs x (drop_leg tones m.world.legs) OweAll (λ none. tt) (λ leg at.
+          by_drop d tones m x leg kept within at OweAll (λ talks. waits_owes leg leg.resent) (λ clears. tt) (λ goes.
+          let h : HeldLeg = record { slot = x; leg = leg } in (
+            tt,
+            (
+              (λ e. (within.1, all x within refl)),
+              other_owes tones destination_out_of_order true whole_line x.line (peer_of m.world.legs leg.peer)
+                  (too_owes leg (peer_of m.world.legs leg.peer) (peer_there_too d.external tones m.world h kept.1 within at)),
+            ),
+          )))
+
+    channel_owes : (owed whole : Bool) → OweAll (if owed then restart_channel whole x else [])
+    channel_owes true true = ((λ e. absurd cc), tt)
+    channel_owes true false = ((λ e. absurd cc), (tt, tt))
+    channel_owes false whole = tt
+
+    pub resume_owes : (whole : Bool) → OweAll (resume_slot tones whole m.world.legs x)
+    resume_owes whole = at_held m.world.legs x (resume_held tones whole m.world.legs x) OweAll (λ none. channel_owes (is_owed m.world.legs x) whole) (λ leg at.
+        by_resume d tones m x leg kept within at OweAll (λ talks. (tt, (tt, tt))) (λ dials. cleared_flags Due tones temporary_failure (record { slot = x; leg = leg }) [] tt)
+        (λ clears. again_flags Due (record { slot = x; leg = leg }) (kept_at m.world.legs x)) tt)

@@ -1,0 +1,15 @@
+pub mod Fabrics
+pub mod Progress
+pub mod References
+pub mod Restarted
+pub mod Dropped
+pub mod Resumed
+pub mod LineRestarts
+pub mod Recorded
+pub mod ExpiryBounds
+pub mod Outages
+pub mod Reconciled
+pub mod OwedRestarts
+pub mod EnquiryReplies
+pub mod LostLegs
+pub mod ExpiryRecords

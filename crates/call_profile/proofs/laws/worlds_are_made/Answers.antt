@@ -1,5 +1,0 @@
-use Rattle.call_profile.proofs.HistoryLemmas.{made}
-use Rattle.call_profile.proofs.laws.worlds_are_made.Goals as goal
-
-pub returns : goal.returns
-returns c = made

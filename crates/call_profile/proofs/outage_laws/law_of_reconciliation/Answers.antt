@@ -1,9 +1,0 @@
-use Rattle.call_profile.proofs.OutageLemmas.{offered_owes_none}
-use Rattle.call_profile.proofs.ResumedSendLemmas.{reconciled}
-use Rattle.call_profile.proofs.outage_laws.law_of_reconciliation.Goals as goal
-
-pub returns-clause-channels : goal.returns-clause-channels
-returns-clause-channels c s w line can outages x in_x on = reconciled s line w can x in_x on outages
-
-pub returns-clause-offered : goal.returns-clause-offered
-returns-clause-offered c = offered_owes_none
