@@ -27,7 +27,7 @@ pub record IsLinkUp (s : Setting) (timers : Timers) (linked : List Bool) (is : L
   pub at : IsLinkOf (joint_of_run s timers linked is).links.links line link
   pub up : is_taken_for_up link ≡ true
 
--- a leg in active: the data link of its line is up, and so is that of the other leg of its call, if there is one
+-- a leg in active: the data link of its line is up, and so is the link of the other leg of its call, if there is one
 pub record HasLinksUp (s : Setting) (timers : Timers) (linked : List Bool) (is : List LinkedInput) (x : Slot) (leg : Leg) : Type 0 where
   pub within : IsExternal s.dimensions.external x
   pub at : leg_at (joint_of_run s timers linked is).world.legs x ≡ Some leg

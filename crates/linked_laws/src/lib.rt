@@ -42,8 +42,8 @@ pub fn layers_agree()
         → AreInputs s linked line is → ReleasesFirst s timers line (joint_after_all s timers (start_joint s linked) is) }
 {}
 
-/// After any inputs, a frame changes no leg in state 10, and neither its connection nor its membership, if the data link
-/// of its line is up, and so is that of the other leg of its call. Both lines begin with a link, and no other input
+/// After any inputs, a frame changes no leg in state 10, and neither its connection nor its membership, if the data links
+/// of its line and of the line of the other leg of its call are up. Both lines begin with a link, and no other input
 /// changes it. The links of all other lines may fail. So T309 ends no such call.
 pub fn calls_last()
     ensures { (s : Setting) (timers : Timers) (linked : List Bool) (is : List LinkedInput) (input : Input)
