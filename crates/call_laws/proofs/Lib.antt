@@ -33,6 +33,7 @@ pub mod LastingCallLemmas
 pub mod RecordedCallLemmas
 pub mod RecordedMessageLemmas
 pub mod LineRestartLemmas
+pub mod LineRestartSendLemmas
 mod OwedLineLemmas
 pub mod FrameRecordLemmas
 pub mod FullPortLemmas

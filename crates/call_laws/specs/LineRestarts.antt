@@ -14,7 +14,8 @@ use Rattle.exchange_events.specs.declared.record.CallRecord.{CallRecord}
 use Rattle.exchange_events.specs.declared.signal.Signal.{Signal}
 use Rattle.exchange_events.specs.declared.trace.Event.TheVariants.{RestartLine}
 use Rattle.exchange_events.specs.Sizes.{Setting}
-use Rattle.call_profile.specs.Acts.{in_disconnect_indication}
+use Rattle.tone_rules.specs.declared.tones.Tones.{Tones}
+use Rattle.call_profile.specs.Acts.{disconnect, in_disconnect_indication, tone_of, with_progress}
 use Rattle.call_profile.specs.CallRecords.{record_of}
 use Rattle.call_profile.specs.Legs.{is_down, leg_at}
 use Rattle.call_profile.specs.LinkChanges.{outcome_of_line_restart, whole_line}
@@ -48,6 +49,24 @@ abbrev pub IsRequestSent : Setting → World → ℕ → Type 0
 IsRequestSent s before line =
     is_down before.legs line ≡ false
     → Contains (outcome_of_line_restart s.dimensions s.tones line before).making.sends (interface_restart line)
+
+-- the user of the line is sent nothing else, and nothing at all while the data link is down
+abbrev pub IsSentNothingElse : Setting → World → ℕ → Type 0
+IsSentNothingElse s before line =
+    (signal : Signal) → Contains (outcome_of_line_restart s.dimensions s.tones line before).making.sends signal → signal.line ≡ line
+    → (signal ≡ interface_restart line) × (is_down before.legs line ≡ false)
+
+-- a user on another line, if the other leg of its call was on the line, is sent DISCONNECT with cause 41
+abbrev pub restart_signal : Tones → Slot → Leg → Signal
+restart_signal tones x leg =
+    let tone = tone_of tones (in_disconnect_indication temporary_failure leg) in
+    record { line = x.line; octets = encoding (with_progress tone (disconnect leg temporary_failure)) }
+
+abbrev pub PeersAreDisconnected : Setting → World → ℕ → Type 0
+PeersAreDisconnected s before line =
+    (x : Slot) (leg : Leg) (y : Slot) → IsExternal s.dimensions.external x → x.line ≢ line → leg_at before.legs x ≡ Some leg
+    → leg.peer ≡ peer.Leg y → y.line ≡ line
+    → Contains (outcome_of_line_restart s.dimensions s.tones line before).making.sends (restart_signal s.tones x leg)
 
 -- ---- the calls that end
 

@@ -23,7 +23,15 @@ ghost use Rattle.call_laws.specs.ExpiryBounds.{NoneIsLost};
 ghost use Rattle.call_laws.specs.ExpiryRecords.{ComeByExpiry, ComeByLine, IsEndRecord, IsFrameRecord, IsInFrame, IsInTurn};
 ghost use Rattle.call_profile.specs.LegStanding.{CallsStand};
 ghost use Rattle.call_profile.specs.Legs.{Legs, leg_at, lowest_free_reference};
-ghost use Rattle.call_laws.specs.LineRestarts.{IsInLineRestart, IsLineEmpty, IsLineRecord, IsRequestSent, OtherLinesAreCleared};
+ghost use Rattle.call_laws.specs.LineRestarts.{
+  IsInLineRestart,
+  IsLineEmpty,
+  IsLineRecord,
+  IsRequestSent,
+  IsSentNothingElse,
+  OtherLinesAreCleared,
+  PeersAreDisconnected,
+};
 ghost use Rattle.call_profile.specs.LinkChanges.{outcome_of_line_restart, whole_line};
 ghost use Rattle.call_laws.specs.Progress.{TellsOfTones};
 ghost use Rattle.call_laws.specs.Recorded.{Arrive, ComeByPlace, HasEnded, IsRecordOf, IsRecorded, RestartsNothing};
@@ -119,14 +127,17 @@ pub fn law_of_link_establishments()
 
 /// After the exchange restarts a line, no leg holds a channel of the line. At the other lines, a leg whose peer was removed
 /// is in disconnect indication with cause 41, and each other leg is unchanged. A slot without a leg keeps its circuit, so
-/// that nails and seats stay. The user of the line is sent RESTART of the interface, unless the data link of the line is
-/// down. The restart has the record of a call if and only if a caller's leg left states 3, 4 and 10 by it, with cause 41.
-/// The records come by the place of the first leg of their call on the line, each once.
+/// that nails and seats stay. The user of the line is sent RESTART of the interface and nothing else. While the data link of
+/// the line is down, it is sent nothing. The user of each leg whose peer was removed is sent DISCONNECT with cause 41. The
+/// restart has the record of a call if and only if a caller's leg left states 3, 4 and 10 by it, with cause 41. The records
+/// come by the place of the first leg of their call on the line, each once.
 pub fn law_of_line_restarts()
     ensures gone { (s : Setting) (w : World) (line : ℕ) → HasLine s w line → IsLineEmpty s.dimensions.external line (next s w (RestartLine line)) }
     ensures others { (s : Setting) (w : World) (line : ℕ) → HasLine s w line → OtherLinesAreCleared s.dimensions.external line w (next s w (RestartLine line)) }
     ensures unheld { (s : Setting) (w : World) (line : ℕ) → HasLine s w line → UnheldStay s.dimensions.external w (next s w (RestartLine line)) }
     ensures sent { (s : Setting) (w : World) (line : ℕ) → IsRequestSent s w line }
+    ensures only { (s : Setting) (w : World) (line : ℕ) → IsSentNothingElse s w line }
+    ensures peers { (s : Setting) (w : World) (line : ℕ) → HasLine s w line → PeersAreDisconnected s w line }
     ensures told { (s : Setting) (w : World) (line : ℕ) → HasLine s w line → (told : CallRecord)
         → Contains (outcome_of_line_restart s.dimensions s.tones line w).recorded told → (h : HeldLeg) × IsLineRecord s w line h told }
     ensures ended { (s : Setting) (w : World) (line : ℕ) → HasLine s w line → (h : HeldLeg)
