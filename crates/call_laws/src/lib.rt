@@ -13,8 +13,10 @@
 //! - After an outage no call is left on one side only ([`law_of_reconciliation`]). When the data link is up again, the
 //!   user is sent RESTART for each channel whose leg the outage removed, STATUS ENQUIRY for each leg in state 10, and the
 //!   stored RELEASE for each leg in state 19. T305 of each leg in state 12 runs, and its expiry sends RELEASE. After a
-//!   failure no other leg of the line is left ([`law_of_link_failures`]). Theorems state which RESTARTs are owed
-//!   ([`law_of_owed_restarts`]) and the effect of a reply to an enquiry ([`law_of_enquiry_replies`]).
+//!   failure no other leg of the line is left ([`law_of_link_failures`]). If the link fails again before it delivers
+//!   these messages, the next establishment repeats STATUS ENQUIRY and RELEASE, but not RESTART: T316 does not run.
+//!   Theorems state which RESTARTs are owed ([`law_of_owed_restarts`]) and the effect of a reply to an enquiry
+//!   ([`law_of_enquiry_replies`]).
 //! - A number of several lines gets the lowest idle slot of the first line that has one ([`law_of_hunting`]).
 //! - Further digits are refused with cause 34 only if each called line is down or has no idle slot, and with cause 42
 //!   only if no port is free. They end no call, so nothing is recorded ([`law_of_digits`]).
