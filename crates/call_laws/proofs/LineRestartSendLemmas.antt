@@ -1,4 +1,4 @@
--- What users are sent by the restart of a line: the user of the line, and those of the other lines.
+-- What the restart of a line sends: to the user of the line, and to the users of other lines.
 use Rattle.std.proofs.Common.{◌≡◌, ◌≢◌, ℕ, zero, suc, ◌<◌, ◌≤◌, inl, inr, Bool, true, false, List, [], ◌∷◌, ◌++◌, Option, Some, None, refl, sym, ◌∙◌, ap, subst, arith, eqb-true, if◌then◌else◌}
 use Rattle.std.specs.Prelude.{◌==◌, Contains, nat_lt, not}
 use Rattle.std.proofs.lemmas.Grind.{common_steps}
