@@ -10,7 +10,7 @@ use Rattle.circuit_model.specs.declared.channel.Slot.{Slot}
 use Rattle.circuit_model.specs.declared.circuit.Kind.{Kind}
 use Rattle.circuit_model.specs.declared.circuit.Circuit.{Circuit}
 use Rattle.circuit_model.specs.declared.circuit.Circuit.TheVariants.{Pair, Member, Tone}
-use Rattle.circuit_model.specs.FrameInput.{Input, arrives, octet_in}
+use Rattle.circuit_model.specs.FrameInput.{Input, idle_octet, arrives, octet_in}
 use Rattle.circuit_model.specs.Circuits.{listener, first_frame_of, heard_by}
 use Rattle.circuit_model.specs.Holding.{Command, empty, frames, circuits_of, Stands}
 use Rattle.circuit_model.specs.Extent.{IsExternal, NamesWithin}
@@ -22,16 +22,16 @@ use Rattle.circuit_model.proofs.Validity.{heard_by-listener, valid-empty}
 use Rattle.circuit_model.proofs.FrameRecords.{valid-frames}
 use Rattle.circuit_model.proofs.Extents.{frames_within}
 use Rattle.circuit_model.proofs.PortSeats.{recorded, each_in, owned_in, alone_in, sums_in, owner_of-ports_in_had, matched-frames, matched-empty}
-use Rattle.frame_buffer.specs.Speech.{octet_in_half}
+use Rattle.frame_buffer.specs.Speech.{AllIdle, octet_in_half}
 use Rattle.frame_buffer.specs.Highways.{Highways, octet_on}
-use Rattle.control_memory.specs.Layout.{Layout, Legal, IsSlot, Joins}
+use Rattle.control_memory.specs.Layout.{Layout, Legal, IsSlot, Joins, path_out, path_to}
 use Rattle.control_memory.specs.Tables.{HasTables}
-use Rattle.control_memory.proofs.Carrying.{crossing_is}
+use Rattle.control_memory.proofs.Carrying.{crossing_is, fetched_carried}
 use Rattle.control_memory.specs.Image.{Control, lines_of, EachSlot, read, heard_at, room_at, sent, received}
 use Rattle.control_memory.specs.Carrying.{fetched, HoldsCrossing}
 use Rattle.control_memory.specs.Shown.{to_port, IsNeeded, member_at, served_by, heard_as, seated_as, circuit_of, ShowsBy}
 use Rattle.frame_engine.specs.Frames.{Come, octet_brought, mixed_through, mixed_at}
-use Rattle.frame_engine.specs.Carries.{Stages, CarriesAt, CarriesLast, EngineCarries, brought_before}
+use Rattle.frame_engine.specs.Carries.{Stages, CarriesAt, CarriesLast, EngineCarries, Fades, HasEngineSizes, brought_before, lines_in}
 use Rattle.frame_engine.specs.Ports.{given_to}
 use Rattle.conference_mix.specs.Bridge.{mixed_for as mixed_for_port}
 use Rattle.frame_engine.specs.Playing.{played_as}
@@ -39,7 +39,7 @@ use Rattle.frame_engine.proofs.PortRows.{added, added_at, row_of, mixed_to, row_
 use Rattle.frame_engine.proofs.EarlierFrames.{counted-more, length-push, arrives-earlier, arrives-last, circuits-earlier, circuits-last, ports-earlier, ports-last, mix-earlier, brought_before-earlier}
 use Rattle.frame_engine.proofs.MemberPorts.{not-below, heard_is, member_at-number, numbered-member_at, port_of-owner}
 use Rattle.frame_engine.proofs.RoomSums.{entry, mixed_is}
-use Rattle.frame_engine.proofs.ReadOut.{fetched_read_joined, crosses_alike}
+use Rattle.frame_engine.proofs.ReadOut.{fetched_read_joined, from_inlet-silence, crosses_alike}
 
 -- an engine and its control memory of the next frame, as `frame` gets them, and what was read out
 pub record IsAt (e : Stages) (m : Control) (out : List ℕ) : Type 0 where
@@ -52,14 +52,34 @@ pub record IsAt (e : Stages) (m : Control) (out : List ℕ) : Type 0 where
   pub frame : m.frame ≡ e.next
   pub read_out : EachSlot (e.external + e.bridges) (λ at. octet_in_half out at ≡ fetched (read e.kept at.line at.place) (octet_on e.crossed at.line))
 
--- what a frame does to the octets, stage by stage
-pub record Did (e : Stages) (m : Control) (input : Input) (out taken : List ℕ) (highway crossed : Highways) : Type 0 where
-  pub sends : (line slot : ℕ) → line < e.external + e.bridges → slot < e.slots → octet_on highway line slot ≡ fetched (sent m line slot) (λ place. octet_in_half e.taken (record { line = line; place = place }))
-  pub crosses : (line slot : ℕ) → line < e.external + e.bridges → slot < e.slots → octet_on crossed line slot ≡ fetched (received m line slot) (λ from. octet_on highway from slot)
-  pub lines : crossed.lines ≡ e.external + e.bridges
-  pub slots : crossed.slots ≡ e.slots
+-- what is read out is idle, if only idle octets crossed
+pub reads_idle : (e : Stages) (inputs : List Input) (held : List (List Circuit)) (ports : List Ports) → HasEngineSizes e → (f : ℕ) → CarriesAt e inputs held ports f
+    → ((line slot : ℕ) → line < lines_in e → slot < e.slots → octet_on e.crossed line slot ≡ idle_octet)
+    → (at : Slot) → at.line < lines_in e → at.place < 30 → fetched (read e.kept at.line at.place) (octet_on e.crossed at.line) ≡ idle_octet
+reads_idle e inputs held ports sizes zero fresh idle at here near =
+    ap (λ (o : Option ℕ). fetched o (octet_on e.crossed at.line)) (fresh.paths.outgoing at.line at.place (let a = sizes.kept_external in let b = sizes.kept_bridges in omega (arith, here, a, b)) near)
+reads_idle e inputs held ports sizes (suc f) last idle at here near =
+    let a = sizes.kept_external in
+    let b = sizes.kept_bridges in
+    let s = sizes.kept_slots in
+    let holds : HoldsCrossing (lines_of e.kept) e.kept.slots last.layout (λ x. idle_octet) (octet_on e.crossed) = λ line slot inside low. idle line slot (omega (arith, inside, a, b)) (omega (arith, low, s)) ∙ sym (from_inlet-silence (path_out last.layout line slot)) in
+    fetched_carried (lines_of e.kept) e.kept.slots last.layout (sent e.kept) (received e.kept) (read e.kept) (λ x. idle_octet) last.shows.legal last.shows.tables (octet_on e.crossed) holds at (omega (arith, here, a, b)) near
+    ∙ from_inlet-silence (path_to last.layout at)
+
+-- the octets that a frame stores: arrivals on external lines, and mixes in conference ports
+pub record Takes (e : Stages) (m : Control) (input : Input) (out taken : List ℕ) : Type 0 where
   pub takes : (at : Slot) → at.line < e.external → at.place < 30 → octet_in_half taken at ≡ octet_in input at
   pub mixes : (k : ℕ) → k < 30 * e.bridges → octet_in_half taken (port_numbered m.external k) ≡ given_to m (octet_in_half out) k
+
+-- what the first two stages do to the octets that are stored
+pub record Crosses (e : Stages) (m : Control) (highway crossed : Highways) : Type 0 where
+  pub sends : (line slot : ℕ) → line < e.external + e.bridges → slot < e.slots → octet_on highway line slot ≡ fetched (sent m line slot) (λ place. octet_in_half e.taken (record { line = line; place = place }))
+  pub crosses : (line slot : ℕ) → line < e.external + e.bridges → slot < e.slots → octet_on crossed line slot ≡ fetched (received m line slot) (λ from. octet_on highway from slot)
+
+-- the highways after the space stage have each of the engine's lines, with its internal slots
+pub record HasHighwaySizes (e : Stages) (crossed : Highways) : Type 0 where
+  pub lines : crossed.lines ≡ e.external + e.bridges
+  pub slots : crossed.slots ≡ e.slots
 
 module _ (e : Stages) (m : Control) (out : List ℕ) (is : IsAt e m out) (inputs : List Input) (held : List (List Circuit)) (ports : List Ports) (input : Input) (circuits : List Circuit) (seats : Ports) (carries : EngineCarries e inputs held ports) (layout : Layout) (shows : ShowsBy layout m circuits seats e.next) (come : Come e.external e.bridges (held ++ circuits ∷ []) (ports ++ seats ∷ [])) where
   abbrev lines : ℕ
@@ -359,8 +379,8 @@ module _ (e : Stages) (m : Control) (out : List ℕ) (is : IsAt e m out) (inputs
   abbrev brought_now : ℕ → Slot → ℕ
   brought_now f at = octet_brought e.external (inputs ++ input ∷ []) (held ++ circuits ∷ []) (ports ++ seats ∷ []) f at
 
-  pub octet_in_half_taken : (highway crossed : Highways) (taken : List ℕ) → Did e m input out taken highway crossed → (at : Slot) → at.line < lines → at.place < 30 → octet_in_half taken at ≡ brought_now n at
-  octet_in_half_taken highway crossed taken did at inside near =
+  pub octet_in_half_taken : (taken : List ℕ) → Takes e m input out taken → (at : Slot) → at.line < lines → at.place < 30 → octet_in_half taken at ≡ brought_now n at
+  octet_in_half_taken taken did at inside near =
       elim (leb_tells (suc at.line) e.external) [
         | inl here ↦
             did.takes at (omega (arith, here.1)) near
@@ -386,30 +406,60 @@ module _ (e : Stages) (m : Control) (out : List ℕ) (is : IsAt e m out) (inputs
   octet_in_half_took zero fresh x inside = fresh.taken x inside.0 inside.1
   octet_in_half_took (suc f) last x inside = last.taken x inside.0 inside.1
 
-  pub HoldsCrossing-brought_before : (highway crossed : Highways) (taken : List ℕ) → Did e m input out taken highway crossed → HoldsCrossing lines e.slots layout (brought_before e.external (inputs ++ input ∷ []) (held ++ circuits ∷ []) (ports ++ seats ∷ []) n) (octet_on crossed)
-  HoldsCrossing-brought_before highway crossed taken did =
-      let same_lines : lines_of m ≡ lines = let a = is.external in let b = is.bridges in omega (arith, a, b) in
-      let legal = subst (λ s. Legal lines s layout) is.slots (subst (λ l. Legal l m.slots layout) same_lines shows.legal) in
-      let tables = subst (λ s. HasTables lines s layout (sent m) (received m) (read m)) is.slots (subst (λ l. HasTables l m.slots layout (sent m) (received m) (read m)) same_lines shows.tables) in
+  same_lines : lines_of m ≡ lines
+  same_lines = let a = is.external in let b = is.bridges in omega (arith, a, b)
+
+  legal : Legal lines e.slots layout
+  legal = subst (λ s. Legal lines s layout) is.slots (subst (λ l. Legal l m.slots layout) same_lines shows.legal)
+
+  tables : HasTables lines e.slots layout (sent m) (received m) (read m)
+  tables = subst (λ s. HasTables lines s layout (sent m) (received m) (read m)) is.slots (subst (λ l. HasTables l m.slots layout (sent m) (received m) (read m)) same_lines shows.tables)
+
+  -- the octets that were stored cross by the layout
+  pub holds_taken : (highway crossed : Highways) → Crosses e m highway crossed → HoldsCrossing lines e.slots layout (octet_in_half e.taken) (octet_on crossed)
+  holds_taken highway crossed did line slot here near =
+      did.crosses line slot here near ∙ crossing_is lines e.slots layout (sent m) (received m) (read m) (octet_in_half e.taken) legal tables (octet_on highway) did.sends line slot here near
+
+  HoldsCrossing-brought_before : (crossed : Highways) → HoldsCrossing lines e.slots layout (octet_in_half e.taken) (octet_on crossed) → HoldsCrossing lines e.slots layout (brought_before e.external (inputs ++ input ∷ []) (held ++ circuits ∷ []) (ports ++ seats ∷ []) n) (octet_on crossed)
+  HoldsCrossing-brought_before crossed holds =
       crosses_alike lines e.slots layout (octet_in_half e.taken) (brought_before e.external (inputs ++ input ∷ []) (held ++ circuits ∷ []) (ports ++ seats ∷ []) n) (octet_on crossed) legal
       (λ x inside. octet_in_half_took n carries.last x inside ∙ sym (brought_before-earlier e.external inputs held ports input circuits seats n carries.counted n x refl))
-      (λ line slot here near. did.crosses line slot here near ∙ crossing_is lines e.slots layout (sent m) (received m) (read m) (octet_in_half e.taken) legal tables (octet_on highway) did.sends line slot here near)
+      holds
 
-  -- the engine afterwards
-  abbrev after_frame : List ℕ → Highways → Stages
-  after_frame taken crossed = record { external = e.external; bridges = e.bridges; slots = e.slots; next = n + 1; kept = m; taken = taken; crossed = crossed }
+  -- ---- what fades
+  abbrev silence : Slot → ℕ
+  silence at = idle_octet
 
-  pub carries_on : (highway crossed : Highways) (taken : List ℕ) → Did e m input out taken highway crossed → EngineCarries (after_frame taken crossed) (inputs ++ input ∷ []) (held ++ circuits ∷ []) (ports ++ seats ∷ [])
-  carries_on highway crossed taken did =
-      let last : CarriesLast (after_frame taken crossed) (inputs ++ input ∷ []) (held ++ circuits ∷ []) (ports ++ seats ∷ []) n = record {
+  -- idle octets that were stored cross as idle octets
+  pub crosses_silence : (crossed : Highways) → HoldsCrossing lines e.slots layout (octet_in_half e.taken) (octet_on crossed) → AllIdle lines e.taken → HoldsCrossing lines e.slots layout silence (octet_on crossed)
+  crosses_silence crossed holds idle = crosses_alike lines e.slots layout (octet_in_half e.taken) silence (octet_on crossed) legal (λ x inside. idle x inside.0 inside.1) holds
+
+  pub crosses_idle : (crossed : Highways) → HoldsCrossing lines e.slots layout (octet_in_half e.taken) (octet_on crossed) → AllIdle lines e.taken → (line slot : ℕ) → line < lines → slot < e.slots → octet_on crossed line slot ≡ idle_octet
+  crosses_idle crossed holds idle line slot here near = crosses_silence crossed holds idle line slot here near ∙ from_inlet-silence (path_out layout line slot)
+
+  -- while nothing has crossed, nothing crosses
+  pub holds_idle : (crossed : Highways) → AllIdle lines e.taken → ((line slot : ℕ) → line < lines → slot < e.slots → octet_on crossed line slot ≡ idle_octet) → HoldsCrossing lines e.slots layout (octet_in_half e.taken) (octet_on crossed)
+  holds_idle crossed idle all =
+      crosses_alike lines e.slots layout silence (octet_in_half e.taken) (octet_on crossed) legal (λ x inside. sym (idle x inside.0 inside.1))
+      (λ line slot here near. all line slot here near ∙ sym (from_inlet-silence (path_out layout line slot)))
+
+  -- ---- the engine afterwards
+  abbrev after_frame : List ℕ → Highways → ℕ → Stages
+  after_frame taken crossed live = record { external = e.external; bridges = e.bridges; slots = e.slots; next = n + 1; kept = m; taken = taken; crossed = crossed; read = out; live = live }
+
+  pub carries_on : (taken : List ℕ) (crossed : Highways) (live : ℕ) → Takes e m input out taken → HoldsCrossing lines e.slots layout (octet_in_half e.taken) (octet_on crossed) → HasHighwaySizes e crossed → Fades (after_frame taken crossed live)
+      → EngineCarries (after_frame taken crossed live) (inputs ++ input ∷ []) (held ++ circuits ∷ []) (ports ++ seats ∷ [])
+  carries_on taken crossed live did holds size fades =
+      let last : CarriesLast (after_frame taken crossed live) (inputs ++ input ∷ []) (held ++ circuits ∷ []) (ports ++ seats ∷ []) n = record {
         layout = layout;
         shows = subst (λ (ps : Ports). ShowsBy layout m (circuits_of (held ++ circuits ∷ []) n) ps n) (sym (ports-last ports seats n carries.counted.ports_counted))
             (subst (λ (ds : List Circuit). ShowsBy layout m ds seats n) (sym (circuits-last held circuits n carries.counted.held_counted)) shows);
-        taken = octet_in_half_taken highway crossed taken did;
-        crossed = HoldsCrossing-brought_before highway crossed taken did;
+        taken = octet_in_half_taken taken did;
+        crossed = HoldsCrossing-brought_before crossed holds;
       } in
       record {
-        sizes = record { kept_external = is.external; kept_bridges = is.bridges; kept_slots = is.slots; crossed_lines = did.lines; crossed_slots = did.slots };
+        sizes = record { kept_external = is.external; kept_bridges = is.bridges; kept_slots = is.slots; crossed_lines = size.lines; crossed_slots = size.slots };
+        fades = fades;
         counted = counted-more n inputs held ports input circuits seats carries.counted;
-        last = subst (λ f. CarriesAt (after_frame taken crossed) (inputs ++ input ∷ []) (held ++ circuits ∷ []) (ports ++ seats ∷ []) f) (sym (add-one n)) last;
+        last = subst (λ f. CarriesAt (after_frame taken crossed live) (inputs ++ input ∷ []) (held ++ circuits ∷ []) (ports ++ seats ∷ []) f) (sym (add-one n)) last;
       }

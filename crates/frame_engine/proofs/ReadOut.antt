@@ -1,6 +1,7 @@
 -- What is read out for an outlet is what was crossed for the inlet that it was joined to.
 use Rattle.std.proofs.Common.{◌≡◌, ℕ, Option, Some, None, refl, ap, ◌∙◌}
 use Rattle.circuit_model.specs.declared.channel.Slot.{Slot}
+use Rattle.circuit_model.specs.FrameInput.{idle_octet}
 use Rattle.control_memory.specs.Layout.{Path, Layout, Legal, IsSlot, Joins, path_out}
 use Rattle.control_memory.specs.Tables.{HasTables}
 use Rattle.control_memory.specs.Carrying.{fetched, from_inlet, HoldsCrossing}
@@ -12,6 +13,11 @@ pub fetched_read_joined : (lines slots : ℕ) (layout : Layout) (places crossed 
 fetched_read_joined lines slots layout places crossed read octet held legal tables holds x y from to joins =
     fetched_carried lines slots layout places crossed read octet legal tables held holds y to.0 to.1
     ∙ ap (λ (o : Option Path). from_inlet o octet) (path_to_is lines slots layout x y joins.0 legal from joins.1)
+
+-- no path brings an octet that is not idle where all are idle
+pub from_inlet-silence : (o : Option Path) → from_inlet o (λ at. idle_octet) ≡ idle_octet
+from_inlet-silence None = refl
+from_inlet-silence (Some p) = refl
 
 -- the octets of the slots are all that crosses
 by_path : (lines slots : ℕ) (layout : Layout) (octet other : Slot → ℕ) (line slot : ℕ) (o : Option Path) → Legal lines slots layout → ((x : Slot) → IsSlot lines x → octet x ≡ other x) → path_out layout line slot ≡ o → from_inlet o octet ≡ from_inlet o other

@@ -14,7 +14,8 @@ use Rattle.control_memory.specs.Shown.{ShowsBy}
 use Rattle.frame_engine.specs.Frames.{AreCounted, octet_brought}
 
 -- an engine: its sizes, the number of its next frame, the control memory of the frame before that, the octets that the
--- frame before brought to each slot, and the octets that crossed in it
+-- frame before brought to each slot, the octets that crossed in it, the octets that were read out in it, and the number
+-- of frames after which all these octets are idle, if none arrives
 pub record Stages : Type 0 where
   pub external : ℕ
   pub bridges : ℕ
@@ -23,6 +24,8 @@ pub record Stages : Type 0 where
   pub kept : Control
   pub taken : List ℕ
   pub crossed : Highways
+  pub read : List ℕ
+  pub live : ℕ
 
 -- the octets that the frame before frame f brought; before the first frame everything is idle
 abbrev pub brought_before : ℕ → List Input → List (List Circuit) → List Ports → ℕ → Slot → ℕ
@@ -40,6 +43,13 @@ pub record HasEngineSizes (e : Stages) : Type 0 where
   pub kept_slots : e.kept.slots ≡ e.slots
   pub crossed_lines : e.crossed.lines ≡ lines_in e
   pub crossed_slots : e.crossed.slots ≡ e.slots
+
+-- the octets of an engine fade: in the last two frames before it rests nothing is stored, in the last one nothing crosses
+-- either, and while it rests nothing is read out
+pub record Fades (e : Stages) : Type 0 where
+  pub taken : e.live ≤ 2 → EachSlot (lines_in e) (λ at. octet_in_half e.taken at ≡ idle_octet)
+  pub crossed : e.live ≤ 1 → (line slot : ℕ) → line < lines_in e → slot < e.slots → octet_on e.crossed line slot ≡ idle_octet
+  pub read : e.live ≡ 0 → EachSlot (lines_in e) (λ at. octet_in_half e.read at ≡ idle_octet)
 
 -- after frame f the kept control memory shows that frame's circuits and ports, by a layout; each slot has the octet
 -- that frame f brought; and each outgoing line has, in each internal slot, the octet that the frame before brought to
@@ -65,6 +75,7 @@ CarriesAt e inputs held ports (suc f) = CarriesLast e inputs held ports f
 -- the engine carries the frames with these inputs, circuits and ports
 pub record EngineCarries (e : Stages) (inputs : List Input) (held : List (List Circuit)) (ports : List Ports) : Type 0 where
   pub sizes : HasEngineSizes e
+  pub fades : Fades e
   pub counted : AreCounted e.next inputs held ports
   pub last : CarriesAt e inputs held ports e.next
 

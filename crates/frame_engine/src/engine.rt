@@ -9,8 +9,9 @@ ghost use Rattle.frame_engine.specs.Carries.{EngineCarries};
 
 use crate::carrier::Carrier;
 use crate::intake::take_in;
-use crate::play::play;
+use crate::play::{play, play_at_rest};
 use crate::ports::mix_ports;
+use crate::resting::live_after;
 use alaw_codec::CodeTable;
 use control_memory::Image;
 use frame_buffer::{Crossed, FrameBuffer, Highway};
@@ -33,6 +34,8 @@ const LEVELS: u8 = 3;
 /// frame, which it keeps. Last it stores the octets that arrive. An octet therefore leaves two frames after it arrived,
 /// whether or not its path moved in between, and a mixed octet passes the stages twice. This project chose the order.
 ///
+/// Without bridges it rests after three frames in which nothing arrived: all its octets are idle, so none moves.
+///
 /// Only `new` allocates. A frame's work is the same for all circuits. It takes no lock, and waits only for the halves
 /// of its stages, which return.
 #[derive(Debug, Drop)]
@@ -42,6 +45,8 @@ pub struct Engine {
     slots: u8,
     levels: u8,
     next: u32,
+    // The number of frames after which all octets are idle, if none arrives.
+    live: u8,
     kept: Image,
     speech: FrameBuffer,
     highway: Highway,
@@ -64,6 +69,8 @@ impl Model for Engine {
       kept = e.kept;
       taken = e.speech.readable;
       crossed = e.crossed;
+      read = e.read.readable;
+      live = e.live;
     } };
 
     ghost invariant = { λ e. IsBuilt e.external e.bridges e.slots e.levels e.kept e.speech e.highway e.crossed e.read };
@@ -73,6 +80,7 @@ impl Model for Engine {
 fn memories(alloc: Global, lines: u8) -> Result<(FrameBuffer, FrameBuffer), AllocError>
     ensures lines { IfOk result (λ m. (m.0.lines ≡ lines) × (m.1.lines ≡ lines)) }
     ensures idle { IfOk result (λ m. AllIdle lines m.0.readable) }
+    ensures read { IfOk result (λ m. AllIdle lines m.1.readable) }
 {
     let speech = FrameBuffer::new(alloc, lines)?;
     let read = FrameBuffer::new(alloc, lines)?;
@@ -123,6 +131,7 @@ impl Carrier for Engine {
             slots,
             levels: LEVELS,
             next: 0,
+            live: 0,
             kept: Image::new(alloc, external, bridges, slots)?,
             speech,
             highway,
@@ -140,6 +149,13 @@ impl Carrier for Engine {
         input: &[Option<[u8; 30]>],
         out: &mut [[u8; 30]],
     ) {
+        let Some(live) = live_after(self.live, self.bridges, input) else {
+            play_at_rest(&self.read, image, tones, out);
+            mem::swap(&mut self.kept, image);
+            self.next += 1;
+            return;
+        };
+        self.live = live;
         let levels = self.levels;
         outgoing_shared(rt, &self.crossed, &self.kept, &mut self.read, levels);
         self.read.swap();

@@ -16,6 +16,7 @@ mod intake;
 mod marker;
 mod play;
 mod ports;
+mod resting;
 
 pub use carrier::Carrier;
 pub use engine::Engine;

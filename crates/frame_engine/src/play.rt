@@ -4,7 +4,7 @@ ghost use Rattle.std.specs.Prelude.{if◌then◌else◌, ◌≡◌, ◌↔◌, �
 ghost use Rattle.circuit_model.specs.declared.channel.Slot.{Slot};
 ghost use Rattle.circuit_model.specs.declared.circuit.Kind.{Kind};
 ghost use Rattle.circuit_model.specs.FrameInput.{idle_octet};
-ghost use Rattle.frame_buffer.specs.Speech.{octet_in_half};
+ghost use Rattle.frame_buffer.specs.Speech.{AllIdle, octet_in_half};
 ghost use Rattle.control_memory.specs.Image.{lines_of, heard_at};
 ghost use Rattle.tone_rules.specs.Tables.{table_of, IsGiven};
 ghost use Rattle.frame_engine.specs.Frames.{PlaysOut, TonesGiven};
@@ -18,7 +18,8 @@ use tone_rules::{Tones, tone_octet};
 const IDLE_LINE: [u8; 30] = [IDLE; 30];
 
 // Writes the octet that each external slot sends. The lines after the last one that may receive something are idle, and
-// are written at once.
+// are written at once. Two functions call it, and LLVM would leave it a call.
+#[inline(always)]
 pub(crate) fn play(read: &FrameBuffer, image: &Image, tones: &Tones, out: &mut [[u8; 30]])
     requires read { read.now.lines ≡ lines_of image.now }
     requires lines { lines_of image.now ≤ 255 }
@@ -33,6 +34,21 @@ pub(crate) fn play(read: &FrameBuffer, image: &Image, tones: &Tones, out: &mut [
         play_line(read.row(line), table, line, tones, image.frame(), octets);
     }
     fill_idle_from(out, usize::from(lines));
+}
+
+// Writes the octet that each external slot sends, if only idle octets were read out. Without tones all of them are idle.
+pub(crate) fn play_at_rest(read: &FrameBuffer, image: &Image, tones: &Tones, out: &mut [[u8; 30]])
+    requires read { read.now.lines ≡ lines_of image.now }
+    requires lines { lines_of image.now ≤ 255 }
+    requires out { length out.old ≡ image.now.external }
+    requires tones { TonesGiven tones.now image.now }
+    ensures { AllIdle (lines_of image.now) read.now.readable → PlaysOut image.now.external (played_at (table_of tones.now) image.now (octet_in_half read.now.readable)) out.new }
+{
+    if gives_none(tones) {
+        fill_idle_from(out, 0);
+    } else {
+        play(read, image, tones, out);
+    }
 }
 
 // Returns how many external lines, from line 0 on, may receive something.
@@ -56,6 +72,7 @@ fn fill_idle_from(out: &mut [[u8; 30]], first: usize)
 }
 
 // Writes the octets that one line sends, given the octets that were read out for its places. A silent line is idle.
+#[inline(always)]
 fn play_line(
     read: &[u8],
     table: &HeardTable,
