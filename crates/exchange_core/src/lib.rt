@@ -23,9 +23,6 @@ mod switchboard;
 mod tool;
 
 pub use call_control::{DialledNumber, PreparsedMessage};
-pub use call_profile::{
-    law_of_answered_calls, law_of_legs, law_of_paths, law_of_refusals, law_of_refused_calls,
-};
 pub use exchange_events::{
     Answer, CallRecord, Encoded, Event, Events, Input, Kept, Octets, Outbox, Party, RecordList,
     Records, Reply, Response, Rows, Segments, Signal, SignalList, Signals, Trace,
