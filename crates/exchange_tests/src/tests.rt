@@ -3,7 +3,6 @@
 mod core_steps;
 mod gates;
 mod lock;
-mod lone;
 mod opened;
 mod segments;
 mod traces;
@@ -17,7 +16,6 @@ use core_steps::nail_is_shown;
 use exchange_core::Switchboard;
 use exchange_events::Trace;
 use gate::{Gate, OpenGate, TestGate};
-use lone::lines_agree;
 use opened::opened;
 use segments::{frames_are_answered, part_is_answered, segments_are_answered};
 use std::alloc::{AllocError, Global};
@@ -184,11 +182,5 @@ fn segments_are_answered_whole_by_one_caller(rt: HostRuntime) -> Result<(), Fail
 #[test]
 fn segments_are_answered_whole_in_threads(rt: HostRuntime) -> Result<(), Fail> {
     assert!(rt; all_workers_answer(&rt, rt.alloc(), &TestGate::new(0, 9))?);
-    Ok(())
-}
-
-#[test]
-fn one_caller_gives_the_lines_of_reports(rt: HostRuntime) -> Result<(), Fail> {
-    assert!(rt; lines_agree(&rt, rt.alloc()));
     Ok(())
 }
