@@ -135,7 +135,7 @@ def signals(trace: Path) -> Iterator[Signal]:
     events = [
         line
         for line in trace.read_text().splitlines()
-        if line.split(" ")[0] in ("nail", "seat", "free", "M", "L", "up", "down", "F")
+        if line.split(" ")[0] in ("nail", "seat", "free", "M", "L", "up", "down", "restart", "F")
     ]
     replies = [line for line in report_of(trace).read_text().splitlines() if line[0].isdigit()]
     for event, reply in zip(events, replies):

@@ -7,11 +7,12 @@ report to it. All that happens is in the log, and a run of `tst follow` over the
 from __future__ import annotations
 
 import contextlib
+import enum
 import signal
 import socket
 import time
 from collections import deque
-from collections.abc import Mapping, Sequence
+from collections.abc import Iterable, Mapping, Sequence
 from pathlib import Path
 from typing import NamedTuple
 
@@ -37,7 +38,7 @@ from nemzhuul.signalling.captures import CaptureWriter
 from nemzhuul.signalling.lapd import frame_text
 from nemzhuul.signalling.q931 import SETUP, message_text
 from nemzhuul.sip.gateway_process import OPTIONS as SIP_OPTIONS, GatewayProcess
-from nemzhuul.traces.events import FRAMES_PER_SECOND, Arrival, Event, Frame, Link, LinkArrival, Trace
+from nemzhuul.traces.events import FRAMES_PER_SECOND, Arrival, Event, Frame, Link, LinkArrival, Restart, Trace
 from nemzhuul.traces.reading import NUMERAL, TraceReader, is_said, lines_of, take_lines
 
 USAGE = """usage: tools/attach [OPTION ..] [--line L ADDRESS ..] [--link L ADDRESS ..] SETTINGS
@@ -78,11 +79,25 @@ OUTPUTS = {"log": "the log", "report": "the report", "pcap": "the capture", "rec
 APPENDED = ("records",)  # files that may have content
 
 
+class Cause(enum.Enum):
+    """Why an event without a message was given."""
+
+    SETTINGS = "a line of the settings"
+    START = "the first endpoint of a line since the start"
+    OPERATOR = "a command"
+
+
 class Asked(NamedTuple):
-    """A message or a frame of a data link, of which the exchange has not said yet what comes of it."""
+    """A message or a frame of a data link, or a restart or a change of a link, of which the exchange has not said yet what
+    comes of it."""
 
     line: int
-    digits: bytes
+    what: bytes | Cause  # digits, if there are octets
+
+    @property
+    def signal(self) -> tuple[int, bytes] | None:
+        """The line and the digits of a message or a frame."""
+        return None if isinstance(self.what, Cause) else (self.line, self.what)
 
 
 class Options:
@@ -301,13 +316,24 @@ class Live:
         if self.records is not None:
             self.records.begin()
         if self.history is None:
-            self.give(self.options.settings, self.options.events)
+            self.begin()
         else:
             self.resume(self.history)
         for port in self.ports():
             port.open()
         if self.operators is not None:
             self.operators.open()
+
+    def begin(self) -> None:
+        """Gives the exchange its settings, and has the user of each line be sent RESTART first."""
+        changed = [event.line for event in self.options.trace.events if isinstance(event, (Link, Restart))]
+        self.asked += [Asked(line, Cause.SETTINGS) for line in changed]
+        self.give(self.options.settings, self.options.events)
+        for line in self.lines.values():
+            line.is_new = not line.has_link
+        text: list[bytes] = []
+        self.restart(text, self.channels)  # they get it as soon as their links are established
+        self.give(b"".join(text), len(text))
 
     def run(self) -> None:
         """Makes frames by the clock until an interrupt, the end of the exchange, or the end of its time."""
@@ -405,13 +431,14 @@ class Live:
         self.use.burst()
         text: list[bytes] = []
         left = self.use.frames
-        messages = self.link_frames(text)
+        self.restart(text, [number for number, line in self.lines.items() if line.is_new and line.endpoint is not None])
+        messages = len(text) + self.link_frames(text)
         for line in self.lines.values():
             line.begin_period()
         while True:
-            due = [Asked(number, digits) for number, line in self.lines.items() for digits in line.messages_due()]
+            due = [(number, digits) for number, line in self.lines.items() for digits in line.messages_due()]
             text += [b"M %d %s\n" % message for message in due]
-            self.asked += due
+            self.asked += [Asked(*message) for message in due]
             messages += len(due)
             if not left:
                 break
@@ -422,6 +449,14 @@ class Live:
         self.give(b"".join(text), self.use.frames + messages)
         for port in self.ports():
             port.watch()
+
+    def restart(self, text: list[bytes], lines: Iterable[int]) -> None:
+        """Appends the restarts of lines whose users have not been sent RESTART since the start."""
+        for line in lines:
+            text.append(b"restart %d\n" % line)
+            self.asked.append(Asked(line, Cause.START))
+            if self.follower is not None:
+                self.follower.commands.append(Restart(line))
 
     def link_frames(self, text: list[bytes]) -> int:
         """Appends the frames of data links that have come, each below a comment. Returns how many they are."""
@@ -438,6 +473,8 @@ class Live:
         """Gives the exchange a command of an operator."""
         if self.follower is not None:
             self.follower.commands.append(event)
+        if isinstance(event, Restart):
+            self.asked.append(Asked(event.line, Cause.OPERATOR))
         self.give(f"{line}\n".encode(), 1)
 
     def give(self, text: bytes, events: int) -> None:
@@ -450,13 +487,13 @@ class Live:
 
     def take(self, text: bytes) -> None:
         """Takes whole lines of the report."""
-        listeners = [line for line in self.lines.values() if line.is_listening]
-        for reply in text.replace(b":", b" ").split(b"\n"):
-            words = reply.split(b" ")
+        listeners = [line for line in self.lines.values() if line.is_listening and line.is_served]
+        for reply in text.split(b"\n"):
+            words = reply.replace(b":", b" ").split(b" ")
             word = words[1:2]
             self.replied += 1
             if self.follower is not None:
-                self.follower.take(words, self.asked[0] if self.asked and word in ([b"message"], [b"link"]) else None)
+                self.follower.take(words, self.asked[0].signal if self.asked and word in ([b"message"], [b"link"]) else None)
             if word == [b"frame"]:
                 self.frame += 1
                 first = self.take_sends(words)
@@ -464,7 +501,8 @@ class Live:
                 for line in listeners:
                     line.hear(octets.get(line.key))
             elif word == [b"message"]:
-                self.take_message(words[2:])
+                if self.take_message(words[2:]) is Cause.OPERATOR and self.operators is not None:
+                    self.operators.take(reply)
             elif word == [b"link"]:
                 told = words[2:3] and words[2] in (b"took", b"up", b"down")
                 if told and words[2] != b"took":
@@ -495,14 +533,18 @@ class Live:
         if number in self.channels:
             self.channels[number].state.set(word == b"up")
 
-    def take_message(self, sent: Sequence[bytes]) -> None:
-        """Takes the reply to a message, or to a frame of a data link: the lines and the digits of what is sent."""
-        number, digits = self.asked.popleft()
-        self.capture.write(self.packets.packet(self.frame, number, False, bytes.fromhex(digits.decode())))
+    def take_message(self, sent: Sequence[bytes]) -> bytes | Cause:
+        """Takes the lines and the digits of what is sent in reply. Returns what was asked."""
+        number, what = self.asked.popleft()
+        if not isinstance(what, Cause):
+            self.capture.write(self.packets.packet(self.frame, number, False, bytes.fromhex(what.decode())))
+        elif what is Cause.START and number in self.lines and self.lines[number].is_new:
+            self.lines[number].greet()
         for at in range(3 if sent[:1] == [b"moved"] else 0, len(sent), 2):
             self.deliver(sent[at], sent[at + 1])
-        if digits is SHUT_DOWN:
+        if what is SHUT_DOWN:
             self.lines[number].open()
+        return what
 
     def deliver(self, key: bytes, digits: bytes) -> None:
         octets = bytes.fromhex(digits.decode())
@@ -511,7 +553,7 @@ class Live:
         line = self.lines.get(number)
         if number in self.options.linked:
             self.deliver_frame(number, octets)
-        elif line is not None and line.endpoint is not None:
+        elif line is not None and line.is_served:
             line.due.append(b"M " + digits)
         elif octets[4] == SETUP:
             say(f"{NAME}: line {number}: no endpoint gets {message_text(octets)}")

@@ -30,6 +30,7 @@ What happens:
     WHO begins to dial                        WHO dials DIGITS [to the end]
     line L falls silent                       line L recovers
     the link of line L fails                  the link of line L is up
+    line L is restarted                       (by the exchange)
     line L sends HEX                          SLOT is nailed to SLOT
     SLOT joins room R                         SLOT is freed
     SLOT speaks from WAV                      SLOT is silent
@@ -239,8 +240,11 @@ class Script:
         self.endpoints.link_is_up(line)
         self.changes(f"up {line}")
 
+    def is_restarted(self, line: int) -> None:
+        self.changes(f"restart {line}")
+
     def changes(self, text: str) -> None:
-        """A change of a data link, and, unless more happens at once, what comes of it."""
+        """A change of a data link, or a restart of a line by the exchange, and, unless more happens at once, what comes of it."""
         self.trace.event(text)
         if self.block is None:
             answers = self.heard() if self.trace.has_messages else []
@@ -378,6 +382,7 @@ ACTS: dict[str, Act] = {
     "line LINE sends HEX": Script.sends,
     "the link of line LINE fails": Script.link_fails,
     "the link of line LINE is up": Script.link_is_up,
+    "line LINE is restarted": Script.is_restarted,
     "AT joins room ROOM": Script.joins,
     "AT is nailed to AT": Script.is_nailed,
     "AT is freed": Script.is_freed,

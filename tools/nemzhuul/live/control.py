@@ -17,7 +17,7 @@ from nemzhuul.live.processes import Loop
 from nemzhuul.live.shows import SHOWS, shown
 from nemzhuul.live.snapshots import Snapshot
 from nemzhuul.live.wire import Address, receive
-from nemzhuul.traces.events import Event, Free, Nail, Seat, Slot
+from nemzhuul.traces.events import Event, Free, Nail, Restart, Seat, Slot
 from nemzhuul.traces.phrases import Act, Phrases, Values
 
 MODE = 0o600  # only the owner of the socket gives commands
@@ -37,6 +37,7 @@ HELP = {
     "nail L/C L/C": "connects two slots, both ways",
     "seat L/C ROOM": "makes a slot a member of a room",
     "free L/C": "releases the nail or the seat of a slot",
+    "restart L": "ends the calls of a line, and sends its user RESTART",
     "help": "this list",
     "quit": "ends the console, and not the exchange",
 }
@@ -68,7 +69,7 @@ class Console:
         self.has_ended = False
         self.desk = desk
         acts: dict[str, Act] = {f"show {what}": partial(self._show, what) for what in SHOWS}
-        acts |= {"nail AT AT": self._nail, "seat AT ROOM": self._seat, "free AT": self._free}
+        acts |= {"nail AT AT": self._nail, "seat AT ROOM": self._seat, "free AT": self._free, "restart LINE": self._restart}
         self.phrases = Phrases({**acts, "help": self._help, "quit": self._quit})
 
     @property
@@ -127,6 +128,9 @@ class Console:
 
     def _free(self, slot: Slot) -> None:
         self._give(Free(slot), f"free {slot}")
+
+    def _restart(self, line: int) -> None:
+        self._give(Restart(line), f"restart {line}")
 
     def _give(self, event: Event, line: str) -> None:
         self.is_waiting = True

@@ -21,7 +21,7 @@ MAX_ROWS = 40  # messages of a call
 TURNS = (b"up", b"down")
 STARTS = (*TURNS, b"send")
 CONNECTED = (b"granted", b"seated")
-COMMAND = re.compile(rb"^(?:nail|seat|free) [^\n]*", re.MULTILINE)  # of an operator
+COMMAND = re.compile(rb"^(?:nail|seat|free|restart) [^\n]*", re.MULTILINE)  # of an operator, and the restarts of a start
 
 
 class Listener(Protocol):
@@ -165,7 +165,7 @@ def moved_in(words: Sequence[bytes]) -> Moved | None:
 
 
 def read_command(line: str, sizes: Sizes) -> Event:
-    """The event of a line `nail`, `seat` or `free` of an exchange of these sizes."""
+    """The event of a line `nail`, `seat`, `free` or `restart` of an exchange of these sizes."""
     reader = TraceReader(is_followed=True)
     reader.has_header, reader.sizes = True, sizes
     try:

@@ -109,6 +109,7 @@ class Line(Port):
         self.is_listening = False  # it gets octets
         self.messages = self.frames = self.late = 0  # how many were taken, and how many frames were not there in time
         self.owed = 0  # late frames, which are left out when they come: the line was idle in their time
+        self.is_new = False  # its first endpoint gets nothing before its RESTART
         self.say(f"listens on {self.listener.place}")
 
     # ---- its endpoint
@@ -116,8 +117,21 @@ class Line(Port):
     def attach(self, connection: socket.socket) -> None:
         self.endpoint = without_delay(connection)
         self.say("an endpoint is attached")
-        self.due.append(b"line %d" % self.number)
-        self.send()
+        if not self.is_new:
+            self.greet()
+            self.send()
+        self.watch()
+
+    def greet(self) -> None:
+        """Says to the endpoint which line it has."""
+        self.is_new = False
+        if self.endpoint is not None:
+            self.due.append(b"line %d" % self.number)
+
+    @property
+    def is_served(self) -> bool:
+        """Whether an endpoint gets what the exchange sends."""
+        return self.endpoint is not None and not self.is_new
 
     def turn_away(self, connection: socket.socket) -> None:
         self.refuse(connection, f"line {self.number} has an endpoint already")

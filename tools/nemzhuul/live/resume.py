@@ -27,9 +27,9 @@ if TYPE_CHECKING:
 
 RETURN_SECONDS = 60  # that endpoints have to come back
 SAID_SECONDS = 1  # between two lines on how far it is
-SIGNAL = re.compile(rb"^[ML] ([0-9]+) ?([0-9A-Fa-f]*)$", re.MULTILINE)
+SIGNAL = re.compile(rb"^ *(?:[ML] ([0-9]+) ?([0-9A-Fa-f]*)|(?:up|down|restart) .*)$", re.MULTILINE)
 CLOCK = re.compile(rb"^# clock: .*$", re.MULTILINE)
-OTHER_EVENT = re.compile(rb"\n(?:nail|seat|free|up|down|M|L) ")
+OTHER_EVENT = re.compile(rb"\n(?:nail|seat|free|up|down|restart|M|L) ")
 
 
 class History:
@@ -94,7 +94,7 @@ class Replay:
     def __init__(self, exchange: Exchange | Pair, loop: Loop, is_interrupted: Callable[[], object], follower: Follower | None) -> None:
         self.exchange = exchange
         self.follower = follower
-        self.asked: deque[tuple[int, bytes]] = deque()  # if calls are followed
+        self.asked: deque[tuple[int, bytes] | None] = deque()  # if calls are followed; None for an event without a message
         self.loop = loop
         self.is_interrupted = is_interrupted
         self.events = self.frames = self.replied = 0
@@ -106,6 +106,7 @@ class Replay:
         replies, report = self.exchange.replies, self.exchange.report
         self.exchange.replies, self.exchange.report = self.take, Writer(Output(None), "the report")
         self.events = events
+        self.await_replies(settings)
         self.send(settings, history)
         for piece in history.pieces():
             text = b"\n" + piece
@@ -113,13 +114,18 @@ class Replay:
             self.frames += frames
             if self.follower is not None:
                 self.follower.clocks += [clock for clock in map(WallClock.from_comment, CLOCK.findall(piece)) if clock]
-                self.asked += [(int(line), digits) for line, digits in SIGNAL.findall(piece)]
+                self.await_replies(piece)
                 self.follower.read(piece)
             self.events += frames + len(OTHER_EVENT.findall(text))
             self.send(piece, history)
         while self.replied < self.events:
             self.wait(history)
         self.exchange.replies, self.exchange.report = replies, report
+
+    def await_replies(self, text: bytes) -> None:
+        """Awaits replies `message` and `link` to the events of some lines."""
+        if self.follower is not None:
+            self.asked += [(int(line), digits) if line else None for line, digits in SIGNAL.findall(text)]
 
     def send(self, text: bytes, history: History) -> None:
         self.exchange.send(text)

@@ -20,7 +20,7 @@ from nemzhuul.pictures.ladders import frames_text
 from nemzhuul.pictures.matrices import Rearrangement, rearrangement
 from nemzhuul.signalling.q931 import message_text
 from nemzhuul.sound.alaw import value_of
-from nemzhuul.traces.events import PLACES, Arrival, Event, Frame, Free, Link, Moved, Nail, Reply, Seat, Slot, Trace
+from nemzhuul.traces.events import PLACES, Arrival, Event, Frame, Free, Link, Moved, Nail, Reply, Restart, Seat, Slot, Trace
 from nemzhuul.traces.following import Run, Use
 
 COLUMN, WIDER = 18, 9  # the width of a column, and how much wider it is with twice the frames
@@ -415,6 +415,8 @@ def event_text(event: Event, reply: Reply) -> str:
         said = [f"free {event.slot}: {reply.word}"]
     elif isinstance(event, Link):
         said = [f"the data link of line {event.line} is {'up' if event.is_up else 'down'}"]
+    elif isinstance(event, Restart):
+        said = [f"the exchange restarts line {event.line}"]
     elif isinstance(event, Seat):
         said = [f"seat {event.slot} in room {event.room}: {reply.word}"]
     else:

@@ -79,6 +79,13 @@ class Link:
     is_up: bool
 
 
+@dataclass(frozen=True)
+class Restart:
+    """The exchange restarts a line."""
+
+    line: int
+
+
 class Octets(Mapping[int, bytes]):
     """The octets of a frame by line, from a text ` L:HEX ..` that was checked. A row is decoded when it is looked at."""
 
@@ -116,7 +123,7 @@ class Frame:
     octets: Mapping[int, bytes]
 
 
-Event = Union[Nail, Seat, Free, Arrival, Link, LinkArrival, Frame]
+Event = Union[Nail, Seat, Free, Arrival, Link, Restart, LinkArrival, Frame]
 
 
 class Sizes(NamedTuple):

@@ -12,7 +12,7 @@ its clearing begins.
 from __future__ import annotations
 
 from collections import defaultdict
-from collections.abc import Iterable, Iterator, Mapping
+from collections.abc import Iterable, Iterator, Mapping, Sequence
 from dataclasses import dataclass, field
 from typing import NamedTuple, Protocol
 
@@ -49,6 +49,7 @@ from nemzhuul.traces.events import (
     Moved,
     Nail,
     Reply,
+    Restart,
     Seat,
     Slot,
     Step,
@@ -98,7 +99,7 @@ class Leg:
     @property
     def awaits_timer(self) -> bool:
         """Whether a timer may end it without a message."""
-        return self.releases == 2 or self.outage is not None
+        return self.releases >= 2 or self.outage is not None
 
 
 class Row(NamedTuple):
@@ -211,6 +212,8 @@ class Run:
             self._message(event, reply)
         elif isinstance(event, Link):
             self._link(event, reply)
+        elif isinstance(event, Restart):
+            self._line_restart(event, reply)
         elif isinstance(event, Nail) and reply.word == "granted":
             self._join(event.first, Use(partner=event.second))
         elif isinstance(event, Seat) and reply.word == "seated":
@@ -281,7 +284,7 @@ class Run:
                 self._clear(leg.call, self.frames, DESTINATION_OUT_OF_ORDER)
                 self._end(leg.name)
         elif leg.since + self.timers["T308" if leg.releases else "T305"] <= frame:
-            if leg.releases == 2:
+            if leg.releases >= 2:
                 self._end(leg.name)
             elif self._is_unseen(leg):
                 self._released(leg, self.frames)
@@ -366,20 +369,32 @@ class Run:
         leg.dials = not sent
 
     def _restart(self, row: Row, message: Message, sent: list[SentMessage]) -> None:
-        """A RESTART is in the ladder of each call that it ends, with what was sent for it."""
+        """A user restarts channels."""
         channel = message.channel.number if message.channel else None
-        legs = self._legs_of[row.line].items()
-        ended = [(name, leg) for name, leg in legs if message.restarts_line or leg.slot.channel == channel]
-        calls = list(dict.fromkeys(leg.call for _, leg in ended))
-        for call in calls:
+        legs = self._legs_of[row.line].values()
+        ended = [leg for leg in legs if message.restarts_line or leg.slot.channel == channel]
+        self._remove(ended, row, sent)
+        if not ended:
+            self._on_none(row, sent)
+
+    def _line_restart(self, event: Restart, reply: Reply) -> None:
+        """The exchange restarts a line."""
+        sent = [SentMessage(line, sent_message(octets, reply.event)) for line, octets in reply.sent]
+        row = Row(reply.event, self.frames, event.line, False, None)
+        ended = list(self._legs_of[event.line].values())
+        self._remove(ended, row, sent)
+        if not ended:
+            self.on_no_call += [Row(row.event, row.frame, line, True, message) for line, message in sent]
+
+    def _remove(self, ended: Sequence[Leg], row: Row, sent: list[SentMessage]) -> None:
+        """A restart is in the ladder of each call that it ends, with what was sent for it."""
+        for call in dict.fromkeys(leg.call for leg in ended):
             own = [out for out in sent if out.message.reference == 0 or self._call_at(*out) is call]
-            leg = next(leg for _, leg in ended if leg.call is call)
+            leg = next(leg for leg in ended if leg.call is call)
             self._note(call, row, leg, own)
             self._clear(call, row.frame, TEMPORARY_FAILURE)
-        for name, _ in ended:
-            self._end(name)
-        if not calls:
-            self._on_none(row, sent)
+        for leg in ended:
+            self._end(leg.name)
 
     def _link(self, event: Link, reply: Reply) -> None:
         """A data link that fails ends the legs of its line that are neither active nor being cleared, and those that are
@@ -450,7 +465,8 @@ class Run:
             del legs[leg.name]
 
     def _note(self, call: Call, row: Row, leg: Leg | None, sent: Iterable[SentMessage]) -> None:
-        self._add(call, row.with_leg(leg))
+        if row.message is not None:
+            self._add(call, row.with_leg(leg))
         for line, message in sent:
             to = self._legs.get(key(line, message, 1), leg)
             self._add(call, Row(row.event, row.frame, line, True, message, to))

@@ -29,6 +29,7 @@ from nemzhuul.traces.events import (
     Nail,
     Octets,
     Reply,
+    Restart,
     Seat,
     Sent,
     Sizes,
@@ -123,6 +124,7 @@ class TraceReader:
             "M": Form(self.message, range(1, 3)),
             "up": Form(self.up, range(1, 2)),
             "down": Form(self.down, range(1, 2)),
+            "restart": Form(self.restart, range(1, 2)),
             "F": Form(self.frame, range(0, MAX_BYTES)),
             "sync": Form(self.sync, range(0, 1)),
             "change": Form(self.change, range(0, 1)),
@@ -259,6 +261,9 @@ class TraceReader:
     def down(self, line: str) -> Link:
         return Link(self.line(line, 1), is_up=False)
 
+    def restart(self, line: str) -> Restart:
+        return Restart(self.line(line, 1))
+
     def frame(self, *parts: str) -> Frame:
         lines: set[int] = set()
         for at, part in enumerate(parts, start=1):
@@ -391,6 +396,7 @@ WORDS_OF: dict[type, tuple[str, ...]] = {
     Free: ("freed", "notnailed"),
     Arrival: ("message",),
     Link: ("message",),
+    Restart: ("message",),
     LinkArrival: ("link",),
     Frame: ("frame",),
 }

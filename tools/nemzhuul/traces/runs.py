@@ -18,7 +18,7 @@ from nemzhuul.traces.reading import METER, REFUSAL, WORDS_OF, LineError, TraceRe
 
 BLOCK = 1 << 20  # octets of a read
 SHOWN_LINES = 1 << 10  # lines between two looks at how far it is
-OTHER_EVENT = re.compile(rb"\n(?: *(?:[ML]|nail|seat|free|up|down) | +F)")
+OTHER_EVENT = re.compile(rb"\n(?: *(?:[ML]|nail|seat|free|up|down|restart) | +F)")
 
 
 class Line(NamedTuple):
