@@ -1,8 +1,8 @@
 """Simulated users, who write random traces of calls: they send events to `tst follow` and act on its replies.
 
 Timers are short, so that they expire. Numbers lead to lists of lines, and commands fill lines, so hunts pass full lines
-and find none. On crowded lines new paths move others. In some traces data links go down and come up. Then users report
-their call states, the right one or another, and obey RESTART.
+and find none. On crowded lines new paths move others. In some traces data links go down and come up, and an
+operator restarts lines. Then users report their call states, the right one or another, and obey RESTART.
 """
 
 from __future__ import annotations
@@ -45,8 +45,10 @@ KINDS = (
 RUNG, NOT_RUNG = "T301 expired under ringing tone", "T301 expired without a tone"
 HUNTED, NOT_FOUND = "calls offered after full lines", "hunts that found no line"
 LINK_LOST, LINK_DOWN = "T309 expired", "calls refused while data links were down"
-CASES = (RUNG, NOT_RUNG, HUNTED, NOT_FOUND, LINK_LOST, LINK_DOWN)
-NO_ANSWER, OUT_OF_ORDER, FULL_LINE = "08028293", "0802829B", "080282A2"  # the elements of causes 19, 27 and 34
+RESTARTED, RELEASED = "calls cleared as the exchange restarted a line", "RELEASE again as a data link was up"
+CASES = (RUNG, NOT_RUNG, HUNTED, NOT_FOUND, LINK_LOST, LINK_DOWN, RESTARTED, RELEASED)
+# The elements of causes 19, 27, 34 and 41.
+NO_ANSWER, OUT_OF_ORDER, FULL_LINE, FAILURE = "08028293", "0802829B", "080282A2", "080282A9"
 # The likely replies of a user to each kind of message; None is no reply.
 REPLIES: dict[int | None, tuple[int | None, ...]] = {
     SETUP: (ALERTING, ALERTING, ALERTING, CALL_PROCEEDING, CONNECT, DISCONNECT, RELEASE_COMPLETE, None),
@@ -126,6 +128,7 @@ class Users:
         self.frames = 0  # frames of a run that are left
         self.outages = draw.choice((0, 0.02, 0.05, 0.05))
         self.down: set[int] = set()  # the lines whose data links are down
+        self.restarts = draw.choice((0, 0.01, 0.02))
         self.is_crowded = draw.random() < 0.15
         self.waiting = self.crowd() if self.is_crowded else self.full_lines()
 
@@ -156,6 +159,9 @@ class Users:
             return self.waiting.pop(0)
         if draw.random() < self.outages:
             return self.link()
+        if draw.random() < self.restarts:
+            is_down = self.down and draw.random() < 0.4
+            return f"restart {draw.choice(sorted(self.down)) if is_down else draw.randrange(self.setting.external)}"
         if self.due and draw.random() < 0.3:
             return self.due.pop(0)
         if self.frames == 0 and draw.random() < self.pauses:
@@ -294,7 +300,11 @@ def count_cases(cases: Counter[str], setting: Setting, event: str, messages: Seq
     """Counts the cases of one event."""
     for sent in messages:
         cause, arrived = sent.octets[10:18], event.split(" ")[-1]
-        if event.startswith("F"):
+        if event.startswith("restart"):
+            cases[RESTARTED] += cause == FAILURE
+        elif event.startswith("up"):
+            cases[RELEASED] += sent.kind == RELEASE
+        elif event.startswith("F"):
             cases[RUNG if setting.rings else NOT_RUNG] += sent.kind == DISCONNECT and cause == NO_ANSWER
             cases[LINK_LOST] += cause == OUT_OF_ORDER
         elif cause == OUT_OF_ORDER:
