@@ -229,16 +229,8 @@ def sound_part(slot: Slot, octets: bytes) -> str:
 # ---- the document
 
 
-def document(file: str, parts: Parts, pictures: Pictures, calls: Calls) -> str:
-    """The whole page. Its policy lets it load nothing."""
-    style, script = ((PARTS / part).read_text() for part in ("page.css", "page.js"))
-    steps = "".join(
-        f'<li data-x="{column.x:.1f}" data-w="{column.width:.1f}" data-event="{column.events.first}" data-last="{column.events.last}"'
-        f' data-frame="{column.frames.first if column.frames else ""}">{escape(column.title)}</li>'
-        for column in pictures.columns
-    )
-    hidden = "" if calls.parts or calls.on_no_call else " hidden"
-    search = '<label>search <input type="search" id="find"></label><output id="found" aria-live="polite"></output>'
+def head(file: str) -> str:
+    """The head of the page. Its policy lets it load nothing."""
     return f"""<!DOCTYPE html>
 <html lang="en">
 <head>
@@ -247,35 +239,40 @@ def document(file: str, parts: Parts, pictures: Pictures, calls: Calls) -> str:
 <meta http-equiv="Content-Security-Policy" content="{POLICY}">
 <title>{escape(file)}</title>
 <style>
-{style}</style>
+{(PARTS / "page.css").read_text()}</style>
 </head>
-<body>
-<a class="skip" href="#calls">to the calls</a>
-<header>
-<h1>{escape(file)}</h1>
-<ul class="facts">{parts.summary}</ul>
-<nav><a href="#calls">Calls</a> <a href="#channels">Channels</a> <a href="#sounds">Sounds</a>
-<a href="#slots">Internal slots</a> <a href="#matrix">Paull's matrix</a></nav>
-</header>
-{pictures.axes()}
-<main>
-<section id="calls">
+"""
+
+
+def calls_section(parts: Parts, calls: Calls) -> str:
+    hidden = "" if calls.parts or calls.on_no_call else " hidden"
+    search = '<label>search <input type="search" id="find"></label><output id="found" aria-live="polite"></output>'
+    return f"""<section id="calls">
 <h2>Calls</h2>
 <p class="control"{hidden}><label><input type="checkbox" id="octets"> show the octets of each message</label>
 {search if calls.count >= SEARCHED else ""}</p>
 <div class="calls">{parts.calls}</div>
 </section>
-<section id="channels">
+"""
+
+
+def channels_section(parts: Parts, steps: int) -> str:
+    return f"""<section id="channels">
 <h2>Channels</h2>
 <p>What has each channel, event by event. Bars of one colour are connected, a grey bar is a call without a connection,
 and a mark above counts the live paths that an event moved: a dot is on each of their channels. A white column is an event.
 A shaded column is frames in which nothing changes, and has their numbers in italics.</p>
 <div class="control step"><button type="button" id="back" aria-label="one step back">◀</button>
-<input type="range" id="step" min="0" max="{max(len(pictures.columns) - 1, 0)}" value="0" aria-label="step">
+<input type="range" id="step" min="0" max="{max(steps - 1, 0)}" value="0" aria-label="step">
 <button type="button" id="on" aria-label="one step on">▶</button><output id="said" aria-live="polite"></output></div>
 {parts.channels}
 </section>
-<section id="sounds">
+"""
+
+
+def fabric_sections(parts: Parts) -> str:
+    """The sections on sounds, internal slots and Paull's matrix."""
+    return f"""<section id="sounds">
 <h2>Sounds</h2>
 <p>What each channel was sent: 8,000 octets of A-law a second.</p>
 {parts.sounds}
@@ -292,10 +289,31 @@ the octets that come from the line, and those that go to it. Where a path moves,
 slots of the paths between them. A slot is free on a line that has it nowhere in its row or column.</p>
 {parts.matrices}
 </section>
-</main>
+"""
+
+
+def document(file: str, parts: Parts, pictures: Pictures, calls: Calls) -> str:
+    """The whole page."""
+    steps = "".join(
+        f'<li data-x="{column.x:.1f}" data-w="{column.width:.1f}" data-event="{column.events.first}" data-last="{column.events.last}"'
+        f' data-frame="{column.frames.first if column.frames else ""}">{escape(column.title)}</li>'
+        for column in pictures.columns
+    )
+    sections = calls_section(parts, calls) + channels_section(parts, len(pictures.columns)) + fabric_sections(parts)
+    return f"""{head(file)}<body>
+<a class="skip" href="#calls">to the calls</a>
+<header>
+<h1>{escape(file)}</h1>
+<ul class="facts">{parts.summary}</ul>
+<nav><a href="#calls">Calls</a> <a href="#channels">Channels</a> <a href="#sounds">Sounds</a>
+<a href="#slots">Internal slots</a> <a href="#matrix">Paull's matrix</a></nav>
+</header>
+{pictures.axes()}
+<main>
+{sections}</main>
 <ol id="steps" hidden>{steps}</ol>
 <script>
-{script}</script>
+{(PARTS / "page.js").read_text()}</script>
 </body>
 </html>
 """
