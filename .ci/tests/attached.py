@@ -13,6 +13,9 @@ from support import IDLE, PATIENCE, InFolder, command, environment, packets, rep
 from nemzhuul.programs.program import PROGRAM
 
 
+RESTART = "0802000046790186"  # of the interface
+
+
 class Raw:
     """An endpoint on a Unix socket that sends lines as they are."""
 
@@ -46,9 +49,11 @@ class Attached(InFolder):
         super().setUp()
         (self.folder / "settings").write_text(self.SETTINGS)
         self.said: list[str] = []
+        self.new: set[int] = set()  # the lines whose users are still to be sent RESTART
 
     def attach(self, *options: str, lines: Sequence[int] = (0, 1), linked: Sequence[int] = ()) -> None:
         """Starts the exchange, and waits until its lines listen."""
+        self.new = {*lines} - {*linked}
         words = command("attach", *options)
         for line in lines:
             words += ["--line", str(line), f"unix:line{line}"]
@@ -77,6 +82,9 @@ class Attached(InFolder):
     def attached(self, line: int) -> Raw:
         endpoint = self.raw(line)
         endpoint.gets(f"line {line}")
+        if line in self.new:
+            self.new.remove(line)
+            self.assertEqual(endpoint.gets(""), f"M {RESTART}")
         return endpoint
 
     def end(self) -> None:

@@ -90,6 +90,28 @@ class Live(Attached):
         self.end()
         self.assertIn("M 0 0802000046790186", (self.folder / "live.trace").read_text().splitlines())
 
+    def test_the_first_endpoint_is_restarted(self) -> None:
+        """After a start the first endpoint of a line gets RESTART before all else, also if the line has a call, and no other
+        endpoint does. A setting `down` has the report line of a message."""
+        (self.folder / "settings").write_text(f"{self.SETTINGS}down 2\nrestart 2\nup 2\ndown 2\n")
+        self.attach()
+        caller = self.attached(0)
+        caller.send("M 080200010504038090A3700480313031")
+        caller.gets("M 0802800102")
+        called = self.attached(1)
+        called.send("M 080280004E790186")
+        self.assertEqual(caller.gets("M"), "M 0802800145080282A9")
+        caller.send("M 080200014D")
+        caller.gets("M 080280015A")
+        called.close()
+        self.until("attach: line 1: its endpoint has gone")
+        again = self.attached(1)
+        again.send("M 0802000175")
+        self.assertEqual(again.gets("M"), "M 080280017D0802829E140100")
+        self.end()
+        trace = (self.folder / "live.trace").read_text().splitlines()
+        self.assertEqual([line for line in trace if line.startswith("restart")], ["restart 2", "restart 0", "restart 1"])
+
     def test_refused_endpoints(self) -> None:
         self.attach()
         first = self.attached(0)

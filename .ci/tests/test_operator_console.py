@@ -111,6 +111,22 @@ class Consoles(Attached):
         logged = [line for line in trace[self.SETTINGS.count("\n") :] if line.split(" ")[0] in ("nail", "seat", "free")]
         self.assertEqual(logged, ["nail 0/20 2/20", "nail 0/20 2/21", "nail 0/1 2/1", "seat 2/1 0", "seat 2/2 63", "free 2/2", "free 2/2"])
 
+    def test_a_restart(self) -> None:
+        """A line is restarted: the other user gets DISCONNECT, and the answer is the line of the report."""
+        self.begin("--standby", "--status", "0")
+        self.place_calls()
+        status, output, said = self.ask("restart 1")
+        self.assertEqual((status, said), (0, ""))
+        sent = "0:0802800145080282A9 0:0802800245080282A9 1:0802000046790186"
+        self.assertEqual(output.partition(" ")[2], f"message {sent}\n")
+        shown = self.shows("calls")
+        self.assertEqual(shown[-1], "3 in progress; 4 offered, 2 answered, 1 refused")
+        self.assertEqual(self.ask("restart 3")[::2], (1, "there is no line 3: the exchange has lines 0 to 2"))
+        self.end()
+        self.assertIn("restart 1", (self.folder / "live.trace").read_text().splitlines())
+        drawn = tool("calls", "live.trace", "live.report", folder=self.folder).output.decode()
+        self.assertIn("RESTART", drawn)
+
     def test_refused_commands(self) -> None:
         self.begin()
         number = "the exchange takes numbers only before its first event, so in the settings with which it begins"

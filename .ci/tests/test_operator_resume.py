@@ -111,6 +111,7 @@ class Resumed(Attached):
 
     def resume(self, *words: str) -> None:
         """Starts the exchange that goes on."""
+        self.new.clear()
         words = (*words, "--resume", "live.trace", "--report", "rest.report", "--pcap", "rest.capture", "settings")
         self.work = subprocess.Popen(command("attach", *words), cwd=self.folder, env=environment(), stderr=subprocess.PIPE, text=True)
         self.errors = stream(self.work.stderr)
