@@ -4,16 +4,13 @@ ghost use Rattle.line_wire.specs.Following.{CountsReads, CountsWrites, HasNoFeed
 ghost use Rattle.line_wire.specs.declared.following.Following.TheVariants as ended;
 ghost use Rattle.exchange_follow.specs.Followers.{Ends, EndsIn, EndsWith, GoesOn, GoesToEnd, HandlesLine, IsOwing, IsPending, IsUnder, IsUnread, OwesLine, ReliesBy, StopsLine, StopsOwing};
 
-use crate::follower::TraceFollower;
+use crate::follower::{MAX_LINE, TraceFollower};
 use frame_engine::Carrier;
 use line_wire::{Following, Stop, Wire, first_fed, flush, move_to_front, read_after, write_all};
 use linked_exchange::Fabric;
 use meters::Meter;
 use std::alloc::Global;
 use std::thread::Threads;
-
-// The maximum number of octets in a line, without its line feed.
-const MAX_LINE: usize = 65_535;
 
 // The octets of the buffer.
 const BUFFER_OCTETS: usize = 131_072;

@@ -19,8 +19,8 @@ use std::collections::VecDeque;
 use std::thread::Threads;
 use trace_text::{Happening, Limits, LineError, Reason};
 
-// The maximum number of octets in a line.
-const MAX_LINE: usize = 65_535;
+/// The maximum number of octets in a line, without its line feed.
+pub const MAX_LINE: usize = 65_535;
 
 // The maximum number of lines.
 const MAX_LINES: u32 = 4_294_967_294;
