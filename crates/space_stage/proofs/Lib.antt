@@ -1,2 +1,3 @@
 pub mod RowsAfter
 pub mod Starts
+pub mod Overlays

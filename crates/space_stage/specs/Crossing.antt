@@ -1,6 +1,7 @@
 -- The space stage of a time-space-time fabric. Source: this project; in each internal time slot the stage is a crossbar
 -- whose crosspoints the control memory sets.
-use Rattle.std.specs.Prelude.{◌≡◌, ℕ, ◌+◌, ◌*◌, ◌<◌, List, slice_index}
+use Rattle.std.specs.Prelude.{◌≡◌, ℕ, ◌+◌, ◌*◌, ◌<◌, ◌≤◌, List, slice_index}
+use Rattle.circuit_model.specs.FrameInput.{idle_octet}
 use Rattle.frame_buffer.specs.Highways.{Highways, octet_on, RowsHold, AreFilled}
 use Rattle.control_memory.specs.Tables.{Table, entry}
 use Rattle.control_memory.specs.Image.{Control, space_of}
@@ -32,3 +33,10 @@ IsCrossed control from to = (line slot : ℕ) → line < to.lines → slot < to.
 pub record AreStarts (lines_in slots : ℕ) (starts : List ℕ) : Type 0 where
   pub lines : (line : ℕ) → line < lines_in → slice_index starts line ≡ (line + 1) * slots
   pub idle : slice_index starts 255 ≡ 0
+
+-- at most four lines are listed, and every other line sends only idle octets
+pub record AreSenders (h : Highways) (count : ℕ) (senders : List ℕ) : Type 0 where
+  pub few : count ≤ 4
+  pub small : h.lines ≤ 255
+  pub inside : (k : ℕ) → k < count → slice_index senders k < h.lines
+  pub silent : (line slot : ℕ) → line < h.lines → slot < h.slots → ((k : ℕ) → k < count → slice_index senders k ≡ line → ⊥) → octet_on h line slot ≡ idle_octet

@@ -7,6 +7,7 @@ ghost use Rattle.control_memory.specs.Tables.{HasSize};
 ghost use Rattle.control_memory.specs.Image.{lines_of};
 ghost use Rattle.space_stage.specs.Crossing.{gets_by, IsCrossedPart, IsCrossed, AreStarts};
 
+use crate::overlay::{MAX_SENDERS, find_senders, lay_used};
 use control_memory::{ControlTable, Image};
 use frame_buffer::{Crossed, Highway, fill_idle};
 
@@ -41,9 +42,28 @@ pub fn cross_part(highway: &Highway, image: &Image, slots: u8, first: u8, part: 
     }
 }
 
-// Crosses one frame to some outgoing lines whose rows are idle. It is called only if one of them may get an octet, so
-// that a frame without octets makes no list of starts.
+// Crosses one frame to some outgoing lines whose rows are idle. It is called only if one of them may get an octet.
+// Lines that send nothing do not cross, if few lines send.
 fn cross_used(highway: &Highway, table: &ControlTable, slots: u8, first: u8, part: &mut [u8])
+    requires highway { highway.now.slots ≡ slots }
+    requires table { HasSize table.now highway.now.lines slots highway.now.lines }
+    requires part { IsPart highway.now.lines slots first (length part.old) }
+    requires idle { (at : ℕ) → at < length part.old → slice_index part.old at ≡ idle_octet }
+    ensures size { length part.new ≡ length part.old }
+    ensures octets { RowsHold slots (gets_by table.now highway.now) first part.new }
+{
+    if slots == 30 {
+        let mut senders = [0; MAX_SENDERS];
+        if let Some(count) = find_senders(highway, &mut senders) {
+            lay_used(highway, &senders, count, table, slots, first, part);
+            return;
+        }
+    }
+    gather_used(highway, table, slots, first, part);
+}
+
+// Crosses one frame to some outgoing lines whose rows are idle, octet by octet.
+fn gather_used(highway: &Highway, table: &ControlTable, slots: u8, first: u8, part: &mut [u8])
     requires highway { highway.now.slots ≡ slots }
     requires table { HasSize table.now highway.now.lines slots highway.now.lines }
     requires part { IsPart highway.now.lines slots first (length part.old) }

@@ -9,6 +9,7 @@
 #![tactic(auto)]
 
 mod crossbar;
+mod overlay;
 mod shared;
 
 pub use crossbar::{cross, cross_part};

@@ -1,7 +1,7 @@
 use Rattle.std.proofs.Common.{◌≡◌, length}
 use Rattle.frame_buffer.proofs.Parts.{IsWrittenTo}
 use Rattle.space_stage.specs.Crossing.{gets_by}
-use Rattle.space_stage.proofs.crossbar.cross_used.Given as goal
+use Rattle.space_stage.proofs.crossbar.gather_used.Given as goal
 
 abbrev pub invariant-loop-line : goal.invariant-loop-line
 invariant-loop-line l = record {

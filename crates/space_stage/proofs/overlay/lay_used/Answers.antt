@@ -4,8 +4,8 @@ use Rattle.control_memory.specs.Carrying.{fetched}
 use Rattle.space_stage.specs.Crossing.{gets_by}
 use Rattle.frame_buffer.proofs.Parts.{IsWrittenTo, row_fits, written_past, written_idle, written_row}
 use Rattle.space_stage.proofs.RowsAfter.{rest_is_idle}
-use Rattle.space_stage.proofs.crossbar.cross_used.Goals as goal
-use Rattle.space_stage.proofs.crossbar.cross_used.Goals.{then-start-part, else-start-part}
+use Rattle.space_stage.proofs.overlay.lay_used.Goals as goal
+use Rattle.space_stage.proofs.overlay.lay_used.Goals.{then-start-part, else-start-part}
 
 pub slice_bounds-row-end : goal.slice_bounds-row-end
 slice_bounds-row-end c = let fits = row_fits (length c.loop-line.part) c.requires.part.rows c.args.slots (c.loop-line.line - c.args.first) (search rules) (search rules) in search (rules, fits)
@@ -44,7 +44,7 @@ loop-line-preserved c =
             let whole : length part ≡ c.requires.part.rows * slots = search rules in
             let fits = row_fits (length part) c.requires.part.rows slots (line - first) whole (omega (arith, start, w.if-start-part.true)) in
             subst (IsWrittenTo slots octet first (line + 1)) (sym w.part-is)
-            (written_row slots octet first line part from done a k w.gather_row.new.row start wide (omega (arith, fits, start, wide)) (search rules) (λ at near. w.gather_row.ensures.octets at (search rules)))
+            (written_row slots octet first line part from done a k w.lay_row.new.row start wide (omega (arith, fits, start, wide)) (search rules) (λ at near. w.lay_row.ensures.octets at (search rules)))
         | else-start-part w ↦
             subst (IsWrittenTo slots octet first (line + 1)) (sym w.part-is)
             (written_past slots octet first line part from done (omega (arith, start, w.if-start-part.false)))
