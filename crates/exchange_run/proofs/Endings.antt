@@ -14,8 +14,8 @@ use Rattle.frame_engine.specs.declared.carrier.Carrier.{Ghosts as CarrierMembers
 use Rattle.command_words.specs.Words.{command_of}
 use Rattle.command_words.specs.declared.command.Command.{Command}
 use Rattle.command_words.specs.declared.command.Command.TheVariants.{Run, Generate, Check}
-use Rattle.line_list.specs.declared.listing.Listing.{Listing}
-use Rattle.line_list.specs.declared.listing.Listing.TheVariants as listing
+use Rattle.report_lines.specs.declared.listing.Listing.{Listing}
+use Rattle.report_lines.specs.declared.listing.Listing.TheVariants as listing
 use Rattle.run_verifier.specs.declared.ending.Ending.{Ending}
 use Rattle.run_verifier.specs.declared.ending.Ending.TheVariants as ended
 use Rattle.exchange_run.specs.Outcomes.{Fabric, IsIdle, IsRunWhole, IsRunWritten, Parties, Runs, SumsUp, parties}

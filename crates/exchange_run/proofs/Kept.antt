@@ -12,9 +12,9 @@ use Rattle.call_processor.specs.Frames.{Plays}
 use Rattle.segment_run.specs.Segment.{AddsAnswers, AreAnswered, Ran, new_events}
 use Rattle.segment_run.proofs.OrderLemmas.{grown_known}
 use Rattle.call_processor.specs.declared.worked.Placed.{Placed}
-use Rattle.line_list.specs.declared.listing.Listing.{Listing}
-use Rattle.line_list.specs.declared.listing.Listing.TheVariants as listing
-use Rattle.line_list.specs.Lines.{Line, calls_of, line_of, listed, text_of}
+use Rattle.report_lines.specs.declared.listing.Listing.{Listing}
+use Rattle.report_lines.specs.declared.listing.Listing.TheVariants as listing
+use Rattle.report_lines.specs.Lines.{Line, calls_of, line_of, listed, text_of}
 use Rattle.call_profile.specs.CallsTold.{calls_kept}
 use Rattle.report_text.specs.Report.{answer_line, answer_lines}
 use Rattle.exchange_run.specs.Running.{AreOfAnswers, IsAdded, grown_calls}

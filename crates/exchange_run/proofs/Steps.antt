@@ -13,8 +13,8 @@ use Rattle.exchange_core.specs.Working.{order_of}
 use Rattle.call_profile.specs.CallsTold.{calls_told}
 use Rattle.call_profile.specs.World.{World}
 use Rattle.call_processor.specs.Frames.{Plays}
-use Rattle.line_list.specs.declared.listing.Listing.{Listing}
-use Rattle.line_list.specs.Lines.{Line, listed, text_of}
+use Rattle.report_lines.specs.declared.listing.Listing.{Listing}
+use Rattle.report_lines.specs.Lines.{Line, listed, text_of}
 use Rattle.segment_run.specs.Segment.{IsChief, Ran, RanWhole, new_events}
 use Rattle.segment_run.specs.Segments.{IsDoneBelow}
 use Rattle.segment_run.proofs.OrderLemmas.{count_done, grown_known, IsDoneBelow_one_more, order_grown}

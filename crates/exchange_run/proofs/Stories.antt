@@ -8,9 +8,9 @@ use Rattle.exchange_events.specs.Sizes.{Setting}
 use Rattle.call_profile.specs.CallsTold.{calls_ended, calls_kept, calls_told}
 use Rattle.call_profile.specs.Step.{events_of, next, reply, run, world_after_all}
 use Rattle.call_profile.specs.World.{World, start}
-use Rattle.line_list.specs.declared.listing.Listing.{Listing}
-use Rattle.line_list.specs.declared.listing.Listing.TheVariants as listing
-use Rattle.line_list.specs.Lines.{listed}
+use Rattle.report_lines.specs.declared.listing.Listing.{Listing}
+use Rattle.report_lines.specs.declared.listing.Listing.TheVariants as listing
+use Rattle.report_lines.specs.Lines.{listed}
 use Rattle.exchange_events.specs.declared.trace.Trace.{Trace}
 use Rattle.exchange_events.specs.Orders.{IsEvent}
 use Rattle.exchange_events.specs.Sound.{setting_of}

@@ -17,7 +17,7 @@ use Rattle.call_processor.specs.Frames.{Plays}
 use Rattle.segment_run.specs.Segment.{IsChief, Ran, RanWhole, new_events}
 use Rattle.segment_run.specs.Segments.{IsDoneBelow}
 use Rattle.segment_run.proofs.OrderLemmas.{IsDoneBelow_none as none_done, IsDoneBelow_one_more, cut_short, IsLawful_all_done, first_chief, order_grown}
-use Rattle.line_list.specs.declared.listing.Listing.{Listing}
+use Rattle.report_lines.specs.declared.listing.Listing.{Listing}
 use Rattle.run_verifier.specs.declared.ending.Ending.TheVariants as ended
 use Rattle.exchange_run.specs.Outcomes.{AreOfSegments, No_segments, Some_segments, IsFlushed, IsRunInterrupted, IsRunUnwritten, IsRunWritten, MovesFew, Parties}
 use Rattle.meters.specs.Changing.{Step, changes_at, lines_of, records_of}

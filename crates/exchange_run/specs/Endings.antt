@@ -6,7 +6,7 @@ use Rattle.trace_text.specs.declared.fault.Reason.{Reason}
 use Rattle.trace_text.specs.TraceGrammar.{IsTrace, IsRefused, max_bytes}
 use Rattle.generated_trace.specs.Generated.{IsTrafficOf}
 use Rattle.run_verifier.specs.Verdicts.{IsInvalidAt, IsValid}
-use Rattle.line_list.specs.declared.listing.Listing.TheVariants as listing
+use Rattle.report_lines.specs.declared.listing.Listing.TheVariants as listing
 use Rattle.run_verifier.specs.declared.ending.Ending.{Ending}
 use Rattle.run_verifier.specs.declared.ending.Ending.TheVariants as ended
 use Rattle.run_verifier.specs.Checking.{Finds, IsChecked, IsUnchecked, max_checked}

@@ -19,7 +19,7 @@ use Rattle.call_profile.specs.World.{World, start}
 use Rattle.segment_run.specs.Segment.{IsOfSegment}
 use Rattle.segment_run.specs.Segments.{IsDoneBelow}
 use Rattle.call_processor.specs.Frames.{Plays}
-use Rattle.line_list.specs.declared.listing.Listing.{Listing}
+use Rattle.report_lines.specs.declared.listing.Listing.{Listing}
 use Rattle.meters.specs.Changing.{Step, lines_of, records_of}
 use Rattle.call_processor.specs.Borrowed.{Borrowed}
 use Rattle.ex_io.specs.declared.ends.Sink.{Ghosts as SinkMembers}

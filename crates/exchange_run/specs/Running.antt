@@ -15,8 +15,8 @@ use Rattle.segment_run.specs.Segment.{new_events}
 use Rattle.call_processor.specs.Borrowed.{Borrowed}
 use Rattle.call_processor.specs.Frames.{IsReady, Plays}
 use Rattle.call_processor.specs.declared.worked.Placed.{Placed}
-use Rattle.line_list.specs.declared.listing.Listing.{Listing}
-use Rattle.line_list.specs.Lines.{Line, calls_of, line_of, listed, text_of}
+use Rattle.report_lines.specs.declared.listing.Listing.{Listing}
+use Rattle.report_lines.specs.Lines.{Line, calls_of, line_of, listed, text_of}
 use Rattle.std.specs.declared.option.Option.{Option}
 use Rattle.exchange_run.specs.declared.run.RunError.{RunError}
 use Rattle.exchange_run.specs.declared.run.RunError.TheVariants.{Memory, Write}

@@ -26,8 +26,8 @@ use fabric_map::FabricMap;
 use frame_engine::Carrier;
 use gate::Gate;
 use generated_trace::generate_trace;
-use line_list::{LineList, ListingKind, NoLines, ReportLines};
 use meters::Meter;
+use report_lines::{LineSink, ListingKind, NoLines, ReportLines};
 use run_verifier::{Ending, check, refusal, say};
 use std::alloc::Global;
 use std::collections::VecDeque;
@@ -180,7 +180,7 @@ fn run_bytes<K: Sink, G: Gate, C: Carrier, R: Threads + Wait + Sync>(
         Ok(trace) => {
             // The lines reuse the memory of the input, so that its pages need not be mapped again.
             let mut pending: PendingText<ReportLines> = PendingText {
-                lines: LineList::new(alloc, bytes),
+                lines: LineSink::new(alloc, bytes),
                 said: Vec::new(alloc),
             };
             run_trace(context, &trace, strict, &mut pending, sink, metering)
@@ -251,7 +251,7 @@ fn run_generated<K: Sink, G: Gate, C: Carrier, R: Threads + Wait + Sync>(
         return idle(alloc, Ending::OutOfMemory);
     };
     let mut pending: PendingText<NoLines> = PendingText {
-        lines: LineList::new(alloc, Vec::new(alloc)),
+        lines: LineSink::new(alloc, Vec::new(alloc)),
         said: Vec::new(alloc),
     };
     let ended = run_trace(context, &trace, false, &mut pending, sink, metering);

@@ -1,6 +1,6 @@
 //! The shared input of a call, and its changing parts.
-use line_list::LineList;
 use meters::Meter;
+use report_lines::LineSink;
 use std::alloc::Global;
 use std::collections::VecDeque;
 
@@ -29,7 +29,7 @@ pub struct Metering {
 #[derive(Drop)]
 pub struct PendingText<L> {
     /// The lines of events, with the records of their calls.
-    pub lines: LineList<L>,
+    pub lines: LineSink<L>,
     /// The texts of the meters that were removed after these events. They are separate, because each line of the list
     /// belongs to an event.
     pub said: Vec<u8>,

@@ -18,7 +18,7 @@ use exchange_core::{Core, Tool};
 use exchange_events::Trace;
 use frame_engine::Carrier;
 use gate::Gate;
-use line_list::{LineList, ListingKind};
+use report_lines::{LineSink, ListingKind};
 use segment_run::BufferPool;
 use shared_exchange::{Seat, SharedExchange};
 use std::alloc::{AllocError, Global};
@@ -107,7 +107,7 @@ fn equipped<'t, P: PathMap + Drop, C: Carrier, L: ListingKind + Send + Drop>(
     alloc: Global,
     trace: &'t Trace,
     paths: P,
-    lines: &LineList<L>,
+    lines: &LineSink<L>,
 ) -> Result<
     (
         SharedExchange<'t, P>,
@@ -135,7 +135,7 @@ fn carried_first<T: Drop, C: Carrier, L: ListingKind + Send + Drop>(
     alloc: Global,
     trace: &Trace,
     slots: u8,
-    lines: &LineList<L>,
+    lines: &LineSink<L>,
 ) -> Result<SegmentResources<T, C, L>, AllocError>
     requires sound { IsSound trace.now }
     requires slots { 1 ≤ slots × (slots ≤ 59) }

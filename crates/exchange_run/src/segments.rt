@@ -8,7 +8,7 @@ ghost use Rattle.exchange_events.specs.Sound.{IsSound};
 ghost use Rattle.exchange_core.specs.Working.{order_of};
 ghost use Rattle.segment_run.specs.Segment.{IsChief, Ran, RanWhole};
 ghost use Rattle.segment_run.specs.Segments.{IsDoneBelow};
-ghost use Rattle.line_list.specs.Lines.{text_of};
+ghost use Rattle.report_lines.specs.Lines.{text_of};
 ghost use Rattle.run_verifier.specs.declared.ending.Ending.TheVariants.{WriteFailed};
 ghost use Rattle.exchange_run.specs.Outcomes.{IsFlushed};
 ghost use Rattle.exchange_run.specs.Running.{AreOfAnswers, GrowthIsTold, HasMachine, IsAdded, RunsOn, ending_of, run_part};
@@ -24,8 +24,8 @@ use ex_io::{Failed, Sink, write_all};
 use exchange_core::Switchboard;
 use frame_engine::Carrier;
 use gate::Gate;
-use line_list::{LineList, ListingKind};
 use meters::Meter;
+use report_lines::{LineSink, ListingKind};
 use segment_run::{BufferPool, run_segment_with};
 use std::alloc::AllocError;
 use std::sync::Wait;
@@ -41,7 +41,7 @@ pub struct SegmentResources<T, C, L> {
     /// The machine, which has carried the frames so far.
     pub machine: Box<Machine<C>>,
     /// The buffers of the workers.
-    pub buffer_pool: BufferPool<T, LineList<L>>,
+    pub buffer_pool: BufferPool<T, LineSink<L>>,
 }
 
 /// Runs the segments of a board's trace in sequence, writes the listed text, and records the ended calls on the meters.
@@ -135,7 +135,7 @@ fn report_segment<
     seat: &mut B::Seat,
     segment: u32,
     carried: &mut Option<SegmentResources<B::Seat, C, L>>,
-    lines: &mut LineList<L>,
+    lines: &mut LineSink<L>,
     meters: &mut Vec<Box<dyn Meter>>,
 ) -> Result<(), AllocError>
     requires seated { B.seated cx.now.board.now seat.old }

@@ -3,7 +3,7 @@ ghost use Rattle.std.specs.Prelude.{◌≡◌, ℕ, List, [], length};
 ghost use Rattle.exchange_events.specs.declared.trace.Trace.{Trace};
 ghost use Rattle.exchange_events.specs.Orders.{IsLawful, file_order};
 ghost use Rattle.circuit_model.specs.Hears.{Plays};
-ghost use Rattle.line_list.specs.declared.listing.Listing.TheVariants.{Report};
+ghost use Rattle.report_lines.specs.declared.listing.Listing.TheVariants.{Report};
 ghost use Rattle.trace_text.specs.declared.said.Said.{Said};
 ghost use Rattle.trace_text.specs.TraceGrammar.{IsTrace};
 ghost use Rattle.trace_text.specs.TraceWords.{lines};

@@ -25,7 +25,7 @@ use Rattle.circuit_model.specs.Hears.{Plays}
 use Rattle.circuit_model.proofs.Slots.{true_or_false}
 use Rattle.tone_rules.specs.Tables.{table_of}
 use Rattle.linked_exchange.specs.Told.{EachFollows, max_line, setting_said, steps_said, story_by, story_said}
-use Rattle.line_list.specs.declared.listing.Listing.TheVariants as listing
+use Rattle.report_lines.specs.declared.listing.Listing.TheVariants as listing
 use Rattle.linked_exchange.specs.Story.{event_steps, story}
 use Rattle.linked_exchange.proofs.FollowedLines.{each_followed, each_same}
 

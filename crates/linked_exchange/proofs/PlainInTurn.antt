@@ -6,7 +6,7 @@ use Rattle.std.proofs.lemmas.List.Elements.{All-cons, All-head, All-nil, All-tai
 use Rattle.circuit_model.specs.Hears.{Plays}
 use Rattle.exchange_events.specs.declared.trace.Trace.{Trace}
 use Rattle.exchange_events.specs.Orders.{file_order}
-use Rattle.line_list.specs.declared.listing.Listing.TheVariants.{Report}
+use Rattle.report_lines.specs.declared.listing.Listing.TheVariants.{Report}
 use Rattle.trace_text.specs.declared.said.Said.{Said}
 use Rattle.trace_text.specs.TraceGrammar.{IsTrace}
 use Rattle.trace_text.specs.TraceLines.{SoFar, line_limits, says}

@@ -3,7 +3,7 @@ use Rattle.std.specs.Prelude.{◌≡◌, ◌≤◌, ℕ, List, [], All, length}
 use Rattle.exchange_events.specs.declared.trace.Trace.{Trace}
 use Rattle.exchange_events.specs.Orders.{file_order}
 use Rattle.circuit_model.specs.Hears.{Plays}
-use Rattle.line_list.specs.declared.listing.Listing.TheVariants.{Report}
+use Rattle.report_lines.specs.declared.listing.Listing.TheVariants.{Report}
 use Rattle.trace_text.specs.TraceWords.{lines}
 use Rattle.linked_text.specs.LinkLines.{Content}
 use Rattle.linked_exchange.specs.Told.{max_line}

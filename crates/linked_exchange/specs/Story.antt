@@ -11,8 +11,8 @@ use Rattle.call_profile.specs.Step.{next, reply, events_of}
 use Rattle.call_profile.specs.World.{World, start}
 use Rattle.circuit_model.specs.Hears.{Plays}
 use Rattle.report_text.specs.RunReport.{Played, event_line}
-use Rattle.line_list.specs.declared.listing.Listing.{Listing}
-use Rattle.line_list.specs.Lines.{listed}
+use Rattle.report_lines.specs.declared.listing.Listing.{Listing}
+use Rattle.report_lines.specs.Lines.{listed}
 use Rattle.meters.specs.Changing.{Step, Event_done, changes_at, with_changes}
 
 -- events in sequence from an exchange state on: for each its line, if lines are listed, and the records of the calls

@@ -12,7 +12,7 @@ use Rattle.exchange_events.specs.Sound.{setting_of}
 use Rattle.call_profile.specs.Step.{next, events_of}
 use Rattle.call_profile.specs.World.{World, start}
 use Rattle.report_text.specs.RunReport.{Played, event_line, event_lines, report}
-use Rattle.line_list.specs.declared.listing.Listing.TheVariants.{Report}
+use Rattle.report_lines.specs.declared.listing.Listing.TheVariants.{Report}
 use Rattle.meters.specs.Changing.{Step, Event_done, Meters_changed, Metering, AreEvents, changes_at, with_changes, lines_of, steps_text}
 use Rattle.meters.proofs.Changes.{law_of_lines}
 use Rattle.trace_text.specs.declared.said.Said.{Said}

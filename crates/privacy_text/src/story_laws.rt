@@ -3,7 +3,7 @@ ghost use Rattle.std.specs.Prelude.{◌≡◌, ℕ, List};
 ghost use Rattle.circuit_model.specs.Hears.{hears};
 ghost use Rattle.exchange_events.specs.declared.trace.Trace.{Trace};
 ghost use Rattle.report_text.specs.RunReport.{report};
-ghost use Rattle.line_list.specs.declared.listing.Listing.TheVariants.{Report};
+ghost use Rattle.report_lines.specs.declared.listing.Listing.TheVariants.{Report};
 ghost use Rattle.meters.specs.Changing.{handed_in, steps_text};
 ghost use Rattle.meters.specs.Changing as changing;
 ghost use Rattle.trace_text.specs.declared.said.Sizes.{Sizes};

@@ -4,7 +4,7 @@ use Rattle.exchange_run.specs.Summary.{summary_text}
 use Rattle.run_verifier.specs.declared.ending.Ending.TheVariants as ended
 use Rattle.generated_trace.specs.Generated.{IsTrafficOf}
 use Rattle.generated_trace.proofs.Told.{changes_none}
-use Rattle.line_list.specs.declared.listing.Listing.TheVariants as listing
+use Rattle.report_lines.specs.declared.listing.Listing.TheVariants as listing
 use Rattle.meters.specs.Changing.{handed_in}
 use Rattle.exchange_run.proofs.Endings.{ends_at_once, ends_generated, ends_summed}
 use Rattle.exchange_run.proofs.Stories.{unchanged_text}

@@ -1,6 +1,6 @@
 use Rattle.std.proofs.Common.{subst}
 use Rattle.std.specs.Io.KnownBytes.{Appends}
-use Rattle.line_list.specs.Lines.{text_of}
+use Rattle.report_lines.specs.Lines.{text_of}
 use Rattle.ex_io.specs.Streams.{AppendsFront}
 use Rattle.linked_exchange.proofs.SteppingLemmas.{on_err}
 use Rattle.exchange_run.proofs.Pending.{front_behind}

@@ -1,5 +1,5 @@
 use Rattle.std.proofs.Common.{◌++◌, inr}
-use Rattle.line_list.specs.Lines.{text_of}
+use Rattle.report_lines.specs.Lines.{text_of}
 use Rattle.linked_exchange.proofs.SteppingLemmas.{on_ok_then}
 use Rattle.exchange_run.proofs.Pending.{ok_both}
 use Rattle.exchange_run.proofs.segments.flush_full.Goals as goal

@@ -1,6 +1,6 @@
 use Rattle.std.proofs.Common.{◌≡◌, [], ◌++◌, IsSomeAnd}
 use Rattle.call_processor.specs.Frames.{IsReady}
-use Rattle.line_list.specs.Lines.{text_of}
+use Rattle.report_lines.specs.Lines.{text_of}
 use Rattle.meters.specs.Changing.{handed_in, steps_text}
 use Rattle.exchange_run.specs.Running.{AreOfAnswers}
 use Rattle.exchange_run.proofs.Steps.{AreOn}

@@ -2,7 +2,7 @@ use Rattle.std.proofs.Common.{List, ◌∙◌, ap, length}
 use Rattle.circuit_model.specs.Hears.{hears}
 use Rattle.exchange_events.specs.Orders.{file_order}
 use Rattle.exchange_events.proofs.FileOrder.{lawful_whole}
-use Rattle.line_list.specs.declared.listing.Listing.TheVariants.{Report}
+use Rattle.report_lines.specs.declared.listing.Listing.TheVariants.{Report}
 use Rattle.meters.specs.Changing.{Step, handed_in, steps_text}
 use Rattle.linked_exchange.proofs.FollowedStories.{followed_story}
 use Rattle.exchange_run.proofs.Stories.{unchanged_text}

@@ -1,9 +1,0 @@
-use Rattle.std.proofs.Common.{refl}
-use Rattle.line_list.specs.Lines.{line_of}
-use Rattle.line_list.proofs.LineLemmas.{hands_answers_ok}
-use Rattle.line_list.proofs.list.LineListAnswerSink.move_before.Goals as goal
-
-pub returns-clause-handed : goal.returns-clause-handed
-returns-clause-handed g c =
-    rw (← c.self.view_is, ← c.to.view_is)
-    (hands_answers_ok (line_of g.L.ListingKind.listing) (λ p. refl) c.move_before.result c.args.below _ _ _ _ c.move_before.ensures.handed)
