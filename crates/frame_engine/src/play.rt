@@ -4,11 +4,12 @@ ghost use Rattle.std.specs.Prelude.{if◌then◌else◌, ◌≡◌, ◌↔◌, �
 ghost use Rattle.circuit_model.specs.declared.channel.Slot.{Slot};
 ghost use Rattle.circuit_model.specs.declared.circuit.Kind.{Kind};
 ghost use Rattle.circuit_model.specs.FrameInput.{idle_octet};
-ghost use Rattle.frame_buffer.specs.Speech.{AllIdle, octet_in_half};
+ghost use Rattle.frame_buffer.specs.Speech.{octet_in_half};
 ghost use Rattle.control_memory.specs.Image.{lines_of, heard_at};
 ghost use Rattle.tone_rules.specs.Tables.{table_of, IsGiven};
 ghost use Rattle.frame_engine.specs.Frames.{PlaysOut, TonesGiven};
 ghost use Rattle.frame_engine.specs.Playing.{AreGiven, AreGivenOn, EachPlace, HasLine, by_path, played_as, played_at, played_on, with_tone};
+ghost use Rattle.frame_engine.specs.Resting.{PlaysAtRest};
 
 use circuit_model::{IDLE, Kind};
 use control_memory::{Heard, HeardTable, HeardWord, Image};
@@ -42,7 +43,7 @@ pub(crate) fn play_at_rest(read: &FrameBuffer, image: &Image, tones: &Tones, out
     requires lines { lines_of image.now ≤ 255 }
     requires out { length out.old ≡ image.now.external }
     requires tones { TonesGiven tones.now image.now }
-    ensures { AllIdle (lines_of image.now) read.now.readable → PlaysOut image.now.external (played_at (table_of tones.now) image.now (octet_in_half read.now.readable)) out.new }
+    ensures { PlaysAtRest tones.now image.now read.now.readable out.new }
 {
     if gives_none(tones) {
         fill_idle_from(out, 0);
