@@ -22,12 +22,17 @@ from nemzhuul.signalling.q931 import (
     PROGRESS_INDICATOR,
     RELEASE,
     RELEASE_COMPLETE,
+    RESTART,
+    RESTART_ACKNOWLEDGE,
     SETUP,
+    STATUS,
+    STATUS_ENQUIRY,
     Element,
     Message,
     cause,
     channel_identification,
     number,
+    restart_indicator,
 )
 from nemzhuul.sip.causes import CAUSE_OF_STATUS, STATUS_OF_CAUSE
 from nemzhuul.sip.dtmf import PROMPT, key_tone
@@ -325,6 +330,30 @@ class Answered(CallTest):
             with self.subTest(method=method, status=status):
                 telephone.within(method, talk)
                 self.assertEqual(telephone.statuses(), [status])
+
+    def test_the_exchange_asks_for_states(self) -> None:
+        """STATUS ENQUIRY gets STATUS with cause 30 and the state: of an answered call, of one that is set up, and of none."""
+        _, talking = self.answered(self.telephone(0))
+        _, begun = self.setting_up(self.telephone(1))
+        for flag, reference, state in ((1, talking.reference, 10), (1, begun.reference, 3), (0, 77, 0)):
+            with self.subTest(state=state):
+                self.sends(flag, reference, STATUS_ENQUIRY)
+                said = self.message(STATUS)
+                self.assertEqual((said.flag, said.reference, said.cause, said.call_state), (1 - flag, reference, 30, state))
+
+    def test_the_exchange_restarts_its_line(self) -> None:
+        """The calls end, the exchange gets RESTART ACKNOWLEDGE alone, and a telephone can call again."""
+        first, second = self.telephone(0), self.telephone(1)
+        self.answered(first)
+        self.setting_up(second)
+        self.sends(0, 0, RESTART, restart_indicator(is_whole_line=True))
+        acknowledgement = self.message(RESTART_ACKNOWLEDGE)
+        self.assertEqual((acknowledgement.flag, acknowledgement.reference, acknowledgement.restarts_line), (1, 0, True))
+        self.assertEqual(self.messages, [])
+        bye = first.get()
+        assert bye is not None
+        self.assertEqual((bye.method, second.statuses()), ("BYE", [503]))
+        self.answered(first)
 
     def test_the_last_call_ends(self) -> None:
         """The gateway says that it sends no more octets."""
