@@ -229,9 +229,21 @@ class Scripts(InFolder):
         self.assertEqual((lines[0], lines[-2]), ("# d\u00e0 \u2026 \u00c5".encode(), b"# \xff\x85"))
         self.assertIn(b"F 0:11" + b"D5" * 29, lines)
 
+    @needs_program
+    def test_the_exchange_restarts_a_line(self) -> None:
+        """Its user acknowledges RESTART, and the other one releases. While the line is down, RESTART waits."""
+        text = "exchange 2 lines\nnumber 101 leads to line 1\nline 0 calls 101\nline 1 answers\nline 1 is restarted\n"
+        text += "the link of line 1 fails\nline 1 is restarted\nthe link of line 1 is up\n"
+        (self.folder / "some.script").write_text(text)
+        status, output, said = tool("script", "some.script", folder=self.folder)
+        self.assertEqual((status, said), (0, ""))
+        events = [line for line in output.decode().splitlines() if line[:1] not in "#sen"]
+        self.assertEqual(events[2:], ["M 0 080200010F", "restart 1", "M 0 080200014D", "M 1 080280004E790186", "down 1", "restart 1",
+                                      "up 1", "M 1 080280004E790186"])  # fmt: skip
+
     def test_refused_lines(self) -> None:
         words = '"calls", "channel", "prefers", "begins", "dials", "proceeds", "alerts", "answers", "hangs", "rejects", '
-        words += '"asks", "restarts", "falls", "recovers" or "sends"'
+        words += '"asks", "restarts", "falls", "recovers", "sends" or "is"'
         cases = (
             ("line 1 anwers", f'"anwers" is no word here: it may be {words}'),
             ("line 1", f"the line ends too early: it may be {words}"),
