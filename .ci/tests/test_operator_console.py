@@ -131,7 +131,7 @@ class Consoles(Attached):
         self.begin()
         number = "the exchange takes numbers only before its first event, so in the settings with which it begins"
         cases = {
-            "shows calls": '"shows" is no word here: it may be "show", "nail", "seat", "free", "help" or "quit"',
+            "shows calls": '"shows" is no word here: it may be "show", "nail", "seat", "free", "restart", "help" or "quit"',
             "show": "the line ends too early: ",
             "show calls now": '"now" is no word here: it has to be the end of the line',
             "nail 0/1 0/1": "a slot is nailed to another one",

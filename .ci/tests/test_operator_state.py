@@ -32,6 +32,7 @@ from nemzhuul.traces.events import (
     LinkArrival,
     Nail,
     Reply,
+    Restart,
     Seat,
     Sent,
     Sizes,
@@ -53,7 +54,7 @@ def state_after(path: Path) -> Snapshot:
     replies = [line for line in report_of(path).read_text().splitlines() if not METER.fullmatch(line)]
     for (event, _), line in zip(steps, replies):
         asked = (event.line, event.octets.hex().encode()) if isinstance(event, (Arrival, LinkArrival)) else None
-        if isinstance(event, (Nail, Seat, Free, Link)):
+        if isinstance(event, (Nail, Seat, Free, Link, Restart)):
             follower.commands.append(event)
         follower.take(line.replace(":", " ").encode().split(b" "), asked)
     assert not follower.refusal, follower.refusal
