@@ -5,7 +5,8 @@
 //! - The texts of [`CallDetail`], [`PegCount`] and [`HoldingTime`] are the ones that `specs/` defines for the list
 //!   ([`law_of_texts`]). None of them allocates for a call, so none fails (`done`).
 //! - [`append_summaries`] appends the texts of several meters in order (`texts`), or leaves the text unchanged
-//!   (`kept`).
+//!   (`kept`). [`append_first_summaries`] does so for the first few of them.
+//! - [`replace_first`] removes the first active meter, and activates the first spare one.
 //!
 //! Meters can be changed during a run. The active meters after each change, the calls that each records and the text
 //! that is written are defined here (`specs/Changing.antt`, [`law_of_changes`], [`worked_changes`]).
@@ -31,6 +32,7 @@
 #![tactic(auto)]
 
 mod call_detail;
+mod changing;
 mod holding_time;
 mod laws;
 mod meter;
@@ -39,6 +41,7 @@ mod summaries;
 mod texts;
 
 pub use call_detail::CallDetail;
+pub use changing::{append_first_summaries, replace_first};
 pub use holding_time::HoldingTime;
 pub use laws::{law_of_changes, law_of_texts, worked_changes, worked_texts};
 pub use meter::Meter;
