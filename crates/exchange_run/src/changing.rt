@@ -1,10 +1,10 @@
 //! Meters that are changed in the middle of a run.
-ghost use Rattle.std.specs.Prelude.{◌≡◌, ◌+◌, ◌<◌, ◌≤◌, ◌++◌, ◌-◌, [], List, ℕ, AllPairs, drop, length, map, take, vec_capacity, vec_len, IfOk, OnOk, OnErr};
+ghost use Rattle.std.specs.Prelude.{◌≡◌, ◌+◌, ◌<◌, ◌≤◌, ◌++◌, [], List, ℕ, AllPairs, length, map, vec_capacity, vec_len, IfOk, OnOk, OnErr};
 ghost use Rattle.std.specs.List.{concat};
 ghost use Rattle.meters.specs.Changing.{IsAt};
 ghost use Rattle.exchange_run.specs.Changes.{AreChangesDone, AreMoved, IsRow, leaving};
 
-use meters::{Meter, append_summaries};
+use meters::{Meter, append_first_summaries, replace_first};
 use std::alloc::AllocError;
 use std::collections::VecDeque;
 
@@ -64,24 +64,10 @@ pub fn say_at(
     meters.reserve(1)?;
     let out = if meters.is_empty() { count - 1 } else { count };
     let (front, back) = spare.as_slices();
-    let left = say_first(out, meters.as_slice(), said)?;
-    let left = say_first(left, front, said)?;
-    say_first(left, back, said)?;
+    let left = append_first_summaries(out, meters.as_slice(), said)?;
+    let left = append_first_summaries(left, front, said)?;
+    append_first_summaries(left, back, said)?;
     Ok(())
-}
-
-// Appends the summaries of the first meters, up to `count` or to all of them, and returns the rest of the count.
-fn say_first(
-    count: usize,
-    meters: &[Box<dyn Meter>],
-    said: &mut Vec<u8>,
-) -> Result<usize, AllocError>
-    ensures says { OnOk result (said.new.items ≡ said.old.items ++ concat (map (λ m. text m []) (take count meters.now))) }
-    ensures left { IfOk result (λ left. left ≡ count - length meters.now) }
-{
-    let now = count.min(meters.len());
-    append_summaries(&meters[..now], said)?;
-    Ok(count - now)
 }
 
 // Makes some changes, for which there is capacity.
@@ -90,23 +76,6 @@ pub fn move_at(count: usize, meters: &mut Vec<Box<dyn Meter>>, spare: &mut VecDe
     ensures { AreMoved (λ m. stands m) (λ m. text m) count meters.old.items spare.old.items meters.new.items spare.new.items }
 {
     for _ in 0..count {
-        change(meters, spare);
-    }
-}
-
-// Removes the first meter and drops it, and then activates the first spare one after the others.
-fn change(meters: &mut Vec<Box<dyn Meter>>, spare: &mut VecDeque<Box<dyn Meter>>)
-    requires some { 1 ≤ vec_capacity meters.old }
-    requires room { vec_len meters.old ≤ vec_capacity meters.old }
-    ensures meters { meters.new.items ≡ drop 1 meters.old.items ++ take 1 spare.old.items }
-    ensures spares { spare.new.items ≡ drop 1 spare.old.items }
-    ensures capacity { vec_capacity meters.new ≡ vec_capacity meters.old }
-    ensures room { vec_len meters.new ≤ vec_capacity meters.new }
-{
-    if !meters.is_empty() {
-        drop(meters.remove(0));
-    }
-    if let Some(next) = spare.pop_front() {
-        meters.push_reserved(next);
+        replace_first(meters, spare);
     }
 }

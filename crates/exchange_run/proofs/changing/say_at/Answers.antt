@@ -13,5 +13,5 @@ returns-clause-says g c =
       | then-is_empty w ↦ inl (long ∙ zero_length (vec_len c.reserve.new.self) (sym c.is_empty.ensures ∙ w.if-is_empty.true), w.out-is)
       | else-is_empty w ↦ inr (subst (λ n. n ≢ 0) (sym long) (some_length (vec_len c.reserve.new.self) (sym c.is_empty.ensures ∙ w.if-is_empty.false)), w.out-is)
     ] in
-    says_leaving (λ m. (goal.Meter-dyn g (m.vtable, m.value)).text m.value) _ _ _ _ _ _ _ _ _ _ _ _ _ same which c.as_slices.ensures.items c.in_ok-left.ensures.says c.in_ok-left.ensures.left c.in_ok-left-2.ensures.says
-    c.in_ok-left-2.ensures.left c.in_ok-say_first.ensures.says
+    says_leaving (λ m. (goal.Meter-dyn g (m.vtable, m.value)).text m.value) _ _ _ _ _ _ _ _ _ _ _ _ _ same which c.as_slices.ensures.items c.in_ok-left.ensures.texts c.in_ok-left.ensures.left c.in_ok-left-2.ensures.texts
+    c.in_ok-left-2.ensures.left c.in_ok-append_first_summaries.ensures.texts
