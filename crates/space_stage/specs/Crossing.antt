@@ -1,6 +1,6 @@
 -- The space stage of a time-space-time fabric. Source: this project; in each internal time slot the stage is a crossbar
 -- whose crosspoints the control memory sets.
-use Rattle.std.specs.Prelude.{◌≡◌, ℕ, ◌+◌, ◌*◌, ◌<◌, ◌≤◌, List, slice_index}
+use Rattle.std.specs.Prelude.{◌≡◌, ◌==◌, ℕ, ◌+◌, ◌*◌, ◌<◌, ◌≤◌, List, slice_index, if◌then◌else◌}
 use Rattle.circuit_model.specs.FrameInput.{idle_octet}
 use Rattle.frame_buffer.specs.Highways.{Highways, octet_on, RowsHold, AreFilled}
 use Rattle.control_memory.specs.Tables.{Table, entry}
@@ -40,3 +40,8 @@ pub record AreSenders (h : Highways) (count : ℕ) (senders : List ℕ) : Type 0
   pub small : h.lines ≤ 255
   pub inside : (k : ℕ) → k < count → slice_index senders k < h.lines
   pub silent : (line slot : ℕ) → line < h.lines → slot < h.slots → ((k : ℕ) → k < count → slice_index senders k ≡ line → ⊥) → octet_on h line slot ≡ idle_octet
+
+-- a row after the octets of one line were laid over it, in the internal slots in which the row gets them
+abbrev pub IsLaid : List ℕ → ℕ → List ℕ → List ℕ → List ℕ → Type 0
+IsLaid lines line octets before afterwards =
+    (at : ℕ) → at < 30 → slice_index afterwards at ≡ (if slice_index lines at == line then slice_index octets at else slice_index before at)

@@ -4,7 +4,7 @@ ghost use Rattle.std.specs.Prelude.{if◌then◌else◌, ◌≡◌, ◌==◌, �
 ghost use Rattle.circuit_model.specs.FrameInput.{idle_octet};
 ghost use Rattle.frame_buffer.specs.Highways.{IsPart, RowsHold, octet_on};
 ghost use Rattle.control_memory.specs.Tables.{HasSize};
-ghost use Rattle.space_stage.specs.Crossing.{gets_by, AreSenders};
+ghost use Rattle.space_stage.specs.Crossing.{gets_by, AreSenders, IsLaid};
 
 use circuit_model::IDLE;
 use control_memory::ControlTable;
@@ -130,7 +130,7 @@ fn lay(lines: &[u8], line: u8, octets: &[u8], row: &mut [u8])
     requires octets { length octets.now ≡ 30 }
     requires row { length row.old ≡ 30 }
     ensures size { length row.new ≡ length row.old }
-    ensures octets { (at : ℕ) → at < 30 → slice_index row.new at ≡ (if slice_index lines.now at == line then slice_index octets.now at else slice_index row.old at) }
+    ensures octets { IsLaid lines.now line octets.now row.old row.new }
 {
     let front = laid(
         u8x16::from_slice(&lines[..16]),
