@@ -74,6 +74,12 @@ class Attached(InFolder):
                 return
         self.fail("".join(self.said))
 
+    def kill(self) -> None:
+        """Ends the exchange without a word."""
+        self.work.kill()
+        self.work.wait()
+        self.errors.close()
+
     def raw(self, line: int) -> Raw:
         endpoint = Raw(self.folder / f"line{line}")
         self.addCleanup(endpoint.close)

@@ -118,6 +118,22 @@ class DataLinks(Attached):
         self.assertIn("# line 0 sends I, P=0, N(S)=0, N(R)=0: SETUP 0001: number 101; channel 1", self.trace())
         self.assertIn("L 0 00010000" + SETUP.hex().upper(), self.trace())
 
+    def test_calls_from_before_the_start(self) -> None:
+        """An exchange that was killed in a call starts again: the user gets RESTART with the link, and calls work."""
+        for options in ((), ("--overwrite",)):
+            self.attach("--burst", "5", *options, lines=(1,), linked=(0,))
+            user = self.user()
+            user.establish()
+            user.gets("0802000046790186")
+            user.submit(bytes.fromhex("080280004E790186"))
+            endpoint = self.called(user)
+            self.assertEqual(self.trace().count("restart 0"), 1)
+            if not options:
+                self.kill()
+        endpoint.send("M 080280014508028090")
+        user.gets(self.DISCONNECT.replace("0802000145", "0802800145"))
+        self.end()
+
     def test_both_sides_call_the_link(self) -> None:
         """The exchange sends SABME each time T200 has run out, until the user answers one."""
         (self.folder / "settings").write_text(self.SETTINGS.replace("\n", "\ntimer T200 2000\n", 1))

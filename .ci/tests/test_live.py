@@ -112,6 +112,23 @@ class Live(Attached):
         trace = (self.folder / "live.trace").read_text().splitlines()
         self.assertEqual([line for line in trace if line.startswith("restart")], ["restart 2", "restart 0", "restart 1"])
 
+    def test_calls_from_before_the_start(self) -> None:
+        """An exchange that was killed in a call starts again: each user gets RESTART and acknowledges it, and calls work."""
+        for options in ((), ("--overwrite",)):
+            self.attach(*options)
+            caller, called = self.attached(0), self.attached(1)
+            for endpoint in (caller, called):
+                endpoint.send("M 080280004E790186")
+            caller.send("M 080200010504038090A3700480313031")
+            called.gets("M 0802000105")
+            called.send("M 0802800107")
+            caller.gets("M 0802800107")
+            if not options:
+                self.kill()
+        self.end()
+        trace = (self.folder / "live.trace").read_text().splitlines()
+        self.assertEqual([line for line in trace if line.startswith("restart")], ["restart 0", "restart 1"])
+
     def test_refused_endpoints(self) -> None:
         self.attach()
         first = self.attached(0)

@@ -104,11 +104,6 @@ class Logs(InFolder):
 class Resumed(Attached):
     """An exchange that was killed, and one that goes on with its log."""
 
-    def kill(self) -> None:
-        self.work.kill()
-        self.work.wait()
-        self.errors.close()
-
     def resume(self, *words: str) -> None:
         """Starts the exchange that goes on."""
         self.new.clear()
