@@ -52,7 +52,8 @@ endpoint at a time attaches to each line with an ADDRESS: unix:PATH or tcp:HOST:
     --burst MS       makes the frames of this time at once, 1 to 1000 ms (20)
     --log FILE       writes the trace of all that happens, which `tst follow <FILE` runs again
     --resume LOG     goes on where the exchange with this log ended in any way, and appends to it. Calls go on, and so do
-                     data links. SETTINGS and --strict are as they were
+                     data links. SETTINGS and --strict are as they were. Without it, the endpoint of each line gets
+                     RESTART first, and ends the calls that it has from an exchange before
     --report FILE    writes the report; with --resume, from there on
     --records FILE   appends a line of CSV for each call when it ends, as tools/records has it, with times by the wall clock
     --pcap FILE      writes a capture of the messages, for Wireshark
