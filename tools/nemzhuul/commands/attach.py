@@ -486,9 +486,13 @@ class Live:
 
     # ---- from the exchange
 
+    def listeners(self) -> list[Line]:
+        """The lines whose endpoints get octets."""
+        return [line for line in self.lines.values() if line.is_listening and line.is_served]
+
     def take(self, text: bytes) -> None:
         """Takes whole lines of the report."""
-        listeners = [line for line in self.lines.values() if line.is_listening and line.is_served]
+        listeners = self.listeners()
         for reply in text.split(b"\n"):
             words = reply.replace(b":", b" ").split(b" ")
             word = words[1:2]
@@ -504,6 +508,7 @@ class Live:
             elif word == [b"message"]:
                 if self.take_message(words[2:]) is Cause.OPERATOR and self.operators is not None:
                     self.operators.take(reply)
+                listeners = self.listeners()  # a line that is restarted gets the frames that follow
             elif word == [b"link"]:
                 told = words[2:3] and words[2] in (b"took", b"up", b"down")
                 if told and words[2] != b"took":
