@@ -343,7 +343,8 @@ class FullLine(threading.Thread):
                     self.heard += bytes.fromhex(line[2:].decode())
                     self.frames += 1
                     if self.frames % 80 == 0:
-                        self.speak(80)
+                        with contextlib.suppress(OSError):  # the exchange has ended, and the last frames are still to be read
+                            self.speak(80)
 
 
 @needs_program
