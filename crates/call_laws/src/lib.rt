@@ -10,7 +10,7 @@
 //! - T309 of a leg in state 10 runs if and only if the data link of its line is down ([`law_of_outages`]). In a trace in
 //!   which no link fails it never expires ([`law_of_unfailing_links`]). If it expires, the call is cleared and recorded
 //!   ([`law_of_lost_legs`]).
-//! - After an outage no call is left on one side only ([`law_of_reconciliation`]). When the data link is up again, the
+//! - After an outage each channel of the line is accounted for ([`law_of_reconciliation`]). When the data link is up, the
 //!   user is sent RESTART for each channel whose leg the outage removed, STATUS ENQUIRY for each leg in state 10, and the
 //!   stored RELEASE for each leg in state 19. T305 of each leg in state 12 runs, and its expiry sends RELEASE. After a
 //!   failure no other leg of the line is left ([`law_of_link_failures`]). If the link fails again before it delivers
