@@ -21,7 +21,7 @@ ghost use Rattle.call_profile.specs.World.{World};
 
 use crate::operations::CallControl;
 use crate::sending::{message_to, record_only, send, send_bare};
-use call_states::{Act, HeldLeg, Leg, Peer, on_message, status_message, unexpected};
+use call_states::{Act, Condition, HeldLeg, Leg, Peer, on_message, status_message, unexpected};
 use circuit_model::{Kind, Slot};
 use control_memory::PathMap;
 use exchange_events::Outbox;
@@ -127,7 +127,7 @@ impl<P: PathMap> CallControl<P> {
                 self.clear_peer(out, tones, peer, cause);
             }
             Act::ReleaseComplete(cause) => {
-                self.remove_leg(held, false);
+                self.remove_leg(held, Condition::Idle);
                 self.clear_peer(out, tones, peer, cause);
             }
         }
@@ -225,7 +225,7 @@ impl<P: PathMap> CallControl<P> {
         ensures moved { out.new.moved ≡ out.old.moved }
         ensures sizes { SameSizes self.old.map self.new.map }
     {
-        self.remove_leg(held, false);
+        self.remove_leg(held, Condition::Idle);
         send_bare(out, held, MessageKind::ReleaseComplete);
     }
 
@@ -261,17 +261,17 @@ impl<P: PathMap> CallControl<P> {
         self.clear_peer(out, tones, peer, MESSAGE_NOT_COMPATIBLE_WITH_CALL_STATE);
     }
 
-    /// RELEASE COMPLETE, a restart or an outage: removes the leg, and every circuit at its slot. Stores whether its user
-    /// is owed a RESTART for it.
-    pub(crate) fn remove_leg(&mut self, held: HeldLeg, owed: bool)
+    /// RELEASE COMPLETE, a restart or an outage: removes the leg, and every circuit at its slot. Stores the condition of
+    /// its channel.
+    pub(crate) fn remove_leg(&mut self, held: HeldLeg, condition: Condition)
         requires external { IsExternal self.old.map.external held.slot }
         requires count { length self.old.legs.held ≡ 30 * self.old.map.external }
-        ensures makes { PerformsQuietly (remove_leg owed held) self.old.map self.old.legs self.new.map self.new.legs }
+        ensures makes { PerformsQuietly (remove_leg condition held) self.old.map self.old.legs self.new.map self.new.legs }
         ensures count { length self.new.legs.held ≡ length self.old.legs.held }
         ensures sizes { SameSizes self.old.map self.new.map }
     {
         self.clear(held.slot);
-        self.remove(held.slot, owed);
+        self.remove(held.slot, condition);
     }
 
     /// Clears the other leg of a call with a cause, if there is one.

@@ -22,7 +22,7 @@ use crate::acts::in_release_request;
 use crate::operations::CallControl;
 use crate::sending::{message_to, record_also, send};
 use call_profile::retransmitted_from;
-use call_states::{HeldLeg, Leg};
+use call_states::{Condition, HeldLeg, Leg};
 use call_timers::{Expiry, Timers, due};
 use circuit_model::{CHANNELS_PER_LINE, Slot};
 use control_memory::PathMap;
@@ -182,21 +182,21 @@ impl<P: PathMap> CallControl<P> {
         ensures sizes { SameSizes self.old.map self.new.map }
     {
         let call = self.record_ended(held, peer, DESTINATION_OUT_OF_ORDER);
-        self.remove_leg(held, true);
+        self.remove_leg(held, Condition::Owed);
         self.clear_peer(out, tones, peer, DESTINATION_OUT_OF_ORDER);
         record_also(&mut out.records, call);
     }
 
-    // The user did not reply to RELEASE, which was sent twice: removes the leg. Its user is owed a RESTART if the data link
-    // of its line is down.
+    // The user did not reply to RELEASE, which was sent twice: removes the leg. The establishment of the data link
+    // sends RESTART, which its user is owed if the link is down.
     fn release_over(&mut self, held: HeldLeg)
         requires external { IsExternal self.old.map.external held.slot }
         requires count { length self.old.legs.held ≡ 30 * self.old.map.external }
         ensures makes { PerformsQuietly (release_over self.old.legs held) self.old.map self.old.legs self.new.map self.new.legs }
         ensures sizes { SameSizes self.old.map self.new.map }
     {
-        let owed = self.legs.is_down(held.slot.line);
-        self.remove_leg(held, owed);
+        let condition = Condition::unanswered(self.legs.is_down(held.slot.line));
+        self.remove_leg(held, condition);
     }
 
     // Clears the called leg with cause 102, recovery on timer expiry, and the caller with `cause`.
@@ -239,7 +239,7 @@ impl<P: PathMap> CallControl<P> {
         ensures records { out.new.records ≡ out.old.records }
         ensures sizes { SameSizes self.old.map self.new.map }
     {
-        self.remove_leg(held, false);
+        self.remove_leg(held, Condition::Idle);
         let message = with_cause(
             &held.leg,
             MessageKind::ReleaseComplete,

@@ -13,7 +13,7 @@ ghost use Rattle.call_profile.specs.World.{World};
 
 use crate::operations::CallControl;
 use crate::restarting::{Removal, WHOLE_LINE, request_restart};
-use call_states::HeldLeg;
+use call_states::{Condition, HeldLeg};
 use circuit_model::{CHANNELS_PER_LINE, Slot};
 use control_memory::PathMap;
 use exchange_events::{Outbox, Records};
@@ -35,42 +35,43 @@ impl<P: PathMap> CallControl<P> {
         ensures moved { out.new.moved ≡ None }
         ensures sizes { SameSizes self.old.map self.new.map }
     {
-        let owed = self.legs.is_down(line);
+        let down = self.legs.is_down(line);
+        let condition = Condition::unanswered(down);
         let mut records = Records::new();
         for place in 0..CHANNELS_PER_LINE {
-            self.give_up_slot(out, tones, &mut records, Slot { line, place }, owed);
+            self.give_up_slot(out, tones, &mut records, Slot { line, place }, condition);
         }
-        request_restart(out, line, !owed);
+        request_restart(out, line, !down);
         out.records = records;
     }
 
-    // Removes the leg that holds a slot of a line that the exchange restarts, and ends its call. Stores whether the user is
-    // owed a RESTART of the channel.
+    // Removes the leg that holds a slot of a line that the exchange restarts, and ends its call. Stores the condition of the
+    // channel.
     fn give_up_slot(
         &mut self,
         out: &mut Outbox,
         tones: &Tones,
         records: &mut Records,
         x: Slot,
-        owed: bool,
+        condition: Condition,
     )
         requires work { (d : Dimensions) × (w : World) × Holds d self.old.map self.old.legs w × LegsStand d.external tones.now w }
         requires external { IsExternal self.old.map.external x }
         requires room { (length out.old.sends < max_sends) × (length records.old < max_records) }
-        ensures makes { PerformsBy (λ legs. give_up_slot tones.now owed legs x) self.old.map self.old.legs out.old self.new.map self.new.legs out.new }
+        ensures makes { PerformsBy (λ legs. give_up_slot tones.now condition legs x) self.old.map self.old.legs out.old self.new.map self.new.legs out.new }
         ensures records { (d : Dimensions) (w : World) → Holds d self.old.map self.old.legs w → records.new ≡ records.old ++ slot_records whole_line w x }
         ensures few { (length out.new.sends ≤ length out.old.sends + 1) × (length records.new ≤ length records.old + 1) }
         ensures moved { out.new.moved ≡ out.old.moved }
         ensures sizes { SameSizes self.old.map self.new.map }
     {
         let Some(leg) = self.legs.get(x) else {
-            self.remove(x, owed);
+            self.remove(x, condition);
             return;
         };
         let removal = Removal {
             asked: WHOLE_LINE,
             cause: TEMPORARY_FAILURE,
-            owed,
+            condition,
         };
         let held = HeldLeg { slot: x, leg };
         self.restart_leg(out, tones, records, held, removal);

@@ -21,7 +21,7 @@ use crate::acts::with_enquiry;
 use crate::operations::CallControl;
 use crate::restarting::{Removal, WHOLE_LINE, request_restart};
 use crate::sending::{send, send_bare};
-use call_states::HeldLeg;
+use call_states::{Condition, HeldLeg};
 use circuit_model::{CHANNELS_PER_LINE, Slot};
 use clearing_rules::{Restart, restart_request};
 use control_memory::PathMap;
@@ -56,7 +56,7 @@ impl<P: PathMap> CallControl<P> {
 
     /// Processes the establishment of the data link of a line (Q.931, 5.8.8 to 5.8.10): clears each leg of the line in
     /// state 2, sends STATUS ENQUIRY to the user of each in state 10, which waits for the link no longer, and RELEASE again
-    /// to the user of each in state 19. Sends each RESTART that is owed, or one for the whole interface if no leg is left
+    /// to the user of each in state 19. Sends each RESTART that is awaited, or one for the whole interface if no leg is left
     /// on the line (5.5). Ends no call.
     pub fn link_up(&mut self, out: &mut Outbox, tones: &Tones, line: u8)
         requires work { (s : Setting) × (w : World) × (s.tones ≡ tones.now) × IsInOrder s self.old.map self.old.legs w }
@@ -100,7 +100,7 @@ impl<P: PathMap> CallControl<P> {
                 let removal = Removal {
                     asked: WHOLE_LINE,
                     cause: DESTINATION_OUT_OF_ORDER,
-                    owed: true,
+                    condition: Condition::Owed,
                 };
                 self.restart_leg(out, tones, records, held, removal);
             }
@@ -122,8 +122,8 @@ impl<P: PathMap> CallControl<P> {
     }
 
     // Clears the leg that holds a slot of a line whose data link is up again if it is in state 2, enquires of it if it is in
-    // state 10, and sends RELEASE again if it is in state 19. Restarts the channel if no leg holds the slot, and its user is
-    // owed a RESTART.
+    // state 10, and sends RELEASE again if it is in state 19. Restarts the channel if no leg holds the slot, and it
+    // awaits RESTART.
     fn resume_slot(&mut self, out: &mut Outbox, tones: &Tones, whole: bool, x: Slot)
         requires work { (d : Dimensions) × (w : World) × Holds d self.old.map self.old.legs w × LegsStand d.external tones.now w }
         requires external { IsExternal self.old.map.external x }
@@ -135,7 +135,7 @@ impl<P: PathMap> CallControl<P> {
         ensures sizes { SameSizes self.old.map self.new.map }
     {
         let Some(leg) = self.legs.get(x) else {
-            if self.legs.is_owed(x) {
+            if self.legs.awaits_restart(x) {
                 self.restart_channel(out, whole, x);
             }
             return;
@@ -149,7 +149,8 @@ impl<P: PathMap> CallControl<P> {
         }
     }
 
-    // Sends RESTART for the channel of a slot without a leg, unless one for the whole interface follows.
+    // Sends RESTART for the channel of a slot without a leg, unless one for the whole interface follows. Its user has not
+    // acknowledged it yet.
     fn restart_channel(&mut self, out: &mut Outbox, whole: bool, x: Slot)
         requires external { IsExternal self.old.map.external x }
         requires count { length self.old.legs.held ≡ 30 * self.old.map.external }
@@ -160,7 +161,7 @@ impl<P: PathMap> CallControl<P> {
         ensures records { out.new.records ≡ out.old.records }
         ensures map { self.new.map ≡ self.old.map }
     {
-        self.remove(x, false);
+        self.remove(x, Condition::Unconfirmed);
         if !whole {
             send(out, x.line, &restart_request(Restart::Channel(x.place)));
         }

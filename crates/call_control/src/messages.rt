@@ -1,7 +1,7 @@
 //! A received message, from its octets to its operations.
 ghost use Rattle.std.specs.Prelude.{◌≡◌, ◌<◌, ◌≤◌, ◌^◌, [], None, Ok, IfSome, is_some};
 ghost use Rattle.circuit_map.specs.Connections.{SameSizes};
-ghost use Rattle.clearing_rules.specs.Restarting.{restart_asked};
+ghost use Rattle.clearing_rules.specs.Restarting.{restart_acknowledged, restart_asked};
 ghost use Rattle.call_control.specs.Ahead.{IsDialled, IsReadAhead};
 ghost use Rattle.call_control.specs.AtWork.{IsAtWork, EachAtWork, EachWithTones};
 ghost use Rattle.call_profile.specs.Calls.{asks_for_call, with_leg_named, request_read, outcome_of_octets, outcome_for, on_global_reference};
@@ -13,7 +13,7 @@ ghost use Rattle.call_control.specs.Standing.{HasMade};
 use crate::operations::CallControl;
 use crate::preparsing::{Incoming, Received, read_received};
 use crate::sending::answer_on_no_call;
-use clearing_rules::{GLOBAL_CALL_REFERENCE, restart};
+use clearing_rules::{GLOBAL_CALL_REFERENCE, acknowledged_restart, restart};
 use control_memory::PathMap;
 use exchange_events::Outbox;
 use number_plan::Plan;
@@ -97,7 +97,7 @@ impl<P: PathMap> CallControl<P> {
     {
         let message = &incoming.message;
         if message.reference == GLOBAL_CALL_REFERENCE {
-            return self.restart_if_asked(out, tones, line, message);
+            return self.answer_on_global_reference(out, tones, line, message);
         }
         if let Some(number) = incoming.number {
             self.setup(out, line, message, number);
@@ -108,20 +108,24 @@ impl<P: PathMap> CallControl<P> {
         out.records.clear();
     }
 
-    // Processes a message on the global call reference. Only a RESTART has an effect.
-    fn restart_if_asked(&mut self, out: &mut Outbox, tones: &Tones, line: u8, message: &Message)
+    // Processes a message on the global call reference. Only a RESTART and a RESTART ACKNOWLEDGE have an effect.
+    fn answer_on_global_reference(&mut self, out: &mut Outbox, tones: &Tones, line: u8, message: &Message)
         requires work { (s : Setting) × (w : World) × (s.tones ≡ tones.now) × IsAtWork s self.old.map self.old.legs w }
         requires line { line < self.old.map.external }
         requires fresh { (out.old.sends ≡ []) × (out.old.moved ≡ None) }
         ensures makes { EachWithTones tones.now self.old.map self.old.legs (λ s w.
-            HasMade s self.new.map self.new.legs out.new (outcome_for s w line (on_global_reference (restart_asked message.now))).making) }
+            HasMade s self.new.map self.new.legs out.new (outcome_for s w line (on_global_reference (restart_asked message.now) (restart_acknowledged message.now))).making) }
         ensures records { EachWithTones tones.now self.old.map self.old.legs (λ s w.
-            out.new.records ≡ (outcome_for s w line (on_global_reference (restart_asked message.now))).recorded) }
+            out.new.records ≡ (outcome_for s w line (on_global_reference (restart_asked message.now) (restart_acknowledged message.now))).recorded) }
         ensures moved { out.new.moved ≡ None }
         ensures sizes { SameSizes self.old.map self.new.map }
     {
-        match restart(message) {
-            Some(restarted) => out.records = self.restart_line(out, tones, line, restarted),
+        if let Some(restarted) = restart(message) {
+            out.records = self.restart_line(out, tones, line, restarted);
+            return;
+        }
+        match acknowledged_restart(message) {
+            Some(acknowledged) => self.confirm_line(out, line, acknowledged),
             None => out.records.clear(),
         }
     }

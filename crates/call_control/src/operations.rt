@@ -20,7 +20,7 @@ ghost use Rattle.exchange_events.specs.Sizes.{Dimensions};
 ghost use Rattle.call_profile.specs.World.{World, obey};
 
 use call_profile::{retransmitted_from, waiting_from};
-use call_states::{Leg, Pending};
+use call_states::{Condition, Leg, Pending};
 use circuit_map::CircuitMap;
 use circuit_model::{Kind, Slot};
 use control_memory::PathMap;
@@ -195,14 +195,14 @@ impl<P: PathMap> CallControl<P> {
         self.legs.put(x, leg);
     }
 
-    /// Removes the leg at a slot, with a pending number and a stored message there. Stores whether its user is owed a
-    /// RESTART for it.
-    pub(crate) fn remove(&mut self, x: Slot, owed: bool)
+    /// Removes the leg at a slot, with a pending number and a stored message there. Stores the condition
+    /// of its channel.
+    pub(crate) fn remove(&mut self, x: Slot, condition: Condition)
         requires external { IsExternal self.old.map.external x }
         requires count { length self.old.legs.held ≡ 30 * self.old.map.external }
-        ensures legs { self.new.legs ≡ without_leg self.old.legs x owed }
+        ensures legs { self.new.legs ≡ without_leg self.old.legs x condition }
         ensures map { self.new.map ≡ self.old.map }
     {
-        self.legs.remove(x, owed);
+        self.legs.remove(x, condition);
     }
 }

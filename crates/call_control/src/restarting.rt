@@ -12,14 +12,14 @@ ghost use Rattle.call_profile.specs.LegStanding.{LegsStand};
 ghost use Rattle.call_profile.specs.LinkChanges.{with_interface};
 ghost use Rattle.exchange_events.specs.Limits.{max_records, max_sends};
 ghost use Rattle.call_profile.specs.Peers.{IsThere};
-ghost use Rattle.call_profile.specs.Restarts.{MessageOutcome as The_outcome, restart_leg, restart_peer, restart_slot, restarts_slot, outcome_of_restart};
+ghost use Rattle.call_profile.specs.Restarts.{MessageOutcome as The_outcome, confirm_slot, outcome_of_confirmation, outcome_of_restart, restart_leg, restart_peer, restart_slot, restarts_slot};
 ghost use Rattle.exchange_events.specs.Sizes.{Setting, Dimensions};
-ghost use Rattle.call_control.specs.Standing.{Holds, HasMade, Makes, Performs, PerformsBy};
+ghost use Rattle.call_control.specs.Standing.{Holds, HasMade, Makes, Performs, PerformsBy, PerformsQuietly};
 ghost use Rattle.call_profile.specs.World.{World};
 
 use crate::operations::CallControl;
 use crate::sending::{record_also, send};
-use call_states::HeldLeg;
+use call_states::{Condition, HeldLeg};
 use circuit_model::{CHANNELS_PER_LINE, Slot};
 use clearing_rules::{Restart, restart_acknowledge, restart_request};
 use control_memory::PathMap;
@@ -38,8 +38,8 @@ pub(crate) struct Removal {
     pub(crate) asked: Restart,
     /// The cause that the rest of each call is cleared with.
     pub(crate) cause: u8,
-    /// Whether the users of removed legs are owed a RESTART.
-    pub(crate) owed: bool,
+    /// The condition of the channels of removed legs.
+    pub(crate) condition: Condition,
 }
 
 impl<P: PathMap> CallControl<P> {
@@ -98,7 +98,7 @@ impl<P: PathMap> CallControl<P> {
         let removal = Removal {
             asked,
             cause: TEMPORARY_FAILURE,
-            owed: false,
+            condition: Condition::Idle,
         };
         self.restart_leg(out, tones, records, held, removal);
     }
@@ -118,7 +118,7 @@ impl<P: PathMap> CallControl<P> {
         requires at { leg_at self.old.legs held.slot ≡ Some held.leg }
         requires cause { removal.cause < 128 }
         requires room { (length out.old.sends < max_sends) × (length records.old < max_records) }
-        ensures makes { Performs (restart_leg tones.now removal.cause removal.owed removal.asked self.old.legs (Some held))
+        ensures makes { Performs (restart_leg tones.now removal.cause removal.condition removal.asked self.old.legs (Some held))
             self.old.map self.old.legs out.old self.new.map self.new.legs out.new }
         ensures records { (d : Dimensions) (w : World) → Holds d self.old.map self.old.legs w
             → records.new ≡ records.old ++ cons_option (record_ended w held removal.cause) [] }
@@ -129,7 +129,7 @@ impl<P: PathMap> CallControl<P> {
         let peer = self.peer_of(held.leg.peer);
         let call = self.record_ended(held, peer, removal.cause);
         record_also(records, call);
-        self.remove_leg(held, removal.owed);
+        self.remove_leg(held, removal.condition);
         self.restart_peer(out, tones, held.slot.line, peer, removal);
     }
 
@@ -146,7 +146,7 @@ impl<P: PathMap> CallControl<P> {
         requires count { length self.old.legs.held ≡ 30 * self.old.map.external }
         requires cause { removal.cause < 128 }
         requires room { length out.old.sends < max_sends }
-        ensures makes { Performs (with_peer peer (restart_peer tones.now removal.cause removal.owed removal.asked line))
+        ensures makes { Performs (with_peer peer (restart_peer tones.now removal.cause removal.condition removal.asked line))
             self.old.map self.old.legs out.old self.new.map self.new.legs out.new }
         ensures few { length out.new.sends ≤ length out.old.sends + 1 }
         ensures moved { out.new.moved ≡ out.old.moved }
@@ -156,9 +156,42 @@ impl<P: PathMap> CallControl<P> {
             return;
         };
         if restarts_slot(removal.asked, line, other.slot) {
-            self.remove_leg(other, removal.owed);
+            self.remove_leg(other, removal.condition);
         } else {
             self.clear_peer(out, tones, peer, removal.cause);
+        }
+    }
+}
+
+impl<P: PathMap> CallControl<P> {
+    /// Processes a RESTART ACKNOWLEDGE: its user confirms that the channels which it covers are idle. Ends no call.
+    pub(crate) fn confirm_line(&mut self, out: &mut Outbox, line: u8, acknowledged: Restart)
+        requires work { (s : Setting) × (w : World) × IsAtWork s self.old.map self.old.legs w }
+        requires line { line < self.old.map.external }
+        requires on_line { IsOnLine acknowledged }
+        requires fresh { (out.old.sends ≡ []) × (out.old.moved ≡ None) }
+        ensures makes { (s : Setting) (w : World) → IsAtWork s self.old.map self.old.legs w
+            → HasMade s self.new.map self.new.legs out.new (outcome_of_confirmation s.dimensions acknowledged line w).making }
+        ensures records { (s : Setting) (w : World) → IsAtWork s self.old.map self.old.legs w
+            → out.new.records ≡ (outcome_of_confirmation s.dimensions acknowledged line w).recorded }
+        ensures moved { out.new.moved ≡ None }
+        ensures sizes { SameSizes self.old.map self.new.map }
+    {
+        for place in 0..CHANNELS_PER_LINE {
+            self.confirm_slot(acknowledged, Slot { line, place });
+        }
+        out.records.clear();
+    }
+
+    // Stores that the channel of a slot is idle, if that is acknowledged and was not confirmed.
+    fn confirm_slot(&mut self, acknowledged: Restart, x: Slot)
+        requires external { IsExternal self.old.map.external x }
+        requires count { length self.old.legs.held ≡ 30 * self.old.map.external }
+        ensures makes { PerformsQuietly (confirm_slot acknowledged self.old.legs x) self.old.map self.old.legs self.new.map self.new.legs }
+        ensures map { self.new.map ≡ self.old.map }
+    {
+        if acknowledged.covers(x.place) && self.legs.is_unconfirmed(x) {
+            self.remove(x, Condition::Idle);
         }
     }
 }

@@ -13,6 +13,8 @@ use Rattle.call_states.specs.declared.leg.Peer.TheVariants as peer
 use Rattle.call_states.specs.Status.{flag_to}
 use Rattle.tone_rules.specs.declared.tones.Tones.{Tones}
 use Rattle.tone_rules.specs.CallTones.{tone_given}
+use Rattle.call_states.specs.declared.condition.Condition.{Condition}
+use Rattle.call_states.specs.declared.condition.Condition.TheVariants.{Idle}
 use Rattle.call_states.specs.declared.leg.HeldLeg.{HeldLeg}
 use Rattle.call_profile.specs.Legs.{Legs, held_at, is_down}
 use Rattle.call_profile.specs.Operations.{Operation, Clear, Pair, Sound, Put, Expect, Await, Remove, Send}
@@ -114,17 +116,17 @@ on_disconnect h =
 abbrev pub on_release : HeldLeg → List Operation
 on_release h =
     Clear h.slot
-    ∷ Remove h.slot false
+    ∷ Remove h.slot Idle
     ∷ send_to h (message_to h.leg kind.ReleaseComplete)
     ∷ []
 
--- the leg is removed, and every circuit that uses its slot; the flag states whether its user is owed a RESTART for it
-abbrev pub remove_leg : Bool → HeldLeg → List Operation
-remove_leg owed h =
+-- the leg is removed, and every circuit that uses its slot; its channel is in this condition
+abbrev pub remove_leg : Condition → HeldLeg → List Operation
+remove_leg condition h =
     Clear h.slot
-    ∷ Remove h.slot owed
+    ∷ Remove h.slot condition
     ∷ []
 
 -- the user of the leg has released its call reference
 abbrev pub on_release_complete : HeldLeg → List Operation
-on_release_complete h = remove_leg false h
+on_release_complete h = remove_leg Idle h

@@ -9,7 +9,7 @@ use Rattle.q931_codec.specs.Outgoing.{OutgoingMessage}
 use Rattle.q931_codec.specs.Reading.{reading}
 use Rattle.call_states.specs.Acts.{act_on}
 use Rattle.clearing_rules.specs.declared.scope.Restart.{Restart}
-use Rattle.clearing_rules.specs.Restarting.{global_call_reference, restart_asked}
+use Rattle.clearing_rules.specs.Restarting.{global_call_reference, restart_acknowledged, restart_asked}
 use Rattle.clearing_rules.specs.UnknownReference.{answer_without_call}
 use Rattle.exchange_events.specs.declared.record.CallRecord.{CallRecord}
 use Rattle.exchange_events.specs.declared.signal.Signal.{Signal}
@@ -19,7 +19,7 @@ use Rattle.call_profile.specs.CallRecords.{records_by}
 use Rattle.call_profile.specs.Course.{Course, only, nothing}
 use Rattle.call_profile.specs.Legs.{Legs, leg_named}
 use Rattle.call_profile.specs.Operations.{Operation, Send, Making, making_at, making_after_all}
-use Rattle.call_profile.specs.Restarts.{MessageOutcome, outcome_of_restart}
+use Rattle.call_profile.specs.Restarts.{MessageOutcome, outcome_of_confirmation, outcome_of_restart}
 use Rattle.exchange_events.specs.Sizes.{Setting}
 use Rattle.call_profile.specs.Setup.{course_of_setup}
 use Rattle.call_profile.specs.World.{World}
@@ -27,12 +27,13 @@ use Rattle.call_profile.specs.World.{World}
 -- ---- the request
 
 -- the request of the user of a line: a message for a leg, a SETUP for a new call, a message on a call reference without
--- a call, an accepted RESTART, or a message without a reply
+-- a call, an accepted RESTART, a RESTART ACKNOWLEDGE, or a message without an effect
 pub data Request : Type 0 where
   For_leg : (held : HeldLeg) (message : Message) → Request
   New_call : (setup : Message) → Request
   On_no_call : (message : Message) → Request
   Restarts : (restart : Restart) → Request
+  Confirms : (restart : Restart) → Request
   Unanswered : Request
 
 -- a SETUP from the side that chose the call reference requests a call
@@ -43,15 +44,19 @@ is_setup _ = false
 abbrev pub asks_for_call : Message → Bool
 asks_for_call m = is_setup m.kind && not m.flag
 
--- on the global call reference, which has no call, only a RESTART is accepted
-abbrev pub on_global_reference : Option Restart → Request
-on_global_reference None = Unanswered
-on_global_reference (Some r) = Restarts r
+-- on the global call reference, which has no call, only a RESTART and a RESTART ACKNOWLEDGE are accepted
+abbrev pub on_acknowledgement : Option Restart → Request
+on_acknowledgement None = Unanswered
+on_acknowledgement (Some r) = Confirms r
+
+abbrev pub on_global_reference : Option Restart → Option Restart → Request
+on_global_reference None acknowledged = on_acknowledgement acknowledged
+on_global_reference (Some r) acknowledged = Restarts r
 
 -- a message without a leg
 abbrev pub request_without_leg : Message → Request
 request_without_leg m =
-    if m.reference == global_call_reference then on_global_reference (restart_asked m)
+    if m.reference == global_call_reference then on_global_reference (restart_asked m) (restart_acknowledged m)
     else if asks_for_call m then New_call m
     else On_no_call m
 
@@ -89,6 +94,7 @@ outcome_for s w line (For_leg h m) = outcome_by s w (course_on s w h m)
 outcome_for s w line (New_call m) = outcome_by s w (course_of_setup s w line m)
 outcome_for s w line (On_no_call m) = outcome_by s w (only (answer_back line (answer_without_call m)))
 outcome_for s w line (Restarts r) = outcome_of_restart s.dimensions s.tones r line w
+outcome_for s w line (Confirms r) = outcome_of_confirmation s.dimensions r line w
 outcome_for s w line Unanswered = outcome_by s w nothing
 
 abbrev pub outcome_of_octets : Setting → World → ℕ → List ℕ → MessageOutcome

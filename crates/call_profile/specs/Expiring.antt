@@ -12,6 +12,8 @@ use Rattle.call_timers.specs.Expiries.{due}
 use Rattle.call_timers.specs.declared.expiry.Expiry.{Expiry}
 use Rattle.call_timers.specs.declared.expiry.Expiry.TheVariants as expiry
 use Rattle.call_timers.specs.declared.timers.Timers.{Timers}
+use Rattle.call_states.specs.declared.condition.Condition.TheVariants.{Owed}
+use Rattle.call_states.specs.Conditions.{unanswered}
 use Rattle.call_states.specs.declared.leg.HeldLeg.{HeldLeg}
 use Rattle.call_states.specs.declared.leg.Leg.{Leg}
 use Rattle.tone_rules.specs.declared.tones.Tones.{Tones}
@@ -59,12 +61,12 @@ clear_both tones legs h cause = clear_with tones recovery_on_timer_expiry h ++ c
 -- the data link of the leg's line did not come up again: the leg is removed, its user is owed a RESTART, and the rest of
 -- its call is cleared
 abbrev pub outage_over : Tones → Legs → HeldLeg → List Operation
-outage_over tones legs h = remove_leg true h ++ clear_peer tones legs h destination_out_of_order
+outage_over tones legs h = remove_leg Owed h ++ clear_peer tones legs h destination_out_of_order
 
--- the user did not reply to RELEASE, which was sent twice: the leg is removed; if the data link of its line is down, its
--- user is owed a RESTART
+-- the user did not reply to RELEASE, which was sent twice: the leg is removed; the establishment of the data link of its
+-- line sends RESTART (5.5), which its user is owed if the link is down
 abbrev pub release_over : Legs → HeldLeg → List Operation
-release_over legs h = remove_leg (is_down legs h.slot.line) h
+release_over legs h = remove_leg (unanswered (is_down legs h.slot.line)) h
 
 abbrev pub on_expiry : Tones → Legs → HeldLeg → Expiry → List Operation
 on_expiry tones legs h expiry.Digits = clear_with tones invalid_number_format h

@@ -1,6 +1,6 @@
 -- The legs of calls, by the slots that they hold. Source: ITU-T Q.931 (05/98), 4.3, for call references and their flag;
 -- the rest is this project's.
-use Rattle.std.specs.Prelude.{ℕ, ◌+◌, ◌*◌, ◌&&◌, ◌==◌, Bool, true, false, List, map, replicate, is_none, Option, Some, None, option_map, slice_index_or, slice_set, find, filter_map}
+use Rattle.std.specs.Prelude.{ℕ, ◌+◌, ◌*◌, ◌&&◌, ◌==◌, ◌||◌, Bool, true, false, List, map, replicate, is_none, Option, Some, None, option_map, slice_index_or, slice_set, find, filter_map}
 use Rattle.std.specs.List.{range_with_len, position_or_len}
 use Rattle.circuit_model.specs.declared.channel.Slot.{Slot}
 use Rattle.control_memory.specs.Layout.{number_of}
@@ -9,15 +9,18 @@ use Rattle.call_states.specs.declared.leg.Side.{Side}
 use Rattle.call_states.specs.declared.leg.Side.TheVariants.{Caller, Called}
 use Rattle.call_states.specs.declared.leg.HeldLeg.{HeldLeg}
 use Rattle.call_states.specs.declared.pending.Pending.{Pending}
+use Rattle.call_states.specs.declared.condition.Condition.{Condition}
+use Rattle.call_states.specs.declared.condition.Condition.TheVariants.{Idle}
+use Rattle.call_states.specs.Conditions.{is_open, is_owing}
 
 -- for each external slot, by its number, the leg that holds it, the number that is pending there, the octets of the
--- message that is stored there for retransmission, and whether its user is owed a RESTART for the leg that was removed
--- last; and for each external line whether its data link is down
+-- message that is stored there for retransmission, and the condition of the channel since its last leg was removed; and
+-- for each external line whether its data link is down
 pub record Legs : Type 0 where
   pub held : List (Option Leg)
   pub pending : List (Option Pending)
   pub kept : List (Option (List ℕ))
-  pub owed : List Bool
+  pub conditions : List Condition
   pub down : List Bool
 
 abbrev pub no_legs : ℕ → Legs
@@ -25,7 +28,7 @@ no_legs external = record {
   held = replicate (30 * external) None;
   pending = replicate (30 * external) None;
   kept = replicate (30 * external) None;
-  owed = replicate (30 * external) false;
+  conditions = replicate (30 * external) Idle;
   down = replicate external false;
 }
 
@@ -45,9 +48,20 @@ pending_at legs x = slice_index_or legs.pending (number_of x) None
 abbrev pub kept_at : Legs → Slot → Option (List ℕ)
 kept_at legs x = slice_index_or legs.kept (number_of x) None
 
+abbrev pub condition_at : Legs → Slot → Condition
+condition_at legs x = slice_index_or legs.conditions (number_of x) Idle
+
 -- no leg holds the slot, and its user is owed a RESTART for it
 abbrev pub is_owed : Legs → Slot → Bool
-is_owed legs x = slice_index_or legs.owed (number_of x) false && is_none (leg_at legs x)
+is_owed legs x = is_owing (condition_at legs x) && is_none (leg_at legs x)
+
+-- no leg holds the slot, and its user has not confirmed that it is idle: RESTART was sent, or RELEASE twice
+abbrev pub is_unconfirmed : Legs → Slot → Bool
+is_unconfirmed legs x = is_open (condition_at legs x) && is_none (leg_at legs x)
+
+-- the establishment of the data link sends RESTART for the slot
+abbrev pub awaits_restart : Legs → Slot → Bool
+awaits_restart legs x = is_owed legs x || is_unconfirmed legs x
 
 -- a leg waits in its state from this frame on, after it gets its slot, and again after a retransmission; in active
 -- the flag of a retransmission states that T309 runs (5.8.9)
@@ -68,8 +82,8 @@ with_entry legs x leg = record legs {
 abbrev pub with_leg : Legs → Slot → Leg → Legs
 with_leg legs x leg = with_entry legs x (Some leg)
 
-abbrev pub without_leg : Legs → Slot → Bool → Legs
-without_leg legs x owed = record (with_entry legs x None) { owed = slice_set legs.owed (number_of x) owed }
+abbrev pub without_leg : Legs → Slot → Condition → Legs
+without_leg legs x condition = record (with_entry legs x None) { conditions = slice_set legs.conditions (number_of x) condition }
 
 -- the slot is held by this leg, whose number is pending
 abbrev pub with_waiting : Legs → Slot → Leg → Pending → Legs

@@ -13,10 +13,13 @@ use Rattle.clearing_rules.specs.declared.scope.Restart.{Restart}
 use Rattle.clearing_rules.specs.declared.scope.Restart.TheVariants.{Channel, Interface}
 use Rattle.tone_rules.specs.declared.tones.Tones.{Tones}
 use Rattle.call_states.specs.Acts.{is_among}
+use Rattle.call_states.specs.Conditions.{unanswered}
+use Rattle.call_states.specs.declared.condition.Condition.{Condition}
+use Rattle.call_states.specs.declared.condition.Condition.TheVariants.{Owed, Unconfirmed}
 use Rattle.call_states.specs.declared.leg.HeldLeg.{HeldLeg}
 use Rattle.call_profile.specs.Acts.{send_to, message_to, clear_with, with_enquiry}
 use Rattle.call_profile.specs.Expiring.{send_again}
-use Rattle.call_profile.specs.Legs.{Legs, held_at, is_down, kept_at, leg_at, is_owed, slots_of, with_link}
+use Rattle.call_profile.specs.Legs.{Legs, awaits_restart, held_at, is_down, kept_at, leg_at, slots_of, with_link}
 use Rattle.call_profile.specs.Operations.{Operation, Put, Await, Remove, Send, making_after, with_legs}
 use Rattle.call_profile.specs.Restarts.{MessageOutcome, SlotRule, restart_leg, outcome_below}
 use Rattle.exchange_events.specs.Sizes.{Dimensions}
@@ -44,7 +47,7 @@ drop_leg tones legs None = []
 drop_leg tones legs (Some h) =
     if h.leg.state == active then start_waiting h
     else if is_among being_cleared h.leg.state then []
-    else restart_leg tones destination_out_of_order true whole_line legs (Some h)
+    else restart_leg tones destination_out_of_order Owed whole_line legs (Some h)
 
 abbrev pub drop_slot : Tones → Legs → Slot → List Operation
 drop_slot tones legs x = drop_leg tones legs (held_at legs x)
@@ -67,13 +70,13 @@ resume_leg tones legs h =
     else if h.leg.state == release_request then send_again h (kept_at legs h.slot)
     else []
 
--- a RESTART of the channel, unless one of the whole interface follows (5.5.1)
+-- a RESTART of the channel, unless one of the whole interface follows (5.5.1); its user has not acknowledged it yet
 abbrev pub restart_channel : Bool → Slot → List Operation
-restart_channel whole x = Remove x false ∷ (if whole then [] else Send x.line (restart_of (Channel x.place)) ∷ [])
+restart_channel whole x = Remove x Unconfirmed ∷ (if whole then [] else Send x.line (restart_of (Channel x.place)) ∷ [])
 
 abbrev pub resume_held : Tones → Bool → Legs → Slot → Option HeldLeg → List Operation
 resume_held tones whole legs x (Some h) = resume_leg tones legs h
-resume_held tones whole legs x None = if is_owed legs x then restart_channel whole x else []
+resume_held tones whole legs x None = if awaits_restart legs x then restart_channel whole x else []
 
 abbrev pub resume_slot : Tones → Bool → Legs → Slot → List Operation
 resume_slot tones whole legs x = resume_held tones whole legs x (held_at legs x)
@@ -84,9 +87,9 @@ resume_rule tones whole = record { does = resume_slot tones whole; cause = tempo
 abbrev pub is_held : Legs → Slot → Bool
 is_held legs x = is_some (leg_at legs x)
 
--- the whole interface is restarted: its user is owed a RESTART, and no leg is left on the line
+-- the whole interface is restarted: a slot awaits RESTART, and no leg is left on the line
 abbrev pub restarts_interface : Legs → ℕ → Bool
-restarts_interface legs line = list_any (is_owed legs) (slots_of line) && not (list_any (is_held legs) (slots_of line))
+restarts_interface legs line = list_any (awaits_restart legs) (slots_of line) && not (list_any (is_held legs) (slots_of line))
 
 -- ---- a change of the link
 
@@ -111,20 +114,20 @@ outcome_of_link d tones down line w =
 -- ---- the exchange restarts a line (5.5.1)
 
 -- the leg of a slot is removed, and the other leg of its call too if it is on the line, or else cleared with cause 41; the
--- flag states whether the user is owed the RESTART
-abbrev pub give_up_leg : Tones → Bool → Legs → Slot → Option HeldLeg → List Operation
-give_up_leg tones owed legs x None = Remove x owed ∷ []
-give_up_leg tones owed legs x (Some h) = restart_leg tones temporary_failure owed whole_line legs (Some h)
+-- channel is in this condition
+abbrev pub give_up_leg : Tones → Condition → Legs → Slot → Option HeldLeg → List Operation
+give_up_leg tones condition legs x None = Remove x condition ∷ []
+give_up_leg tones condition legs x (Some h) = restart_leg tones temporary_failure condition whole_line legs (Some h)
 
-abbrev pub give_up_slot : Tones → Bool → Legs → Slot → List Operation
-give_up_slot tones owed legs x = give_up_leg tones owed legs x (held_at legs x)
+abbrev pub give_up_slot : Tones → Condition → Legs → Slot → List Operation
+give_up_slot tones condition legs x = give_up_leg tones condition legs x (held_at legs x)
 
-abbrev pub give_up_rule : Tones → Bool → SlotRule
-give_up_rule tones owed = record { does = give_up_slot tones owed; cause = temporary_failure }
+abbrev pub give_up_rule : Tones → Condition → SlotRule
+give_up_rule tones condition = record { does = give_up_slot tones condition; cause = temporary_failure }
 
 -- each slot of the line is given up, lowest first, and last its user is sent RESTART; while the data link of the line is
 -- down, the user is owed it
 abbrev pub outcome_of_line_restart : Dimensions → Tones → ℕ → World → MessageOutcome
 outcome_of_line_restart d tones line w =
-    let owed = is_down w.legs line in
-    with_interface d (not owed) line (outcome_below d (give_up_rule tones owed) line w 30)
+    let down = is_down w.legs line in
+    with_interface d (not down) line (outcome_below d (give_up_rule tones (unanswered down)) line w 30)

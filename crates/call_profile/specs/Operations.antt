@@ -10,6 +10,7 @@ use Rattle.q931_codec.specs.Outgoing.{OutgoingMessage, encoding}
 use Rattle.call_states.specs.declared.leg.Leg.{Leg}
 use Rattle.call_states.specs.declared.leg.HeldLeg.{HeldLeg}
 use Rattle.call_states.specs.declared.pending.Pending.{Pending}
+use Rattle.call_states.specs.declared.condition.Condition.{Condition}
 use Rattle.exchange_events.specs.declared.signal.Signal.{Signal}
 use Rattle.call_profile.specs.Legs.{Legs, waiting_from, retransmitted_from, with_leg, with_waiting, with_kept, without_leg}
 use Rattle.exchange_events.specs.Sizes.{Dimensions}
@@ -36,9 +37,8 @@ pub data Operation : Type 0 where
   -- the slot is held by this leg, with no pending number and no stored message, and waits from the next frame on for the
   -- data link of its line
   Await : (x : Slot) (leg : Leg) → Operation
-  -- the slot is held by no leg, with no pending number and no stored message; the flag states whether its user is owed a
-  -- RESTART for it, since it was sent nothing about it
-  Remove : (x : Slot) (owed : Bool) → Operation
+  -- the slot is held by no leg, with no pending number and no stored message, and its channel has this condition
+  Remove : (x : Slot) (condition : Condition) → Operation
   -- a message goes to the user of a line
   Send : (line : ℕ) (message : OutgoingMessage) → Operation
 
@@ -88,7 +88,7 @@ making_after d m (Repeat h octets) = record m {
   sends = m.sends ++ record { line = h.slot.line; octets = octets } ∷ [];
 }
 making_after d m (Await x leg) = record m { world = with_legs m.world (with_leg m.world.legs x (retransmitted_from m.world.holding.next leg)) }
-making_after d m (Remove x owed) = record m { world = with_legs m.world (without_leg m.world.legs x owed) }
+making_after d m (Remove x condition) = record m { world = with_legs m.world (without_leg m.world.legs x condition) }
 making_after d m (Send line message) = record m { sends = m.sends ++ record { line = line; octets = encoding message } ∷ [] }
 
 abbrev pub making_after_all : Dimensions → Making → List Operation → Making

@@ -1,17 +1,19 @@
 -- The exchange state after a RESTART, slot by slot. Source: ITU-T Q.931 (05/98), 5.5; the clearing of the calls is this
 -- project's profile.
-use Rattle.std.specs.Prelude.{ℕ, zero, suc, false, ◌==◌, ◌&&◌, Bool, List, [], ◌++◌, Option, Some, None, if◌then◌else◌}
+use Rattle.std.specs.Prelude.{ℕ, zero, suc, ◌==◌, ◌&&◌, Bool, List, [], ◌∷◌, ◌++◌, Option, Some, None, if◌then◌else◌}
 use Rattle.circuit_model.specs.declared.channel.Slot.{Slot}
 use Rattle.q931_codec.specs.Causes.{temporary_failure}
 use Rattle.clearing_rules.specs.declared.scope.Restart.{Restart}
 use Rattle.clearing_rules.specs.Restarting.{is_restarted, acknowledgement}
 use Rattle.tone_rules.specs.declared.tones.Tones.{Tones}
+use Rattle.call_states.specs.declared.condition.Condition.{Condition}
+use Rattle.call_states.specs.declared.condition.Condition.TheVariants.{Idle}
 use Rattle.call_states.specs.declared.leg.HeldLeg.{HeldLeg}
 use Rattle.exchange_events.specs.declared.record.CallRecord.{CallRecord}
 use Rattle.call_profile.specs.Acts.{peer_of, with_peer, clear_with, remove_leg}
 use Rattle.call_profile.specs.CallRecords.{records}
-use Rattle.call_profile.specs.Legs.{Legs, held_at}
-use Rattle.call_profile.specs.Operations.{Operation, Making, making_at, making_after, making_after_all, Send}
+use Rattle.call_profile.specs.Legs.{Legs, held_at, is_unconfirmed}
+use Rattle.call_profile.specs.Operations.{Operation, Making, making_at, making_after, making_after_all, Remove, Send}
 use Rattle.exchange_events.specs.Sizes.{Dimensions}
 use Rattle.call_profile.specs.World.{World}
 
@@ -23,17 +25,19 @@ restarts_slot r line x = (x.line == line) && is_restarted r x.place
 
 -- the other leg of a call is removed too if its slot is also restarted, and its user is sent nothing; otherwise it is
 -- cleared with a cause
-abbrev pub restart_peer : Tones → ℕ → Bool → Restart → ℕ → HeldLeg → List Operation
-restart_peer tones cause owed r line other = if restarts_slot r line other.slot then remove_leg owed other else clear_with tones cause other
+abbrev pub restart_peer : Tones → ℕ → Condition → Restart → ℕ → HeldLeg → List Operation
+restart_peer tones cause condition r line other =
+    if restarts_slot r line other.slot then remove_leg condition other else clear_with tones cause other
 
--- the leg that holds a restarted slot is removed; the flag states whether its user is owed a RESTART for it
-abbrev pub restart_leg : Tones → ℕ → Bool → Restart → Legs → Option HeldLeg → List Operation
-restart_leg tones cause owed r legs None = []
-restart_leg tones cause owed r legs (Some h) = remove_leg owed h ++ with_peer (peer_of legs h.leg.peer) (restart_peer tones cause owed r h.slot.line)
+-- the leg that holds a restarted slot is removed; its channel is in this condition
+abbrev pub restart_leg : Tones → ℕ → Condition → Restart → Legs → Option HeldLeg → List Operation
+restart_leg tones cause condition r legs None = []
+restart_leg tones cause condition r legs (Some h) =
+    remove_leg condition h ++ with_peer (peer_of legs h.leg.peer) (restart_peer tones cause condition r h.slot.line)
 
--- the user who requests a restart is owed none
+-- the user who requests a restart knows that the channel is idle
 abbrev pub restart_slot : Tones → Restart → Legs → Slot → List Operation
-restart_slot tones r legs x = if is_restarted r x.place then restart_leg tones temporary_failure false r legs (held_at legs x) else []
+restart_slot tones r legs x = if is_restarted r x.place then restart_leg tones temporary_failure Idle r legs (held_at legs x) else []
 
 -- ---- the slots of the line, in sequence
 
@@ -69,3 +73,16 @@ abbrev pub outcome_of_restart : Dimensions → Tones → Restart → ℕ → Wor
 outcome_of_restart d tones r line w =
     let a = outcome_below d (restart_rule tones r) line w 30 in
     record a { making = making_after d a.making (Send line (acknowledgement r)) }
+
+-- ---- RESTART ACKNOWLEDGE
+
+-- the user confirms that the slot is idle
+abbrev pub confirm_slot : Restart → Legs → Slot → List Operation
+confirm_slot r legs x = if is_restarted r x.place && is_unconfirmed legs x then Remove x Idle ∷ [] else []
+
+-- it ends no call
+abbrev pub confirm_rule : Restart → SlotRule
+confirm_rule r = record { does = confirm_slot r; cause = temporary_failure }
+
+abbrev pub outcome_of_confirmation : Dimensions → Restart → ℕ → World → MessageOutcome
+outcome_of_confirmation d r line w = outcome_below d (confirm_rule r) line w 30

@@ -1,3 +1,4 @@
 pub mod Acts
+pub mod Conditions
 pub mod Status
 pub mod Pending

@@ -37,6 +37,10 @@ restart_of_class m class =
     if class == indicated_channels then option_map Channel (place_named m)
     else (if class == single_interface || class == all_interfaces then Some (Interface class) else None)
 
+-- the restart in a message, by its restart indicator; none without one
+abbrev pub restart_within : Message → Option Restart
+restart_within m = option_and_then (restart_of_class m) (restart_in m.elements)
+
 -- a RESTART has the global call reference, and comes from the side that chose it (5.5.1)
 abbrev pub is_restart : MessageKind → Bool
 is_restart kind.Restart = true
@@ -47,7 +51,19 @@ begins_restart m = is_restart m.kind && not m.flag && m.reference == global_call
 
 -- the restart that a message requests; none if it is not an accepted RESTART
 abbrev pub restart_asked : Message → Option Restart
-restart_asked m = if begins_restart m then option_and_then (restart_of_class m) (restart_in m.elements) else None
+restart_asked m = if begins_restart m then restart_within m else None
+
+-- a RESTART ACKNOWLEDGE has the global call reference, and goes to the side that chose it (5.5.1)
+abbrev pub is_restart_acknowledge : MessageKind → Bool
+is_restart_acknowledge kind.RestartAcknowledge = true
+is_restart_acknowledge _ = false
+
+abbrev pub acknowledges_restart : Message → Bool
+acknowledges_restart m = is_restart_acknowledge m.kind && m.flag && m.reference == global_call_reference
+
+-- the restart of the exchange that a message acknowledges; none if it is not a RESTART ACKNOWLEDGE of a channel or of all
+abbrev pub restart_acknowledged : Message → Option Restart
+restart_acknowledged m = if acknowledges_restart m then restart_within m else None
 
 -- ---- which places are restarted
 

@@ -5,7 +5,7 @@ use Rattle.q931_codec.specs.declared.message.Discard.{Discard}
 use Rattle.q931_codec.specs.Outgoing.{encoding}
 use Rattle.q931_codec.specs.Reading.{reading}
 use Rattle.clearing_rules.specs.declared.scope.Restart.{Restart}
-use Rattle.clearing_rules.specs.Restarting.{restart_asked, acknowledgement}
+use Rattle.clearing_rules.specs.Restarting.{restart_acknowledged, restart_asked, acknowledgement}
 use Rattle.clearing_rules.specs.UnknownReference.{answer_without_call}
 
 abbrev pub answer_to_read : Result Message Discard → Option (List ℕ)
@@ -19,6 +19,14 @@ answer_to_octets octets = answer_to_read (reading octets)
 abbrev pub restart_read : Result Message Discard → Option Restart
 restart_read (Ok m) = restart_asked m
 restart_read (Err why) = None
+
+-- the restart that these octets acknowledge
+abbrev pub acknowledged_read : Result Message Discard → Option Restart
+acknowledged_read (Ok m) = restart_acknowledged m
+acknowledged_read (Err why) = None
+
+abbrev pub acknowledged_in_octets : List ℕ → Option Restart
+acknowledged_in_octets octets = acknowledged_read (reading octets)
 
 -- the restart that these octets request, and the octets that acknowledge it
 abbrev pub restart_in_octets : List ℕ → Option Restart
@@ -130,3 +138,6 @@ interface_acknowledged = 0x08 ∷ 0x02 ∷ 0x80 ∷ 0x00 ∷ 0x4E ∷ 0x79 ∷ 0
 
 abbrev pub channel_1_acknowledged : List ℕ
 channel_1_acknowledged = 0x08 ∷ 0x02 ∷ 0x80 ∷ 0x00 ∷ 0x4E ∷ 0x18 ∷ 0x03 ∷ 0xA9 ∷ 0x83 ∷ 0x81 ∷ 0x79 ∷ 0x01 ∷ 0x80 ∷ []
+
+abbrev pub channel_2_acknowledged : List ℕ
+channel_2_acknowledged = 0x08 ∷ 0x02 ∷ 0x80 ∷ 0x00 ∷ 0x4E ∷ 0x18 ∷ 0x03 ∷ 0xA9 ∷ 0x83 ∷ 0x82 ∷ 0x79 ∷ 0x01 ∷ 0x80 ∷ []

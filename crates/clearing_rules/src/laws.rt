@@ -7,7 +7,7 @@ ghost use Rattle.clearing_rules.specs.declared.scope.Restart.{Restart};
 ghost use Rattle.clearing_rules.specs.declared.scope.Restart.TheVariants.{Channel, Interface};
 ghost use Rattle.clearing_rules.specs.Restarting.{acknowledgement, global_call_reference, restart_of, IsOnLine};
 ghost use Rattle.clearing_rules.specs.UnknownReference.{answer_without_call};
-ghost use Rattle.clearing_rules.specs.Worked.{answer_to_octets, restart_in_octets, acknowledgement_of_octets};
+ghost use Rattle.clearing_rules.specs.Worked.{acknowledged_in_octets, acknowledgement_of_octets, answer_to_octets, restart_in_octets};
 ghost use Rattle.clearing_rules.specs.Worked as worked;
 
 use crate::restart_message::GLOBAL_CALL_REFERENCE;
@@ -44,7 +44,7 @@ pub fn worked_answers()
     ensures global_enquiry { answer_to_octets worked.enquiry_on_global ≡ None }
 {}
 
-/// The restarts that octets request, and the octets that acknowledge them.
+/// The restarts that octets request, the octets that acknowledge them, and the restarts that octets acknowledge.
 pub fn worked_restarts()
     ensures interface { restart_in_octets worked.restart_interface ≡ Some (Interface single_interface) }
     ensures all { restart_in_octets worked.restart_all ≡ Some (Interface all_interfaces) }
@@ -59,4 +59,8 @@ pub fn worked_restarts()
     ensures acknowledge { restart_in_octets worked.restart_acknowledge ≡ None }
     ensures interface_acknowledged { acknowledgement_of_octets worked.restart_interface ≡ Some worked.interface_acknowledged }
     ensures channel_acknowledged { acknowledgement_of_octets worked.restart_1 ≡ Some worked.channel_1_acknowledged }
+    ensures acknowledges_interface { acknowledged_in_octets worked.interface_acknowledged ≡ Some (Interface single_interface) }
+    ensures acknowledges_channel { acknowledged_in_octets worked.channel_2_acknowledged ≡ Some (Channel 1) }
+    ensures acknowledges_at_flag { acknowledged_in_octets worked.restart_acknowledge ≡ None }
+    ensures requests_only { acknowledged_in_octets worked.restart_interface ≡ None }
 {}

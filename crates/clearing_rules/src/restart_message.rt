@@ -2,7 +2,7 @@
 
 ghost use Rattle.std.specs.Prelude.{◌≡◌, IfSome};
 ghost use Rattle.q931_codec.specs.Outgoing.{outgoing_of};
-ghost use Rattle.clearing_rules.specs.Restarting.{acknowledgement, indicated, restart_asked, restart_of, IsOnLine};
+ghost use Rattle.clearing_rules.specs.Restarting.{acknowledgement, indicated, restart_acknowledged, restart_asked, restart_of, restart_within, IsOnLine};
 
 use crate::scope::Restart;
 use circuit_model::{channel_of, slot_of_channel};
@@ -28,11 +28,20 @@ pub fn restart(message: &Message) -> Option<Restart>
     if !begins_restart(message) {
         return None;
     }
-    match message.restart_indicator()? {
-        INDICATED_CHANNELS => Some(Restart::Channel(place_named(message)?)),
-        class @ (SINGLE_INTERFACE | ALL_INTERFACES) => Some(Restart::Interface(class)),
-        _ => None,
+    restart_within(message)
+}
+
+/// Returns the restart of the exchange that a message acknowledges (Q.931, 5.5.1). `None` for every message that is not a
+/// RESTART ACKNOWLEDGE on the global call reference with flag 1, and for one whose restart indicator or channel a RESTART
+/// may not have either ([`restart`]).
+pub fn acknowledged_restart(message: &Message) -> Option<Restart>
+    ensures acknowledged { result ≡ restart_acknowledged message.now }
+    ensures place { IfSome result IsOnLine }
+{
+    if !acknowledges_restart(message) {
+        return None;
     }
+    restart_within(message)
 }
 
 /// Returns the RESTART (Q.931, 3.4.1) of the exchange for a restart: on the global call reference with flag 0.
@@ -78,7 +87,28 @@ fn indicated(restart: Restart) -> (Option<u8>, u8)
 }
 
 ghost use Rattle.std.specs.Prelude.{◌<◌};
-ghost use Rattle.clearing_rules.specs.Restarting.{begins_restart, place_named};
+ghost use Rattle.clearing_rules.specs.Restarting.{acknowledges_restart, begins_restart, place_named};
+
+// Returns the restart that the elements of a RESTART or RESTART ACKNOWLEDGE contain.
+fn restart_within(message: &Message) -> Option<Restart>
+    ensures within { result ≡ restart_within message.now }
+    ensures place { IfSome result IsOnLine }
+{
+    match message.restart_indicator()? {
+        INDICATED_CHANNELS => Some(Restart::Channel(place_named(message)?)),
+        class @ (SINGLE_INTERFACE | ALL_INTERFACES) => Some(Restart::Interface(class)),
+        _ => None,
+    }
+}
+
+// Returns whether the message is a RESTART ACKNOWLEDGE on the global call reference to the side that chose it.
+fn acknowledges_restart(message: &Message) -> bool
+    ensures { result ≡ acknowledges_restart message.now }
+{
+    message.kind == MessageKind::RestartAcknowledge
+        && message.flag
+        && message.reference == GLOBAL_CALL_REFERENCE
+}
 
 // Returns whether the message is a RESTART on the global call reference from the side that chose it. [`restart`] tests
 // this, so its `None` covers all other messages on call reference 0.

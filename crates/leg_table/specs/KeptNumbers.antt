@@ -5,6 +5,7 @@ use Rattle.q931_codec.specs.CallStates.{overlap_sending}
 use Rattle.call_states.specs.Acts.{is_among}
 use Rattle.call_states.specs.declared.leg.Leg.{Leg}
 use Rattle.call_states.specs.declared.pending.Pending.{Pending}
+use Rattle.call_states.specs.declared.condition.Condition.{Condition}
 use Rattle.call_profile.specs.KeptMessages.{awaiting_answer}
 use Rattle.call_profile.specs.Legs.{Legs}
 use Rattle.leg_table.specs.declared.notes.SlotData.{SlotData}
@@ -39,5 +40,6 @@ counting_all legs notes = shown_all Pending counting legs notes
 abbrev pub keeping_all : List (Option Leg) → List SlotData → List (Option (List ℕ))
 keeping_all legs notes = shown_all (List ℕ) keeping legs notes
 
-abbrev pub legs_kept : List (Option Leg) → List SlotData → List Bool → List Bool → Legs
-legs_kept legs notes owed down = record { held = legs; pending = counting_all legs notes; kept = keeping_all legs notes; owed = owed; down = down }
+abbrev pub legs_kept : List (Option Leg) → List SlotData → List Condition → List Bool → Legs
+legs_kept legs notes conditions down =
+    record { held = legs; pending = counting_all legs notes; kept = keeping_all legs notes; conditions = conditions; down = down }

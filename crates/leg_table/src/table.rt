@@ -10,13 +10,13 @@ ghost use Rattle.call_profile.specs.LinkChanges.{restarts_interface};
 ghost use Rattle.leg_table.specs.KeptNumbers.{counting_all, keeping_all};
 ghost use Rattle.leg_table.specs.DueBounds.{NoneDue};
 ghost use Rattle.leg_table.specs.LegKeys.{IsRowOf};
-ghost use Rattle.call_profile.specs.Legs.{no_legs, leg_at, pending_at, kept_at, with_leg, with_link, with_waiting, with_kept, without_leg, is_down, is_owed, leg_named, held_at, lowest_free_reference};
+ghost use Rattle.call_profile.specs.Legs.{no_legs, leg_at, pending_at, kept_at, with_leg, with_link, with_waiting, with_kept, without_leg, awaits_restart, is_down, is_unconfirmed, leg_named, held_at, lowest_free_reference};
 ghost use Rattle.leg_table.specs.declared.notes.SlotData.TheVariants as A_datum;
 
 use crate::keyed_legs::KeyedLegs;
 use crate::leg_keys::{key_named, places_with, references_in};
 use crate::notes::SlotData;
-use call_states::{HeldLeg, Leg, Pending};
+use call_states::{Condition, HeldLeg, Leg, Pending};
 use call_timers::Timers;
 use circuit_model::{CHANNELS_PER_LINE, Slot};
 use exchange_events::Encoded;
@@ -25,16 +25,16 @@ use std::alloc::{AllocError, Global};
 use std::marker::Model;
 
 /// The legs of all calls, by the slots that they hold. Contracts see for each external slot, by its number, the leg
-/// that holds it, the number that is pending there, the message that is stored there, and whether its user is owed a
-/// RESTART. They also see for each external line whether its data link is down.
+/// that holds it, the number that is pending there, the message that is stored there, and the condition of the channel
+/// since its last leg was removed. They also see for each external line whether its data link is down.
 #[derive(Debug, Drop)]
 pub struct LegTable {
     legs: KeyedLegs,
     // The data of each slot, whose space is reserved before the first event. It counts by the state of the slot's leg,
     // so a leg that leaves the state clears nothing.
     notes: Vec<SlotData>,
-    // For each slot whether its user is owed a RESTART for the leg that was removed last. It counts where no leg is.
-    owed: Vec<bool>,
+    // For each slot the condition of its channel since its last leg was removed. It counts where no leg is.
+    conditions: Vec<Condition>,
     // For each line whether its data link is down.
     down: Vec<bool>,
 }
@@ -46,9 +46,9 @@ impl Model for LegTable {
 
     ghost Value = { Legs };
 
-    ghost view = { λ t. legs_kept t.legs t.notes.items t.owed.items t.down.items };
+    ghost view = { λ t. legs_kept t.legs t.notes.items t.conditions.items t.down.items };
 
-    ghost invariant = { λ t. (length t.notes.items ≡ length t.legs) × (length t.owed.items ≡ length t.legs) × (30 * length t.down.items ≡ length t.legs) };
+    ghost invariant = { λ t. (length t.notes.items ≡ length t.legs) × (length t.conditions.items ≡ length t.legs) × (30 * length t.down.items ≡ length t.legs) };
 }
 
 impl LegTable {
@@ -59,7 +59,7 @@ impl LegTable {
         let slots = usize::from(CHANNELS_PER_LINE) * usize::from(external);
         Ok(LegTable {
             down: vec![in alloc; false; usize::from(external)]?,
-            owed: vec![in alloc; false; slots]?,
+            conditions: vec![in alloc; Condition::Idle; slots]?,
             legs: KeyedLegs::new(alloc, external, timers)?,
             notes: vec![in alloc; SlotData::Number(Pending::default()); slots]?,
         })
@@ -154,40 +154,53 @@ impl LegTable {
         self.legs.put(x, leg);
     }
 
-    /// Removes the leg of a slot, if there is one. No number is pending there then, and no message stored. Stores
-    /// whether its user is owed a RESTART for it.
-    pub fn remove(&mut self, x: Slot, owed: bool)
+    /// Removes the leg of a slot, if there is one. No number is pending there then, and no message stored. Stores the
+    /// condition of its channel.
+    pub fn remove(&mut self, x: Slot, condition: Condition)
         requires inside { number_of x < length self.old.held }
         requires place { x.place < 30 }
-        ensures { self.new ≡ without_leg self.old x owed }
+        ensures { self.new ≡ without_leg self.old x condition }
     {
         self.legs.remove(x);
-        self.owed[x.to_index()] = owed;
+        self.conditions[x.to_index()] = condition;
     }
 
-    /// Returns whether no leg holds a slot, and its user is owed a RESTART for it.
-    pub fn is_owed(&self, x: Slot) -> bool
-        ensures { result ≡ is_owed self.now x }
+    /// Returns whether the establishment of the data link sends RESTART for a slot: no leg holds it, and its user is owed
+    /// one, or has not confirmed that it is idle.
+    pub fn awaits_restart(&self, x: Slot) -> bool
+        ensures { result ≡ awaits_restart self.now x }
     {
-        match self.owed.get(x.to_index()) {
-            Some(owed) => *owed && self.legs.get(x.to_index()).is_none(),
-            None => false,
+        match self.conditions.get(x.to_index()) {
+            None | Some(Condition::Idle) => false,
+            Some(Condition::Unconfirmed | Condition::Owed) => {
+                self.legs.get(x.to_index()).is_none()
+            }
+        }
+    }
+
+    /// Returns whether no leg holds a slot, and its user has not confirmed that it is idle.
+    pub fn is_unconfirmed(&self, x: Slot) -> bool
+        ensures { result ≡ is_unconfirmed self.now x }
+    {
+        match self.conditions.get(x.to_index()) {
+            Some(Condition::Unconfirmed) => self.legs.get(x.to_index()).is_none(),
+            None | Some(Condition::Idle | Condition::Owed) => false,
         }
     }
 
     /// Returns whether the whole interface of a line is to be restarted when its data link comes up: no leg holds a slot
-    /// of the line, and its user is owed a RESTART.
+    /// of the line, and one of them awaits RESTART.
     pub fn restarts_interface(&self, line: u8) -> bool
         ensures { result ≡ restarts_interface self.now line }
     {
-        let mut owed = false;
+        let mut awaited = false;
         let mut held = false;
         for place in 0..CHANNELS_PER_LINE {
             let x = Slot { line, place };
-            owed |= self.is_owed(x);
+            awaited |= self.awaits_restart(x);
             held |= self.get(x).is_some();
         }
-        owed && !held
+        awaited && !held
     }
 
     /// Returns whether a leg at this place may be due in a frame, by these timers.

@@ -41,3 +41,11 @@ returns-clause-interface_acknowledged c = refl
 pub returns-clause-channel_acknowledged : goal.returns-clause-channel_acknowledged
 unfolding elements_of elements_within
 returns-clause-channel_acknowledged c = refl
+
+pub returns-clause-acknowledges_interface : goal.returns-clause-acknowledges_interface
+unfolding elements_of elements_within
+returns-clause-acknowledges_interface c = refl
+
+pub returns-clause-acknowledges_channel : goal.returns-clause-acknowledges_channel
+unfolding elements_of elements_within
+returns-clause-acknowledges_channel c = refl
