@@ -31,7 +31,7 @@ leg_at-with_entry_else external legs x z o at_x at_z apart = get_or-set_other le
 
 -- the second of two entries for one slot is left
 pub entry_twice : (legs : Legs) (x : Slot) (o p : Option Leg) → with_entry (with_entry legs x o) x p ≡ with_entry legs x p
-entry_twice legs x o p = λ i. record { held = set-set legs.held (number_of x) o p i; pending = set-set legs.pending (number_of x) None None i; kept = set-set legs.kept (number_of x) None None i; owed = legs.owed; down = legs.down }
+entry_twice legs x o p = λ i. record { held = set-set legs.held (number_of x) o p i; pending = set-set legs.pending (number_of x) None None i; kept = set-set legs.kept (number_of x) None None i; conditions = legs.conditions; down = legs.down }
 
 -- one slot or another
 pub same_or_apart : (x y : Slot) → (x ≡ y) ⊎ (x ≡ y → ⊥)

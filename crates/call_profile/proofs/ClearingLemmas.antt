@@ -7,6 +7,7 @@ use Rattle.circuit_model.specs.Holding.{Holding, Clear as Clear_slot, after, Val
 use Rattle.circuit_model.proofs.Validity.{valid-clear}
 use Rattle.control_memory.specs.Layout.{number_of}
 use Rattle.q931_codec.specs.declared.message.Message.{Message}
+use Rattle.call_states.specs.declared.condition.Condition.TheVariants.{Idle}
 use Rattle.call_states.specs.declared.act.Act.TheVariants as act
 use Rattle.call_states.specs.declared.leg.Leg.{Leg}
 use Rattle.call_states.specs.declared.leg.Peer.{Peer}
@@ -100,4 +101,4 @@ module _ (s : Setting) (w : World) (h : HeldLeg) (m : Message) (cause : ℕ) (sm
   released_kept = clearing_kept s.dimensions s.tones w h.slot h.leg None cause small valid stand within at (inl refl) (making_after_all s.dimensions (making_at w) (on_release h)) refl refl
 
   pub gone_kept : Kept s.dimensions s.tones (making_by s w (course_of s w h m (act.ReleaseComplete cause))).world
-  gone_kept = clearing_kept s.dimensions s.tones w h.slot h.leg None cause small valid stand within at (inl refl) (making_after_all s.dimensions (making_at w) (remove_leg false h)) refl refl
+  gone_kept = clearing_kept s.dimensions s.tones w h.slot h.leg None cause small valid stand within at (inl refl) (making_after_all s.dimensions (making_at w) (remove_leg Idle h)) refl refl

@@ -7,6 +7,7 @@ use Rattle.circuit_model.specs.Extent.{IsExternal}
 use Rattle.q931_codec.specs.Causes.{invalid_number_format, no_answer_from_user, no_user_responding, recovery_on_timer_expiry, destination_out_of_order}
 use Rattle.call_timers.specs.declared.expiry.Expiry.{Expiry}
 use Rattle.call_timers.specs.declared.expiry.Expiry.TheVariants as expiry
+use Rattle.call_states.specs.declared.condition.Condition.TheVariants.{Owed}
 use Rattle.call_states.specs.Acts.{is_among}
 use Rattle.call_states.specs.declared.leg.HeldLeg.{HeldLeg}
 use Rattle.call_states.specs.declared.leg.Leg.{Leg}
@@ -118,7 +119,7 @@ module _ (d : Dimensions) (tones : Tones) (m : Making) (x : Slot) (leg : Leg) (k
   expiry_told expiry.SetupOver state = over_told
   expiry_told expiry.Proceeding state = both_told no_user_responding (rw state refl)
   expiry_told expiry.Alerting state = both_told no_answer_from_user (rw state refl)
-  expiry_told expiry.Outage state = clearing_records d tones w x leg None destination_out_of_order kept.1 within at (inl refl) (making_after_all d m (remove_leg true h)) refl
+  expiry_told expiry.Outage state = clearing_records d tones w x leg None destination_out_of_order kept.1 within at (inl refl) (making_after_all d m (remove_leg Owed h)) refl
   expiry_told expiry.Disconnect state = records_quiet no_user_responding (making_after_all d m (ask_for_release h)).world (Some (begun w (in_release_request leg))) refl (is_calling_never (Some (begun w (in_release_request leg))) (rw state refl))
   expiry_told expiry.ReleaseAgain state = again_told (kept_at w.legs x)
   expiry_told expiry.ReleaseOver state = records_quiet no_user_responding (making_after_all d m (release_over w.legs h)).world None refl (is_calling_never None (rw state refl))

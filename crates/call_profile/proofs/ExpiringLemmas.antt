@@ -8,6 +8,7 @@ use Rattle.q931_codec.specs.Causes.{invalid_number_format, no_answer_from_user, 
 use Rattle.q931_codec.specs.Outgoing.{IsWritable}
 use Rattle.call_timers.specs.declared.expiry.Expiry.{Expiry}
 use Rattle.call_timers.specs.declared.expiry.Expiry.TheVariants as expiry
+use Rattle.call_states.specs.declared.condition.Condition.TheVariants.{Owed}
 use Rattle.call_states.specs.Acts.{is_among}
 use Rattle.q931_codec.proofs.Writable.{short_writable}
 use Rattle.call_states.specs.Status.{FitsMessages}
@@ -89,7 +90,7 @@ module _ (d : Dimensions) (tones : Tones) (m : Making) (x : Slot) (leg : Leg) (k
     expiry_may expiry.SetupOver = over_may
     expiry_may expiry.Proceeding = both_may no_user_responding (omega arith)
     expiry_may expiry.Alerting = both_may no_answer_from_user (omega arith)
-    expiry_may expiry.Outage = (within, (within, peer_permitted d tones plan (making_after_all d m (remove_leg true h)) h destination_out_of_order (peer_of w.legs leg.peer) peer_too (omega arith)))
+    expiry_may expiry.Outage = (within, (within, peer_permitted d tones plan (making_after_all d m (remove_leg Owed h)) h destination_out_of_order (peer_of w.legs leg.peer) peer_too (omega arith)))
     expiry_may expiry.Disconnect = asked_may
     expiry_may expiry.ReleaseAgain = again_may (kept_at w.legs x) refl
     expiry_may expiry.ReleaseOver = (within, (within, tt))
@@ -116,7 +117,7 @@ module _ (d : Dimensions) (tones : Tones) (m : Making) (x : Slot) (leg : Leg) (k
   over_fine = clearing_kept d tones w x leg None no_user_responding (omega arith) kept.0 kept.1 within at (inl refl) (making_after_all d m (give_up h)) refl refl
 
   outage_fine : Fine (outage_over tones w.legs h)
-  outage_fine = clearing_kept d tones w x leg None destination_out_of_order (omega arith) kept.0 kept.1 within at (inl refl) (making_after_all d m (remove_leg true h)) refl refl
+  outage_fine = clearing_kept d tones w x leg None destination_out_of_order (omega arith) kept.0 kept.1 within at (inl refl) (making_after_all d m (remove_leg Owed h)) refl refl
 
   released_fine : leg.peer ≡ peer.Alone → Fine (release_over w.legs h)
   released_fine is = alone_kept d tones w x leg None no_user_responding (omega arith) kept.0 kept.1 within at (inl refl) (making_after_all d m (release_over w.legs h)) refl refl (no_leg is)

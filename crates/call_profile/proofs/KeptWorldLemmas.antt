@@ -17,8 +17,9 @@ use Rattle.call_states.specs.Acts.{act_on}
 use Rattle.clearing_rules.specs.declared.scope.Restart.{Restart}
 use Rattle.clearing_rules.specs.UnknownReference.{answer_without_call}
 use Rattle.number_plan.specs.declared.plan.Number.{Number}
+use Rattle.call_states.specs.Conditions.{unanswered}
 use Rattle.call_profile.specs.ActCourse.{course_of}
-use Rattle.call_profile.specs.Calls.{Request, For_leg, New_call, On_no_call, Restarts, Unanswered, request_of, answer_back, outcome_for}
+use Rattle.call_profile.specs.Calls.{Request, For_leg, New_call, On_no_call, Restarts, Confirms, Unanswered, request_of, answer_back, outcome_for}
 use Rattle.call_profile.specs.Expiring.{slot_looked_at, expire_slot}
 use Rattle.call_profile.specs.IdleSlots.{idle, is_nailed}
 use Rattle.call_profile.specs.LegStanding.{CallsStand}
@@ -28,7 +29,7 @@ use Rattle.call_profile.specs.Operations.{Operation, begun, Making, making_at, m
 use Rattle.call_profile.specs.Operations as op
 use Rattle.call_profile.specs.Permitted.{CanSeat}
 use Rattle.call_profile.proofs.Permitted.{CanPair, CanSound, IsPermitted, ArePermitted}
-use Rattle.call_profile.specs.Restarts.{MessageOutcome, restart_slot, outcome_below, restart_rule}
+use Rattle.call_profile.specs.Restarts.{MessageOutcome, confirm_rule, confirm_slot, outcome_below, restart_rule, restart_slot}
 use Rattle.exchange_events.specs.Sizes.{Setting, Dimensions}
 use Rattle.call_profile.specs.Setup.{course_of_setup}
 use Rattle.exchange_events.specs.Sound.{Fits, IsPlanned}
@@ -43,6 +44,7 @@ use Rattle.call_profile.proofs.RestartedSlotLemmas.{each_below, line_restarted_b
 use Rattle.call_profile.proofs.RestartLemmas.{slot_kept, slot_permitted}
 use Rattle.call_profile.specs.LinkChanges.{give_up_rule, give_up_slot, outcome_of_line_restart, outcome_of_link, rule_of, with_line}
 use Rattle.call_profile.proofs.LinkLemmas.{linked_kept, rule_kept, rule_may}
+use Rattle.call_profile.proofs.ConfirmedSlotLemmas.{confirm_kept, confirm_may}
 use Rattle.call_profile.proofs.GivenUpSlotLemmas.{give_up_kept, give_up_may}
 
 -- a seat that is allowed finds fewer members than ports
@@ -70,7 +72,7 @@ module _ (d : Dimensions) (tones : Tones) (plan : List Number) (P : World → Ty
   performed m (op.Expect x leg message) may holds = keeps.legs m.world (with_kept m.world.legs x (begun m.world leg) (encoding message)) holds
   performed m (op.Repeat h octets) may holds = keeps.legs m.world (with_kept m.world.legs h.slot (retransmitted_from m.world.holding.next h.leg) octets) holds
   performed m (op.Await x leg) may holds = keeps.legs m.world (with_leg m.world.legs x (retransmitted_from m.world.holding.next leg)) holds
-  performed m (op.Remove x owed) may holds = keeps.legs m.world (without_leg m.world.legs x owed) holds
+  performed m (op.Remove x condition) may holds = keeps.legs m.world (without_leg m.world.legs x condition) holds
   performed m (op.Send line message) may holds = holds
 
   pub performed_all : (m : Making) (os : List Operation) → ArePermitted d tones plan m os → P m.world → P (making_after_all d m os).world
@@ -95,11 +97,19 @@ module _ (s : Setting) (P : World → Type 0) (keeps : Keeps s.dimensions s.tone
           slot_kept s.dimensions s.tones r a.making x k.1 (fits.0, small),
         )) 30 (omega arith)).0
 
+    confirmed : (r : Restart) → P (outcome_below s.dimensions (confirm_rule r) line w 30).making.world
+    confirmed r = (each_below s.dimensions (confirm_rule r) line w (λ a. P a.making.world × Kept s.dimensions s.tones a.making.world) (holds, (stands.circuits, stands.legs)) (λ a place small k.
+        let x : Slot = record { line = line; place = place } in (
+          operated a.making (confirm_slot r a.making.world.legs x) (confirm_may s.dimensions s.tones r a.making x k.1 (fits.0, small) s.plan) k.0,
+          confirm_kept s.dimensions s.tones r a.making x k.1 (fits.0, small),
+        )) 30 (omega arith)).0
+
     received : (r : Request) → request_of w.legs line octets ≡ r → P (outcome_for s w line r).making.world
     received (For_leg h m) is = operated (making_at w) (course_of s w h m (act_on h.leg.state m)).operations (act_may s w line octets planned fits stands h m is) holds
     received (New_call m) is = operated (making_at w) (course_of_setup s w line m).operations (call_may s w line octets planned fits stands m is) holds
     received (On_no_call m) is = operated (making_at w) (answer_back line (answer_without_call m)) (answer_may s w line octets planned fits stands m is) holds
     received (Restarts r) is = restarted r
+    received (Confirms r) is = confirmed r
     received Unanswered is = holds
 
   -- ---- a frame
@@ -129,12 +139,12 @@ module _ (s : Setting) (P : World → Type 0) (keeps : Keeps s.dimensions s.tone
 
   line_restarted : (w : World) (line : ℕ) → line < s.dimensions.external → CallsStand s w → P w → P (outcome_of_line_restart s.dimensions s.tones line w).making.world
   line_restarted w line below stands holds =
-      let owed : Bool = is_down w.legs line in
+      let condition = unanswered (is_down w.legs line) in
       line_restarted_by s.dimensions s.tones line w P
-      (each_below s.dimensions (give_up_rule s.tones owed) line w (λ a. P a.making.world × Kept s.dimensions s.tones a.making.world) (holds, (stands.circuits, stands.legs)) (λ a place small k.
+      (each_below s.dimensions (give_up_rule s.tones condition) line w (λ a. P a.making.world × Kept s.dimensions s.tones a.making.world) (holds, (stands.circuits, stands.legs)) (λ a place small k.
       let x : Slot = record { line = line; place = place } in (
-        operated a.making (give_up_slot s.tones owed a.making.world.legs x) (give_up_may s.dimensions s.tones owed a.making x k.1 (below, small) s.plan) k.0,
-        give_up_kept s.dimensions s.tones owed a.making x k.1 (below, small),
+        operated a.making (give_up_slot s.tones condition a.making.world.legs x) (give_up_may s.dimensions s.tones condition a.making x k.1 (below, small) s.plan) k.0,
+        give_up_kept s.dimensions s.tones condition a.making x k.1 (below, small),
       )) 30 (omega arith)).0
 
   -- ---- an event

@@ -8,6 +8,7 @@ pub mod ExpiredRecordLemmas
 pub mod GivenToneLemmas
 pub mod RestartedSlotLemmas
 pub mod LinkLemmas
+pub mod ConfirmedSlotLemmas
 pub mod GivenUpSlotLemmas
 pub mod RefusalLemmas
 pub mod NamedLegLemmas

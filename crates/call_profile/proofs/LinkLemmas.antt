@@ -14,6 +14,7 @@ use Rattle.control_memory.specs.Layout.{number_of}
 use Rattle.q931_codec.specs.declared.kind.MessageKind.TheVariants as kind
 use Rattle.q931_codec.specs.CallStates.{overlap_sending, active, release_request}
 use Rattle.q931_codec.specs.Causes.{destination_out_of_order, temporary_failure}
+use Rattle.call_states.specs.declared.condition.Condition.TheVariants.{Owed, Unconfirmed}
 use Rattle.call_states.specs.Acts.{is_among}
 use Rattle.call_states.specs.Status.{FitsMessages}
 use Rattle.call_states.specs.declared.leg.HeldLeg.{HeldLeg}
@@ -31,7 +32,7 @@ use Rattle.call_profile.specs.CallRecords.{before_clearing, is_calling, records}
 use Rattle.call_profile.specs.EndedCalls.{caller_in, dropped_record, dropped_records, record_calling, record_ended}
 use Rattle.call_profile.specs.Expiring.{send_again}
 use Rattle.call_profile.specs.KeptMessages.{awaiting_answer}
-use Rattle.call_profile.specs.Legs.{Legs, is_owed, kept_at, leg_at, retransmitted_from, waiting_from}
+use Rattle.call_profile.specs.Legs.{Legs, awaits_restart, kept_at, leg_at, retransmitted_from, waiting_from}
 use Rattle.call_profile.specs.LegStanding.{HasPeer, LegStands, MayHear, alone}
 use Rattle.call_profile.specs.LinkChanges.{being_cleared, whole_line, drop_leg, drop_slot, enquire, restart_channel, resume_held, resume_leg, resume_slot, rule_of, with_line}
 use Rattle.call_profile.specs.Operations.{Operation, Making, Await, Remove, begun, making_after, making_after_all, with_legs}
@@ -105,7 +106,7 @@ module _ (d : Dimensions) (tones : Tones) (m : Making) (x : Slot) (leg : Leg) (k
   module _ (P : List Operation → Type 0) where
     pub by_drop : (leg.state ≡ active → P (if leg.resent then [] else Await x (with_enquiry false leg) ∷ []))
         → (is_among being_cleared leg.state ≡ true → P [])
-        → (is_among being_cleared leg.state ≡ false → P (restart_leg tones destination_out_of_order true whole_line w.legs (Some h)))
+        → (is_among being_cleared leg.state ≡ false → P (restart_leg tones destination_out_of_order Owed whole_line w.legs (Some h)))
         → P (drop_leg tones w.legs (Some h))
     by_drop talks clears goes = elim (true_or_false (leg.state == active)) [
       | inl up ↦ rw up (talks (eqb-true leg.state active up))
@@ -136,7 +137,7 @@ module _ (d : Dimensions) (tones : Tones) (m : Making) (x : Slot) (leg : Leg) (k
   started_fine false = (kept.0, waits_enquired d.external tones w (making_after_all d m (Await x (with_enquiry false leg) ∷ [])).world x leg w.holding.next true false kept.1 within at refl refl)
 
   pub drop_fine : Fine (drop_leg tones w.legs (Some h))
-  drop_fine = by_drop Fine (λ talks. started_fine leg.resent) (λ clears. kept) (λ goes. leg_kept d tones whole_line destination_out_of_order true (omega arith) m x leg kept within at)
+  drop_fine = by_drop Fine (λ talks. started_fine leg.resent) (λ clears. kept) (λ goes. leg_kept d tones whole_line destination_out_of_order Owed (omega arith) m x leg kept within at)
 
   enquired_fine : Fine (enquire h)
   enquired_fine = (kept.0, waits_enquired d.external tones w (making_after_all d m (enquire h)).world x leg w.holding.next false true kept.1 within at refl refl)
@@ -164,7 +165,7 @@ module _ (d : Dimensions) (tones : Tones) (m : Making) (x : Slot) (leg : Leg) (k
     started_may is false = (stays_put false is, tt)
 
     pub drop_may : May (drop_leg tones w.legs (Some h))
-    drop_may = by_drop May (λ talks. started_may talks leg.resent) (λ clears. tt) (λ goes. leg_permitted d tones whole_line destination_out_of_order true (omega arith) m x leg kept within at plan)
+    drop_may = by_drop May (λ talks. started_may talks leg.resent) (λ clears. tt) (λ goes. leg_permitted d tones whole_line destination_out_of_order Owed (omega arith) m x leg kept within at plan)
 
     pub enquired_may : leg.state ≡ active → May (enquire h)
     enquired_may is = (stays_put true is, ((within.0, message_writable leg kind.StatusEnquiry there.told tt), tt))
@@ -199,7 +200,7 @@ module _ (d : Dimensions) (tones : Tones) (m : Making) (x : Slot) (leg : Leg) (k
     | inl up ↦ rw up (started_told leg.resent)
     | inr not_up ↦ elim (true_or_false (is_among being_cleared leg.state)) [
       | inl clears ↦ rw (not_up, clears, cleared_told clears) (no_records w destination_out_of_order)
-      | inr other ↦ rw (not_up, other) (records_leg_told d tones whole_line destination_out_of_order true (omega arith) m x leg kept within at)
+      | inr other ↦ rw (not_up, other) (records_leg_told d tones whole_line destination_out_of_order Owed (omega arith) m x leg kept within at)
     ]
   ]
 
@@ -223,25 +224,25 @@ module _ (d : Dimensions) (tones : Tones) (m : Making) (x : Slot) (leg : Leg) (k
 
 module _ (d : Dimensions) (tones : Tones) (m : Making) (x : Slot) (kept : Kept d tones m.world) (within : IsExternal d.external x) (none : leg_at m.world.legs x ≡ None) where
   abbrev emptied : World
-  emptied = (making_after d m (Remove x false)).world
+  emptied = (making_after d m (Remove x Unconfirmed)).world
 
   pub held_same : emptied.legs.held ≡ m.world.legs.held
   held_same = ap (slice_set m.world.legs.held (number_of x)) (sym none) ∙ set-get_or m.world.legs.held (number_of x) None
 
   abbrev restarted : Bool → Bool → List Operation
-  restarted owed whole = if owed then restart_channel whole x else []
+  restarted awaited whole = if awaited then restart_channel whole x else []
 
-  pub channel_fine : (owed whole : Bool) → Kept d tones (making_after_all d m (restarted owed whole)).world
+  pub channel_fine : (awaited whole : Bool) → Kept d tones (making_after_all d m (restarted awaited whole)).world
   channel_fine true true = alike_kept d tones m.world emptied held_same refl kept
   channel_fine true false = alike_kept d tones m.world emptied held_same refl kept
   channel_fine false whole = kept
 
-  pub channel_may : (plan : List Number) (owed whole : Bool) → ArePermitted d tones plan m (restarted owed whole)
+  pub channel_may : (plan : List Number) (awaited whole : Bool) → ArePermitted d tones plan m (restarted awaited whole)
   channel_may plan true true = (within, tt)
   channel_may plan true false = (within, ((within.0, restart_writable (Channel x.place) within.1), tt))
   channel_may plan false whole = tt
 
-  pub channel_told : (owed whole : Bool) → records m.world (making_after_all d m (restarted owed whole)).world temporary_failure ≡ []
+  pub channel_told : (awaited whole : Bool) → records m.world (making_after_all d m (restarted awaited whole)).world temporary_failure ≡ []
   channel_told true true = ap (λ held. records m.world (with_legs m.world (record m.world.legs { held = held })) temporary_failure) held_same ∙ no_records m.world temporary_failure
   channel_told true false = ap (λ held. records m.world (with_legs m.world (record m.world.legs { held = held })) temporary_failure) held_same ∙ no_records m.world temporary_failure
   channel_told false whole = no_records m.world temporary_failure
@@ -267,11 +268,11 @@ module _ (d : Dimensions) (tones : Tones) (m : Making) (x : Slot) (kept : Kept d
 
   pub resume_slot_kept : (whole : Bool) → Kept d tones (making_after_all d m (resume_slot tones whole m.world.legs x)).world
   resume_slot_kept whole = at_held m.world.legs x (resume_held tones whole m.world.legs x) (λ os. Kept d tones (making_after_all d m os).world)
-      (λ none. channel_fine d tones m x kept within none (is_owed m.world.legs x) whole) (λ leg at. resume_fine d tones m x leg kept within at)
+      (λ none. channel_fine d tones m x kept within none (awaits_restart m.world.legs x) whole) (λ leg at. resume_fine d tones m x leg kept within at)
 
   pub resume_slot_may : (whole : Bool) (plan : List Number) → ArePermitted d tones plan m (resume_slot tones whole m.world.legs x)
   resume_slot_may whole plan = at_held m.world.legs x (resume_held tones whole m.world.legs x) (ArePermitted d tones plan m)
-      (λ none. channel_may d tones m x kept within none plan (is_owed m.world.legs x) whole) (λ leg at. resume_may d tones m x leg kept within at plan)
+      (λ none. channel_may d tones m x kept within none plan (awaits_restart m.world.legs x) whole) (λ leg at. resume_may d tones m x leg kept within at plan)
 
   drop_told_by : (o : Option Leg) → leg_at m.world.legs x ≡ o
       → records m.world (making_after_all d m (drop_leg tones m.world.legs (option_map (λ (leg : Leg). let held : HeldLeg = record { slot = x; leg = leg } in held) o))).world destination_out_of_order
@@ -284,7 +285,7 @@ module _ (d : Dimensions) (tones : Tones) (m : Making) (x : Slot) (kept : Kept d
 
   pub resume_slot_told : (whole : Bool) → records m.world (making_after_all d m (resume_slot tones whole m.world.legs x)).world temporary_failure ≡ []
   resume_slot_told whole = at_held m.world.legs x (resume_held tones whole m.world.legs x) (λ os. records m.world (making_after_all d m os).world temporary_failure ≡ [])
-      (λ none. channel_told d tones m x kept within none (is_owed m.world.legs x) whole) (λ leg at. resume_told d tones m x leg kept within at)
+      (λ none. channel_told d tones m x kept within none (awaits_restart m.world.legs x) whole) (λ leg at. resume_told d tones m x leg kept within at)
 
   -- ---- either rule
 

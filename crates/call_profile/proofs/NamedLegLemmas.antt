@@ -9,7 +9,7 @@ use Rattle.q931_codec.specs.declared.message.Message.{Message}
 use Rattle.q931_codec.specs.Reading.{reading}
 use Rattle.call_states.specs.declared.leg.Leg.{Leg}
 use Rattle.clearing_rules.specs.declared.scope.Restart.{Restart}
-use Rattle.clearing_rules.specs.Restarting.{restart_asked}
+use Rattle.clearing_rules.specs.Restarting.{restart_acknowledged, restart_asked}
 use Rattle.call_states.specs.declared.leg.HeldLeg.{HeldLeg}
 use Rattle.call_profile.specs.Calls.{Request, For_leg, New_call, On_no_call, asks_for_call, on_global_reference, request_without_leg, with_leg_named, request_read, request_of}
 use Rattle.call_profile.specs.Legs.{Legs, leg_at, held_at, slots_of, is_addressed_to, leg_named}
@@ -57,23 +57,25 @@ leg_named_stands legs line flag reference h e = found_among legs (is_addressed_t
 
 -- ---- what is for a leg names it
 
-not_on_global : (o : Option Restart) (h : HeldLeg) (n : Message) → on_global_reference o ≡ For_leg h n → ⊥
-not_on_global None h n e = cc
-not_on_global (Some r) h n e = cc
+not_on_global : (o a : Option Restart) (h : HeldLeg) (n : Message) → on_global_reference o a ≡ For_leg h n → ⊥
+not_on_global None None h n e = cc
+not_on_global None (Some r) h n e = cc
+not_on_global (Some r) a h n e = cc
 
 either : (b : Bool) (P : Request → Type 0) (r q : Request) → (b ≡ true → P r) → (b ≡ false → P q) → P (if b then r else q)
 either true P r q yes_case no_case = yes_case refl
 either false P r q yes_case no_case = no_case refl
 
 -- a message that names no leg, by what it may be
-pub without_leg_by : (m : Message) (P : Request → Type 0) → ((o : Option Restart) → P (on_global_reference o))
+pub without_leg_by : (m : Message) (P : Request → Type 0) → ((o a : Option Restart) → P (on_global_reference o a))
     → (asks_for_call m ≡ true → (m.reference == 0) ≡ false → P (New_call m)) → (asks_for_call m ≡ false → (m.reference == 0) ≡ false → P (On_no_call m)) → P (request_without_leg m)
 without_leg_by m P global asks back =
-    either (m.reference == 0) P (on_global_reference (restart_asked m)) (if asks_for_call m then New_call m else On_no_call m) (λ e. global (restart_asked m))
+    either (m.reference == 0) P (on_global_reference (restart_asked m) (restart_acknowledged m)) (if asks_for_call m then New_call m else On_no_call m)
+    (λ e. global (restart_asked m) (restart_acknowledged m))
     (λ own. either (asks_for_call m) P (New_call m) (On_no_call m) (λ e. asks e own) (λ e. back e own))
 
 not_for_leg : (m : Message) (h : HeldLeg) (n : Message) → request_without_leg m ≡ For_leg h n → ⊥
-not_for_leg m h n = without_leg_by m (λ r. r ≡ For_leg h n → ⊥) (λ o e. not_on_global o h n e) (λ asks own e. cc) (λ back own e. cc)
+not_for_leg m h n = without_leg_by m (λ r. r ≡ For_leg h n → ⊥) (λ o a e. not_on_global o a h n e) (λ asks own e. cc) (λ back own e. cc)
 
 for_named : (m : Message) (o : Option HeldLeg) (h : HeldLeg) (n : Message) → with_leg_named m o ≡ For_leg h n → (o ≡ Some h) × (m ≡ n)
 for_named m None h n e = absurd (not_for_leg m h n e)

@@ -5,7 +5,7 @@ use Rattle.std.proofs.lemmas.Bool.{eqb-true, eq-eqb}
 use Rattle.circuit_model.proofs.Slots.{true_or_false}
 use Rattle.q931_codec.specs.declared.message.Message.{Message}
 use Rattle.q931_codec.specs.Outgoing.{OutgoingMessage, IsWritable}
-use Rattle.clearing_rules.specs.Restarting.{restart_asked}
+use Rattle.clearing_rules.specs.Restarting.{restart_acknowledged, restart_asked}
 use Rattle.tone_rules.specs.declared.tones.Tones.{Tones}
 use Rattle.number_plan.specs.declared.plan.Number.{Number}
 use Rattle.call_profile.specs.Calls.{New_call, On_no_call, answer_back, asks_for_call, on_global_reference, request_without_leg}
@@ -25,11 +25,11 @@ back_permitted d tones plan m line below (Some message) writable = ((below, writ
 
 -- ---- what a message that names no leg asks for
 
-pub request_without_leg_on_global : (m : Message) → m.reference ≡ 0 → request_without_leg m ≡ on_global_reference (restart_asked m)
-request_without_leg_on_global m is = ap (λ (b : Bool). if b then on_global_reference (restart_asked m) else (if asks_for_call m then New_call m else On_no_call m)) (eq-eqb m.reference 0 is)
+pub request_without_leg_on_global : (m : Message) → m.reference ≡ 0 → request_without_leg m ≡ on_global_reference (restart_asked m) (restart_acknowledged m)
+request_without_leg_on_global m is = ap (λ (b : Bool). if b then on_global_reference (restart_asked m) (restart_acknowledged m) else (if asks_for_call m then New_call m else On_no_call m)) (eq-eqb m.reference 0 is)
 
 request_without_leg_off_global : (m : Message) → (m.reference ≡ 0 → ⊥) → request_without_leg m ≡ (if asks_for_call m then New_call m else On_no_call m)
-request_without_leg_off_global m own = ap (λ (b : Bool). if b then on_global_reference (restart_asked m) else (if asks_for_call m then New_call m else On_no_call m)) (differs m.reference 0 own)
+request_without_leg_off_global m own = ap (λ (b : Bool). if b then on_global_reference (restart_asked m) (restart_acknowledged m) else (if asks_for_call m then New_call m else On_no_call m)) (differs m.reference 0 own)
 
 pub request_without_leg_asks : (m : Message) → (m.reference ≡ 0 → ⊥) → asks_for_call m ≡ true → request_without_leg m ≡ New_call m
 request_without_leg_asks m own is = request_without_leg_off_global m own ∙ ap (λ (b : Bool). if b then New_call m else On_no_call m) is

@@ -9,6 +9,8 @@ use Rattle.control_memory.specs.Layout.{number_of}
 use Rattle.number_plan.specs.declared.plan.Number.{Number}
 use Rattle.q931_codec.specs.Outgoing.{encoding}
 use Rattle.call_states.specs.Acts.{act_on}
+use Rattle.call_states.specs.Conditions.{unanswered}
+use Rattle.call_states.specs.declared.condition.Condition.{Condition}
 use Rattle.call_states.specs.declared.leg.Leg.{Leg}
 use Rattle.call_states.specs.declared.pending.Pending.{Pending}
 use Rattle.clearing_rules.specs.UnknownReference.{answer_without_call}
@@ -18,14 +20,14 @@ use Rattle.exchange_events.specs.declared.trace.Event.TheVariants.{Nail, Seat, F
 use Rattle.exchange_events.specs.Sizes.{Setting, Dimensions}
 use Rattle.exchange_events.specs.Sound.{Fits, IsPlanned}
 use Rattle.call_profile.specs.ActCourse.{course_of}
-use Rattle.call_profile.specs.Calls.{Request, For_leg, New_call, On_no_call, Restarts, Unanswered, request_of, answer_back, outcome_for}
+use Rattle.call_profile.specs.Calls.{Request, For_leg, New_call, On_no_call, Restarts, Confirms, Unanswered, request_of, answer_back, outcome_for}
 use Rattle.call_profile.specs.Expiring.{slot_looked_at, expire_slot}
 use Rattle.call_profile.specs.IdleSlots.{is_nailed}
 use Rattle.call_profile.specs.Legs.{Legs, is_down, waiting_from, retransmitted_from, leg_at, pending_at, no_legs, with_entry}
 use Rattle.call_profile.specs.LegStanding.{CallsStand}
 use Rattle.call_profile.specs.Operations as op
 use Rattle.call_profile.specs.Operations.{Operation, Making, begun, with_legs, making_at, making_after, making_after_all}
-use Rattle.call_profile.specs.Restarts.{restart_slot, restart_rule}
+use Rattle.call_profile.specs.Restarts.{confirm_rule, confirm_slot, restart_rule, restart_slot}
 use Rattle.call_profile.specs.Setup.{course_of_setup}
 use Rattle.call_profile.specs.Step.{next, may_nail, may_seat}
 use Rattle.call_profile.specs.KeptMessages.{MayKeep, LegsWait}
@@ -44,6 +46,7 @@ use Rattle.call_profile.proofs.RestartLemmas.{slot_kept, slot_permitted}
 use Rattle.call_profile.proofs.RestartedSlotLemmas.{each_below, line_restarted_by, linked_by}
 use Rattle.call_profile.specs.LinkChanges.{give_up_rule, give_up_slot, outcome_of_line_restart, outcome_of_link, rule_of, with_line}
 use Rattle.call_profile.proofs.LinkLemmas.{linked_kept, rule_kept, rule_may}
+use Rattle.call_profile.proofs.ConfirmedSlotLemmas.{confirm_kept, confirm_may}
 use Rattle.call_profile.proofs.GivenUpSlotLemmas.{give_up_kept, give_up_may}
 
 -- ---- one entry written
@@ -72,9 +75,9 @@ module _ (external : ℕ) (plan : List Number) (legs : Legs) (x : Slot) (pend : 
 abbrev pub EntriesStand : ℕ → List Number → World → Type 0
 EntriesStand external plan w = NumbersPend external plan w.legs × LegsWait external w.holding.next w.legs
 
--- which depends neither on what users are owed nor on the data links
-pub flags_stand : (external : ℕ) (plan : List Number) (w : World) (owed down : List Bool) → EntriesStand external plan w → EntriesStand external plan (with_legs w (record w.legs { owed = owed; down = down }))
-flags_stand external plan w owed down stand = (
+-- which depends neither on the conditions of channels nor on the data links
+pub flags_stand : (external : ℕ) (plan : List Number) (w : World) (conditions : List Condition) (down : List Bool) → EntriesStand external plan w → EntriesStand external plan (with_legs w (record w.legs { conditions = conditions; down = down }))
+flags_stand external plan w conditions down stand = (
   record { legs_count = stand.0.legs_count; count = stand.0.count; each = stand.0.each },
   record { legs_count = stand.1.legs_count; count = stand.1.count; since = stand.1.since; each = stand.1.each },
 )
@@ -109,7 +112,7 @@ module _ (d : Dimensions) (tones : Tones) (plan : List Number) where
       entered m.world h.slot may.0 stand (Some (retransmitted_from m.world.holding.next h.leg)) None (Some octets) (awaits_by keeps.message.kind h.leg.state keeps.awaited.state).1 (omega arith)
       (kept_anew m.world.holding.next h.leg octets keeps)
   performed m (op.Await x leg) may stand = entered m.world x may.0 stand (Some (retransmitted_from m.world.holding.next leg)) None None may.2 (omega arith) may.3
-  performed m (op.Remove x owed) may stand = flags_stand d.external plan (with_legs m.world (with_entry m.world.legs x None)) _ _ (entered m.world x may stand None None None tt tt tt)
+  performed m (op.Remove x condition) may stand = flags_stand d.external plan (with_legs m.world (with_entry m.world.legs x None)) _ _ (entered m.world x may stand None None None tt tt tt)
   performed m (op.Send line message) may stand = stand
 
   pub performed_all : (m : Making) (os : List Operation) → ArePermitted d tones plan m os → Stand m.world → Stand (making_after_all d m os).world
@@ -134,6 +137,11 @@ module _ (s : Setting) (w : World) (line : ℕ) (octets : List ℕ) (planned : I
       let x : Slot = record { line = line; place = place } in (
         performed_all s.dimensions s.tones s.plan a.making (restart_slot s.tones r a.making.world.legs x) (slot_permitted s.dimensions s.tones r a.making x k.1 (fits.0, small) s.plan) k.0,
         slot_kept s.dimensions s.tones r a.making x k.1 (fits.0, small),
+      )) 30 (omega arith)).0
+  received (Confirms r) is = (each_below s.dimensions (confirm_rule r) line w (λ a. Stands a.making.world × Kept s.dimensions s.tones a.making.world) (before, (stands.circuits, stands.legs)) (λ a place small k.
+      let x : Slot = record { line = line; place = place } in (
+        performed_all s.dimensions s.tones s.plan a.making (confirm_slot r a.making.world.legs x) (confirm_may s.dimensions s.tones r a.making x k.1 (fits.0, small) s.plan) k.0,
+        confirm_kept s.dimensions s.tones r a.making x k.1 (fits.0, small),
       )) 30 (omega arith)).0
   received Unanswered is = before
 
@@ -165,13 +173,13 @@ link_stands s w down line below stands = linked_by s.dimensions s.tones down lin
 
 line_stands : (s : Setting) (w : World) (line : ℕ) → line < s.dimensions.external → CallsStand s w → EntriesStand s.dimensions.external s.plan (outcome_of_line_restart s.dimensions s.tones line w).making.world
 line_stands s w line below stands =
-    let owed : Bool = is_down w.legs line in
+    let condition = unanswered (is_down w.legs line) in
     line_restarted_by s.dimensions s.tones line w (EntriesStand s.dimensions.external s.plan)
-    (each_below s.dimensions (give_up_rule s.tones owed) line w (λ a. EntriesStand s.dimensions.external s.plan a.making.world × Kept s.dimensions s.tones a.making.world)
+    (each_below s.dimensions (give_up_rule s.tones condition) line w (λ a. EntriesStand s.dimensions.external s.plan a.making.world × Kept s.dimensions s.tones a.making.world)
     ((stands.numbers, stands.waits), (stands.circuits, stands.legs)) (λ a place small k.
     let x : Slot = record { line = line; place = place } in (
-      performed_all s.dimensions s.tones s.plan a.making (give_up_slot s.tones owed a.making.world.legs x) (give_up_may s.dimensions s.tones owed a.making x k.1 (below, small) s.plan) k.0,
-      give_up_kept s.dimensions s.tones owed a.making x k.1 (below, small),
+      performed_all s.dimensions s.tones s.plan a.making (give_up_slot s.tones condition a.making.world.legs x) (give_up_may s.dimensions s.tones condition a.making x k.1 (below, small) s.plan) k.0,
+      give_up_kept s.dimensions s.tones condition a.making x k.1 (below, small),
     )) 30 (omega arith)).0
 
 -- ---- an event

@@ -43,7 +43,7 @@ IsPermitted d tones plan m (Wait x leg p) = IsExternal d.external x × FitsMessa
 IsPermitted d tones plan m (Expect x leg message) = IsExternal d.external x × FitsMessages leg × IsAwaited leg message
 IsPermitted d tones plan m (Repeat h octets) = IsExternal d.external h.slot × (leg_at m.world.legs h.slot ≡ Some h.leg) × (kept_at m.world.legs h.slot ≡ Some octets)
 IsPermitted d tones plan m (Await x leg) = IsExternal d.external x × FitsMessages leg × (leg.state ≢ overlap_sending) × (is_among awaiting_answer leg.state ≡ false)
-IsPermitted d tones plan m (Remove x owed) = IsExternal d.external x
+IsPermitted d tones plan m (Remove x condition) = IsExternal d.external x
 IsPermitted d tones plan m (Send line message) = (line < d.external) × IsWritable message
 
 -- each operation, when its turn comes

@@ -6,12 +6,13 @@ use Rattle.exchange_events.specs.declared.trace.Event.{Event}
 use Rattle.exchange_events.specs.declared.trace.Event.TheVariants.{Nail, Seat, Free, Message, Frame, LinkUp, LinkDown, RestartLine}
 use Rattle.call_states.specs.Acts.{act_on}
 use Rattle.clearing_rules.specs.UnknownReference.{answer_without_call}
+use Rattle.call_states.specs.Conditions.{unanswered}
 use Rattle.call_profile.specs.ActCourse.{course_of}
-use Rattle.call_profile.specs.Calls.{Request, For_leg, New_call, On_no_call, Restarts, Unanswered, request_of, answer_back, outcome_for}
+use Rattle.call_profile.specs.Calls.{Request, For_leg, New_call, On_no_call, Restarts, Confirms, Unanswered, request_of, answer_back, outcome_for}
 use Rattle.call_profile.specs.IdleSlots.{is_nailed}
 use Rattle.call_profile.specs.Operations as op
 use Rattle.call_profile.specs.Operations.{Operation, Making, making_at, making_after, making_after_all}
-use Rattle.call_profile.specs.Restarts.{restart_slot, restart_rule}
+use Rattle.call_profile.specs.Restarts.{confirm_rule, confirm_slot, restart_rule, restart_slot}
 use Rattle.exchange_events.specs.Sizes.{Setting, Dimensions}
 use Rattle.call_profile.specs.Setup.{course_of_setup}
 use Rattle.call_profile.specs.Step.{next, may_nail, may_seat}
@@ -40,7 +41,7 @@ performed_same d m (op.Wait x leg p) = record { inputs = refl; held = refl; seat
 performed_same d m (op.Expect x leg message) = record { inputs = refl; held = refl; seated = refl; next = refl }
 performed_same d m (op.Repeat h octets) = record { inputs = refl; held = refl; seated = refl; next = refl }
 performed_same d m (op.Await x leg) = record { inputs = refl; held = refl; seated = refl; next = refl }
-performed_same d m (op.Remove x owed) = record { inputs = refl; held = refl; seated = refl; next = refl }
+performed_same d m (op.Remove x condition) = record { inputs = refl; held = refl; seated = refl; next = refl }
 performed_same d m (op.Send line message) = record { inputs = refl; held = refl; seated = refl; next = refl }
 
 performed_all_same : (d : Dimensions) (m : Making) (os : List Operation) → SameFrames m.world (making_after_all d m os).world
@@ -67,6 +68,9 @@ received_same s w line (On_no_call m) = performed_all_same s.dimensions (making_
 received_same s w line (Restarts r) =
     each_below s.dimensions (restart_rule s.tones r) line w (λ a. SameFrames w a.making.world) (record { inputs = refl; held = refl; seated = refl; next = refl })
     (λ a place small same. then_same w a.making.world _ same (performed_all_same s.dimensions a.making (restart_slot s.tones r a.making.world.legs (record { line = line; place = place })))) 30 (omega arith)
+received_same s w line (Confirms r) =
+    each_below s.dimensions (confirm_rule r) line w (λ a. SameFrames w a.making.world) (record { inputs = refl; held = refl; seated = refl; next = refl })
+    (λ a place small same. then_same w a.making.world _ same (performed_all_same s.dimensions a.making (confirm_slot r a.making.world.legs (record { line = line; place = place })))) 30 (omega arith)
 received_same s w line Unanswered = record { inputs = refl; held = refl; seated = refl; next = refl }
 
 linked_same : (s : Setting) (w : World) (down : Bool) (line : ℕ) → SameFrames w (outcome_of_link s.dimensions s.tones down line w).making.world
@@ -76,10 +80,10 @@ linked_same s w down line = linked_by s.dimensions s.tones down line w (SameFram
 
 line_restart_same : (s : Setting) (w : World) (line : ℕ) → SameFrames w (outcome_of_line_restart s.dimensions s.tones line w).making.world
 line_restart_same s w line =
-    let owed : Bool = is_down w.legs line in
+    let condition = unanswered (is_down w.legs line) in
     line_restarted_by s.dimensions s.tones line w (SameFrames w)
-    (each_below s.dimensions (give_up_rule s.tones owed) line w (λ a. SameFrames w a.making.world) (record { inputs = refl; held = refl; seated = refl; next = refl })
-    (λ a place small same. then_same w a.making.world _ same (performed_all_same s.dimensions a.making (give_up_slot s.tones owed a.making.world.legs (record { line = line; place = place })))) 30 (omega arith))
+    (each_below s.dimensions (give_up_rule s.tones condition) line w (λ a. SameFrames w a.making.world) (record { inputs = refl; held = refl; seated = refl; next = refl })
+    (λ a place small same. then_same w a.making.world _ same (performed_all_same s.dimensions a.making (give_up_slot s.tones condition a.making.world.legs (record { line = line; place = place })))) 30 (omega arith))
 
 pub SameFrames-next : (s : Setting) (w : World) (e : Event) → ((input : Input) → ¬ (e ≡ Frame input)) → SameFrames w (next s w e)
 SameFrames-next s w (Nail x y) other = either_same (may_nail w x y) w (obey s.dimensions w (Connect x y)) (record { inputs = refl; held = refl; seated = refl; next = refl })

@@ -9,6 +9,7 @@ use Rattle.q931_codec.specs.declared.message.Message.{Message}
 use Rattle.q931_codec.specs.CallStates.{overlap_sending, call_delivered, call_received, incoming_call_proceeding, active}
 use Rattle.q931_codec.specs.Causes.{message_not_compatible_with_call_state}
 use Rattle.q931_codec.specs.Contents.{call_state_in}
+use Rattle.call_states.specs.declared.condition.Condition.TheVariants.{Idle}
 use Rattle.call_states.specs.Acts.{act_of, act_on, clearing_cause, is_among}
 use Rattle.call_states.specs.declared.act.Act.{Act}
 use Rattle.call_states.specs.declared.act.Act.TheVariants as act
@@ -289,7 +290,7 @@ module _ (s : Setting) (w : World) (h : HeldLeg) (m : Message) (planned : IsPlan
   act_records (act.Release cause) asks =
       clearing_records s.dimensions s.tones w h.slot h.leg None cause stand within at (inl refl) (making_after_all s.dimensions (making_at w) (on_release h)) refl
   act_records (act.ReleaseComplete cause) asks =
-      clearing_records s.dimensions s.tones w h.slot h.leg None cause stand within at (inl refl) (making_after_all s.dimensions (making_at w) (remove_leg false h)) refl
+      clearing_records s.dimensions s.tones w h.slot h.leg None cause stand within at (inl refl) (making_after_all s.dimensions (making_at w) (remove_leg Idle h)) refl
   act_records (act.Report reported) asks = report_records reported h.leg.enquired (reported == active)
 
   given_records : (a : Act) → Asked h.leg.state a → records_by w (making_by s w (course_of s w h m a)).world (course_of s w h m a).cause ≡ records_of_act w h a

@@ -13,9 +13,11 @@ use Rattle.q931_codec.specs.CallStates.{call_received, call_delivered, release_r
 use Rattle.q931_codec.specs.Outgoing.{encoding}
 use Rattle.q931_codec.specs.declared.kind.MessageKind.TheVariants as kind
 use Rattle.q931_codec.specs.declared.message.Message.{Message as Q931}
+use Rattle.call_states.specs.declared.condition.Condition.TheVariants.{Idle}
 use Rattle.call_states.specs.Acts.{is_among}
 use Rattle.call_states.specs.declared.act.Act.{Act}
 use Rattle.call_states.specs.declared.act.Act.TheVariants as act
+use Rattle.call_states.specs.declared.condition.Condition.{Condition}
 use Rattle.call_states.specs.declared.leg.HeldLeg.{HeldLeg}
 use Rattle.call_states.specs.declared.leg.Leg.{Leg}
 use Rattle.call_states.specs.declared.leg.Peer.{Peer}
@@ -100,11 +102,11 @@ module _ (d : Dimensions) (tones : Tones) (plan : List Number) (m : Making) (bef
   put_elsewhere x leg in_x apart = subst IsElsewhere (sym (leg_at-with_entry_here d.external m.world.legs x (Some leg) before.held in_x)) apart
 
   -- a leg that is gone: neither of the two operations reads what the other one writes
-  pub removed_sounds : (owed : Bool) (h : HeldLeg) → IsExternal d.external h.slot → Sounds (remove_leg owed h)
-  removed_sounds owed h in_x =
+  pub removed_sounds : (condition : Condition) (h : HeldLeg) → IsExternal d.external h.slot → Sounds (remove_leg condition h)
+  removed_sounds condition h in_x =
       let x = h.slot in
       let gone = subst IsElsewhere (sym (leg_at-with_entry_here d.external m.world.legs x None before.held in_x)) tt in
-      performed_all d tones plan m (Remove x owed ∷ Clear x ∷ []) (in_x, (in_x, tt)) (tt, (gone, tt)) before
+      performed_all d tones plan m (Remove x condition ∷ Clear x ∷ []) (in_x, (in_x, tt)) (tt, (gone, tt)) before
 
   pub clear_quiet : (h : HeldLeg) (cause : ℕ) → IsExternal d.external h.slot → Unreleased m.world h.slot → AreHushed d tones m (clear_with tones cause h)
   clear_quiet h cause in_x quiet = (quiet, (tt, (put_elsewhere h.slot (begun m.world (in_disconnect_indication cause h.leg)) in_x (λ e. absurd cc), (tt, tt))))
@@ -219,7 +221,7 @@ module _ (s : Setting) (w : World) (h : HeldLeg) (stands : CallsStand s w) (with
       then_cleared (Some (begun w (in_release_request h.leg))) cause asks.0 (making_after_all d (making_at w) (on_disconnect h)) refl
       (disconnect_sounds d s.tones s.plan w h before (unreleased_by w h.slot (Some h.leg) at asks.1) (may.0, (may.1.0, tt)))
   act_sounds m (act.Release cause) asks may digits =
-      then_cleared None cause asks (making_after_all d (making_at w) (on_release h)) refl (removed_sounds d s.tones s.plan (making_at w) before false h within)
+      then_cleared None cause asks (making_after_all d (making_at w) (on_release h)) refl (removed_sounds d s.tones s.plan (making_at w) before Idle h within)
   act_sounds m (act.ReleaseComplete cause) asks may digits =
-      then_cleared None cause asks (making_after_all d (making_at w) (remove_leg false h)) refl (removed_sounds d s.tones s.plan (making_at w) before false h within)
+      then_cleared None cause asks (making_after_all d (making_at w) (remove_leg Idle h)) refl (removed_sounds d s.tones s.plan (making_at w) before Idle h within)
   act_sounds m (act.Report reported) asks may digits = report_sounds (eqb-true h.leg.state active asks) h.leg.enquired (reported == active) may

@@ -20,8 +20,11 @@ use Rattle.q931_codec.specs.Causes.{invalid_number_format, no_answer_from_user, 
 use Rattle.q931_codec.specs.Contents.{call_state_in, channel_in}
 use Rattle.q931_codec.specs.Outgoing.{OutgoingMessage, encoding}
 use Rattle.q931_codec.specs.declared.message.Message.{Message as Q931}
+use Rattle.call_states.specs.declared.condition.Condition.TheVariants.{Idle, Owed}
 use Rattle.call_states.specs.Acts.{act_on, clearing_cause}
 use Rattle.call_states.proofs.Causes.{cause_fits}
+use Rattle.call_states.specs.declared.condition.Condition.{Condition}
+use Rattle.call_states.specs.Conditions.{unanswered}
 use Rattle.call_states.specs.declared.leg.HeldLeg.{HeldLeg}
 use Rattle.call_states.specs.declared.leg.Leg.{Leg}
 use Rattle.call_states.specs.declared.leg.Peer.TheVariants as peer
@@ -37,18 +40,18 @@ use Rattle.exchange_events.specs.declared.trace.Event.TheVariants.{Nail, Seat, F
 use Rattle.exchange_events.specs.Sizes.{Setting, Dimensions}
 use Rattle.exchange_events.specs.Sound.{Fits, IsPlanned}
 use Rattle.call_profile.specs.Acts.{in_disconnect_indication, in_release_request, peer_of, with_peer, clear_with, remove_leg, with_enquiry}
-use Rattle.call_profile.specs.Calls.{Request, For_leg, New_call, On_no_call, Restarts, Unanswered, request_of, answer_back, outcome_for}
+use Rattle.call_profile.specs.Calls.{Request, For_leg, New_call, On_no_call, Restarts, Confirms, Unanswered, request_of, answer_back, outcome_for}
 use Rattle.call_profile.specs.Digits.{asked_with, digits_refusal, dial_on, with_pending, on_digits}
 use Rattle.call_profile.specs.Expiring.{timed_state, release_for, send_again, give_up, ask_for_release, clear_peer, clear_both, on_expiry, expire_slot, slot_looked_at}
 use Rattle.call_profile.specs.IdleSlots.{idle, is_nailed}
 use Rattle.call_profile.specs.LegStanding.{CallsStand, MayHear}
-use Rattle.call_profile.specs.Legs.{leg_at, pending_at, kept_at, is_down, is_owed, retransmitted_from}
+use Rattle.call_profile.specs.Legs.{leg_at, pending_at, kept_at, awaits_restart, is_down, retransmitted_from}
 use Rattle.call_profile.specs.Operations as op
 use Rattle.call_profile.specs.Operations.{Operation, Making, begun, making_at, making_after, making_after_all}
 use Rattle.call_profile.specs.Permitted.{CanSeat}
 use Rattle.call_profile.specs.Peers.{PeerIsThere}
 use Rattle.call_profile.specs.ReleaseTones.{release_with, HearsTone, SoundsByRelease, ReleasesSound, EachReleaseSounds}
-use Rattle.call_profile.specs.Restarts.{restart_slot, restart_leg, restart_peer, restarts_slot, restart_rule}
+use Rattle.call_profile.specs.Restarts.{confirm_rule, confirm_slot, restart_leg, restart_peer, restart_rule, restart_slot, restarts_slot}
 use Rattle.call_profile.specs.Setup.{accept_at, await_digits, call, call_asked, caller_leg, caller_slot, called_slot, setup, refusal, course_of_setup, target_dialled, target_of}
 use Rattle.call_profile.specs.Step.{next, may_nail, may_seat}
 use Rattle.call_profile.specs.World.{World, start, pass, is_full}
@@ -59,6 +62,7 @@ use Rattle.call_profile.proofs.EntryLemmas.{get_or-bare}
 use Rattle.call_profile.proofs.ExpiringLemmas as expiring
 use Rattle.call_profile.proofs.ExpiringLemmas.{each_line, expiry_may, place_within, slot_fine}
 use Rattle.call_profile.proofs.ExpiryStateLemmas.{due_state}
+use Rattle.call_profile.proofs.ConfirmedSlotLemmas.{at_confirmed, confirm_kept}
 use Rattle.call_profile.proofs.GivenUpSlotLemmas.{give_up_kept}
 use Rattle.call_profile.proofs.KeptMessageLemmas.{each_is_kept}
 use Rattle.call_profile.proofs.MessageToLegLemmas.{Asked-act_of}
@@ -140,25 +144,25 @@ timed_elsewhere state n is apart same = apart (sym is ∙ same)
 
 -- ---- a slot is restarted, or its data link changes
 
-module _ (d : Dimensions) (tones : Tones) (r : Restart) (cause : ℕ) (owed : Bool) (small : cause < 128) (m : Making) (x : Slot) (kept : Kept d tones m.world) (within : IsExternal d.external x) (plan : List Number) (before : Sounding d tones m.world) where
+module _ (d : Dimensions) (tones : Tones) (r : Restart) (cause : ℕ) (condition : Condition) (small : cause < 128) (m : Making) (x : Slot) (kept : Kept d tones m.world) (within : IsExternal d.external x) (plan : List Number) (before : Sounding d tones m.world) where
   module _ (leg : Leg) (at : leg_at m.world.legs x ≡ Some leg) where
     abbrev held : HeldLeg
     held = record { slot = x; leg = leg }
 
     abbrev gone : Making
-    gone = making_after_all d m (remove_leg owed held)
+    gone = making_after_all d m (remove_leg condition held)
 
     gone_sounds : Sounding d tones gone.world
-    gone_sounds = removed_sounds d tones plan m before owed held within
+    gone_sounds = removed_sounds d tones plan m before condition held within
 
-    peer_restarted : (o : Option HeldLeg) → PeerIsThere d.external held o → PeerUnreleased gone.world o → Sounding d tones (making_after_all d gone (with_peer o (restart_peer tones cause owed r x.line))).world
+    peer_restarted : (o : Option HeldLeg) → PeerIsThere d.external held o → PeerUnreleased gone.world o → Sounding d tones (making_after_all d gone (with_peer o (restart_peer tones cause condition r x.line))).world
     peer_restarted None there quiet = gone_sounds
     peer_restarted (Some other) there quiet = elim (true_or_false (restarts_slot r x.line other.slot)) [
-      | inl too ↦ rw too (removed_sounds d tones plan gone gone_sounds owed other there.0.within)
+      | inl too ↦ rw too (removed_sounds d tones plan gone gone_sounds condition other there.0.within)
       | inr not_so ↦ rw not_so (cleared_sounds d tones plan gone gone_sounds other cause there.0 small quiet)
     ]
 
-    leg_restarted : Sounding d tones (making_after_all d m (restart_leg tones cause owed r m.world.legs (Some held))).world
+    leg_restarted : Sounding d tones (making_after_all d m (restart_leg tones cause condition r m.world.legs (Some held))).world
     leg_restarted =
         peer_restarted (peer_of m.world.legs leg.peer) (peer_there_too d.external tones m.world held kept.1 within at)
         (peer_quiet_still d tones plan m.world held kept.1 within at gone.world None refl)
@@ -166,7 +170,7 @@ module _ (d : Dimensions) (tones : Tones) (r : Restart) (cause : ℕ) (owed : Bo
 module _ (d : Dimensions) (tones : Tones) (m : Making) (x : Slot) (kept : Kept d tones m.world) (within : IsExternal d.external x) (plan : List Number) (before : Sounding d tones m.world) where
   slot_restarted : (r : Restart) → Sounding d tones (making_after_all d m (restart_slot tones r m.world.legs x)).world
   slot_restarted r = restarting.at_slot tones r m.world.legs x (λ os. Sounding d tones (making_after_all d m os).world) before
-      (λ leg at. leg_restarted d tones r temporary_failure false (omega arith) m x kept within plan before leg at)
+      (λ leg at. leg_restarted d tones r temporary_failure Idle (omega arith) m x kept within plan before leg at)
 
   module _ (leg : Leg) (at : leg_at m.world.legs x ≡ Some leg) where
     abbrev k : HeldLeg
@@ -181,7 +185,7 @@ module _ (d : Dimensions) (tones : Tones) (m : Making) (x : Slot) (kept : Kept d
 
     drop_sounds : SoundsBy (drop_leg tones m.world.legs (Some k))
     drop_sounds = by_drop d tones m x leg kept within at SoundsBy (λ talks. started_sounds talks leg.resent) (λ clears. before)
-        (λ goes. leg_restarted d tones whole_line destination_out_of_order true (omega arith) m x kept within plan before leg at)
+        (λ goes. leg_restarted d tones whole_line destination_out_of_order Owed (omega arith) m x kept within plan before leg at)
 
     digits_cleared : leg.state ≡ overlap_sending → SoundsBy (clear_with tones temporary_failure k)
     digits_cleared dials =
@@ -197,7 +201,7 @@ module _ (d : Dimensions) (tones : Tones) (m : Making) (x : Slot) (kept : Kept d
         (λ talks. performed_all d tones plan m (enquire k) (enquired_may d tones m x leg kept within at plan talks) (tt, (tt, tt)) before) digits_cleared
         (λ clears. resent_sounds (kept_at m.world.legs x) (resent_may d tones m x leg kept within at plan)) before
 
-  channel_sounds : leg_at m.world.legs x ≡ None → (owed whole : Bool) → Sounding d tones (making_after_all d m (if owed then restart_channel whole x else [])).world
+  channel_sounds : leg_at m.world.legs x ≡ None → (awaited whole : Bool) → Sounding d tones (making_after_all d m (if awaited then restart_channel whole x else [])).world
   channel_sounds none true true = performed_all d tones plan m (restart_channel true x) (channel_may d tones m x kept within none plan true true) (tt, tt) before
   channel_sounds none true false = performed_all d tones plan m (restart_channel false x) (channel_may d tones m x kept within none plan true false) (tt, (tt, tt)) before
   channel_sounds none false whole = before
@@ -205,15 +209,19 @@ module _ (d : Dimensions) (tones : Tones) (m : Making) (x : Slot) (kept : Kept d
   rule_sounds : (whole down : Bool) → Sounding d tones (making_after_all d m ((rule_of tones whole down).does m.world.legs x)).world
   rule_sounds whole true = at_held m.world.legs x (drop_leg tones m.world.legs) (λ os. Sounding d tones (making_after_all d m os).world) (λ none. before) drop_sounds
   rule_sounds whole false = at_held m.world.legs x (resume_held tones whole m.world.legs x) (λ os. Sounding d tones (making_after_all d m os).world)
-      (λ none. channel_sounds none (is_owed m.world.legs x) whole) resume_sounds
+      (λ none. channel_sounds none (awaits_restart m.world.legs x) whole) resume_sounds
 
 -- ---- a slot of a line that the exchange restarts
 
 module _ (d : Dimensions) (tones : Tones) (m : Making) (x : Slot) (kept : Kept d tones m.world) (within : IsExternal d.external x) (plan : List Number) (before : Sounding d tones m.world) where
-  given_up_sounds : (owed : Bool) → Sounding d tones (making_after_all d m (give_up_slot tones owed m.world.legs x)).world
-  given_up_sounds owed = at_held m.world.legs x (give_up_leg tones owed m.world.legs x) (λ os. Sounding d tones (making_after_all d m os).world)
-      (λ none. performed_all d tones plan m (op.Remove x owed ∷ []) (within, tt) (tt, tt) before)
-      (λ leg at. leg_restarted d tones whole_line temporary_failure owed (omega arith) m x kept within plan before leg at)
+  confirmed_sounds : (r : Restart) → Sounding d tones (making_after_all d m (confirm_slot r m.world.legs x)).world
+  confirmed_sounds r = at_confirmed r m.world.legs x (λ os. Sounding d tones (making_after_all d m os).world) before
+      (λ none. performed_all d tones plan m (op.Remove x Idle ∷ []) (within, tt) (tt, tt) before)
+
+  given_up_sounds : (condition : Condition) → Sounding d tones (making_after_all d m (give_up_slot tones condition m.world.legs x)).world
+  given_up_sounds condition = at_held m.world.legs x (give_up_leg tones condition m.world.legs x) (λ os. Sounding d tones (making_after_all d m os).world)
+      (λ none. performed_all d tones plan m (op.Remove x condition ∷ []) (within, tt) (tt, tt) before)
+      (λ leg at. leg_restarted d tones whole_line temporary_failure condition (omega arith) m x kept within plan before leg at)
 
 -- ---- a leg whose timer has run out
 
@@ -275,13 +283,13 @@ module _ (s : Setting) (frame : ℕ) (m : Making) (x : Slot) (kept : Kept s.dime
     expired : (e : Expiry) → leg.state ≡ timed_state e → ArePermitted d s.tones s.plan m (on_expiry s.tones m.world.legs h e) → Sounds (on_expiry s.tones m.world.legs h e)
     expired expiry.Digits state may = by (clear_with s.tones invalid_number_format h) may (clear_quiet d s.tones s.plan m before h invalid_number_format within (quiet_in _ state (λ e. absurd cc)))
     expired expiry.SetupAgain state may = again_sounds (kept_at m.world.legs x) may
-    expired expiry.SetupOver state may = then_cleared no_user_responding (omega arith) None (give_up h) refl (removed_sounds d s.tones s.plan m before false h within)
+    expired expiry.SetupOver state may = then_cleared no_user_responding (omega arith) None (give_up h) refl (removed_sounds d s.tones s.plan m before Idle h within)
     expired expiry.Proceeding state may = both_cleared no_user_responding (omega arith) _ state (λ e. absurd cc)
     expired expiry.Alerting state may = both_cleared no_answer_from_user (omega arith) _ state (λ e. absurd cc)
-    expired expiry.Outage state may = then_cleared destination_out_of_order (omega arith) None (remove_leg true h) refl (removed_sounds d s.tones s.plan m before true h within)
+    expired expiry.Outage state may = then_cleared destination_out_of_order (omega arith) None (remove_leg Owed h) refl (removed_sounds d s.tones s.plan m before Owed h within)
     expired expiry.Disconnect state may = by (ask_for_release h) may ((λ is. asked_release state), tt)
     expired expiry.ReleaseAgain state may = again_sounds (kept_at m.world.legs x) may
-    expired expiry.ReleaseOver state may = removed_sounds d s.tones s.plan m before (is_down m.world.legs x.line) h within
+    expired expiry.ReleaseOver state may = removed_sounds d s.tones s.plan m before (unanswered (is_down m.world.legs x.line)) h within
 
   slot_expired : Sounding d s.tones (making_after_all d m (expire_slot s frame m.world.legs x)).world
   slot_expired = expiring.at_slot s frame m.world.legs x (λ os. Sounding d s.tones (making_after_all d m os).world) before
@@ -333,6 +341,11 @@ module _ (s : Setting) (w : World) (stands : CallsStand s w) where
         slot_restarted s.dimensions s.tones a.making x k.1 (fits.0, small) s.plan k.0 r,
         slot_kept s.dimensions s.tones r a.making x k.1 (fits.0, small),
       )) 30 (omega arith)).0
+  message line octets planned fits (Confirms r) is = (each_below s.dimensions (confirm_rule r) line w (λ a. Now a.making.world × Kept s.dimensions s.tones a.making.world) (now, (stands.circuits, stands.legs)) (λ a place small k.
+      let x : Slot = record { line = line; place = place } in (
+        confirmed_sounds s.dimensions s.tones a.making x k.1 (fits.0, small) s.plan k.0 r,
+        confirm_kept s.dimensions s.tones r a.making x k.1 (fits.0, small),
+      )) 30 (omega arith)).0
   message line octets planned fits Unanswered is = now
 
   passed : (input : Input) → Now (pass w input)
@@ -357,12 +370,12 @@ module _ (s : Setting) (w : World) (stands : CallsStand s w) where
 
   line_restarted : (line : ℕ) → line < s.dimensions.external → Now (outcome_of_line_restart s.dimensions s.tones line w).making.world
   line_restarted line below =
-      let owed : Bool = is_down w.legs line in
+      let condition = unanswered (is_down w.legs line) in
       line_restarted_by s.dimensions s.tones line w Now
-      (each_below s.dimensions (give_up_rule s.tones owed) line w (λ a. Now a.making.world × Kept s.dimensions s.tones a.making.world) (now, (stands.circuits, stands.legs)) (λ a place small k.
+      (each_below s.dimensions (give_up_rule s.tones condition) line w (λ a. Now a.making.world × Kept s.dimensions s.tones a.making.world) (now, (stands.circuits, stands.legs)) (λ a place small k.
       let x : Slot = record { line = line; place = place } in (
-        given_up_sounds s.dimensions s.tones a.making x k.1 (below, small) s.plan k.0 owed,
-        give_up_kept s.dimensions s.tones owed a.making x k.1 (below, small),
+        given_up_sounds s.dimensions s.tones a.making x k.1 (below, small) s.plan k.0 condition,
+        give_up_kept s.dimensions s.tones condition a.making x k.1 (below, small),
       )) 30 (omega arith)).0
 
   pub event_sounds : (e : Event) → IsPlanned s → Fits s.dimensions.external e → Now (next s w e)

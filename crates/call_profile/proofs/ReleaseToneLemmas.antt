@@ -124,7 +124,7 @@ IsHushed tones m (op.Wait x leg pending) = Unit {0}
 IsHushed tones m (op.Expect x leg message) = leg.state ≡ release_request → SoundsByRelease tones x (begun m.world leg) (encoding message) (heard_by m.world.holding.circuits x)
 IsHushed tones m (op.Repeat h octets) = Unit {0}
 IsHushed tones m (op.Await x leg) = Unit {0}
-IsHushed tones m (op.Remove x owed) = Unit {0}
+IsHushed tones m (op.Remove x condition) = Unit {0}
 IsHushed tones m (op.Send line message) = Unit {0}
 
 abbrev pub AreHushed : Dimensions → Tones → Making → List Operation → Type 0
@@ -204,7 +204,7 @@ module _ (d : Dimensions) (tones : Tones) (plan : List Number) where
   Sounding-making_after m (op.Await x leg) may quiet before =
       let next : ℕ = m.world.holding.next in
       entered m.world x (Some (retransmitted_from next leg)) None None may.0 before (other_state tones x (retransmitted_from next leg) None (heard_by m.world.holding.circuits x) (unkept_state leg.state may.3))
-  Sounding-making_after m (op.Remove x owed) may quiet before =
+  Sounding-making_after m (op.Remove x condition) may quiet before =
       let gone = entered m.world x None None None may before (λ leg octets e is f. absurd cc) in
       record { valid = gone.valid; held = gone.held; kept = gone.kept; sound = gone.sound }
   Sounding-making_after m (op.Send line message) may quiet before = before

@@ -15,6 +15,8 @@ use Rattle.q931_codec.specs.RestartClasses.{indicated_channels}
 use Rattle.q931_codec.specs.declared.kind.MessageKind.TheVariants as kind
 use Rattle.q931_codec.proofs.Writable.{short_writable}
 use Rattle.circuit_model.specs.Channels.{channel_at}
+use Rattle.call_states.specs.declared.condition.Condition.TheVariants.{Idle}
+use Rattle.call_states.specs.declared.condition.Condition.{Condition}
 use Rattle.call_states.specs.declared.leg.Leg.{Leg}
 use Rattle.call_states.specs.declared.leg.Peer.{Peer}
 use Rattle.call_states.specs.declared.leg.Peer.TheVariants as peer
@@ -58,16 +60,16 @@ cleared_twice h y = ap (λ (circuits : List Circuit). let cleared : Holding = re
 
 -- ---- a leg whose slot is restarted
 
-module _ (d : Dimensions) (tones : Tones) (r : Restart) (cause : ℕ) (owed : Bool) (small : cause < 128) (m : Making) (x : Slot) (leg : Leg) (kept : Kept d tones m.world) (within : IsExternal d.external x) (at : leg_at m.world.legs x ≡ Some leg) where
+module _ (d : Dimensions) (tones : Tones) (r : Restart) (cause : ℕ) (condition : Condition) (small : cause < 128) (m : Making) (x : Slot) (leg : Leg) (kept : Kept d tones m.world) (within : IsExternal d.external x) (at : leg_at m.world.legs x ≡ Some leg) where
   abbrev held : HeldLeg
   held = record { slot = x; leg = leg }
 
   abbrev gone : Making
-  gone = making_after_all d m (remove_leg owed held)
+  gone = making_after_all d m (remove_leg condition held)
 
   -- with the other leg of its call, which is gone too
   abbrev both_gone : Slot → Leg → World
-  both_gone y other = (making_after_all d gone (remove_leg owed (record { slot = y; leg = other }))).world
+  both_gone y other = (making_after_all d gone (remove_leg condition (record { slot = y; leg = other }))).world
 
   gone_kept : (y : Slot) (other : Leg) → IsExternal d.external y → leg_at m.world.legs y ≡ Some other → IsInCall leg.side x leg y other → Kept d tones (both_gone y other)
   gone_kept y other in_y at_y call =
@@ -82,7 +84,7 @@ module _ (d : Dimensions) (tones : Tones) (r : Restart) (cause : ℕ) (owed : Bo
             (λ p is. cc),
       )
 
-  peer_kept : (p : Peer) → leg.peer ≡ p → HasPeer d.external m.world.legs x leg p → Kept d tones (making_after_all d gone (with_peer (peer_of m.world.legs p) (restart_peer tones cause owed r x.line))).world
+  peer_kept : (p : Peer) → leg.peer ≡ p → HasPeer d.external m.world.legs x leg p → Kept d tones (making_after_all d gone (with_peer (peer_of m.world.legs p) (restart_peer tones cause condition r x.line))).world
   peer_kept peer.Alone is has = alone_kept d tones m.world x leg None cause small kept.0 kept.1 within at (inl refl) gone refl refl (λ p same. let e : peer.Alone ≡ peer.Leg p = sym is ∙ same in cc)
   peer_kept (peer.Leg y) is has = rw (held_there m.world.legs y has.1.0 has.1.1) (elim (true_or_false (restarts_slot r x.line y)) [
     | inl too ↦ rw too (gone_kept y has.1.0 has.0 has.1.1 has.1.2)
@@ -90,12 +92,12 @@ module _ (d : Dimensions) (tones : Tones) (r : Restart) (cause : ℕ) (owed : Bo
   ])
   peer_kept (peer.Room room) is has = alone_kept d tones m.world x leg None cause small kept.0 kept.1 within at (inl refl) gone refl refl (λ p same. let e : peer.Room room ≡ peer.Leg p = sym is ∙ same in cc)
 
-  pub leg_kept : Kept d tones (making_after_all d m (restart_leg tones cause owed r m.world.legs (Some held))).world
+  pub leg_kept : Kept d tones (making_after_all d m (restart_leg tones cause condition r m.world.legs (Some held))).world
   leg_kept = peer_kept leg.peer refl (kept.1.each x leg within at).peer
 
   -- its call is recorded, where its clearing hadn't begun
   records_told_by : (p : Peer) → leg.peer ≡ p → HasPeer d.external m.world.legs x leg p
-      → records m.world (making_after_all d gone (with_peer (peer_of m.world.legs p) (restart_peer tones cause owed r x.line))).world cause
+      → records m.world (making_after_all d gone (with_peer (peer_of m.world.legs p) (restart_peer tones cause condition r x.line))).world cause
       ≡ cons_option (option_and_then (record_calling m.world cause) (caller_in leg.side held (peer_of m.world.legs p))) []
   records_told_by peer.Alone is has = alone_records d tones m.world x leg None cause kept.1 within at refl gone refl leg.side refl
   records_told_by (peer.Leg y) is has =
@@ -110,26 +112,26 @@ module _ (d : Dimensions) (tones : Tones) (r : Restart) (cause : ℕ) (owed : Bo
       ])
   records_told_by (peer.Room room) is has = alone_records d tones m.world x leg None cause kept.1 within at refl gone refl leg.side refl
 
-  pub records_leg_told : records m.world (making_after_all d m (restart_leg tones cause owed r m.world.legs (Some held))).world cause ≡ cons_option (record_ended m.world held cause) []
+  pub records_leg_told : records m.world (making_after_all d m (restart_leg tones cause condition r m.world.legs (Some held))).world cause ≡ cons_option (record_ended m.world held cause) []
   records_leg_told = records_told_by leg.peer refl (kept.1.each x leg within at).peer
 
   -- and each operation is permitted
-  permitted_by : (plan : List Number) (o : Option HeldLeg) → PeerIsThere d.external held o → ArePermitted d tones plan gone (with_peer o (restart_peer tones cause owed r x.line))
+  permitted_by : (plan : List Number) (o : Option HeldLeg) → PeerIsThere d.external held o → ArePermitted d tones plan gone (with_peer o (restart_peer tones cause condition r x.line))
   permitted_by plan None there = tt
   permitted_by plan (Some other) there = elim (true_or_false (restarts_slot r x.line other.slot)) [
     | inl too ↦ rw too (there.0.within, (there.0.within, tt))
     | inr not_so ↦ rw not_so (clear_permitted d tones plan gone cause other there.0 small)
   ]
 
-  pub leg_permitted : (plan : List Number) → ArePermitted d tones plan m (restart_leg tones cause owed r m.world.legs (Some held))
+  pub leg_permitted : (plan : List Number) → ArePermitted d tones plan m (restart_leg tones cause condition r m.world.legs (Some held))
   leg_permitted plan = (within, (within, permitted_by plan (peer_of m.world.legs leg.peer) (peer_there_too d.external tones m.world held kept.1 within at)))
 
 -- ---- a slot
 
 -- what holds where nothing is done, and where a leg that holds the slot is gone, holds of what is done at the slot
 module _ (tones : Tones) (r : Restart) (legs : Legs) (x : Slot) (P : List Operation → Type 0) (none : P [])
-    (some : (leg : Leg) → leg_at legs x ≡ Some leg → P (restart_leg tones temporary_failure false r legs (Some (record { slot = x; leg = leg })))) where
-  held_by : (o : Option Leg) → leg_at legs x ≡ o → P (restart_leg tones temporary_failure false r legs (option_map (λ (leg : Leg). let h : HeldLeg = record { slot = x; leg = leg } in h) o))
+    (some : (leg : Leg) → leg_at legs x ≡ Some leg → P (restart_leg tones temporary_failure Idle r legs (Some (record { slot = x; leg = leg })))) where
+  held_by : (o : Option Leg) → leg_at legs x ≡ o → P (restart_leg tones temporary_failure Idle r legs (option_map (λ (leg : Leg). let h : HeldLeg = record { slot = x; leg = leg } in h) o))
   held_by None at = none
   held_by (Some leg) at = some leg at
 
@@ -141,16 +143,16 @@ module _ (tones : Tones) (r : Restart) (legs : Legs) (x : Slot) (P : List Operat
 
 module _ (d : Dimensions) (tones : Tones) (r : Restart) (m : Making) (x : Slot) (kept : Kept d tones m.world) (within : IsExternal d.external x) where
   pub slot_kept : Kept d tones (making_after_all d m (restart_slot tones r m.world.legs x)).world
-  slot_kept = at_slot tones r m.world.legs x (λ os. Kept d tones (making_after_all d m os).world) kept (λ leg at. leg_kept d tones r temporary_failure false (omega arith) m x leg kept within at)
+  slot_kept = at_slot tones r m.world.legs x (λ os. Kept d tones (making_after_all d m os).world) kept (λ leg at. leg_kept d tones r temporary_failure Idle (omega arith) m x leg kept within at)
 
   pub slot_permitted : (plan : List Number) → ArePermitted d tones plan m (restart_slot tones r m.world.legs x)
-  slot_permitted plan = at_slot tones r m.world.legs x (ArePermitted d tones plan m) tt (λ leg at. leg_permitted d tones r temporary_failure false (omega arith) m x leg kept within at plan)
+  slot_permitted plan = at_slot tones r m.world.legs x (ArePermitted d tones plan m) tt (λ leg at. leg_permitted d tones r temporary_failure Idle (omega arith) m x leg kept within at plan)
 
   records_told_of : (o : Option Leg) → leg_at m.world.legs x ≡ o
-      → records m.world (making_after_all d m (restart_leg tones temporary_failure false r m.world.legs (option_map (λ (leg : Leg). let h : HeldLeg = record { slot = x; leg = leg } in h) o))).world temporary_failure
+      → records m.world (making_after_all d m (restart_leg tones temporary_failure Idle r m.world.legs (option_map (λ (leg : Leg). let h : HeldLeg = record { slot = x; leg = leg } in h) o))).world temporary_failure
       ≡ cons_option (option_and_then (λ h. record_ended m.world h temporary_failure) (option_map (λ (leg : Leg). let h : HeldLeg = record { slot = x; leg = leg } in h) o)) []
   records_told_of None at = no_records m.world temporary_failure
-  records_told_of (Some leg) at = records_leg_told d tones r temporary_failure false (omega arith) m x leg kept within at
+  records_told_of (Some leg) at = records_leg_told d tones r temporary_failure Idle (omega arith) m x leg kept within at
 
   pub records_slot_told : records m.world (making_after_all d m (restart_slot tones r m.world.legs x)).world temporary_failure ≡ slot_records r m.world x
   records_slot_told = elim (true_or_false (is_restarted r x.place)) [

@@ -2,6 +2,7 @@
 use Rattle.std.proofs.Common.{◌≡◌, ℕ, zero, suc, ◌<◌, ◌≤◌, ◌&&◌, Bool, true, false, [], refl, sym, subst, arith}
 use Rattle.std.specs.Prelude.{not}
 use Rattle.tone_rules.specs.declared.tones.Tones.{Tones}
+use Rattle.call_states.specs.Conditions.{unanswered}
 use Rattle.call_profile.specs.Legs.{is_down}
 use Rattle.call_profile.specs.LinkChanges.{give_up_rule, outcome_of_line_restart, outcome_of_link, restarts_interface, rule_of, with_interface, with_line}
 use Rattle.call_profile.specs.Operations.{making_at}
@@ -50,7 +51,7 @@ module _ (d : Dimensions) (tones : Tones) (down : Bool) (line : ℕ) (w : World)
 module _ (d : Dimensions) (tones : Tones) (line : ℕ) (w : World) where
   -- each slot of the line is given up, before its user is sent RESTART
   abbrev pub given_up : MessageOutcome
-  given_up = outcome_below d (give_up_rule tones (is_down w.legs line)) line w 30
+  given_up = outcome_below d (give_up_rule tones (unanswered (is_down w.legs line))) line w 30
 
   pub line_restarted_by : (P : World → Type 0) → P given_up.making.world → P (outcome_of_line_restart d tones line w).making.world
   line_restarted_by P holds = subst P (sym (interface_world d (not (is_down w.legs line)) line given_up)) holds

@@ -7,12 +7,13 @@ use Rattle.exchange_events.specs.declared.trace.Event.{Event}
 use Rattle.exchange_events.specs.declared.trace.Event.TheVariants.{Nail, Seat, Free, Message, Frame, LinkUp, LinkDown, RestartLine}
 use Rattle.call_states.specs.Acts.{act_on}
 use Rattle.clearing_rules.specs.UnknownReference.{answer_without_call}
+use Rattle.call_states.specs.Conditions.{unanswered}
 use Rattle.call_profile.specs.ActCourse.{course_of}
-use Rattle.call_profile.specs.Calls.{Request, For_leg, New_call, On_no_call, Restarts, Unanswered, request_of, answer_back, outcome_for}
+use Rattle.call_profile.specs.Calls.{Request, For_leg, New_call, On_no_call, Restarts, Confirms, Unanswered, request_of, answer_back, outcome_for}
 use Rattle.call_profile.specs.IdleSlots.{is_nailed}
 use Rattle.call_profile.specs.Operations as op
 use Rattle.call_profile.specs.Operations.{Operation, Making, making_at, making_after, making_after_all}
-use Rattle.call_profile.specs.Restarts.{restart_slot, restart_rule}
+use Rattle.call_profile.specs.Restarts.{confirm_rule, confirm_slot, restart_rule, restart_slot}
 use Rattle.exchange_events.specs.Orders.{event_at}
 use Rattle.exchange_events.specs.Sizes.{Setting, Dimensions}
 use Rattle.call_profile.specs.Setup.{course_of_setup}
@@ -51,7 +52,7 @@ performed_next d m (op.Wait x leg p) = refl
 performed_next d m (op.Expect x leg message) = refl
 performed_next d m (op.Repeat h octets) = refl
 performed_next d m (op.Await x leg) = refl
-performed_next d m (op.Remove x owed) = refl
+performed_next d m (op.Remove x condition) = refl
 performed_next d m (op.Send line message) = refl
 
 performed_all_next : (d : Dimensions) (m : Making) (os : List Operation) → (making_after_all d m os).world.holding.next ≡ m.world.holding.next
@@ -65,6 +66,9 @@ received_next s w line (On_no_call m) = performed_all_next s.dimensions (making_
 received_next s w line (Restarts r) =
     each_below s.dimensions (restart_rule s.tones r) line w (λ a. a.making.world.holding.next ≡ w.holding.next) refl
     (λ a place small same. performed_all_next s.dimensions a.making (restart_slot s.tones r a.making.world.legs (record { line = line; place = place })) ∙ same) 30 (omega arith)
+received_next s w line (Confirms r) =
+    each_below s.dimensions (confirm_rule r) line w (λ a. a.making.world.holding.next ≡ w.holding.next) refl
+    (λ a place small same. performed_all_next s.dimensions a.making (confirm_slot r a.making.world.legs (record { line = line; place = place })) ∙ same) 30 (omega arith)
 received_next s w line Unanswered = refl
 
 link_next : (s : Setting) (w : World) (down : Bool) (line : ℕ) → (outcome_of_link s.dimensions s.tones down line w).making.world.holding.next ≡ w.holding.next
@@ -74,10 +78,10 @@ link_next s w down line = linked_by s.dimensions s.tones down line w (λ v. v.ho
 
 line_restart_next : (s : Setting) (w : World) (line : ℕ) → (outcome_of_line_restart s.dimensions s.tones line w).making.world.holding.next ≡ w.holding.next
 line_restart_next s w line =
-    let owed : Bool = is_down w.legs line in
+    let condition = unanswered (is_down w.legs line) in
     line_restarted_by s.dimensions s.tones line w (λ v. v.holding.next ≡ w.holding.next)
-    (each_below s.dimensions (give_up_rule s.tones owed) line w (λ a. a.making.world.holding.next ≡ w.holding.next) refl
-    (λ a place small same. performed_all_next s.dimensions a.making (give_up_slot s.tones owed a.making.world.legs (record { line = line; place = place })) ∙ same) 30 (omega arith))
+    (each_below s.dimensions (give_up_rule s.tones condition) line w (λ a. a.making.world.holding.next ≡ w.holding.next) refl
+    (λ a place small same. performed_all_next s.dimensions a.making (give_up_slot s.tones condition a.making.world.legs (record { line = line; place = place })) ∙ same) 30 (omega arith))
 
 turn_next : (s : Setting) (w : World) (input : Input) → (next s w (Frame input)).holding.next ≡ w.holding.next + 1
 turn_next s w input =

@@ -231,18 +231,20 @@ unflagged setup false e = refl
 unflagged true true e = absurd cc
 unflagged false true e = absurd cc
 
-not_on_global : (o : Option Restart) (m : Message) → on_global_reference o ≡ New_call m → ⊥
-not_on_global None m e = cc
-not_on_global (Some r) m e = cc
+not_on_global : (o a : Option Restart) (m : Message) → on_global_reference o a ≡ New_call m → ⊥
+not_on_global None None m e = cc
+not_on_global None (Some r) m e = cc
+not_on_global (Some r) a m e = cc
 
-not_back_on_global : (o : Option Restart) (m : Message) → on_global_reference o ≡ On_no_call m → ⊥
-not_back_on_global None m e = cc
-not_back_on_global (Some r) m e = cc
+not_back_on_global : (o a : Option Restart) (m : Message) → on_global_reference o a ≡ On_no_call m → ⊥
+not_back_on_global None None m e = cc
+not_back_on_global None (Some r) m e = cc
+not_back_on_global (Some r) a m e = cc
 
 asked_for : (n m : Message) → unnamed n ≡ New_call m → (n ≡ m) × (n.flag ≡ false) × ((n.reference == 0) ≡ false)
 asked_for n m =
     without_leg_by n (λ r. r ≡ New_call m → (n ≡ m) × (n.flag ≡ false) × ((n.reference == 0) ≡ false))
-    (λ o e. absurd (not_on_global o m e)) (λ asks own e. (cc, unflagged (is_setup n.kind) n.flag asks, own)) (λ back own e. absurd cc)
+    (λ o a e. absurd (not_on_global o a m e)) (λ asks own e. (cc, unflagged (is_setup n.kind) n.flag asks, own)) (λ back own e. absurd cc)
 
 named_new : (n : Message) (o : Option HeldLeg) (m : Message) → with_leg_named n o ≡ New_call m → (o ≡ None) × (n ≡ m) × (n.flag ≡ false) × ((n.reference == 0) ≡ false)
 named_new n None m e = let is = asked_for n m e in (refl, is.0, is.1, is.2)
@@ -262,7 +264,7 @@ new_from legs line (Ok n) m e =
 -- ---- what is received on the call reference of no call
 
 back_from : (n m : Message) → unnamed n ≡ On_no_call m → n ≡ m
-back_from n m = without_leg_by n (λ r. r ≡ On_no_call m → n ≡ m) (λ o e. absurd (not_back_on_global o m e)) (λ asks own e. absurd cc) (λ back own e. cc)
+back_from n m = without_leg_by n (λ r. r ≡ On_no_call m → n ≡ m) (λ o a e. absurd (not_back_on_global o a m e)) (λ asks own e. absurd cc) (λ back own e. cc)
 
 named_back : (n : Message) (o : Option HeldLeg) (m : Message) → with_leg_named n o ≡ On_no_call m → n ≡ m
 named_back n None m e = back_from n m e

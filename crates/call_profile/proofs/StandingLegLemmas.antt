@@ -9,7 +9,7 @@ use Rattle.q931_codec.specs.Outgoing.{OutgoingMessage}
 use Rattle.q931_codec.specs.Reading.{reading}
 use Rattle.q931_codec.proofs.Messages.{read_message}
 use Rattle.clearing_rules.specs.UnknownReference.{answer_without_call}
-use Rattle.call_profile.specs.Calls.{Request, For_leg, New_call, On_no_call, Restarts, Unanswered, request_of, answer_back, outcome_for, making_by}
+use Rattle.call_profile.specs.Calls.{Request, For_leg, New_call, On_no_call, Restarts, Confirms, Unanswered, request_of, answer_back, outcome_for, making_by}
 use Rattle.call_profile.specs.Course.{only}
 use Rattle.exchange_events.specs.declared.trace.Event.{Event}
 use Rattle.exchange_events.specs.declared.trace.Event.TheVariants.{Nail, Seat, Free, Message, Frame, LinkUp, LinkDown, RestartLine}
@@ -17,6 +17,7 @@ use Rattle.exchange_events.specs.Sound.{Fits, IsPlanned}
 use Rattle.call_profile.specs.Step.{next, world_after_all}
 use Rattle.call_profile.specs.LegStanding.{CallsStand}
 use Rattle.control_memory.specs.Layout.{number_of}
+use Rattle.call_states.specs.Conditions.{unanswered}
 use Rattle.call_states.specs.declared.leg.Leg.{Leg}
 use Rattle.call_profile.specs.Legs.{is_down, leg_at, no_legs}
 use Rattle.exchange_events.specs.Sizes.{Setting}
@@ -36,6 +37,7 @@ use Rattle.call_profile.proofs.ReleaseToneLemmas.{Sounding}
 use Rattle.call_profile.proofs.SetupLemmas.{setup_kept, new_from}
 use Rattle.call_profile.specs.LinkChanges.{give_up_rule, outcome_of_line_restart, outcome_of_link, rule_of, with_line}
 use Rattle.call_profile.proofs.LinkLemmas.{linked_kept, rule_kept}
+use Rattle.call_profile.proofs.ConfirmedSlotLemmas.{confirmed_kept}
 use Rattle.call_profile.proofs.GivenUpSlotLemmas.{give_up_kept}
 use Rattle.call_profile.proofs.RestartedSlotLemmas.{each_below, line_restarted_by, linked_by}
 
@@ -59,6 +61,7 @@ module _ (s : Setting) (w : World) (line : ℕ) (octets : List ℕ) (planned : I
       setup_kept s w line m (record { planned = planned; valid = stands.circuits; stand = stands.legs; below = can.0; own = (new.1, message.value); unused = new.2 })
   received_kept (On_no_call m) is = kept_without s w line (answer_without_call m) (stands.circuits, stands.legs)
   received_kept (Restarts r) is = below_kept s.dimensions s.tones r line w can.0 (stands.circuits, stands.legs) 30 (omega arith)
+  received_kept (Confirms r) is = confirmed_kept s.dimensions s.tones r line w can.0 (stands.circuits, stands.legs) 30 (omega arith)
   received_kept Unanswered is = (stands.circuits, stands.legs)
 
 -- the legs whose turn it is in a frame, one after another
@@ -75,10 +78,10 @@ link_kept s w down line below stands = linked_by s.dimensions s.tones down line 
 -- the slots of a line that the exchange restarts
 line_restart_kept : (s : Setting) (w : World) (line : ℕ) → line < s.dimensions.external → CallsStand s w → Kept s.dimensions s.tones (outcome_of_line_restart s.dimensions s.tones line w).making.world
 line_restart_kept s w line below stands =
-    let owed : Bool = is_down w.legs line in
+    let condition = unanswered (is_down w.legs line) in
     line_restarted_by s.dimensions s.tones line w (Kept s.dimensions s.tones)
-    (each_below s.dimensions (give_up_rule s.tones owed) line w (λ a. Kept s.dimensions s.tones a.making.world) (stands.circuits, stands.legs)
-    (λ a place small k. give_up_kept s.dimensions s.tones owed a.making (record { line = line; place = place }) k (below, small)) 30 (omega arith))
+    (each_below s.dimensions (give_up_rule s.tones condition) line w (λ a. Kept s.dimensions s.tones a.making.world) (stands.circuits, stands.legs)
+    (λ a place small k. give_up_kept s.dimensions s.tones condition a.making (record { line = line; place = place }) k (below, small)) 30 (omega arith))
 
 pub happened_kept : (s : Setting) (w : World) (e : Event) → IsPlanned s → Fits s.dimensions.external e → CallsStand s w → CallsStand s (next s w e)
 happened_kept s w (Nail x y) planned fits stands = kept_stands s (next s w (Nail x y)) (nail_kept s w stands.circuits stands.legs x y fits) (entries_stand s w (Nail x y) planned fits stands) (event_sounds s w stands (Nail x y) planned fits)

@@ -12,7 +12,7 @@ use Rattle.call_timers.specs.Expiries.{due}
 use Rattle.call_timers.specs.declared.expiry.Expiry.{Expiry}
 use Rattle.call_timers.specs.declared.expiry.Expiry.TheVariants as expiry
 use Rattle.call_timers.specs.declared.timers.Timers.{Timers}
-use Rattle.call_states.specs.declared.condition.Condition.TheVariants.{Owed}
+use Rattle.call_states.specs.declared.condition.Condition.TheVariants.{Idle, Owed}
 use Rattle.call_states.specs.Conditions.{unanswered}
 use Rattle.call_states.specs.declared.leg.HeldLeg.{HeldLeg}
 use Rattle.call_states.specs.declared.leg.Leg.{Leg}
@@ -39,7 +39,7 @@ send_again h (Some octets) = Repeat h octets ∷ []
 
 -- the called user did not answer the SETUP: its leg is removed
 abbrev pub give_up : HeldLeg → List Operation
-give_up h = Clear h.slot ∷ Remove h.slot false ∷ send_to h (release_complete_for h.leg recovery_on_timer_expiry) ∷ []
+give_up h = Clear h.slot ∷ Remove h.slot Idle ∷ send_to h (release_complete_for h.leg recovery_on_timer_expiry) ∷ []
 
 -- the user did not release the call: it is sent RELEASE with the cause with which it was cleared, and still hears its
 -- tone

@@ -1,7 +1,9 @@
 -- Worked expiries of timers, on which the definitions are evaluated. Source: this project; the octets are from ITU-T
 -- Q.931 (05/98), section 4.
 use Rattle.std.specs.Prelude.{ℕ, false, List, [], ◌∷◌, ◌++◌}
+use Rattle.circuit_model.specs.declared.channel.Slot.{Slot}
 use Rattle.number_plan.specs.declared.target.Target.TheVariants as target
+use Rattle.call_states.specs.declared.condition.Condition.TheVariants.{Unconfirmed}
 use Rattle.exchange_events.specs.declared.record.CallRecord.{CallRecord}
 use Rattle.exchange_events.specs.declared.record.Party.TheVariants as party
 use Rattle.exchange_events.specs.declared.reply.Reply.{Reply}
@@ -10,6 +12,7 @@ use Rattle.exchange_events.specs.declared.signal.Signal.{Signal}
 use Rattle.exchange_events.specs.declared.trace.Event.{Event}
 use Rattle.exchange_events.specs.declared.trace.Event.TheVariants.{Message}
 use Rattle.exchange_events.specs.Sizes.{Setting}
+use Rattle.call_profile.specs.Legs.{Legs, no_legs, without_leg}
 use Rattle.call_profile.specs.Step.{reply, next, world_after_all}
 use Rattle.call_profile.specs.WorkedCalls.{at, to, two_lines, quiet_frame}
 use Rattle.call_profile.specs.World.{World, start}
@@ -151,6 +154,11 @@ second_turn = after_turn (in_frame 60 first_turn)
 
 abbrev pub third_turn : World
 third_turn = after_turn (in_frame 90 second_turn)
+
+-- no leg is left, and the users of these slots have not replied to RELEASE
+abbrev pub none_left : List Slot → Legs
+none_left [] = no_legs 2
+none_left (x ∷ xs) = without_leg (none_left xs) x Unconfirmed
 
 -- RELEASE with the cause, its retransmission, and then both legs are removed without a message
 abbrev pub released : ℕ → Reply

@@ -195,3 +195,29 @@ own_line_restart_answered =
     own_call_offered
     ∷ records_reply (restart_of_line 0 ∷ []) (record { caller = at 0 0; called = party.Line (at 0 1); answered = false; from = 0; to = 0; cause = 41 })
     ∷ []
+
+-- ---- RESTART ACKNOWLEDGE
+
+-- line 1 without a call is restarted
+abbrev pub line_restarted : World
+line_restarted = next hasty_lines (world_in 9 []) (RestartLine 1)
+
+abbrev pub whole_line_acknowledged : Event
+whole_line_acknowledged = Message 1 (0x08 ∷ 0x02 ∷ 0x80 ∷ 0x00 ∷ 0x4E ∷ 0x79 ∷ 0x01 ∷ 0x86 ∷ [])
+
+-- the acknowledgement of one channel
+abbrev pub acknowledged : ℕ → Event
+acknowledged channel = Message 1 (0x08 ∷ 0x02 ∷ 0x80 ∷ 0x00 ∷ 0x4E ∷ 0x18 ∷ 0x03 ∷ 0xA9 ∷ 0x83 ∷ channel ∷ 0x79 ∷ 0x01 ∷ 0x80 ∷ [])
+
+abbrev pub second_acknowledged : Event
+second_acknowledged = acknowledged 0x82
+
+abbrev pub third_acknowledged : Event
+third_acknowledged = acknowledged 0x83
+
+-- the channel of the call that was lost beside a conversation was restarted
+abbrev pub lost_beside_conversation : World
+lost_beside_conversation = next hasty_lines (world_in 9 beside_conversation) (LinkUp 1)
+
+abbrev pub only_enquired : Reply
+only_enquired = sends_reply (to 1 (0x08 ∷ 0x02 ∷ 0x00 ∷ 0x01 ∷ 0x75 ∷ []) ∷ [])

@@ -13,6 +13,6 @@ mod worked;
 pub use legs::{is_addressed_to, retransmitted_from, waiting_from};
 pub use records::{first_frame_of, is_calling, party_of};
 pub use worked::{
-    worked_calls, worked_digits, worked_expiries, worked_line_restarts, worked_links,
-    worked_messages, worked_outages, worked_overlap,
+    worked_acknowledgements, worked_calls, worked_digits, worked_expiries, worked_line_restarts,
+    worked_links, worked_messages, worked_outages, worked_overlap,
 };

@@ -3,11 +3,11 @@ ghost use Rattle.std.specs.Prelude.{◌≡◌, None, Some, [], ◌∷◌, option
 ghost use Rattle.call_profile.specs.WorkedCalls.{at, two_lines, one_line, own_line, answers, records_reply, sends_reply, whole_call, whole_call_answered, refused_or_moved, refused_or_moved_answered, clear_collision, clear_collision_answered, without_call, without_call_answered, restart_of_called, restart_of_called_answered, restart_of_both, restart_of_both_answered, restart_of_one, restart_of_one_answered, lenient_reading, lenient_reading_answered, call_to_room, call_to_room_answered, no_port_answered, unexpected, unexpected_answered, line_full, line_full_answered, hunting_lines, line_hunted_answered, sounding_lines, circuits_after, rings, rings_answered, ringing_tone, found_busy, found_busy_answered, busy_tone, found_gone, found_gone_answered, found_there, conversation};
 ghost use Rattle.call_profile.specs.WorkedMessages.{refused_by_element, refused_by_element_answered, unreadable_cause, unreadable_cause_answered, null_status_received, null_status_answered, release_collision, release_collision_answered, reference_given_again, reference_given_again_answered, compatibility, compatibility_answered};
 ghost use Rattle.call_profile.specs.WorkedDigits.{begun_later, ended_later, ended_later_answered, faulty_digits, faulty_digits_answered, in_other_states, in_other_states_answered, in_three_messages, in_three_messages_answered, line_full_later, line_full_later_answered, longest_numbers, longest_numbers_answered, no_port_later_answered, own_line_later, own_line_later_answered, passed_on_later, passed_on_later_answered, room_later, room_later_answered, two_digits, wrong_digit, wrong_digit_answered};
-ghost use Rattle.call_profile.specs.Legs.{leg_at, no_legs};
-ghost use Rattle.call_profile.specs.WorkedExpiries.{cleared_with, hasty_lines, turn_of, after_turn, world_in, in_frame, nothing_in, sent_in, offered, setup_again, setup_over, proceeds, proceeding_over, both_proceed, both_over, alerted, alerting_over, alerted_again, answered_in_time, begun_on_both, digits_over, first_turn, second_turn, third_turn, released};
+ghost use Rattle.call_profile.specs.Legs.{leg_at};
+ghost use Rattle.call_profile.specs.WorkedExpiries.{cleared_with, hasty_lines, turn_of, after_turn, world_in, in_frame, nothing_in, sent_in, offered, setup_again, setup_over, proceeds, proceeding_over, both_proceed, both_over, alerted, alerting_over, alerted_again, answered_in_time, begun_on_both, digits_over, first_turn, second_turn, third_turn, released, none_left};
 ghost use Rattle.exchange_events.specs.declared.trace.Event.TheVariants.{LinkUp, RestartLine};
-ghost use Rattle.call_profile.specs.Step.{reply};
-ghost use Rattle.call_profile.specs.WorkedLinks.{down_while_alerted, alerted_dropped, call_to_down, refused_as_down, own_line_down, own_line_dropped, outage, outage_over, down_again, up_again, state_enquired, reset_while_dialling, alerted_then_up, answered, answered_on_down, asked_to_release, beside_conversation, both_cleared, both_down, call_after_restart, cleared_as_it_fails, confirmed, connect_lost, conversation_restarted, down_in_conversation, lost_after_answer, offered_on_first, one_restarted, own_line_restarted, own_line_restart_answered, release_asked, release_asked_again, release_given_up, released_anew, reports, restart_of_line, restarted_conversation, restarted_while_down, up_before_given_up, up_too_late};
+ghost use Rattle.call_profile.specs.Step.{next, reply};
+ghost use Rattle.call_profile.specs.WorkedLinks.{down_while_alerted, alerted_dropped, call_to_down, refused_as_down, own_line_down, own_line_dropped, outage, outage_over, down_again, up_again, state_enquired, reset_while_dialling, alerted_then_up, answered, answered_on_down, asked_to_release, beside_conversation, both_cleared, both_down, call_after_restart, cleared_as_it_fails, confirmed, connect_lost, conversation_restarted, down_in_conversation, lost_after_answer, offered_on_first, one_restarted, own_line_restarted, own_line_restart_answered, release_asked, release_asked_again, release_given_up, released_anew, reports, restart_of_line, restarted_conversation, restarted_while_down, up_before_given_up, up_too_late, line_restarted, lost_beside_conversation, only_enquired, second_acknowledged, third_acknowledged, whole_line_acknowledged};
 ghost use Rattle.call_profile.specs.WorkedOverlap.{dialled_in_part, dialled_in_part_answered, pending_after, first_digit, refused_at_once, refused_at_once_answered, no_numbers, dials_nothing, dials_nothing_answered, given_up, given_up_answered};
 
 /// The definitions of the operations for messages, evaluated on small exchanges.
@@ -87,7 +87,8 @@ pub fn worked_expiries()
     ensures release { turn_of (in_frame 60 first_turn) ≡ released 60 }
     ensures release_again { turn_of (in_frame 90 second_turn) ≡ released 90 }
     ensures gone { turn_of (in_frame 120 third_turn) ≡ nothing_in 120 }
-    ensures empty { (after_turn (in_frame 120 third_turn)).legs ≡ no_legs 2 }
+    ensures unconfirmed { (after_turn (in_frame 120 third_turn)).legs ≡ none_left (at 1 0 ∷ at 0 0 ∷ []) }
+    ensures restarted { reply hasty_lines (after_turn (in_frame 120 third_turn)) (LinkUp 1) ≡ sends_reply (restart_of_line 1 ∷ []) }
 {}
 
 /// The definitions, evaluated on calls on lines whose data links go down and come up.
@@ -112,7 +113,7 @@ pub fn worked_outages()
     ensures waits_anew { turn_of up_before_given_up ≡ nothing_in 90 }
     ensures left { option_map (λ leg. leg.state) (leg_at released_anew.legs (at 1 0)) ≡ Some 19 }
     ensures over { turn_of (in_frame 120 released_anew) ≡ nothing_in 120 }
-    ensures gone { (after_turn (in_frame 120 released_anew)).legs ≡ no_legs 2 }
+    ensures gone { (after_turn (in_frame 120 released_anew)).legs ≡ none_left (at 1 0 ∷ []) }
     ensures alerted { alerted_then_up ≡ sends_reply (restart_of_line 1 ∷ []) }
     ensures beside { reply hasty_lines (world_in 9 beside_conversation) (LinkUp 1) ≡ one_restarted }
     ensures late { up_too_late ≡ sends_reply (restart_of_line 1 ∷ []) }
@@ -135,4 +136,17 @@ pub fn worked_line_restarts()
     ensures empty { reply hasty_lines (world_in 9 []) (RestartLine 1) ≡ sends_reply (restart_of_line 1 ∷ []) }
     ensures called { reply hasty_lines (world_in 9 (RestartLine 1 ∷ [])) call_after_restart ≡ offered_on_first 0x81 }
     ensures own_line { answers own_line own_line_restarted ≡ own_line_restart_answered }
+{}
+
+/// The definitions, evaluated on RESTARTs that users acknowledge, or do not acknowledge before the data link comes up.
+pub fn worked_acknowledgements()
+    ensures repeated { reply hasty_lines line_restarted (LinkUp 1) ≡ sends_reply (restart_of_line 1 ∷ []) }
+    ensures acknowledged { reply hasty_lines (next hasty_lines line_restarted whole_line_acknowledged) (LinkUp 1) ≡ sends_reply [] }
+    ensures one_acknowledged { reply hasty_lines (next hasty_lines line_restarted second_acknowledged) (LinkUp 1)
+        ≡ sends_reply (restart_of_line 1 ∷ []) }
+    ensures without_reply { reply hasty_lines line_restarted whole_line_acknowledged ≡ sends_reply [] }
+    ensures beside_a_call { reply hasty_lines lost_beside_conversation (LinkUp 1) ≡ one_restarted }
+    ensures one_confirmed { reply hasty_lines (next hasty_lines lost_beside_conversation second_acknowledged) (LinkUp 1) ≡ only_enquired }
+    ensures other_confirmed { reply hasty_lines (next hasty_lines lost_beside_conversation third_acknowledged) (LinkUp 1) ≡ one_restarted }
+    ensures owed { reply hasty_lines (next hasty_lines restarted_while_down whole_line_acknowledged) (LinkUp 1) ≡ sends_reply (restart_of_line 1 ∷ []) }
 {}

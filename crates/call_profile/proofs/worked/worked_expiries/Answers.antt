@@ -2,6 +2,7 @@ use Rattle.std.proofs.Common.{refl}
 use Rattle.q931_elements.specs.Reading.{elements_of, elements_within}
 use Rattle.call_profile.specs.Expiring.{outcome_of_lines}
 use Rattle.call_profile.specs.Legs.{slots_of}
+use Rattle.call_profile.specs.Restarts.{outcome_below}
 use Rattle.call_profile.proofs.worked.worked_expiries.Goals as goal
 
 pub returns-clause-early : goal.returns-clause-early
@@ -56,6 +57,10 @@ pub returns-clause-gone : goal.returns-clause-gone
 unfolding elements_of elements_within outcome_of_lines slots_of
 returns-clause-gone c = refl
 
-pub returns-clause-empty : goal.returns-clause-empty
+pub returns-clause-unconfirmed : goal.returns-clause-unconfirmed
 unfolding elements_of elements_within outcome_of_lines slots_of
-returns-clause-empty c = refl
+returns-clause-unconfirmed c = refl
+
+pub returns-clause-restarted : goal.returns-clause-restarted
+unfolding elements_of elements_within outcome_of_lines outcome_below slots_of
+returns-clause-restarted c = refl
