@@ -13,3 +13,4 @@ pub mod OwedRestarts
 pub mod EnquiryReplies
 pub mod LostLegs
 pub mod ExpiryRecords
+pub mod Unconfirmed

@@ -14,7 +14,7 @@ use Rattle.clearing_rules.specs.declared.scope.Restart.{Restart}
 use Rattle.exchange_events.specs.declared.signal.Signal.{Signal}
 use Rattle.call_profile.specs.Acts.{message_to}
 use Rattle.call_profile.specs.KeptMessages.{IsKept}
-use Rattle.call_profile.specs.Legs.{is_owed, kept_at, leg_at}
+use Rattle.call_profile.specs.Legs.{awaits_restart, is_owed, kept_at, leg_at}
 use Rattle.call_profile.specs.LinkChanges.{being_cleared, outcome_of_link}
 use Rattle.call_profile.specs.Operations.{Making}
 use Rattle.call_profile.specs.World.{World}
@@ -33,10 +33,10 @@ enquiry_signal x leg = record { line = x.line; octets = encoding (message_to leg
 abbrev pub IsRestartSent : Making → Slot → Type 0
 IsRestartSent m x = (r : Restart) × (is_restarted r x.place ≡ true) × Contains m.sends (restart_signal x r)
 
--- a channel without a leg: no RESTART is owed for it, and if one was owed, one was sent
+-- a channel without a leg: no RESTART is owed for it, and if it awaited one, one was sent
 pub record IsPaid (before : World) (m : Making) (x : Slot) : Type 0 where
   pub none_owed : is_owed m.world.legs x ≡ false
-  pub sent : is_owed before.legs x ≡ true → IsRestartSent m x
+  pub sent : awaits_restart before.legs x ≡ true → IsRestartSent m x
 
 -- a leg in active: its user was sent STATUS ENQUIRY
 pub record IsEnquired (m : Making) (x : Slot) (leg : Leg) : Type 0 where

@@ -12,7 +12,7 @@ use Rattle.exchange_events.specs.declared.trace.Event.TheVariants as event
 use Rattle.exchange_events.specs.Sizes.{Setting}
 use Rattle.exchange_events.specs.Sound.{Fits, IsPlanned}
 use Rattle.call_profile.specs.CallRecords.{is_calling, record_of}
-use Rattle.call_profile.specs.Calls.{Request, For_leg, New_call, On_no_call, Restarts, Unanswered, request_of, after_message, answer_to}
+use Rattle.call_profile.specs.Calls.{Request, For_leg, New_call, On_no_call, Restarts, Confirms, Unanswered, request_of, after_message, answer_to}
 use Rattle.call_profile.specs.EndedCalls.{cause_of_act_at}
 use Rattle.call_profile.specs.LegStanding.{CallsStand}
 use Rattle.call_profile.specs.Legs.{leg_at}
@@ -38,6 +38,7 @@ cause_of_clearing (For_leg h m) = cause_of_act_at h.leg (act_on h.leg.state m)
 cause_of_clearing (New_call setup) = None
 cause_of_clearing (On_no_call m) = None
 cause_of_clearing (Restarts r) = Some temporary_failure
+cause_of_clearing (Confirms r) = None
 cause_of_clearing Unanswered = None
 
 -- a call ended with the cause that the message gives, and this is its record

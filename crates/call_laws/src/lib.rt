@@ -49,6 +49,7 @@ pub use legs::{
 };
 pub use outages::{
     law_of_enquiry_replies, law_of_lost_legs, law_of_outages, law_of_owed_restarts,
+    law_of_unconfirmed_channels,
     law_of_reconciliation, law_of_unfailing_links,
 };
 pub use runs::{later_frames_change_nothing, law_of_fabrics, worlds_are_made};

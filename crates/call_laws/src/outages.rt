@@ -28,6 +28,7 @@ ghost use Rattle.call_laws.specs.Outages.{down_after_all, HasNoFailure, IsOnLine
 ghost use Rattle.call_laws.specs.OwedRestarts.{AreOwedByFailure, AreOwedByFrame, AreOwedByRestart, AreStillOwed, NoMoreAreOwed, OwesNoMore};
 ghost use Rattle.call_laws.specs.Reconciled.{AreReconciled};
 ghost use Rattle.call_laws.specs.Recorded.{HasEnded};
+ghost use Rattle.call_laws.specs.Unconfirmed.{AreUnconfirmed};
 ghost use Rattle.call_profile.specs.Setup.{called_slot};
 ghost use Rattle.call_profile.specs.Step.{next};
 ghost use Rattle.call_profile.specs.World.{World, start};
@@ -89,7 +90,7 @@ pub fn law_of_lost_legs()
 {}
 
 /// The establishment of a data link accounts for each channel of the line. One without a leg is owed no RESTART, and if
-/// it was owed one, a RESTART that covers it was sent. The user of each leg in state 10 was sent STATUS ENQUIRY. The user
+/// it awaited one, a RESTART that covers it was sent. The user of each leg in state 10 was sent STATUS ENQUIRY. The user
 /// of each leg in state 19 was sent its stored RELEASE again, and T308 restarts: its expiry removes the leg. At each leg
 /// in state 12 T305 goes on, or it starts if the establishment cleared the leg. A leg in any other state is unchanged. No
 /// call is offered on a channel that is owed a RESTART.
@@ -110,6 +111,16 @@ pub fn law_of_enquiry_replies()
         → IsReply s w line octets h m reported → reported ≢ active → IsClearedByReply s w h (outcome_of_octets s w line octets) }
     ensures unasked { (s : Setting) (w : World) (line : ℕ) (octets : List ℕ) (h : HeldLeg) (m : Message) → IsStatus s w line octets h m
         → (h.leg.state ≡ active → h.leg.enquired ≡ false) → outcome_of_octets s w line octets ≡ unchanged w }
+{}
+
+/// A channel is unconfirmed after an event if and only if the event leaves it so, or it was and the event neither settles
+/// it nor gives it a leg. An establishment of the data link leaves each channel so that awaited RESTART, the restart of a
+/// line each of its channels if its data link is up, and a frame each whose leg T308 removes while that link is up. RESTART
+/// ACKNOWLEDGE settles the channels that it covers. So RESTART is repeated at each establishment until it is acknowledged
+/// ([`law_of_reconciliation`]).
+pub fn law_of_unconfirmed_channels()
+    ensures exact { (s : Setting) (w : World) (e : Event) → Fits s.dimensions.external e → CallsStand s w
+        → OutagesStand s.dimensions.external w.legs → AreUnconfirmed s.dimensions.external e w (next s w e) }
 {}
 
 /// After the failure of a data link, a channel is owed a RESTART if and only if it was owed one, or its leg was removed by
