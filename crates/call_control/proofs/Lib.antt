@@ -9,6 +9,7 @@ pub mod ActMakingLemmas
 pub mod SetupMakingLemmas
 pub mod RestartMakingLemmas
 pub mod LinkMakingLemmas
+pub mod ConfirmMakingLemmas
 pub mod LineRestartMakingLemmas
 pub mod ExpireMakingLemmas
 pub mod DigitsMakingLemmas

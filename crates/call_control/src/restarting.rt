@@ -188,6 +188,7 @@ impl<P: PathMap> CallControl<P> {
         requires external { IsExternal self.old.map.external x }
         requires count { length self.old.legs.held ≡ 30 * self.old.map.external }
         ensures makes { PerformsQuietly (confirm_slot acknowledged self.old.legs x) self.old.map self.old.legs self.new.map self.new.legs }
+        ensures count { length self.new.legs.held ≡ length self.old.legs.held }
         ensures map { self.new.map ≡ self.old.map }
     {
         if acknowledged.covers(x.place) && self.legs.is_unconfirmed(x) {

@@ -4,6 +4,8 @@ use Rattle.std.specs.Prelude.{All, IfSome, replicate}
 use Rattle.std.proofs.lemmas.List.{length-replicate}
 use Rattle.std.proofs.lemmas.Bool.{ne_eqb}
 use Rattle.q931_codec.specs.CallStates.{overlap_sending}
+use Rattle.call_states.specs.declared.condition.Condition.{Condition}
+use Rattle.call_states.specs.declared.condition.Condition.TheVariants.{Idle}
 use Rattle.call_states.specs.declared.leg.Leg.{Leg}
 use Rattle.call_states.specs.declared.pending.Pending.{Pending}
 use Rattle.circuit_model.specs.declared.channel.Slot.{Slot}
@@ -115,10 +117,10 @@ counts_by X shown os ps n o leg d note counted found is within same at counts =
 
 -- ---- a table, as contracts see it
 
-abbrev entry : List (Option Leg) → List (Option Pending) → List (Option (List ℕ)) → List Bool → List Bool → Option Leg → Option Pending → Option (List ℕ) → ℕ → Legs
-entry legs pending kept owed down o p k n = record { held = set legs n o; pending = set pending n p; kept = set kept n k; owed = owed; down = down }
+abbrev entry : List (Option Leg) → List (Option Pending) → List (Option (List ℕ)) → List Condition → List Bool → Option Leg → Option Pending → Option (List ℕ) → ℕ → Legs
+entry legs pending kept conditions down o p k n = record { held = set legs n o; pending = set pending n p; kept = set kept n k; conditions = conditions; down = down }
 
-module _ (legs : List (Option Leg)) (notes : List SlotData) (owed down : List Bool) (now : Legs) (view : legs_kept legs notes owed down ≡ now) (n : ℕ) (x : Slot) (at : n ≡ number_of x) where
+module _ (legs : List (Option Leg)) (notes : List SlotData) (conditions : List Condition) (down : List Bool) (now : Legs) (view : legs_kept legs notes conditions down ≡ now) (n : ℕ) (x : Slot) (at : n ≡ number_of x) where
   -- what the table shows there
   pub pending_shown : pending_at now x ≡ get_or (counting_all legs notes) n None
   pending_shown = sym (ap (λ (k : ℕ). get_or (counting_all legs notes) k None) at ∙ ap (λ (ls : Legs). pending_at ls x) view)
@@ -127,49 +129,49 @@ module _ (legs : List (Option Leg)) (notes : List SlotData) (owed down : List Bo
   kept_shown = sym (ap (λ (k : ℕ). get_or (keeping_all legs notes) k None) at ∙ ap (λ (ls : Legs). kept_at ls x) view)
 
   -- nothing counts there any more
-  legs_kept_dropped : (o : Option Leg) → ((note : SlotData) → counting o note ≡ None) → ((note : SlotData) → keeping o note ≡ None) → legs_kept (set legs n o) notes owed down ≡ entry now.held now.pending now.kept now.owed now.down o None None (number_of x)
+  legs_kept_dropped : (o : Option Leg) → ((note : SlotData) → counting o note ≡ None) → ((note : SlotData) → keeping o note ≡ None) → legs_kept (set legs n o) notes conditions down ≡ entry now.held now.pending now.kept now.conditions now.down o None None (number_of x)
   legs_kept_dropped o no_number no_message =
-      (λ i. record { held = set legs n o; pending = counts_quiet Pending counting legs notes n o no_number i; kept = counts_quiet (List ℕ) keeping legs notes n o no_message i; owed = owed; down = down })
-      ∙ ap (entry legs (counting_all legs notes) (keeping_all legs notes) owed down o None None) at
-      ∙ ap (λ (ls : Legs). entry ls.held ls.pending ls.kept ls.owed ls.down o None None (number_of x)) view
+      (λ i. record { held = set legs n o; pending = counts_quiet Pending counting legs notes n o no_number i; kept = counts_quiet (List ℕ) keeping legs notes n o no_message i; conditions = conditions; down = down })
+      ∙ ap (entry legs (counting_all legs notes) (keeping_all legs notes) conditions down o None None) at
+      ∙ ap (λ (ls : Legs). entry ls.held ls.pending ls.kept ls.conditions ls.down o None None (number_of x)) view
 
   -- something else is kept there
   legs_kept_noted : (leg : Leg) (note : SlotData) → length notes ≡ length legs
-      → legs_kept (set legs n (Some leg)) (set notes n note) owed down ≡ entry now.held now.pending now.kept now.owed now.down (Some leg) (counting (Some leg) note) (keeping (Some leg) note) (number_of x)
+      → legs_kept (set legs n (Some leg)) (set notes n note) conditions down ≡ entry now.held now.pending now.kept now.conditions now.down (Some leg) (counting (Some leg) note) (keeping (Some leg) note) (number_of x)
   legs_kept_noted leg note size =
-      (λ i. record { held = set legs n (Some leg); pending = counts_noted Pending counting legs notes n (Some leg) note size i; kept = counts_noted (List ℕ) keeping legs notes n (Some leg) note size i; owed = owed; down = down })
-      ∙ ap (entry legs (counting_all legs notes) (keeping_all legs notes) owed down (Some leg) (counting (Some leg) note) (keeping (Some leg) note)) at
-      ∙ ap (λ (ls : Legs). entry ls.held ls.pending ls.kept ls.owed ls.down (Some leg) (counting (Some leg) note) (keeping (Some leg) note) (number_of x)) view
+      (λ i. record { held = set legs n (Some leg); pending = counts_noted Pending counting legs notes n (Some leg) note size i; kept = counts_noted (List ℕ) keeping legs notes n (Some leg) note size i; conditions = conditions; down = down })
+      ∙ ap (entry legs (counting_all legs notes) (keeping_all legs notes) conditions down (Some leg) (counting (Some leg) note) (keeping (Some leg) note)) at
+      ∙ ap (λ (ls : Legs). entry ls.held ls.pending ls.kept ls.conditions ls.down (Some leg) (counting (Some leg) note) (keeping (Some leg) note) (number_of x)) view
 
-  pub kept_put : (leg : Leg) → leg.state ≢ overlap_sending → is_among awaiting_answer leg.state ≡ false → legs_kept (set legs n (Some leg)) notes owed down ≡ with_leg now x leg
+  pub kept_put : (leg : Leg) → leg.state ≢ overlap_sending → is_among awaiting_answer leg.state ≡ false → legs_kept (set legs n (Some leg)) notes conditions down ≡ with_leg now x leg
   kept_put leg apart unanswered = legs_kept_dropped (Some leg) (λ note. counting_quiet leg note apart) (λ note. keeping_unkept leg note unanswered)
 
-  pub kept_remove : (is : Bool) → legs_kept (set legs n None) notes (set owed n is) down ≡ without_leg now x is
+  pub kept_remove : (is : Condition) → legs_kept (set legs n None) notes (set conditions n is) down ≡ without_leg now x is
   kept_remove is =
-      (λ i. record (legs_kept_dropped None (λ note. refl) (λ note. refl) i) { owed = set owed (at i) is })
-      ∙ ap (λ (ls : Legs). record (entry now.held now.pending now.kept now.owed now.down None None None (number_of x)) { owed = set ls.owed (number_of x) is }) view
+      (λ i. record (legs_kept_dropped None (λ note. refl) (λ note. refl) i) { conditions = set conditions (at i) is })
+      ∙ ap (λ (ls : Legs). record (entry now.held now.pending now.kept now.conditions now.down None None None (number_of x)) { conditions = set ls.conditions (number_of x) is }) view
 
-  pub kept_wait : (leg : Leg) (p : Pending) → leg.state ≡ overlap_sending → length notes ≡ length legs → legs_kept (set legs n (Some leg)) (set notes n (Number p)) owed down ≡ with_waiting now x leg p
+  pub kept_wait : (leg : Leg) (p : Pending) → leg.state ≡ overlap_sending → length notes ≡ length legs → legs_kept (set legs n (Some leg)) (set notes n (Number p)) conditions down ≡ with_waiting now x leg p
   kept_wait leg p is size =
       legs_kept_noted leg (Number p) size
-      ∙ (λ i. entry now.held now.pending now.kept now.owed now.down (Some leg) (counting_waiting leg (Number p) is i) (keeping_unkept leg (Number p) (digits_keep_none leg.state is) i) (number_of x))
+      ∙ (λ i. entry now.held now.pending now.kept now.conditions now.down (Some leg) (counting_waiting leg (Number p) is i) (keeping_unkept leg (Number p) (digits_keep_none leg.state is) i) (number_of x))
 
-  pub kept_expect : (leg : Leg) (octets : List ℕ) → is_among awaiting_answer leg.state ≡ true → length notes ≡ length legs → legs_kept (set legs n (Some leg)) (set notes n (Message octets)) owed down ≡ with_kept now x leg octets
+  pub kept_expect : (leg : Leg) (octets : List ℕ) → is_among awaiting_answer leg.state ≡ true → length notes ≡ length legs → legs_kept (set legs n (Some leg)) (set notes n (Message octets)) conditions down ≡ with_kept now x leg octets
   kept_expect leg octets is size =
       legs_kept_noted leg (Message octets) size
-      ∙ (λ i. entry now.held now.pending now.kept now.owed now.down (Some leg) (counting_quiet leg (Message octets) (answer_no_digits leg.state is) i) (keeping_message leg (Message octets) is i) (number_of x))
+      ∙ (λ i. entry now.held now.pending now.kept now.conditions now.down (Some leg) (counting_quiet leg (Message octets) (answer_no_digits leg.state is) i) (keeping_message leg (Message octets) is i) (number_of x))
 
   -- the message that was kept there is kept on
-  pub kept_still : (leg : Leg) (octets : List ℕ) → is_among awaiting_answer leg.state ≡ true → length notes ≡ length legs → kept_at now x ≡ Some octets → legs_kept (set legs n (Some leg)) notes owed down ≡ with_kept now x leg octets
+  pub kept_still : (leg : Leg) (octets : List ℕ) → is_among awaiting_answer leg.state ≡ true → length notes ≡ length legs → kept_at now x ≡ Some octets → legs_kept (set legs n (Some leg)) notes conditions down ≡ with_kept now x leg octets
   kept_still leg octets is size keeps =
-      ap (λ (rs : List SlotData). legs_kept (set legs n (Some leg)) rs owed down) (sym (note_stays legs notes n octets (sym kept_shown ∙ keeps)))
+      ap (λ (rs : List SlotData). legs_kept (set legs n (Some leg)) rs conditions down) (sym (note_stays legs notes n octets (sym kept_shown ∙ keeps)))
       ∙ kept_expect leg octets is size
 
-pub kept_none : (legs : List (Option Leg)) (notes : List SlotData) (owed down : List Bool) (n external : ℕ) → legs ≡ replicate n None → n ≡ 30 * external → owed ≡ replicate n false → down ≡ replicate external false → legs_kept legs notes owed down ≡ no_legs external
-kept_none legs notes owed down n external is size nothing up =
+pub kept_none : (legs : List (Option Leg)) (notes : List SlotData) (conditions : List Condition) (down : List Bool) (n external : ℕ) → legs ≡ replicate n None → n ≡ 30 * external → conditions ≡ replicate n Idle → down ≡ replicate external false → legs_kept legs notes conditions down ≡ no_legs external
+kept_none legs notes conditions down n external is size nothing up =
     (λ i. legs_kept (is i) notes (nothing i) (up i))
-    ∙ (λ i. record { held = replicate n None; pending = counts_none Pending counting (λ note. refl) n notes i; kept = counts_none (List ℕ) keeping (λ note. refl) n notes i; owed = replicate n false; down = replicate external false })
-    ∙ ap (λ k. let bare : Legs = record { held = replicate k None; pending = replicate k None; kept = replicate k None; owed = replicate k false; down = replicate external false } in bare) size
+    ∙ (λ i. record { held = replicate n None; pending = counts_none Pending counting (λ note. refl) n notes i; kept = counts_none (List ℕ) keeping (λ note. refl) n notes i; conditions = replicate n Idle; down = replicate external false })
+    ∙ ap (λ k. let bare : Legs = record { held = replicate k None; pending = replicate k None; kept = replicate k None; conditions = replicate k Idle; down = replicate external false } in bare) size
 
 -- ---- a table without legs
 

@@ -2,4 +2,4 @@ pub mod LegKeyLemmas
 pub mod KeptNumberLemmas
 pub mod LegWordLemmas
 pub mod DueBoundLemmas
-pub mod OwedLemmas
+pub mod LineScanLemmas

@@ -5,5 +5,5 @@ use Rattle.leg_table.proofs.table.LegTable.put_pending.Goals as goal
 
 pub returns : goal.returns
 returns c =
-    (λ i. legs_kept (c.put.ensures i) (c.keep.ensures.items i) c.self.inside.owed.items c.self.inside.down.items)
-    ∙ kept_wait c.self.inside.legs c.self.inside.notes.items c.self.inside.owed.items c.self.inside.down.items c.args.self.now c.self.view_is _ c.args.x refl c.args.leg c.args.pending c.requires.state c.self.invariant.0
+    (λ i. legs_kept (c.put.ensures i) (c.keep.ensures.items i) c.self.inside.conditions.items c.self.inside.down.items)
+    ∙ kept_wait c.self.inside.legs c.self.inside.notes.items c.self.inside.conditions.items c.self.inside.down.items c.args.self.now c.self.view_is _ c.args.x refl c.args.leg c.args.pending c.requires.state c.self.invariant.0

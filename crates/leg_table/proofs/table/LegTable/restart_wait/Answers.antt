@@ -5,5 +5,5 @@ use Rattle.leg_table.proofs.table.LegTable.restart_wait.Goals as goal
 
 pub returns : goal.returns
 returns c octets keeps =
-    ap (λ held. legs_kept held c.self.inside.notes.items c.self.inside.owed.items c.self.inside.down.items) c.put.ensures
-    ∙ kept_still c.self.inside.legs c.self.inside.notes.items c.self.inside.owed.items c.self.inside.down.items c.args.self.now c.self.view_is _ c.args.x refl c.args.leg octets c.requires.state c.self.invariant.0 keeps
+    ap (λ held. legs_kept held c.self.inside.notes.items c.self.inside.conditions.items c.self.inside.down.items) c.put.ensures
+    ∙ kept_still c.self.inside.legs c.self.inside.notes.items c.self.inside.conditions.items c.self.inside.down.items c.args.self.now c.self.view_is _ c.args.x refl c.args.leg octets c.requires.state c.self.invariant.0 keeps

@@ -1,4 +1,4 @@
--- Whether a slot of a line is owed or held, place by place.
+-- Whether a slot of a line awaits RESTART or is held, place by place.
 use Rattle.std.proofs.Common.{◌≡◌, ℕ, ◌+◌, ◌<◌, Bool, true, false, refl, sym, ap, ◌∙◌}
 use Rattle.std.specs.Prelude.{◌||◌}
 use Rattle.std.specs.List.{list_any}
