@@ -16,6 +16,7 @@ pub mod DroppedLineLemmas
 pub mod ResumedLineLemmas
 pub mod LinkStateLemmas
 mod RemovedSlotLemmas
+mod ChannelConditionLemmas
 mod OwedStillLemmas
 mod OwedEventLemmas
 mod OwedSlotLemmas

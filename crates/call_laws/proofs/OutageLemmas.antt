@@ -1,6 +1,6 @@
 -- T309 of a leg in active runs if and only if the data link of its line is down.
 use Rattle.std.proofs.Common.{◌≡◌, ◌≢◌, ℕ, zero, suc, ◌*◌, ◌<◌, inl, inr, Bool, true, false, ◌&&◌, List, [], ◌∷◌, length, Option, Some, None, refl, sym, ◌∙◌, ap, subst, arith, eqb-true, set, get_or, get_or-set_same, get_or-set_other, if◌then◌else◌}
-use Rattle.std.specs.Prelude.{◌==◌, not, All, slice_index_or, option_map}
+use Rattle.std.specs.Prelude.{◌==◌, not, All, slice_index_or, option_map, replicate}
 use Rattle.std.proofs.lemmas.Grind.{common_steps}
 use Rattle.std.proofs.lemmas.List.{length-replicate}
 use Rattle.circuit_model.specs.declared.channel.Slot.{Slot}
@@ -15,6 +15,9 @@ use Rattle.q931_codec.specs.Contents.{call_state_in}
 use Rattle.call_timers.specs.declared.expiry.Expiry.TheVariants as expiry
 use Rattle.call_states.proofs.Causes.{cause_fits}
 use Rattle.call_states.specs.Acts.{act_on, clearing_cause, is_among}
+use Rattle.call_states.specs.Conditions.{is_owing, unanswered}
+use Rattle.call_states.specs.declared.condition.Condition.{Condition}
+use Rattle.call_states.specs.declared.condition.Condition.TheVariants.{Idle}
 use Rattle.call_states.specs.declared.leg.Leg.{Leg}
 use Rattle.call_states.specs.declared.leg.Peer.{Peer}
 use Rattle.call_states.specs.declared.leg.Peer.TheVariants as peer
@@ -25,25 +28,26 @@ use Rattle.exchange_events.specs.Sizes.{Setting, Dimensions}
 use Rattle.exchange_events.specs.Sound.{Fits, IsPlanned}
 use Rattle.call_profile.specs.ActCourse.{course_of}
 use Rattle.call_profile.specs.Acts.{in_disconnect_indication, with_enquiry}
-use Rattle.call_profile.specs.Calls.{Request, For_leg, New_call, On_no_call, Restarts, Unanswered, request_of, answer_back, outcome_for}
+use Rattle.call_profile.specs.Calls.{Request, For_leg, New_call, On_no_call, Restarts, Confirms, Unanswered, request_of, answer_back, outcome_for}
 use Rattle.call_laws.specs.Dropped.{HasLine, left_by_failure, waiting_for_link}
 use Rattle.call_profile.specs.Expiring.{due_of, expire_slot, slot_looked_at}
 use Rattle.call_laws.specs.ExpiryBounds.{NoneIsLost}
 use Rattle.call_profile.specs.IdleSlots.{is_nailed, lowest_called, lowest_idle_beside}
-use Rattle.call_profile.specs.Legs.{Legs, is_down, retransmitted_from, leg_at, no_legs, is_owed}
+use Rattle.call_profile.specs.Legs.{Legs, condition_at, is_down, retransmitted_from, leg_at, no_legs, is_owed}
 use Rattle.call_profile.specs.LegStanding.{CallsStand}
 use Rattle.call_profile.specs.LinkChanges.{being_cleared, give_up_rule, give_up_slot}
 use Rattle.call_profile.specs.Operations.{begun, making_at}
 use Rattle.call_laws.specs.Outages.{OutagesStand, NoLinkIsDown, HasNoFailure, IsOnLineUp, enquired_in}
-use Rattle.call_profile.specs.Restarts.{restart_slot, restart_rule}
+use Rattle.call_profile.specs.Restarts.{confirm_rule, confirm_slot, restart_slot, restart_rule}
 use Rattle.call_laws.specs.Resumed.{resumed, resumed_on}
 use Rattle.call_profile.specs.Setup.{refusal, course_of_setup, called_slot}
 use Rattle.call_profile.specs.Step.{next, may_nail, may_seat, world_after_all}
 use Rattle.call_profile.specs.World.{World, start, obey, pass}
+use Rattle.call_profile.proofs.ConfirmedSlotLemmas.{at_confirmed}
 use Rattle.call_laws.proofs.DroppedLineLemmas.{others_are_gone, cleared_stay, none_stay, active_wait, other_lines_are_left}
 use Rattle.call_profile.proofs.EntryLemmas.{get_or-bare}
 use Rattle.call_profile.proofs.ExpiringLemmas.{each_line, place_within}
-use Rattle.call_laws.proofs.LinkedLegLemmas.{Follows, follows_always, Wait, performed_all, restart_may, give_up_starts, expire_may, back_may, course_may, setup_may, due_awaits}
+use Rattle.call_laws.proofs.LinkedLegLemmas.{Follows, follows_always, MayAll, Wait, performed_all, restart_may, give_up_starts, expire_may, back_may, course_may, setup_may, due_awaits}
 use Rattle.call_laws.proofs.LinkStateLemmas.{next_links, links_after, length-next_links, none_fails, all_up}
 use Rattle.call_profile.proofs.MessageToLegLemmas.{Asked-act_of}
 use Rattle.call_profile.proofs.NamedLegLemmas.{received_stands}
@@ -80,7 +84,7 @@ module _ (external : ℕ) (legs : Legs) where
   abbrev OnlyDown : Type 0
   OnlyDown = (z : Slot) → IsExternal external z → is_owed legs z ≡ true → is_down legs z.line ≡ true
 
-  pub outages_by : length legs.down ≡ external → length legs.owed ≡ 30 * external → FollowAll → OnlyDown → OutagesStand external legs
+  pub outages_by : length legs.down ≡ external → length legs.conditions ≡ 30 * external → FollowAll → OnlyDown → OutagesStand external legs
   outages_by links flags all owed = record {
     links = links;
     flags = flags;
@@ -111,6 +115,10 @@ module _ (s : Setting) (w : World) (stands : CallsStand s w) (wait : Wait s.dime
       each_below d (restart_rule s.tones r) line w (λ a. Wait d w.legs.down a.making.world.legs) wait (λ a place small so_far.
       let x : Slot = record { line = line; place = place } in
       performed_all d w.legs.down a.making (restart_slot s.tones r a.making.world.legs x) (restart_may d w.legs.down s.tones r a.making.world.legs x) so_far) 30 (omega arith)
+  received line octets below (Confirms r) is =
+      each_below d (confirm_rule r) line w (λ a. Wait d w.legs.down a.making.world.legs) wait (λ a place small so_far.
+      let x : Slot = record { line = line; place = place } in
+      performed_all d w.legs.down a.making (confirm_slot r a.making.world.legs x) (at_confirmed r a.making.world.legs x (MayAll d w.legs.down) tt (λ none. (tt, tt))) so_far) 30 (omega arith)
   received line octets below Unanswered is = wait
 
   turned : (input : Input) → Now w.legs.down (next s w (Frame input))
@@ -232,11 +240,11 @@ module _ (s : Setting) (w : World) (stands : CallsStand s w) (wait : Wait s.dime
 
   line_restarted : (line : ℕ) → Now w.legs.down (next s w (RestartLine line))
   line_restarted line =
-      let owed : Bool = is_down w.legs line in
+      let condition : Condition = unanswered (is_down w.legs line) in
       line_restarted_by d s.tones line w (Now w.legs.down)
-      (each_below d (give_up_rule s.tones owed) line w (λ a. Wait d w.legs.down a.making.world.legs) wait (λ a place small so_far.
+      (each_below d (give_up_rule s.tones condition) line w (λ a. Wait d w.legs.down a.making.world.legs) wait (λ a place small so_far.
       let x : Slot = record { line = line; place = place } in
-      performed_all d w.legs.down a.making (give_up_slot s.tones owed a.making.world.legs x) (give_up_starts d w.legs.down s.tones owed a.making.world.legs x) so_far) 30 (omega arith))
+      performed_all d w.legs.down a.making (give_up_slot s.tones condition a.making.world.legs x) (give_up_starts d w.legs.down s.tones condition a.making.world.legs x) so_far) 30 (omega arith))
 
   -- ---- every event
 
@@ -269,16 +277,21 @@ outages_kept s w e fits stands outages =
 none_at : (external : ℕ) (x : Slot) (leg : Leg) → leg_at (no_legs external) x ≡ Some leg → ⊥
 none_at external x leg at = let e : None ≡ Some leg = sym (get_or-bare Leg (30 * external) (number_of x)) ∙ at in cc
 
+all_idle : (size n : ℕ) → slice_index_or (replicate size Idle) n Idle ≡ Idle
+all_idle zero n = refl
+all_idle (suc size) zero = refl
+all_idle (suc size) (suc n) = all_idle size n
+
 pub start_outages : (s : Setting) → OutagesStand s.dimensions.external (start s.dimensions).legs
 start_outages s = record {
   links = length-replicate s.dimensions.external false;
-  flags = length-replicate (30 * s.dimensions.external) false;
+  flags = length-replicate (30 * s.dimensions.external) Idle;
   waits = λ x leg in_x at awaits. absurd (none_at s.dimensions.external x leg at);
   runs = λ x leg in_x at is down. absurd (none_at s.dimensions.external x leg at);
   enquiries = λ x leg in_x at asked. absurd (none_at s.dimensions.external x leg at);
   owed = λ x in_x owed.
-      let flag = (both_true (slice_index_or (no_legs s.dimensions.external).owed (number_of x) false) _ owed).0 in
-      let wrong : false ≡ true = sym (all_up (30 * s.dimensions.external) (number_of x)) ∙ flag in
+      let owing = (both_true (is_owing (condition_at (no_legs s.dimensions.external) x)) _ owed).0 in
+      let wrong : false ≡ true = sym (ap is_owing (all_idle (30 * s.dimensions.external) (number_of x))) ∙ owing in
       absurd cc;
 }
 

@@ -1,5 +1,5 @@
 -- A RESTART is owed only on a line whose data link is down: every event.
-use Rattle.std.proofs.Common.{◌≡◌, ℕ, zero, suc, ◌<◌, ◌≤◌, ◌⊎◌, inl, inr, Bool, true, false, List, [], length, Option, None, Some, refl, sym, ◌∙◌, ap, subst, arith, eqb-true, set, get_or-set_same, get_or-set_other, if◌then◌else◌}
+use Rattle.std.proofs.Common.{◌≡◌, ℕ, zero, suc, ◌<◌, ◌≤◌, ◌⊎◌, inl, inr, ◌||◌, Bool, true, false, List, [], length, Option, None, Some, refl, sym, ◌∙◌, ap, subst, arith, eqb-true, set, get_or-set_same, get_or-set_other, if◌then◌else◌}
 use Rattle.std.specs.Prelude.{◌==◌, is_none, slice_index_or}
 use Rattle.std.proofs.lemmas.Grind.{common_steps}
 use Rattle.circuit_model.specs.declared.channel.Slot.{Slot}
@@ -10,6 +10,9 @@ use Rattle.circuit_model.proofs.Slots.{true_or_false}
 use Rattle.control_memory.specs.Layout.{number_of}
 use Rattle.q931_codec.specs.Causes.{temporary_failure}
 use Rattle.call_states.specs.Acts.{act_on}
+use Rattle.call_states.specs.Conditions.{is_owing, unanswered}
+use Rattle.call_states.specs.declared.condition.Condition.{Condition}
+use Rattle.call_states.specs.declared.condition.Condition.TheVariants.{Unconfirmed}
 use Rattle.call_states.specs.declared.leg.HeldLeg.{HeldLeg}
 use Rattle.call_states.specs.declared.leg.Leg.{Leg}
 use Rattle.clearing_rules.specs.UnknownReference.{answer_without_call}
@@ -20,15 +23,15 @@ use Rattle.exchange_events.specs.Sound.{Fits}
 use Rattle.tone_rules.specs.declared.tones.Tones.{Tones}
 use Rattle.call_profile.specs.ActCourse.{course_of}
 use Rattle.call_profile.specs.Acts.{in_disconnect_indication, peer_of, with_enquiry}
-use Rattle.call_profile.specs.Calls.{Request, For_leg, New_call, On_no_call, Restarts, Unanswered, answer_back, outcome_for, request_of}
+use Rattle.call_profile.specs.Calls.{Request, For_leg, New_call, On_no_call, Restarts, Confirms, Unanswered, answer_back, outcome_for, request_of}
 use Rattle.call_profile.specs.Expiring.{expire_slot, send_again, slot_looked_at}
 use Rattle.call_profile.specs.IdleSlots.{is_nailed}
-use Rattle.call_profile.specs.Legs.{Legs, is_down, is_owed, kept_at, leg_at, retransmitted_from, with_entry, with_kept}
+use Rattle.call_profile.specs.Legs.{Legs, awaits_restart, condition_at, is_down, is_owed, is_unconfirmed, kept_at, leg_at, retransmitted_from, with_entry, with_kept, without_leg}
 use Rattle.call_profile.specs.LegStanding.{CallsStand}
 use Rattle.call_profile.specs.LinkChanges.{drop_slot, give_up_leg, give_up_rule, give_up_slot, restart_channel, whole_line, resume_held, resume_slot, rule_of, with_line}
 use Rattle.call_profile.specs.Operations.{Operation, Making, begun, making_at, making_after_all}
 use Rattle.call_profile.specs.Peers.{PeerIsThere}
-use Rattle.call_profile.specs.Restarts.{MessageOutcome, outcome_below, restart_slot, restart_rule, restarts_slot}
+use Rattle.call_profile.specs.Restarts.{MessageOutcome, confirm_rule, confirm_slot, outcome_below, restart_slot, restart_rule, restarts_slot}
 use Rattle.call_profile.specs.Setup.{refusal, course_of_setup}
 use Rattle.call_profile.specs.Step.{next, may_nail, may_seat}
 use Rattle.call_profile.specs.World.{World, obey, pass}
@@ -40,7 +43,7 @@ use Rattle.call_profile.proofs.GivenUpSlotLemmas.{give_up_kept}
 use Rattle.call_profile.proofs.LinkLemmas.{at_held, by_resume, linked_kept, rule_kept}
 use Rattle.call_laws.proofs.LinkedLegLemmas.{Wait, due_awaits, expire_may, performed_all}
 use Rattle.call_laws.proofs.LinkStateLemmas.{links_after, performed_all_down}
-use Rattle.call_laws.proofs.OwedSlotLemmas.{OweAll, Owes, set_flag, owed_all, restart_owes, expire_owes, back_owes, course_owes, setup_owes, drop_owes, other_owes, resume_owes}
+use Rattle.call_laws.proofs.OwedSlotLemmas.{Due, OweAll, Owes, set_owing, owing_unanswered, owed_all, restart_owes, confirm_owes, expire_owes, back_owes, course_owes, setup_owes, drop_owes, other_owes, resume_owes}
 use Rattle.call_profile.proofs.PermittedActLemmas.{peer_there_too}
 use Rattle.call_profile.proofs.RestartedSlotLemmas.{below_none, below_more, each_below, line_restarted_by, linked_by}
 use Rattle.call_profile.proofs.VacantSlotLemmas.{same_parts}
@@ -53,20 +56,22 @@ module _ (d : Dimensions) (tones : Tones) (m : Making) (x : Slot) (kept : Kept d
 
   held_paid : (legs : Legs) (leg : Leg) → leg_at legs x ≡ Some leg → is_owed legs x ≡ true → ⊥
   held_paid legs leg at owed =
-      let none = (both_true (slice_index_or legs.owed (number_of x) false) (is_none (leg_at legs x)) owed).1 in
+      let none = (both_true (is_owing (condition_at legs x)) (is_none (leg_at legs x)) owed).1 in
       let wrong : false ≡ true = sym (ap is_none at) ∙ none in
       cc
 
-  channel_paid : (owed whole : Bool) → is_owed m.world.legs x ≡ owed → Paid (if owed then restart_channel whole x else [])
-  channel_paid true true is after =
-      let flag = (both_true (slice_index_or (set m.world.legs.owed (number_of x) false) (number_of x) false) _ after).0 in
-      let wrong = set_flag m.world.legs.owed (number_of x) false flag in
+  sent_paid : is_owed (without_leg m.world.legs x Unconfirmed) x ≡ true → ⊥
+  sent_paid after =
+      let owing = (both_true (is_owing (condition_at (without_leg m.world.legs x Unconfirmed) x)) _ after).0 in
+      let wrong = set_owing m.world.legs.conditions (number_of x) Unconfirmed owing in
       cc
-  channel_paid true false is after =
-      let flag = (both_true (slice_index_or (set m.world.legs.owed (number_of x) false) (number_of x) false) _ after).0 in
-      let wrong = set_flag m.world.legs.owed (number_of x) false flag in
+
+  channel_paid : (awaits whole : Bool) → awaits_restart m.world.legs x ≡ awaits → Paid (if awaits then restart_channel whole x else [])
+  channel_paid true true is after = sent_paid after
+  channel_paid true false is after = sent_paid after
+  channel_paid false whole is after =
+      let wrong : false ≡ true = sym is ∙ ap (λ (b : Bool). b || is_unconfirmed m.world.legs x) after in
       cc
-  channel_paid false whole is after = let wrong : false ≡ true = sym is ∙ after in cc
 
   again_paid : (leg : Leg) → leg_at m.world.legs x ≡ Some leg → (o : Option (List ℕ)) → Paid (send_again (record { slot = x; leg = leg }) o)
   again_paid leg at None = held_paid m.world.legs leg at
@@ -75,7 +80,7 @@ module _ (d : Dimensions) (tones : Tones) (m : Making) (x : Slot) (kept : Kept d
       held_paid (with_kept m.world.legs x anew octets) anew (leg_at-with_entry_here d.external m.world.legs x (Some anew) kept.1.count within)
 
   pub slot_paid : (whole : Bool) → Paid (resume_slot tones whole m.world.legs x)
-  slot_paid whole = at_held m.world.legs x (resume_held tones whole m.world.legs x) Paid (λ none. channel_paid (is_owed m.world.legs x) whole refl) (λ leg at.
+  slot_paid whole = at_held m.world.legs x (resume_held tones whole m.world.legs x) Paid (λ none. channel_paid (awaits_restart m.world.legs x) whole refl) (λ leg at.
       by_resume d tones m x leg kept within at Paid
       (λ talks. held_paid (with_entry m.world.legs x (Some (begun m.world (with_enquiry true leg)))) (begun m.world (with_enquiry true leg))
       (leg_at-with_entry_here d.external m.world.legs x (Some (begun m.world (with_enquiry true leg))) kept.1.count within))
@@ -85,23 +90,23 @@ module _ (d : Dimensions) (tones : Tones) (m : Making) (x : Slot) (kept : Kept d
 
 -- ---- a slot of a line that the exchange restarts: while the link is down, each slot of the line may be owed
 
-module _ (d : Dimensions) (May : Slot → Type 0) (tones : Tones) (owed : Bool) (m : Making) (x : Slot) (kept : Kept d tones m.world) (within : IsExternal d.external x)
-    (all : owed ≡ true → (z : Slot) → IsExternal d.external z → z.line ≡ x.line → May z) where
+module _ (d : Dimensions) (May : Slot → Type 0) (tones : Tones) (condition : Condition) (m : Making) (x : Slot) (kept : Kept d tones m.world) (within : IsExternal d.external x)
+    (all : is_owing condition ≡ true → (z : Slot) → IsExternal d.external z → z.line ≡ x.line → May z) where
   peer_may : (leg : Leg) (o : Option HeldLeg) → PeerIsThere d.external (record { slot = x; leg = leg }) o
-      → (k : HeldLeg) → o ≡ Some k → restarts_slot whole_line x.line k.slot ≡ true → owed ≡ true → (k.slot.place < 30) × May k.slot
+      → (k : HeldLeg) → o ≡ Some k → restarts_slot whole_line x.line k.slot ≡ true → Due d May k.slot condition
   peer_may leg None there k is on due = absurd cc
   peer_may leg (Some j) there k is on due =
       let same : j ≡ k = cc in
       let in_k : IsExternal d.external k.slot = subst (λ (h : HeldLeg). IsExternal d.external h.slot) same there.0.within in
       (in_k.1, all due k.slot in_k (eqb-true k.slot.line x.line (both_true (k.slot.line == x.line) true on).0))
 
-  pub give_up_owes : OweAll d May (give_up_slot tones owed m.world.legs x)
-  give_up_owes = at_held m.world.legs x (give_up_leg tones owed m.world.legs x) (OweAll d May) (λ none. ((λ due. (within.1, all due x within refl)), tt)) (λ leg at.
+  pub give_up_owes : OweAll d May (give_up_slot tones condition m.world.legs x)
+  give_up_owes = at_held m.world.legs x (give_up_leg tones condition m.world.legs x) (OweAll d May) (λ none. ((λ due. (within.1, all due x within refl)), tt)) (λ leg at.
       let h : HeldLeg = record { slot = x; leg = leg } in (
         tt,
         (
           (λ due. (within.1, all due x within refl)),
-          other_owes d May tones temporary_failure owed whole_line x.line (peer_of m.world.legs leg.peer)
+          other_owes d May tones temporary_failure condition whole_line x.line (peer_of m.world.legs leg.peer)
               (peer_may leg (peer_of m.world.legs leg.peer) (peer_there_too d.external tones m.world h kept.1 within at)),
         ),
       ))
@@ -128,6 +133,10 @@ module _ (s : Setting) (w : World) (stands : CallsStand s w) where
         each_below d (restart_rule s.tones r) line w (λ a. OnlyDown w.legs.down a.making.world) before (λ a place small so_far.
         let x : Slot = record { line = line; place = place } in
         owed_all d (Down w.legs.down) a.making (restart_slot s.tones r a.making.world.legs x) (restart_owes d (Down w.legs.down) s.tones r a.making.world.legs x) so_far) 30 (omega arith)
+    received line (Confirms r) =
+        each_below d (confirm_rule r) line w (λ a. OnlyDown w.legs.down a.making.world) before (λ a place small so_far.
+        let x : Slot = record { line = line; place = place } in
+        owed_all d (Down w.legs.down) a.making (confirm_slot r a.making.world.legs x) (confirm_owes d (Down w.legs.down) r a.making.world.legs x) so_far) 30 (omega arith)
     received line Unanswered = before
 
     -- T309 expires only on a line whose link is down
@@ -224,12 +233,12 @@ module _ (s : Setting) (w : World) (stands : CallsStand s w) where
     line_restarted : (line : ℕ) → line < d.external → OnlyDown w.legs.down (next s w (RestartLine line))
     line_restarted line below =
         let links : List Bool = w.legs.down in
-        let due : Bool = is_down w.legs line in
+        let due : Condition = unanswered (is_down w.legs line) in
         line_restarted_by d s.tones line w (OnlyDown links)
         (each_below d (give_up_rule s.tones due) line w (λ a. OnlyDown links a.making.world × Kept d s.tones a.making.world) (before, (stands.circuits, stands.legs)) (λ a place small k.
         let x : Slot = record { line = line; place = place } in (
           owed_all d (Down links) a.making (give_up_slot s.tones due a.making.world.legs x) (give_up_owes d (Down links) s.tones due a.making x k.1 (below, small)
-              (λ is z in_z on. ap (λ (n : ℕ). slice_index_or links n false) on ∙ is)) k.0,
+              (λ is z in_z on. ap (λ (n : ℕ). slice_index_or links n false) on ∙ (sym (owing_unanswered (is_down w.legs line)) ∙ is))) k.0,
           give_up_kept d s.tones due a.making x k.1 (below, small),
         )) 30 (omega arith)).0
 

@@ -1,10 +1,14 @@
 -- For which channels exactly a RESTART is owed after a failure of a data link, after a frame, and after any other event.
 use Rattle.std.proofs.Common.{◌≡◌, ℕ, ◌<◌, inl, inr, Bool, true, false, ◌&&◌, ◌||◌, List, Option, Some, None, refl, sym, ◌∙◌, ap, arith, if◌then◌else◌}
-use Rattle.std.specs.Prelude.{is_none, is_some, slice_index_or}
+use Rattle.std.specs.Prelude.{◌==◌, is_none, is_some, slice_index_or}
 use Rattle.circuit_model.specs.declared.channel.Slot.{Slot}
 use Rattle.circuit_model.specs.Extent.{IsExternal}
 use Rattle.circuit_model.specs.FrameInput.{Input}
+use Rattle.q931_codec.specs.CallStates.{active, release_request}
 use Rattle.call_states.specs.Acts.{act_on}
+use Rattle.call_states.specs.Conditions.{is_owing, unanswered}
+use Rattle.call_states.specs.declared.condition.Condition.{Condition}
+use Rattle.call_states.specs.declared.condition.Condition.TheVariants.{Idle, Owed}
 use Rattle.call_states.specs.declared.leg.Leg.{Leg}
 use Rattle.call_timers.specs.declared.expiry.Expiry.{Expiry}
 use Rattle.clearing_rules.specs.UnknownReference.{answer_without_call}
@@ -13,17 +17,17 @@ use Rattle.exchange_events.specs.declared.trace.Event.TheVariants.{Nail, Seat, F
 use Rattle.exchange_events.specs.Sizes.{Setting, Dimensions}
 use Rattle.exchange_events.specs.Sound.{Fits}
 use Rattle.call_profile.specs.ActCourse.{course_of}
-use Rattle.call_profile.specs.Calls.{Request, For_leg, New_call, On_no_call, Restarts, Unanswered, answer_back, outcome_for, request_of}
+use Rattle.call_profile.specs.Calls.{Request, For_leg, New_call, On_no_call, Restarts, Confirms, Unanswered, answer_back, outcome_for, request_of}
 use Rattle.call_laws.specs.Dropped.{HasLine}
 use Rattle.call_profile.specs.Expiring.{due_of, expire_slot, slot_looked_at}
 use Rattle.call_profile.specs.IdleSlots.{is_nailed}
-use Rattle.call_profile.specs.Legs.{is_owed, leg_at}
+use Rattle.call_profile.specs.Legs.{is_down, is_owed, leg_at}
 use Rattle.call_profile.specs.LegStanding.{CallsStand}
 use Rattle.call_profile.specs.LinkChanges.{drop_leg, drop_slot, resume_slot, rule_of, with_line}
 use Rattle.call_profile.specs.Operations.{Operation, Making, making_at}
 use Rattle.call_laws.specs.Outages.{OutagesStand}
 use Rattle.call_laws.specs.OwedRestarts.{OwesNoMore, is_removed, is_untold}
-use Rattle.call_profile.specs.Restarts.{restart_slot, restart_rule}
+use Rattle.call_profile.specs.Restarts.{confirm_rule, confirm_slot, restart_slot, restart_rule}
 use Rattle.call_profile.specs.Setup.{course_of_setup, refusal}
 use Rattle.call_profile.specs.Step.{next, may_nail, may_seat}
 use Rattle.call_profile.specs.World.{World, obey, pass}
@@ -35,8 +39,8 @@ use Rattle.call_laws.proofs.ExpiryChangeLemmas.{due_since}
 use Rattle.call_profile.proofs.ExpiryStateLemmas.{due_state}
 use Rattle.call_profile.proofs.LinkLemmas.{at_held, linked_kept, rule_kept}
 use Rattle.call_laws.proofs.LinkStateLemmas.{performed_all_down}
-use Rattle.call_laws.proofs.OwedSlotLemmas.{Owes, owed_all, restart_owes, back_owes, course_owes, setup_owes, resume_owes}
-use Rattle.call_laws.proofs.OwedTrackLemmas.{Tracks, TrackAll, drop_leg_tracks, expiry_tracks, owed_exactly, owes, tracked_all}
+use Rattle.call_laws.proofs.OwedSlotLemmas.{Owes, owed_all, restart_owes, confirm_owes, back_owes, course_owes, setup_owes, resume_owes}
+use Rattle.call_laws.proofs.OwedTrackLemmas.{Tracks, TrackAll, drop_leg_tracks, expiry_tracks, given, read_exactly, tracked_all}
 use Rattle.call_profile.proofs.RestartedSlotLemmas.{each_below, linked_by}
 
 -- ---- a failure of a data link
@@ -45,8 +49,9 @@ module _ (s : Setting) (w : World) (line : ℕ) (can : HasLine s w line) (outage
   abbrev d : Dimensions
   d = s.dimensions
 
-  abbrev always : Slot → Leg → Bool
-  always z l = true
+  -- the user of each removed leg is owed a RESTART
+  abbrev always : Slot → Leg → Condition
+  always z l = Owed
 
   abbrev failed : World
   failed = next s w (LinkDown line)
@@ -73,13 +78,15 @@ module _ (s : Setting) (w : World) (line : ℕ) (can : HasLine s w line) (outage
         rule_kept d s.tones a.making x k.1 (can.line_exists, small) false true,
       )) 30 (omega arith)).0
 
-  removed_owes : (z : Slot) (o p : Option Leg) → ((is_some o && is_none p) && owes d w always z o) ≡ (is_some o && is_none p)
+  removed_owes : (z : Slot) (o p : Option Leg) → ((is_some o && is_none p) && given d w always is_owing z o) ≡ (is_some o && is_none p)
   removed_owes z None p = refl
   removed_owes z (Some l) None = refl
   removed_owes z (Some l) (Some k) = refl
 
   pub owed_by_failure : (x : Slot) → IsExternal d.external x → is_owed failed.legs x ≡ (is_owed w.legs x || is_removed w failed x)
-  owed_by_failure x in_x = owed_exactly d w always failed tracked x in_x ∙ ap (λ (b : Bool). is_owed w.legs x || b) (removed_owes x (leg_at w.legs x) (leg_at failed.legs x))
+  owed_by_failure x in_x =
+      read_exactly d w always is_owing failed tracked x in_x
+      ∙ ap (λ (b : Bool). is_owed w.legs x || b) (removed_owes x (leg_at w.legs x) (leg_at failed.legs x))
 
 -- ---- a frame
 
@@ -93,8 +100,9 @@ module _ (s : Setting) (w : World) (input : Input) (stands : CallsStand s w) (ou
   abbrev after_frame : World
   after_frame = next s w (Frame input)
 
-  abbrev untold : Slot → Leg → Bool
-  untold z l = is_untold w.legs z (Some l)
+  -- the condition of the channel of a leg in this state, if a timer removes it
+  abbrev untold : Slot → Leg → Condition
+  untold z l = if l.state == active then Owed else if l.state == release_request then unanswered (is_down w.legs z.line) else Idle
 
   starts : Tracks s.dimensions passed untold passed
   starts = record {
@@ -110,7 +118,7 @@ module _ (s : Setting) (w : World) (input : Input) (stands : CallsStand s w) (ou
       → TrackAll s.dimensions passed untold (expire_slot s frame m.world.legs x)
   turn_tracks m x kept in_x t down = at_slot s frame m.world.legs x (TrackAll s.dimensions passed untold) tt (λ leg e at due.
       expiry_tracks s.dimensions passed untold s.tones m x leg kept in_x at t (still leg e at due) (λ is. rw is refl) (λ is. rw is refl)
-      (λ is. rw is (ap (λ (bs : List Bool). slice_index_or bs x.line false) (sym down)))
+      (λ is. rw is (ap (λ (bs : List Bool). unanswered (slice_index_or bs x.line false)) (sym down)))
       e (due_state leg.state leg.resent leg.since frame s.timers e due))
     where
       still : (leg : Leg) (e : Expiry) → leg_at m.world.legs x ≡ Some leg → due_of s.timers frame leg ≡ Some e → leg_at passed.legs x ≡ Some leg
@@ -130,13 +138,19 @@ module _ (s : Setting) (w : World) (input : Input) (stands : CallsStand s w) (ou
         performed_all_down s.dimensions a.making os ∙ k.2,
       )) s.dimensions.external (omega arith)).0
 
-  untold_owes : (z : Slot) (o : Option Leg) → owes s.dimensions passed untold z o ≡ is_untold w.legs z o
+  owing_by : (up asked down : Bool) → is_owing (if up then Owed else if asked then unanswered down else Idle) ≡ (up || (asked && down))
+  owing_by true asked down = refl
+  owing_by false true true = refl
+  owing_by false true false = refl
+  owing_by false false down = refl
+
+  untold_owes : (z : Slot) (o : Option Leg) → given s.dimensions passed untold is_owing z o ≡ is_untold w.legs z o
   untold_owes z None = refl
-  untold_owes z (Some l) = refl
+  untold_owes z (Some l) = owing_by (l.state == active) (l.state == release_request) (is_down w.legs z.line)
 
   pub owed_by_frame : (x : Slot) → IsExternal s.dimensions.external x → is_owed after_frame.legs x ≡ (is_owed w.legs x || (is_removed w after_frame x && is_untold w.legs x (leg_at w.legs x)))
   owed_by_frame x in_x =
-      owed_exactly s.dimensions passed untold after_frame turned x in_x
+      read_exactly s.dimensions passed untold is_owing after_frame turned x in_x
       ∙ ap (λ (b : Bool). is_owed w.legs x || (is_removed w after_frame x && b)) (untold_owes x (leg_at w.legs x))
 
 -- ---- any other event
@@ -159,6 +173,10 @@ module _ (s : Setting) (w : World) (stands : CallsStand s w) where
       each_below s.dimensions (restart_rule s.tones r) line w (λ a. NoMore a.making.world) same_owed (λ a place small so_far.
       let x : Slot = record { line = line; place = place } in
       owed_all s.dimensions Was a.making (restart_slot s.tones r a.making.world.legs x) (restart_owes s.dimensions Was s.tones r a.making.world.legs x) so_far) 30 (omega arith)
+  message_owes line (Confirms r) =
+      each_below s.dimensions (confirm_rule r) line w (λ a. NoMore a.making.world) same_owed (λ a place small so_far.
+      let x : Slot = record { line = line; place = place } in
+      owed_all s.dimensions Was a.making (confirm_slot r a.making.world.legs x) (confirm_owes s.dimensions Was r a.making.world.legs x) so_far) 30 (omega arith)
   message_owes line Unanswered = same_owed
 
   up_owes : (line : ℕ) → line < s.dimensions.external → NoMore (next s w (LinkUp line))

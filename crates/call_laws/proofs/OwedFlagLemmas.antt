@@ -1,21 +1,23 @@
--- Each external slot has a flag of what its user is owed.
+-- Each external slot has a condition.
 use Rattle.std.proofs.Common.{◌≡◌, ℕ, Bool, true, false, List, [], ◌∷◌, length, refl, ◌∙◌, arith, length-set, if◌then◌else◌}
 use Rattle.circuit_model.specs.Holding.{Connect, Seat as Take_seat, Clear}
 use Rattle.control_memory.specs.Layout.{number_of}
 use Rattle.call_states.specs.Acts.{act_on}
+use Rattle.call_states.specs.Conditions.{unanswered}
+use Rattle.call_states.specs.declared.condition.Condition.{Condition}
 use Rattle.clearing_rules.specs.UnknownReference.{answer_without_call}
 use Rattle.exchange_events.specs.declared.trace.Event.{Event}
 use Rattle.exchange_events.specs.declared.trace.Event.TheVariants.{Nail, Seat, Free, Message, Frame, LinkUp, LinkDown, RestartLine}
 use Rattle.exchange_events.specs.Sizes.{Setting, Dimensions}
 use Rattle.call_profile.specs.ActCourse.{course_of}
-use Rattle.call_profile.specs.Calls.{Request, For_leg, New_call, On_no_call, Restarts, Unanswered, answer_back, outcome_for, request_of}
+use Rattle.call_profile.specs.Calls.{Request, For_leg, New_call, On_no_call, Restarts, Confirms, Unanswered, answer_back, outcome_for, request_of}
 use Rattle.call_profile.specs.Expiring.{expire_slot, slot_looked_at}
 use Rattle.call_profile.specs.IdleSlots.{is_nailed}
 use Rattle.call_profile.specs.Legs.{is_down}
 use Rattle.call_profile.specs.LinkChanges.{give_up_rule, give_up_slot, outcome_of_line_restart, outcome_of_link, rule_of, with_line}
 use Rattle.call_profile.specs.Operations as op
 use Rattle.call_profile.specs.Operations.{Operation, Making, making_at, making_after, making_after_all}
-use Rattle.call_profile.specs.Restarts.{restart_slot, restart_rule}
+use Rattle.call_profile.specs.Restarts.{confirm_rule, confirm_slot, restart_slot, restart_rule}
 use Rattle.call_profile.specs.Setup.{course_of_setup}
 use Rattle.call_profile.specs.Step.{next, may_nail, may_seat}
 use Rattle.call_profile.specs.World.{World, obey, pass}
@@ -23,7 +25,7 @@ use Rattle.call_profile.proofs.ExpiringLemmas.{each_line}
 use Rattle.call_profile.proofs.RestartedSlotLemmas.{each_below, line_restarted_by, linked_by}
 
 abbrev flags_of : World → ℕ
-flags_of w = length w.legs.owed
+flags_of w = length w.legs.conditions
 
 performed_flags : (d : Dimensions) (m : Making) (o : Operation) → flags_of (making_after d m o).world ≡ flags_of m.world
 performed_flags d m (op.Clear x) = refl
@@ -35,7 +37,7 @@ performed_flags d m (op.Wait x leg p) = refl
 performed_flags d m (op.Expect x leg message) = refl
 performed_flags d m (op.Repeat h octets) = refl
 performed_flags d m (op.Await x leg) = refl
-performed_flags d m (op.Remove x owed) = length-set m.world.legs.owed (number_of x) owed
+performed_flags d m (op.Remove x condition) = length-set m.world.legs.conditions (number_of x) condition
 performed_flags d m (op.Send line message) = refl
 
 performed_all_flags : (d : Dimensions) (m : Making) (os : List Operation) → flags_of (making_after_all d m os).world ≡ flags_of m.world
@@ -49,6 +51,9 @@ received_flags s w line (On_no_call m) = performed_all_flags s.dimensions (makin
 received_flags s w line (Restarts r) =
     each_below s.dimensions (restart_rule s.tones r) line w (λ a. flags_of a.making.world ≡ flags_of w) refl
     (λ a place small same. performed_all_flags s.dimensions a.making (restart_slot s.tones r a.making.world.legs (record { line = line; place = place })) ∙ same) 30 (omega arith)
+received_flags s w line (Confirms r) =
+    each_below s.dimensions (confirm_rule r) line w (λ a. flags_of a.making.world ≡ flags_of w) refl
+    (λ a place small same. performed_all_flags s.dimensions a.making (confirm_slot r a.making.world.legs (record { line = line; place = place })) ∙ same) 30 (omega arith)
 received_flags s w line Unanswered = refl
 
 linked_flags : (s : Setting) (w : World) (down : Bool) (line : ℕ) → flags_of (outcome_of_link s.dimensions s.tones down line w).making.world ≡ flags_of w
@@ -58,16 +63,16 @@ linked_flags s w down line = linked_by s.dimensions s.tones down line w (λ v. f
 
 line_restart_flags : (s : Setting) (w : World) (line : ℕ) → flags_of (outcome_of_line_restart s.dimensions s.tones line w).making.world ≡ flags_of w
 line_restart_flags s w line =
-    let owed : Bool = is_down w.legs line in
+    let condition : Condition = unanswered (is_down w.legs line) in
     line_restarted_by s.dimensions s.tones line w (λ v. flags_of v ≡ flags_of w)
-    (each_below s.dimensions (give_up_rule s.tones owed) line w (λ a. flags_of a.making.world ≡ flags_of w) refl
-    (λ a place small same. performed_all_flags s.dimensions a.making (give_up_slot s.tones owed a.making.world.legs (record { line = line; place = place })) ∙ same) 30 (omega arith))
+    (each_below s.dimensions (give_up_rule s.tones condition) line w (λ a. flags_of a.making.world ≡ flags_of w) refl
+    (λ a place small same. performed_all_flags s.dimensions a.making (give_up_slot s.tones condition a.making.world.legs (record { line = line; place = place })) ∙ same) 30 (omega arith))
 
 either_flags : (b : Bool) (v w : World) → flags_of v ≡ flags_of w → flags_of (if b then v else w) ≡ flags_of w
 either_flags true v w same = same
 either_flags false v w same = refl
 
-pub next_flags : (s : Setting) (w : World) (e : Event) → length (next s w e).legs.owed ≡ length w.legs.owed
+pub next_flags : (s : Setting) (w : World) (e : Event) → length (next s w e).legs.conditions ≡ length w.legs.conditions
 next_flags s w (Nail x y) = either_flags (may_nail w x y) (obey s.dimensions w (Connect x y)) w refl
 next_flags s w (Seat x room) = either_flags (may_seat s.dimensions w x) (obey s.dimensions w (Take_seat x room)) w refl
 next_flags s w (Free x) = either_flags (is_nailed w x) (obey s.dimensions w (Clear x)) w refl

@@ -12,6 +12,9 @@ use Rattle.q931_codec.specs.declared.message.Message.{Message as Q931}
 use Rattle.q931_codec.specs.Outgoing.{OutgoingMessage}
 use Rattle.call_timers.specs.declared.expiry.Expiry.{Expiry}
 use Rattle.call_timers.specs.declared.expiry.Expiry.TheVariants as expiry
+use Rattle.call_states.specs.Conditions.{is_owing, unanswered}
+use Rattle.call_states.specs.declared.condition.Condition.{Condition}
+use Rattle.call_states.specs.declared.condition.Condition.TheVariants.{Idle, Owed}
 use Rattle.call_states.specs.declared.act.Act.{Act}
 use Rattle.call_states.specs.declared.leg.HeldLeg.{HeldLeg}
 use Rattle.call_states.specs.declared.leg.Leg.{Leg}
@@ -23,38 +26,44 @@ use Rattle.call_profile.specs.Acts.{peer_of, with_enquiry, with_peer}
 use Rattle.call_profile.specs.Calls.{answer_back}
 use Rattle.call_profile.specs.Expiring.{due_of, on_expiry, expire_slot}
 use Rattle.call_profile.specs.LinkChanges.{whole_line, drop_leg, drop_slot, restart_channel, resume_held, resume_slot}
-use Rattle.call_profile.specs.Legs.{Legs, is_down, is_owed, leg_at, kept_at, with_entry, without_leg}
+use Rattle.call_profile.specs.Legs.{Legs, awaits_restart, condition_at, is_down, is_owed, leg_at, kept_at, with_entry, without_leg}
 use Rattle.call_profile.specs.Operations as op
 use Rattle.call_profile.specs.Operations.{Operation, Making, Await, Put, begun, making_after, making_after_all}
 use Rattle.call_profile.specs.Peers.{PeerIsThere}
-use Rattle.call_profile.specs.Restarts.{restarts_slot, restart_peer, restart_slot}
+use Rattle.call_profile.specs.Restarts.{confirm_slot, restarts_slot, restart_peer, restart_slot}
 use Rattle.call_profile.specs.Setup.{setup}
 use Rattle.call_profile.specs.World.{World}
 use Rattle.call_profile.proofs.ClearingLemmas.{Kept}
 use Rattle.call_profile.proofs.CommandLemmas.{both_true}
+use Rattle.call_profile.proofs.ConfirmedSlotLemmas.{at_confirmed}
 use Rattle.call_profile.proofs.ExpiringLemmas.{at_slot}
 use Rattle.call_profile.proofs.LinkLemmas.{at_held, by_drop, by_resume}
 use Rattle.call_laws.proofs.LinkedLegLemmas.{entry_or_before}
 use Rattle.call_profile.proofs.PermittedActLemmas.{peer_there_too}
 use Rattle.call_laws.proofs.RemovedSlotLemmas.{FlagAll, MayFlag, again_flags, back_flags, cleared_flags, course_flags, other_flags, peer_flags, restart_flags, setup_flags}
 
--- ---- one flag written
+-- ---- one condition written
 
-pub set_flag : (l : List Bool) (n : ℕ) (b : Bool) → get_or (set l n b) n false ≡ true → b ≡ true
-set_flag [] n b e = absurd cc
-set_flag (a ∷ rest) zero b e = e
-set_flag (a ∷ rest) (suc n) b e = set_flag rest n b e
+pub set_owing : (l : List Condition) (n : ℕ) (c : Condition) → is_owing (get_or (set l n c) n Idle) ≡ true → is_owing c ≡ true
+set_owing [] n c e = absurd cc
+set_owing (a ∷ rest) zero c e = e
+set_owing (a ∷ rest) (suc n) c e = set_owing rest n c e
 
 both_and : (a b : Bool) → a ≡ true → b ≡ true → (a && b) ≡ true
 both_and a b one other = rw (one, other) refl
 
+-- it is owed while the link is down
+pub owing_unanswered : (down : Bool) → is_owing (unanswered down) ≡ down
+owing_unanswered true = refl
+owing_unanswered false = refl
+
 -- a slot with a leg is owed nothing
 pub owed_by_put : (legs : Legs) (x z : Slot) (leg : Leg) → is_owed (with_entry legs x (Some leg)) z ≡ true → is_owed legs z ≡ true
 owed_by_put legs x z leg owed =
-    let both = both_true (slice_index_or legs.owed (number_of z) false) (is_none (leg_at (with_entry legs x (Some leg)) z)) owed in
+    let both = both_true (is_owing (condition_at legs z)) (is_none (leg_at (with_entry legs x (Some leg)) z)) owed in
     elim (entry_or_before legs.held (number_of x) (number_of z) (Some leg) None) [
       | inl new ↦ let wrong : false ≡ true = sym (ap is_none new) ∙ both.1 in absurd cc
-      | inr old ↦ both_and (slice_index_or legs.owed (number_of z) false) (is_none (leg_at legs z)) both.0 (sym (ap is_none old) ∙ both.1)
+      | inr old ↦ both_and (is_owing (condition_at legs z)) (is_none (leg_at legs z)) both.0 (sym (ap is_none old) ∙ both.1)
     ]
 
 -- ---- the operations, by the slots that may be owed a RESTART
@@ -63,9 +72,9 @@ module _ (d : Dimensions) (May : Slot → Type 0) where
   abbrev pub Owes : Legs → Type 0
   Owes legs = (z : Slot) → IsExternal d.external z → is_owed legs z ≡ true → May z
 
-  -- a flag is set only at a slot that may be owed
-  abbrev pub Due : Slot → Bool → Type 0
-  Due x owed = owed ≡ true → (x.place < 30) × May x
+  -- a condition is Owed only at a slot that may be owed
+  abbrev pub Due : Slot → Condition → Type 0
+  Due x condition = is_owing condition ≡ true → (x.place < 30) × May x
 
   abbrev pub OweAll : List Operation → Type 0
   OweAll = FlagAll Due
@@ -73,19 +82,20 @@ module _ (d : Dimensions) (May : Slot → Type 0) where
   put_owes : (legs : Legs) (x : Slot) (leg : Leg) → Owes legs → Owes (with_entry legs x (Some leg))
   put_owes legs x leg before z in_z owed = before z in_z (owed_by_put legs x z leg owed)
 
-  removed_owes : (legs : Legs) (x : Slot) (owed : Bool) → (owed ≡ true → (x.place < 30) × May x) → Owes legs → Owes (without_leg legs x owed)
-  removed_owes legs x owed may before z in_z is =
-      let both = both_true (slice_index_or (without_leg legs x owed).owed (number_of z) false) (is_none (leg_at (without_leg legs x owed) z)) is in
+  removed_owes : (legs : Legs) (x : Slot) (condition : Condition) → Due x condition → Owes legs → Owes (without_leg legs x condition)
+  removed_owes legs x condition may before z in_z is =
+      let both = both_true (is_owing (condition_at (without_leg legs x condition) z)) (is_none (leg_at (without_leg legs x condition) z)) is in
       elim (true_or_false (number_of z == number_of x)) [
         | inl same ↦
             let n = eqb-true (number_of z) (number_of x) same in
-            let flag = set_flag legs.owed (number_of x) owed (sym (ap (λ (k : ℕ). slice_index_or (without_leg legs x owed).owed k false) n) ∙ both.0) in
-            let here = may flag in
+            let owing = set_owing legs.conditions (number_of x) condition
+                (sym (ap (λ (k : ℕ). is_owing (slice_index_or (without_leg legs x condition).conditions k Idle)) n) ∙ both.0) in
+            let here = may owing in
             subst May (sym (same_number z x in_z.1 here.0 n)) here.1
         | inr apart ↦
             let other : number_of z ≡ number_of x → ⊥ = λ n. grind (arith, common_steps, apart, n) in
-            before z in_z (both_and (slice_index_or legs.owed (number_of z) false) (is_none (leg_at legs z))
-            (sym (get_or-set_other legs.owed (number_of x) (number_of z) owed false other) ∙ both.0)
+            before z in_z (both_and (is_owing (condition_at legs z)) (is_none (leg_at legs z))
+            (sym (ap is_owing (get_or-set_other legs.conditions (number_of x) (number_of z) condition Idle other)) ∙ both.0)
             (sym (ap is_none (get_or-set_other legs.held (number_of x) (number_of z) None None other)) ∙ both.1))
       ]
 
@@ -99,7 +109,7 @@ module _ (d : Dimensions) (May : Slot → Type 0) where
   performed m (op.Expect x leg message) may before = put_owes m.world.legs x (begun m.world leg) before
   performed m (op.Repeat h octets) may before = put_owes m.world.legs h.slot (record h.leg { since = m.world.holding.next; resent = true }) before
   performed m (op.Await x leg) may before = put_owes m.world.legs x (record leg { since = m.world.holding.next; resent = true }) before
-  performed m (op.Remove x owed) may before = removed_owes m.world.legs x owed may before
+  performed m (op.Remove x condition) may before = removed_owes m.world.legs x condition may before
   performed m (op.Send line message) may before = before
 
   pub owed_all : (m : Making) (os : List Operation) → OweAll os → Owes m.world.legs → Owes (making_after_all d m os).world.legs
@@ -108,12 +118,16 @@ module _ (d : Dimensions) (May : Slot → Type 0) where
 
   -- ---- a restart, of the user or of the exchange
 
-  pub other_owes : (tones : Tones) (cause : ℕ) (owed : Bool) (r : Restart) (line : ℕ) (o : Option HeldLeg) → ((k : HeldLeg) → o ≡ Some k → restarts_slot r line k.slot ≡ true → owed ≡ true → (k.slot.place < 30) × May k.slot)
-      → OweAll (with_peer o (restart_peer tones cause owed r line))
+  pub other_owes : (tones : Tones) (cause : ℕ) (condition : Condition) (r : Restart) (line : ℕ) (o : Option HeldLeg)
+      → ((k : HeldLeg) → o ≡ Some k → restarts_slot r line k.slot ≡ true → Due k.slot condition) → OweAll (with_peer o (restart_peer tones cause condition r line))
   other_owes = other_flags Due
 
   pub restart_owes : (tones : Tones) (r : Restart) (legs : Legs) (x : Slot) → OweAll (restart_slot tones r legs x)
   restart_owes tones r legs x = restart_flags Due tones r legs x (λ leg at. ((λ e. absurd cc), (λ k is on e. absurd cc)))
+
+  -- the user acknowledges one
+  pub confirm_owes : (r : Restart) (legs : Legs) (x : Slot) → OweAll (confirm_slot r legs x)
+  confirm_owes r legs x = at_confirmed r legs x OweAll tt (λ none. ((λ e. absurd cc), tt))
 
   -- ---- an expiry
 
@@ -126,7 +140,7 @@ module _ (d : Dimensions) (May : Slot → Type 0) where
   expiry_owes tones legs h expiry.Outage small lost down = (tt, ((λ e. (small, lost refl)), peer_flags Due tones destination_out_of_order (peer_of legs h.leg.peer)))
   expiry_owes tones legs h expiry.Disconnect small lost down = (tt, tt)
   expiry_owes tones legs h expiry.ReleaseAgain small lost down = again_flags Due h (kept_at legs h.slot)
-  expiry_owes tones legs h expiry.ReleaseOver small lost down = (tt, ((λ e. (small, down e)), tt))
+  expiry_owes tones legs h expiry.ReleaseOver small lost down = (tt, ((λ e. (small, down (sym (owing_unanswered (is_down legs h.slot.line)) ∙ e))), tt))
 
   pub expire_owes : (s : Setting) (frame : ℕ) (legs : Legs) (x : Slot) → x.place < 30 → ((leg : Leg) → leg_at legs x ≡ Some leg → due_of s.timers frame leg ≡ Some expiry.Outage → May x) → (is_down legs x.line ≡ true → May x)
       → OweAll (expire_slot s frame legs x)
@@ -168,17 +182,17 @@ module _ (d : Dimensions) (May : Slot → Type 0) where
             tt,
             (
               (λ e. (within.1, all x within refl)),
-              other_owes tones destination_out_of_order true whole_line x.line (peer_of m.world.legs leg.peer)
+              other_owes tones destination_out_of_order Owed whole_line x.line (peer_of m.world.legs leg.peer)
                   (too_owes leg (peer_of m.world.legs leg.peer) (peer_there_too d.external tones m.world h kept.1 within at)),
             ),
           )))
 
-    channel_owes : (owed whole : Bool) → OweAll (if owed then restart_channel whole x else [])
+    channel_owes : (awaits whole : Bool) → OweAll (if awaits then restart_channel whole x else [])
     channel_owes true true = ((λ e. absurd cc), tt)
     channel_owes true false = ((λ e. absurd cc), (tt, tt))
     channel_owes false whole = tt
 
     pub resume_owes : (whole : Bool) → OweAll (resume_slot tones whole m.world.legs x)
-    resume_owes whole = at_held m.world.legs x (resume_held tones whole m.world.legs x) OweAll (λ none. channel_owes (is_owed m.world.legs x) whole) (λ leg at.
+    resume_owes whole = at_held m.world.legs x (resume_held tones whole m.world.legs x) OweAll (λ none. channel_owes (awaits_restart m.world.legs x) whole) (λ leg at.
         by_resume d tones m x leg kept within at OweAll (λ talks. (tt, (tt, tt))) (λ dials. cleared_flags Due tones temporary_failure (record { slot = x; leg = leg }) [] tt)
         (λ clears. again_flags Due (record { slot = x; leg = leg }) (kept_at m.world.legs x)) tt)

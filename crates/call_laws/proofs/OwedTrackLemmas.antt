@@ -1,6 +1,6 @@
--- For which channels exactly a RESTART is owed after some operations: those for which it was, and those whose leg was removed untold.
+-- The condition of each channel after some operations: the one that it had, or the one that the removal of its leg gives it.
 use Rattle.std.proofs.Common.{◌≡◌, ℕ, ◌*◌, ◌⊎◌, inl, inr, Bool, true, false, ◌&&◌, ◌||◌, List, [], ◌∷◌, ◌++◌, length, Option, Some, None, refl, sym, ◌∙◌, ap, subst, arith, set, length-set, get_or-set_same, get_or-set_other, if◌then◌else◌}
-use Rattle.std.specs.Prelude.{slice_index_or}
+use Rattle.std.specs.Prelude.{is_none}
 use Rattle.circuit_model.specs.declared.channel.Slot.{Slot}
 use Rattle.circuit_model.specs.Extent.{IsExternal}
 use Rattle.circuit_model.proofs.Slots.{true_or_false}
@@ -10,6 +10,9 @@ use Rattle.q931_codec.specs.CallStates.{active, call_present, release_request}
 use Rattle.q931_codec.specs.Causes.{destination_out_of_order, invalid_number_format, no_answer_from_user, no_user_responding, recovery_on_timer_expiry}
 use Rattle.call_timers.specs.declared.expiry.Expiry.{Expiry}
 use Rattle.call_timers.specs.declared.expiry.Expiry.TheVariants as expiry
+use Rattle.call_states.specs.Conditions.{unanswered}
+use Rattle.call_states.specs.declared.condition.Condition.{Condition}
+use Rattle.call_states.specs.declared.condition.Condition.TheVariants.{Idle, Owed}
 use Rattle.call_states.specs.declared.leg.HeldLeg.{HeldLeg}
 use Rattle.call_states.specs.declared.leg.Leg.{Leg}
 use Rattle.call_states.specs.declared.leg.Peer.{Peer}
@@ -19,7 +22,7 @@ use Rattle.exchange_events.specs.Sizes.{Dimensions}
 use Rattle.call_profile.specs.Acts.{clear_with, peer_of, with_enquiry, with_peer}
 use Rattle.call_profile.specs.Expiring.{on_expiry, send_again, timed_state}
 use Rattle.call_profile.specs.LegStanding.{HasPeer}
-use Rattle.call_profile.specs.Legs.{Legs, is_down, is_owed, kept_at, leg_at, with_entry, without_leg}
+use Rattle.call_profile.specs.Legs.{Legs, condition_at, is_down, kept_at, leg_at, with_entry, without_leg}
 use Rattle.call_profile.specs.LinkChanges.{whole_line, drop_leg}
 use Rattle.call_profile.specs.Operations as op
 use Rattle.call_profile.specs.Operations.{Operation, Making, Await, begun, making_after, making_after_all, with_legs}
@@ -31,19 +34,21 @@ use Rattle.call_profile.proofs.ClearingLemmas.{Kept, held_there}
 use Rattle.call_profile.proofs.LinkLemmas.{by_drop}
 use Rattle.call_profile.proofs.ToneLemmas.{with_tone_sounding_next}
 
+-- a channel without a leg, read by its condition
+abbrev pub reads_at : (Condition → Bool) → Legs → Slot → Bool
+reads_at reads legs z = reads (condition_at legs z) && is_none (leg_at legs z)
+
 -- ---- what is tracked
 
--- what the user of a slot is owed if its leg is removed
-module _ (d : Dimensions) (w : World) (cond : Slot → Leg → Bool) where
-  flag_at : Legs → Slot → Bool
-  flag_at legs z = slice_index_or legs.owed (number_of z) false
-
+-- the condition of a channel if its leg is removed
+module _ (d : Dimensions) (w : World) (cond : Slot → Leg → Condition) where
   pub record Tracks (v : World) : Type 0 where
-    pub flags : length v.legs.owed ≡ 30 * d.external
+    pub flags : length v.legs.conditions ≡ 30 * d.external
     pub held : length v.legs.held ≡ 30 * d.external
     pub next : v.holding.next ≡ w.holding.next
-    pub empty : (z : Slot) → IsExternal d.external z → leg_at w.legs z ≡ None → (leg_at v.legs z ≡ None) × (slice_index_or v.legs.owed (number_of z) false ≡ slice_index_or w.legs.owed (number_of z) false)
-    pub gone : (z : Slot) (l : Leg) → IsExternal d.external z → leg_at w.legs z ≡ Some l → leg_at v.legs z ≡ None → slice_index_or v.legs.owed (number_of z) false ≡ cond z l
+    pub empty : (z : Slot) → IsExternal d.external z → leg_at w.legs z ≡ None
+        → (leg_at v.legs z ≡ None) × (condition_at v.legs z ≡ condition_at w.legs z)
+    pub gone : (z : Slot) (l : Leg) → IsExternal d.external z → leg_at w.legs z ≡ Some l → leg_at v.legs z ≡ None → condition_at v.legs z ≡ cond z l
     pub same : (z : Slot) (k : Leg) → IsExternal d.external z → leg_at v.legs z ≡ Some k → (leg_at w.legs z ≡ Some k) ⊎ (k.since ≡ w.holding.next)
 
   -- a leg holds the slot before the first operation
@@ -60,7 +65,7 @@ module _ (d : Dimensions) (w : World) (cond : Slot → Leg → Bool) where
   MayTrack (op.Expect x leg message) = WasHeld x
   MayTrack (op.Repeat h octets) = WasHeld h.slot
   MayTrack (op.Await x leg) = WasHeld x
-  MayTrack (op.Remove x owed) = WasHeld x × ((l : Leg) → leg_at w.legs x ≡ Some l → owed ≡ cond x l)
+  MayTrack (op.Remove x condition) = WasHeld x × ((l : Leg) → leg_at w.legs x ≡ Some l → condition ≡ cond x l)
   MayTrack (op.Send line message) = Unit {0}
 
   abbrev pub TrackAll : List Operation → Type 0
@@ -95,12 +100,13 @@ module _ (d : Dimensions) (w : World) (cond : Slot → Leg → Bool) where
     ];
   }
 
-  removed_tracks : (v : World) (x : Slot) (owed : Bool) → WasHeld x → ((l : Leg) → leg_at w.legs x ≡ Some l → owed ≡ cond x l) → Tracks v → Tracks (with_legs v (without_leg v.legs x owed))
-  removed_tracks v x owed was is_cond t =
-      let apart_flag : (z : Slot) → IsExternal d.external z → (z ≡ x → ⊥) → slice_index_or (set v.legs.owed (number_of x) owed) (number_of z) false ≡ slice_index_or v.legs.owed (number_of z) false =
-      λ z in_z apart. get_or-set_other v.legs.owed (number_of x) (number_of z) owed false (λ n. apart (same_number z x in_z.1 was.0.1 n)) in
+  removed_tracks : (v : World) (x : Slot) (condition : Condition) → WasHeld x → ((l : Leg) → leg_at w.legs x ≡ Some l → condition ≡ cond x l) → Tracks v
+      → Tracks (with_legs v (without_leg v.legs x condition))
+  removed_tracks v x condition was is_cond t =
+      let apart_flag : (z : Slot) → IsExternal d.external z → (z ≡ x → ⊥) → condition_at (without_leg v.legs x condition) z ≡ condition_at v.legs z =
+      λ z in_z apart. get_or-set_other v.legs.conditions (number_of x) (number_of z) condition Idle (λ n. apart (same_number z x in_z.1 was.0.1 n)) in
       record {
-        flags = length-set v.legs.owed (number_of x) owed ∙ t.flags;
+        flags = length-set v.legs.conditions (number_of x) condition ∙ t.flags;
         held = length-set v.legs.held (number_of x) None ∙ t.held;
         next = t.next;
         empty = λ z in_z none.
@@ -109,8 +115,8 @@ module _ (d : Dimensions) (w : World) (cond : Slot → Leg → Bool) where
             (leg_at-with_entry_else d.external v.legs x z None was.0 in_z apart ∙ before.0, apart_flag z in_z apart ∙ before.1);
         gone = λ z l in_z at none. elim (same_or_apart z x) [
           | inl is ↦
-              ap (λ (n : ℕ). slice_index_or (set v.legs.owed (number_of x) owed) n false) (ap number_of is)
-              ∙ get_or-set_same v.legs.owed (number_of x) owed false (let n = number_inside d.external x was.0 in let size = t.flags in omega (arith, n, size))
+              ap (condition_at (without_leg v.legs x condition)) is
+              ∙ get_or-set_same v.legs.conditions (number_of x) condition Idle (let n = number_inside d.external x was.0 in let size = t.flags in omega (arith, n, size))
               ∙ is_cond l (sym (ap (leg_at w.legs) is) ∙ at)
               ∙ ap (λ (q : Slot). cond q l) (sym is)
           | inr apart ↦ apart_flag z in_z apart ∙ t.gone z l in_z at (sym (leg_at-with_entry_else d.external v.legs x z None was.0 in_z apart) ∙ none)
@@ -139,14 +145,14 @@ module _ (d : Dimensions) (w : World) (cond : Slot → Leg → Bool) where
       let done = written_tracks m.world h.slot (record h.leg { since = m.world.holding.next; resent = true }) t.next may t in
       record { flags = done.flags; held = done.held; next = done.next; empty = done.empty; gone = done.gone; same = done.same }
   performed m (op.Await x leg) may t = written_tracks m.world x (record leg { since = m.world.holding.next; resent = true }) t.next may t
-  performed m (op.Remove x owed) may t = removed_tracks m.world x owed may.0 may.1 t
+  performed m (op.Remove x condition) may t = removed_tracks m.world x condition may.0 may.1 t
   performed m (op.Send line message) may t = t
 
   pub tracked_all : (m : Making) (os : List Operation) → TrackAll os → Tracks m.world → Tracks (making_after_all d m os).world
   tracked_all m [] may t = t
   tracked_all m (o ∷ os) may t = tracked_all (making_after d m o) os may.1 (performed m o may.0 t)
 
-  -- ---- what is owed
+  -- ---- what the conditions say
 
   and_none : (b : Bool) → (b && true) ≡ b
   and_none true = refl
@@ -160,25 +166,29 @@ module _ (d : Dimensions) (w : World) (cond : Slot → Leg → Bool) where
   or_none true = refl
   or_none false = refl
 
-  abbrev pub owes : Slot → Option Leg → Bool
-  owes z None = false
-  owes z (Some l) = cond z l
+  -- a reading of the conditions: that a RESTART is owed, or that the channel is unconfirmed
+  module _ (reads : Condition → Bool) where
+    abbrev pub given : Slot → Option Leg → Bool
+    given z None = false
+    given z (Some l) = reads (cond z l)
 
-  module _ (v : World) (t : Tracks v) (z : Slot) (in_z : IsExternal d.external z) where
-    abbrev before_flag : Bool
-    before_flag = slice_index_or w.legs.owed (number_of z) false
+    module _ (v : World) (t : Tracks v) (z : Slot) (in_z : IsExternal d.external z) where
+      abbrev before : Bool
+      before = reads (condition_at w.legs z)
 
-    exact_by : (o p : Option Leg) → leg_at w.legs z ≡ o → leg_at v.legs z ≡ p → is_owed v.legs z ≡ (is_owed w.legs z || (is_removed w v z && owes z (leg_at w.legs z)))
-    exact_by None p none now =
-        let facts = t.empty z in_z none in
-        rw (none, facts.0, facts.1) (sym (or_none (before_flag && true)))
-    exact_by (Some l) None at now =
-        let flag = t.gone z l in_z at now in
-        rw (at, now, flag) (and_none (cond z l) ∙ sym (ap (λ (b : Bool). b || cond z l) (and_some before_flag)))
-    exact_by (Some l) (Some k) at now = rw (at, now) (and_some (slice_index_or v.legs.owed (number_of z) false) ∙ sym (ap (λ (b : Bool). b || false) (and_some before_flag)))
+      exact_by : (o p : Option Leg) → leg_at w.legs z ≡ o → leg_at v.legs z ≡ p
+          → reads_at reads v.legs z ≡ (reads_at reads w.legs z || (is_removed w v z && given z (leg_at w.legs z)))
+      exact_by None p none now =
+          let facts = t.empty z in_z none in
+          rw (none, facts.0, facts.1) (sym (or_none (before && true)))
+      exact_by (Some l) None at now =
+          let condition = t.gone z l in_z at now in
+          rw (at, now, condition) (and_none (reads (cond z l)) ∙ sym (ap (λ (b : Bool). b || reads (cond z l)) (and_some before)))
+      exact_by (Some l) (Some k) at now =
+          rw (at, now) (and_some (reads (condition_at v.legs z)) ∙ sym (ap (λ (b : Bool). b || false) (and_some before)))
 
-    pub owed_exactly : is_owed v.legs z ≡ (is_owed w.legs z || (is_removed w v z && owes z (leg_at w.legs z)))
-    owed_exactly = exact_by (leg_at w.legs z) (leg_at v.legs z) refl refl
+      pub read_exactly : reads_at reads v.legs z ≡ (reads_at reads w.legs z || (is_removed w v z && given z (leg_at w.legs z)))
+      read_exactly = exact_by (leg_at w.legs z) (leg_at v.legs z) refl refl
 
   -- ---- pieces of operations
 
@@ -199,9 +209,9 @@ module _ (d : Dimensions) (w : World) (cond : Slot → Leg → Bool) where
     peer_tracks : (cause : ℕ) → TrackAll (with_peer (peer_of m.world.legs leg.peer) (clear_with tones cause))
     peer_tracks cause = peer_tracks_by cause leg.peer (kept.1.each x leg in_x at).peer
 
-    -- the link of its line fails, and every removed leg is owed
-    module _ (always : (z : Slot) (l : Leg) → cond z l ≡ true) where
-      other_tracks_by : (p : Peer) → HasPeer d.external m.world.legs x leg p → TrackAll (with_peer (peer_of m.world.legs p) (restart_peer tones destination_out_of_order true whole_line x.line))
+    -- the link of its line fails, and the user of every removed leg is owed a RESTART
+    module _ (always : (z : Slot) (l : Leg) → cond z l ≡ Owed) where
+      other_tracks_by : (p : Peer) → HasPeer d.external m.world.legs x leg p → TrackAll (with_peer (peer_of m.world.legs p) (restart_peer tones destination_out_of_order Owed whole_line x.line))
       other_tracks_by peer.Alone has = tt
       other_tracks_by (peer.Leg y) has =
           let k : HeldLeg = record { slot = y; leg = has.1.0 } in
@@ -221,16 +231,16 @@ module _ (d : Dimensions) (w : World) (cond : Slot → Leg → Bool) where
           (λ goes. (tt, ((was_held m.world t x leg in_x at, λ l before. sym (always x l)), other_tracks_by leg.peer (kept.1.each x leg in_x at).peer)))
 
     -- a timer expires, of a leg that held the slot before the frame
-    module _ (still : leg_at w.legs x ≡ Some leg) (outage : leg.state ≡ active → cond x leg ≡ true) (setup : leg.state ≡ call_present → cond x leg ≡ false)
-        (release : leg.state ≡ release_request → cond x leg ≡ is_down m.world.legs x.line) where
+    module _ (still : leg_at w.legs x ≡ Some leg) (outage : leg.state ≡ active → cond x leg ≡ Owed) (setup : leg.state ≡ call_present → cond x leg ≡ Idle)
+        (release : leg.state ≡ release_request → cond x leg ≡ unanswered (is_down m.world.legs x.line)) where
       abbrev h : HeldLeg
       h = record { slot = x; leg = leg }
 
       here : WasHeld x
       here = was_held m.world t x leg in_x at
 
-      is_still : (owed : Bool) → cond x leg ≡ owed → (l : Leg) → leg_at w.legs x ≡ Some l → owed ≡ cond x l
-      is_still owed is l before = let e : Some leg ≡ Some l = sym still ∙ before in let same : leg ≡ l = cc in sym is ∙ ap (cond x) same
+      is_still : (condition : Condition) → cond x leg ≡ condition → (l : Leg) → leg_at w.legs x ≡ Some l → condition ≡ cond x l
+      is_still condition is l before = let e : Some leg ≡ Some l = sym still ∙ before in let same : leg ≡ l = cc in sym is ∙ ap (cond x) same
 
       again_tracks : (o : Option (List ℕ)) → TrackAll (send_again h o)
       again_tracks None = tt
@@ -239,10 +249,10 @@ module _ (d : Dimensions) (w : World) (cond : Slot → Leg → Bool) where
       pub expiry_tracks : (e : Expiry) → leg.state ≡ timed_state e → TrackAll (on_expiry tones m.world.legs h e)
       expiry_tracks expiry.Digits state = cleared_tracks tones invalid_number_format h [] here tt
       expiry_tracks expiry.SetupAgain state = again_tracks (kept_at m.world.legs x)
-      expiry_tracks expiry.SetupOver state = (tt, ((here, is_still false (setup state)), (tt, peer_tracks no_user_responding)))
+      expiry_tracks expiry.SetupOver state = (tt, ((here, is_still Idle (setup state)), (tt, peer_tracks no_user_responding)))
       expiry_tracks expiry.Proceeding state = cleared_tracks tones recovery_on_timer_expiry h _ here (peer_tracks no_user_responding)
       expiry_tracks expiry.Alerting state = cleared_tracks tones recovery_on_timer_expiry h _ here (peer_tracks no_answer_from_user)
-      expiry_tracks expiry.Outage state = (tt, ((here, is_still true (outage state)), peer_tracks destination_out_of_order))
+      expiry_tracks expiry.Outage state = (tt, ((here, is_still Owed (outage state)), peer_tracks destination_out_of_order))
       expiry_tracks expiry.Disconnect state = (here, tt)
       expiry_tracks expiry.ReleaseAgain state = again_tracks (kept_at m.world.legs x)
-      expiry_tracks expiry.ReleaseOver state = (tt, ((here, is_still (is_down m.world.legs x.line) (release state)), tt))
+      expiry_tracks expiry.ReleaseOver state = (tt, ((here, is_still (unanswered (is_down m.world.legs x.line)) (release state)), tt))

@@ -1,4 +1,4 @@
--- At which slots the operations of a message and of a restart remove a leg, and what its user is owed then.
+-- At which slots the operations of a message and of a restart remove a leg, and the condition of its channel then.
 use Rattle.std.proofs.Common.{◌≡◌, ℕ, inl, inr, Bool, true, false, List, [], ◌∷◌, ◌++◌, Option, Some, None, refl, if◌then◌else◌}
 use Rattle.std.specs.Prelude.{◌==◌}
 use Rattle.circuit_model.specs.declared.channel.Slot.{Slot}
@@ -10,6 +10,8 @@ use Rattle.q931_codec.specs.Contents.{channel_in}
 use Rattle.q931_codec.specs.Outgoing.{OutgoingMessage}
 use Rattle.number_plan.specs.declared.target.Found.{Found}
 use Rattle.number_plan.specs.declared.target.Found.TheVariants.{Line, Lines, Room, More, Nothing}
+use Rattle.call_states.specs.declared.condition.Condition.{Condition}
+use Rattle.call_states.specs.declared.condition.Condition.TheVariants.{Idle}
 use Rattle.call_states.specs.declared.act.Act.{Act}
 use Rattle.call_states.specs.declared.act.Act.TheVariants as act
 use Rattle.call_states.specs.declared.leg.HeldLeg.{HeldLeg}
@@ -32,9 +34,9 @@ use Rattle.call_profile.specs.Setup.{setup, accept_at, call, call_asked, await_d
 use Rattle.call_profile.specs.World.{World}
 use Rattle.call_profile.proofs.RestartLemmas.{at_slot as at_restarted}
 
--- ---- the operations, by the slots whose legs they remove, and the flags of what the users are owed
+-- ---- the operations, by the slots whose legs they remove, and the conditions of the channels
 
-module _ (Flag : Slot → Bool → Type 0) where
+module _ (Flag : Slot → Condition → Type 0) where
   abbrev pub MayFlag : Operation → Type 0
   MayFlag (op.Clear x) = Unit {0}
   MayFlag (op.Pair x y) = Unit {0}
@@ -45,7 +47,7 @@ module _ (Flag : Slot → Bool → Type 0) where
   MayFlag (op.Expect x leg message) = Unit {0}
   MayFlag (op.Repeat h octets) = Unit {0}
   MayFlag (op.Await x leg) = Unit {0}
-  MayFlag (op.Remove x owed) = Flag x owed
+  MayFlag (op.Remove x condition) = Flag x condition
   MayFlag (op.Send line message) = Unit {0}
 
   abbrev pub FlagAll : List Operation → Type 0
@@ -63,20 +65,20 @@ module _ (Flag : Slot → Bool → Type 0) where
 
   -- ---- a restart, of the user or of the exchange
 
-  pub other_flags : (tones : Tones) (cause : ℕ) (owed : Bool) (r : Restart) (line : ℕ) (o : Option HeldLeg) → ((k : HeldLeg) → o ≡ Some k → restarts_slot r line k.slot ≡ true → Flag k.slot owed)
-      → FlagAll (with_peer o (restart_peer tones cause owed r line))
-  other_flags tones cause owed r line None may = tt
-  other_flags tones cause owed r line (Some k) may = elim (true_or_false (restarts_slot r line k.slot)) [
+  pub other_flags : (tones : Tones) (cause : ℕ) (condition : Condition) (r : Restart) (line : ℕ) (o : Option HeldLeg) → ((k : HeldLeg) → o ≡ Some k → restarts_slot r line k.slot ≡ true → Flag k.slot condition)
+      → FlagAll (with_peer o (restart_peer tones cause condition r line))
+  other_flags tones cause condition r line None may = tt
+  other_flags tones cause condition r line (Some k) may = elim (true_or_false (restarts_slot r line k.slot)) [
     | inl too ↦ rw too (tt, (may k refl too, tt))
     | inr not_so ↦ rw not_so (cleared_flags tones cause k [] tt)
   ]
 
-  -- the user who requests a restart is owed none
+  -- the user who requests a restart knows that the channel is idle
   pub restart_flags : (tones : Tones) (r : Restart) (legs : Legs) (x : Slot)
-      → ((leg : Leg) → leg_at legs x ≡ Some leg → Flag x false × ((k : HeldLeg) → peer_of legs leg.peer ≡ Some k → restarts_slot r x.line k.slot ≡ true → Flag k.slot false))
+      → ((leg : Leg) → leg_at legs x ≡ Some leg → Flag x Idle × ((k : HeldLeg) → peer_of legs leg.peer ≡ Some k → restarts_slot r x.line k.slot ≡ true → Flag k.slot Idle))
       → FlagAll (restart_slot tones r legs x)
   restart_flags tones r legs x may = at_restarted tones r legs x FlagAll tt (λ leg at.
-      (tt, ((may leg at).0, other_flags tones temporary_failure false r x.line (peer_of legs leg.peer) (may leg at).1)))
+      (tt, ((may leg at).0, other_flags tones temporary_failure Idle r x.line (peer_of legs leg.peer) (may leg at).1)))
 
   -- ---- a message that is retransmitted
 
@@ -135,7 +137,7 @@ module _ (Flag : Slot → Bool → Type 0) where
   report_flags s w h true false = cleared_flags s.tones message_not_compatible_with_call_state h _ (peer_flags s.tones message_not_compatible_with_call_state (peer_of w.legs h.leg.peer))
   report_flags s w h false same = tt
 
-  pub course_flags : (s : Setting) (w : World) (h : HeldLeg) (m : Q931) → Flag h.slot false → (a : Act) → FlagAll (course_of s w h m a).operations
+  pub course_flags : (s : Setting) (w : World) (h : HeldLeg) (m : Q931) → Flag h.slot Idle → (a : Act) → FlagAll (course_of s w h m a).operations
   course_flags s w h m here act.Nothing = tt
   course_flags s w h m here act.Unexpected = (tt, tt)
   course_flags s w h m here act.Enquiry = (tt, tt)

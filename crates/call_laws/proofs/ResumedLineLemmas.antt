@@ -16,7 +16,7 @@ use Rattle.call_laws.specs.Dropped.{HasLine}
 use Rattle.call_profile.specs.Expiring.{send_again}
 use Rattle.call_profile.specs.KeptMessages.{IsKept, LegsWait}
 use Rattle.call_profile.specs.LegStanding.{CallsStand}
-use Rattle.call_profile.specs.Legs.{leg_at, kept_at, retransmitted_from, with_entry, is_owed}
+use Rattle.call_profile.specs.Legs.{awaits_restart, leg_at, kept_at, retransmitted_from, with_entry}
 use Rattle.call_profile.specs.LinkChanges.{resume_leg, resume_slot, rule_of, with_line, outcome_of_link, restart_channel, resume_held}
 use Rattle.call_profile.specs.Operations.{Making, begun, making_after_all}
 use Rattle.call_profile.specs.Restarts.{MessageOutcome, outcome_below, restarts_slot}
@@ -48,7 +48,7 @@ module _ (d : Dimensions) (tones : Tones) (m : Making) (x : Slot) (kept : Kept d
   unheld_resumes : leg_at u.legs x ≡ None → (v : World) → v.legs.held ≡ u.legs.held → v.holding.next ≡ u.holding.next → Resumes d.external u v x
   unheld_resumes none v held next = record { here = ap (look x) held ∙ none ∙ ap (option_map (resumed u)) (sym none); same = λ z in_z apart. ap (look z) held; next = next }
 
-  none_resumes : leg_at u.legs x ≡ None → (owed whole : Bool) → Resumes d.external u (making_after_all d m (if owed then restart_channel whole x else [])).world x
+  none_resumes : leg_at u.legs x ≡ None → (awaits whole : Bool) → Resumes d.external u (making_after_all d m (if awaits then restart_channel whole x else [])).world x
   none_resumes none true true = unheld_resumes none _ (held_same d tones m x kept in_x none) refl
   none_resumes none true false = unheld_resumes none _ (held_same d tones m x kept in_x none) refl
   none_resumes none false whole = unheld_resumes none u refl refl
@@ -95,7 +95,7 @@ module _ (d : Dimensions) (tones : Tones) (m : Making) (x : Slot) (kept : Kept d
 
   slot_resumes : (whole : Bool) → Resumes d.external u (making_after_all d m (resume_slot tones whole u.legs x)).world x
   slot_resumes whole = at_held u.legs x (resume_held tones whole u.legs x) (λ os. Resumes d.external u (making_after_all d m os).world x)
-      (λ none. none_resumes none (is_owed u.legs x) whole) leg_resumes
+      (λ none. none_resumes none (awaits_restart u.legs x) whole) leg_resumes
 
 -- ---- the slots of the line
 

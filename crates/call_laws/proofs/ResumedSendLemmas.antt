@@ -1,5 +1,5 @@
--- What is sent when a data link is up again: an enquiry for each leg in active, RELEASE again for each in release request, and a RESTART of each channel that is owed one.
-use Rattle.std.proofs.Common.{◌≡◌, ℕ, zero, suc, ◌<◌, ◌≤◌, inl, inr, Bool, true, false, ◌&&◌, List, [], ◌∷◌, Option, Some, None, refl, sym, ◌∙◌, ap, subst, arith, eqb-true, get_or-set_other, Contains, if◌then◌else◌}
+-- What is sent when a data link is up again: an enquiry for each leg in active, RELEASE again for each in release request, and a RESTART of each channel that awaits one.
+use Rattle.std.proofs.Common.{◌≡◌, ℕ, zero, suc, ◌<◌, ◌≤◌, inl, inr, Bool, true, false, ◌&&◌, ◌||◌, List, [], ◌∷◌, Option, Some, None, refl, sym, ◌∙◌, ap, subst, arith, eqb-true, get_or-set_other, Contains, if◌then◌else◌}
 use Rattle.std.specs.Prelude.{◌==◌, is_none, is_some, nat_lt, not, option_map, slice_index_or, slice_set}
 use Rattle.std.proofs.lemmas.Grind.{common_steps}
 use Rattle.std.proofs.lemmas.List.Elements.{Contains-push}
@@ -10,6 +10,9 @@ use Rattle.control_memory.specs.Layout.{number_of}
 use Rattle.control_memory.proofs.Steps.{same_number}
 use Rattle.q931_codec.specs.CallStates.{active, disconnect_indication, overlap_sending, release_request}
 use Rattle.call_states.specs.Acts.{is_among}
+use Rattle.call_states.specs.Conditions.{is_open, is_owing}
+use Rattle.call_states.specs.declared.condition.Condition.{Condition}
+use Rattle.call_states.specs.declared.condition.Condition.TheVariants.{Idle, Unconfirmed}
 use Rattle.call_states.specs.declared.leg.HeldLeg.{HeldLeg}
 use Rattle.call_states.specs.declared.leg.Leg.{Leg}
 use Rattle.call_timers.specs.Expiries.{expiry_in}
@@ -21,7 +24,7 @@ use Rattle.exchange_events.specs.declared.trace.Event.TheVariants.{LinkUp}
 use Rattle.exchange_events.specs.Sizes.{Dimensions, Setting}
 use Rattle.call_laws.specs.Dropped.{HasLine}
 use Rattle.call_profile.specs.Expiring.{send_again}
-use Rattle.call_profile.specs.Legs.{Legs, is_owed, kept_at, leg_at, is_down, retransmitted_from}
+use Rattle.call_profile.specs.Legs.{Legs, awaits_restart, condition_at, is_owed, kept_at, leg_at, is_down, retransmitted_from}
 use Rattle.call_profile.specs.LinkChanges.{being_cleared, enquire, outcome_of_link, restart_channel, restarts_interface, resume_held, resume_slot, rule_of, whole_line, with_interface, with_line}
 use Rattle.call_profile.specs.Operations.{Operation, Making, making_after_all, Send}
 use Rattle.call_laws.specs.Outages.{OutagesStand}
@@ -30,7 +33,7 @@ use Rattle.call_profile.specs.Restarts.{MessageOutcome, outcome_below, restarts_
 use Rattle.call_laws.specs.Resumed.{resumed, resumed_on}
 use Rattle.call_profile.specs.World.{World}
 use Rattle.call_profile.proofs.ClearingLemmas.{Kept}
-use Rattle.call_profile.proofs.CommandLemmas.{both_true, is_empty}
+use Rattle.call_profile.proofs.CommandLemmas.{is_empty}
 use Rattle.call_profile.proofs.KeptMessageLemmas.{kept_anew, stored_there}
 use Rattle.call_profile.proofs.LinkLemmas.{at_held, by_resume}
 use Rattle.call_laws.proofs.LinkStateLemmas.{is_down_next}
@@ -49,26 +52,28 @@ module _ (d : Dimensions) (tones : Tones) (whole : Bool) (m : Making) (x : Slot)
   abbrev done : Making
   done = making_after_all d m (resume_slot tones whole m.world.legs x)
 
-  -- no other slot is owed more or less
-  flag_of : Slot → Making → Bool
-  flag_of z n = slice_index_or n.world.legs.owed (number_of z) false
+  -- no other channel gets another condition
+  abbrev condition_in : Slot → List Operation → Type 0
+  condition_in z os = condition_at (making_after_all d m os).world.legs z ≡ condition_at m.world.legs z
 
-  channel_apart : (z : Slot) → IsExternal d.external z → (z ≡ x → ⊥) → (owed other : Bool)
-      → slice_index_or (making_after_all d m (if owed then restart_channel other x else [])).world.legs.owed (number_of z) false ≡ slice_index_or m.world.legs.owed (number_of z) false
-  channel_apart z in_z apart true true = get_or-set_other m.world.legs.owed (number_of x) (number_of z) false false (λ n. apart (same_number z x in_z.1 within.1 n))
-  channel_apart z in_z apart true false = get_or-set_other m.world.legs.owed (number_of x) (number_of z) false false (λ n. apart (same_number z x in_z.1 within.1 n))
+  channel_apart : (z : Slot) → IsExternal d.external z → (z ≡ x → ⊥) → (awaits other : Bool)
+      → condition_in z (if awaits then restart_channel other x else [])
+  channel_apart z in_z apart true true =
+      get_or-set_other m.world.legs.conditions (number_of x) (number_of z) Unconfirmed Idle (λ n. apart (same_number z x in_z.1 within.1 n))
+  channel_apart z in_z apart true false =
+      get_or-set_other m.world.legs.conditions (number_of x) (number_of z) Unconfirmed Idle (λ n. apart (same_number z x in_z.1 within.1 n))
   channel_apart z in_z apart false other = refl
 
-  flag_after_again : (z : Slot) (h : HeldLeg) (o : Option (List ℕ)) → slice_index_or (making_after_all d m (send_again h o)).world.legs.owed (number_of z) false ≡ slice_index_or m.world.legs.owed (number_of z) false
-  flag_after_again z h None = refl
-  flag_after_again z h (Some octets) = refl
+  condition_after_again : (z : Slot) (h : HeldLeg) (o : Option (List ℕ)) → condition_in z (send_again h o)
+  condition_after_again z h None = refl
+  condition_after_again z h (Some octets) = refl
 
-  pub flags_apart : (z : Slot) → IsExternal d.external z → (z ≡ x → ⊥) → slice_index_or done.world.legs.owed (number_of z) false ≡ slice_index_or m.world.legs.owed (number_of z) false
-  flags_apart z in_z apart =
-      at_held m.world.legs x (resume_held tones whole m.world.legs x) (λ os. slice_index_or (making_after_all d m os).world.legs.owed (number_of z) false ≡ slice_index_or m.world.legs.owed (number_of z) false)
-      (λ none. channel_apart z in_z apart (is_owed m.world.legs x) whole)
-      (λ leg at. by_resume d tones m x leg kept within at (λ os. slice_index_or (making_after_all d m os).world.legs.owed (number_of z) false ≡ slice_index_or m.world.legs.owed (number_of z) false)
-      (λ talks. refl) (λ dials. refl) (λ clears. flag_after_again z (record { slot = x; leg = leg }) (kept_at m.world.legs x)) refl)
+  pub conditions_apart : (z : Slot) → IsExternal d.external z → (z ≡ x → ⊥) → condition_at done.world.legs z ≡ condition_at m.world.legs z
+  conditions_apart z in_z apart =
+      at_held m.world.legs x (resume_held tones whole m.world.legs x) (condition_in z)
+      (λ none. channel_apart z in_z apart (awaits_restart m.world.legs x) whole)
+      (λ leg at. by_resume d tones m x leg kept within at (condition_in z)
+      (λ talks. refl) (λ dials. refl) (λ clears. condition_after_again z (record { slot = x; leg = leg }) (kept_at m.world.legs x)) refl)
 
   -- nor has another stored message
   abbrev stored_in : Slot → List Operation → Type 0
@@ -78,7 +83,7 @@ module _ (d : Dimensions) (tones : Tones) (whole : Bool) (m : Making) (x : Slot)
     other_stored : (o : Option (List ℕ)) → slice_index_or (slice_set m.world.legs.kept (number_of x) o) (number_of z) None ≡ kept_at m.world.legs z
     other_stored o = get_or-set_other m.world.legs.kept (number_of x) (number_of z) o None (λ n. apart (same_number z x in_z.1 within.1 n))
 
-    channel_stored : (owed other : Bool) → stored_in z (if owed then restart_channel other x else [])
+    channel_stored : (awaits other : Bool) → stored_in z (if awaits then restart_channel other x else [])
     channel_stored true true = other_stored None
     channel_stored true false = other_stored None
     channel_stored false other = refl
@@ -89,7 +94,7 @@ module _ (d : Dimensions) (tones : Tones) (whole : Bool) (m : Making) (x : Slot)
 
     pub stored_apart : kept_at done.world.legs z ≡ kept_at m.world.legs z
     stored_apart =
-        at_held m.world.legs x (resume_held tones whole m.world.legs x) (stored_in z) (λ none. channel_stored (is_owed m.world.legs x) whole)
+        at_held m.world.legs x (resume_held tones whole m.world.legs x) (stored_in z) (λ none. channel_stored (awaits_restart m.world.legs x) whole)
         (λ leg at. by_resume d tones m x leg kept within at (stored_in z) (λ talks. other_stored None) (λ dials. other_stored None) (λ clears. again_stored leg (kept_at m.world.legs x)) refl)
 
   -- the enquiry, the stored message, and the RESTART
@@ -110,28 +115,29 @@ module _ (d : Dimensions) (tones : Tones) (whole : Bool) (m : Making) (x : Slot)
           → resume_slot tones whole m.world.legs x ≡ send_again (record { slot = x; leg = leg }) (kept_at m.world.legs x)
       repeats leg at not_up not_dials asked = rw (at, not_up, not_dials, asked) refl
 
-  pub restart_sent : leg_at m.world.legs x ≡ None → is_owed m.world.legs x ≡ true → whole ≡ false → Contains done.sends (restart_signal x (Channel x.place))
-  restart_sent none owed alone =
-      subst (λ (os : List Operation). Contains (making_after_all d m os).sends (restart_signal x (Channel x.place))) (sym (restarts none owed alone)) (Contains-push m.sends (restart_signal x (Channel x.place)))
+  pub restart_sent : leg_at m.world.legs x ≡ None → awaits_restart m.world.legs x ≡ true → whole ≡ false → Contains done.sends (restart_signal x (Channel x.place))
+  restart_sent none awaits alone =
+      subst (λ (os : List Operation). Contains (making_after_all d m os).sends (restart_signal x (Channel x.place))) (sym (restarts none awaits alone)) (Contains-push m.sends (restart_signal x (Channel x.place)))
     where
-      held_none : (legs : Legs) → (o : Option Leg) → leg_at legs x ≡ o → o ≡ None → is_owed legs x ≡ true → (w : Bool) → w ≡ false → resume_slot tones w legs x ≡ restart_channel false x
+      held_none : (legs : Legs) → (o : Option Leg) → leg_at legs x ≡ o → o ≡ None → awaits_restart legs x ≡ true → (w : Bool) → w ≡ false → resume_slot tones w legs x ≡ restart_channel false x
       held_none legs o at is owes w alone = rw (at, is) ends where
-        ends : (if is_owed legs x then restart_channel w x else []) ≡ restart_channel false x
+        ends : (if awaits_restart legs x then restart_channel w x else []) ≡ restart_channel false x
         ends = rw (owes, alone) refl
 
-      restarts : leg_at m.world.legs x ≡ None → is_owed m.world.legs x ≡ true → whole ≡ false → resume_slot tones whole m.world.legs x ≡ restart_channel false x
-      restarts none owed alone = held_none m.world.legs None none refl owed whole alone
+      restarts : leg_at m.world.legs x ≡ None → awaits_restart m.world.legs x ≡ true → whole ≡ false → resume_slot tones whole m.world.legs x ≡ restart_channel false x
+      restarts none awaits alone = held_none m.world.legs None none refl awaits whole alone
 
 -- ---- the slots of the line
 
 record AreSent (s : Setting) (whole : Bool) (line : ℕ) (w : World) (n : ℕ) (m : Making) : Type 0 where
   legs : AreResumed s line w n m.world
-  flags : (z : Slot) → IsExternal s.dimensions.external z → z.line ≡ line → n ≤ z.place → slice_index_or m.world.legs.owed (number_of z) false ≡ slice_index_or w.legs.owed (number_of z) false
+  conditions : (z : Slot) → IsExternal s.dimensions.external z → z.line ≡ line → n ≤ z.place → condition_at m.world.legs z ≡ condition_at w.legs z
   stored : (z : Slot) → IsExternal s.dimensions.external z → z.line ≡ line → n ≤ z.place → kept_at m.world.legs z ≡ kept_at w.legs z
   enquiries : (z : Slot) (l : Leg) → IsExternal s.dimensions.external z → z.line ≡ line → z.place < n → leg_at w.legs z ≡ Some l → l.state ≡ active → Contains m.sends (enquiry_signal z l)
   releases : (z : Slot) (l : Leg) (octets : List ℕ) → IsExternal s.dimensions.external z → z.line ≡ line → z.place < n → leg_at w.legs z ≡ Some l → l.state ≡ release_request → kept_at w.legs z ≡ Some octets
       → Contains m.sends (stored_signal z octets)
-  restarts : (z : Slot) → IsExternal s.dimensions.external z → z.line ≡ line → z.place < n → is_owed w.legs z ≡ true → whole ≡ false → Contains m.sends (restart_signal z (Channel z.place))
+  restarts : (z : Slot) → IsExternal s.dimensions.external z → z.line ≡ line → z.place < n → awaits_restart w.legs z ≡ true → whole ≡ false
+      → Contains m.sends (restart_signal z (Channel z.place))
 
 module _ (s : Setting) (whole : Bool) (line : ℕ) (w : World) (n : ℕ) (below : line < s.dimensions.external) (small : n < 30) (m : Making) (so_far : AreSent s whole line w n m) where
   abbrev d : Dimensions
@@ -155,8 +161,18 @@ module _ (s : Setting) (whole : Bool) (line : ℕ) (w : World) (n : ℕ) (below 
       ∙ mapped (resumed_below line w n here) (leg_at w.legs here) (λ l. ap (λ (b : Bool). if b then resumed w l else l)
       (none_before (restarts_slot whole_line line here) (nat_lt n n) (lt_false whole_line line n n (omega arith))))
 
-  owed_here : is_owed w.legs here ≡ true → is_owed m.world.legs here ≡ true
-  owed_here owed = (λ i. so_far.flags here in_here refl (omega arith) i && is_none (leg_here i)) ∙ owed
+  awaits_here : awaits_restart w.legs here ≡ true → awaits_restart m.world.legs here ≡ true
+  awaits_here awaits =
+      let condition = so_far.conditions here in_here refl (omega arith) in
+      (λ i. (is_owing (condition i) && is_none (leg_here i)) || (is_open (condition i) && is_none (leg_here i))) ∙ awaits
+
+  -- no leg holds a slot that awaits RESTART
+  without_leg : (owing unsure empty : Bool) → ((owing && empty) || (unsure && empty)) ≡ true → empty ≡ true
+  without_leg owing unsure true awaits = refl
+  without_leg true true false awaits = awaits
+  without_leg true false false awaits = awaits
+  without_leg false true false awaits = awaits
+  without_leg false false false awaits = awaits
 
   apart_later : (z : Slot) → suc n ≤ z.place → z ≡ here → ⊥
   apart_later z high same = let place : z.place ≡ n = ap (λ (q : Slot). q.place) same in omega (arith, place, high)
@@ -180,19 +196,24 @@ module _ (s : Setting) (whole : Bool) (line : ℕ) (w : World) (n : ℕ) (below 
     | inr apart ↦ sent_still_all d m turn (stored_signal z octets) (so_far.releases z l octets in_z on (place_before z on less apart) at is keeps)
   ]
 
-  more_restarts : (z : Slot) → IsExternal d.external z → z.line ≡ line → z.place < suc n → is_owed w.legs z ≡ true → whole ≡ false → Contains (making_after_all d m turn).sends (restart_signal z (Channel z.place))
-  more_restarts z in_z on less owed alone = elim (same_or_apart z here) [
+  more_restarts : (z : Slot) → IsExternal d.external z → z.line ≡ line → z.place < suc n → awaits_restart w.legs z ≡ true → whole ≡ false
+      → Contains (making_after_all d m turn).sends (restart_signal z (Channel z.place))
+  more_restarts z in_z on less awaits alone = elim (same_or_apart z here) [
     | inl same ↦
-        let owes : is_owed w.legs here ≡ true = sym (ap (is_owed w.legs) same) ∙ owed in
-        let none : leg_at m.world.legs here ≡ None = is_empty (leg_at m.world.legs here) (both_true (slice_index_or m.world.legs.owed (number_of here) false) (is_none (leg_at m.world.legs here)) (owed_here owes)).1 in
-        subst (λ (q : Slot). Contains (making_after_all d m turn).sends (restart_signal q (Channel q.place))) (sym same) (restart_sent d s.tones whole m here kept in_here none (owed_here owes) alone)
-    | inr apart ↦ sent_still_all d m turn (restart_signal z (Channel z.place)) (so_far.restarts z in_z on (place_before z on less apart) owed alone)
+        let here_too : awaits_restart m.world.legs here ≡ true = awaits_here (sym (ap (awaits_restart w.legs) same) ∙ awaits) in
+        let condition : Condition = condition_at m.world.legs here in
+        let none : leg_at m.world.legs here ≡ None = is_empty (leg_at m.world.legs here)
+            (without_leg (is_owing condition) (is_open condition) (is_none (leg_at m.world.legs here)) here_too) in
+        subst (λ (q : Slot). Contains (making_after_all d m turn).sends (restart_signal q (Channel q.place))) (sym same)
+            (restart_sent d s.tones whole m here kept in_here none here_too alone)
+    | inr apart ↦ sent_still_all d m turn (restart_signal z (Channel z.place)) (so_far.restarts z in_z on (place_before z on less apart) awaits alone)
   ]
 
   one_more : AreSent s whole line w (suc n) (making_after_all d m turn)
   one_more = record {
     legs = legs_one_more s whole line w n below small m so_far.legs;
-    flags = λ z in_z on high. flags_apart d s.tones whole m here kept in_here z in_z (apart_later z high) ∙ so_far.flags z in_z on (omega (arith, high));
+    conditions = λ z in_z on high.
+        conditions_apart d s.tones whole m here kept in_here z in_z (apart_later z high) ∙ so_far.conditions z in_z on (omega (arith, high));
     stored = λ z in_z on high. stored_apart d s.tones whole m here kept in_here z in_z (apart_later z high) ∙ so_far.stored z in_z on (omega (arith, high));
     enquiries = more_enquiries;
     releases = more_releases;
@@ -209,11 +230,11 @@ module _ (s : Setting) (line : ℕ) (w : World) (can : HasLine s w line) where
   start : (whole : Bool) → AreSent s whole line w 0 (so_far_at whole 0).making
   start whole = subst (λ (a : MessageOutcome). AreSent s whole line w 0 a.making) (sym (below_none s.dimensions (rule_of s.tones whole false) line begins)) (record {
     legs = legs_start s whole line w can.line_exists can.stands;
-    flags = λ z in_z on high. refl;
+    conditions = λ z in_z on high. refl;
     stored = λ z in_z on high. refl;
     enquiries = λ z l in_z on less at is. absurd (omega (arith, less));
     releases = λ z l octets in_z on less at is keeps. absurd (omega (arith, less));
-    restarts = λ z in_z on less owed alone. absurd (omega (arith, less));
+    restarts = λ z in_z on less awaits alone. absurd (omega (arith, less));
   })
 
   sent_below : (whole : Bool) (n : ℕ) → n ≤ 30 → AreSent s whole line w n (so_far_at whole n).making
@@ -255,9 +276,9 @@ module _ (s : Setting) (line : ℕ) (w : World) (can : HasLine s w line) where
           since = refl;
         }
 
-    restarted_by : (whole : Bool) → is_owed w.legs x ≡ true → IsRestartSent (with_interface s.dimensions whole line (so_far_at whole 30)).making x
-    restarted_by true owed = (whole_line, refl, whole_sent (so_far_at true 30) x on)
-    restarted_by false owed = (Channel x.place, same_place x.place, (sent_below false 30 (omega arith)).restarts x in_x on in_x.1 owed refl) where
+    restarted_by : (whole : Bool) → awaits_restart w.legs x ≡ true → IsRestartSent (with_interface s.dimensions whole line (so_far_at whole 30)).making x
+    restarted_by true awaits = (whole_line, refl, whole_sent (so_far_at true 30) x on)
+    restarted_by false awaits = (Channel x.place, same_place x.place, (sent_below false 30 (omega arith)).restarts x in_x on in_x.1 awaits refl) where
       same_place : (n : ℕ) → (n == n) ≡ true
       same_place n = grind (arith, common_steps)
 
