@@ -1,9 +1,10 @@
 -- The condition of each channel after a message, and after the slots of a line follow a rule in sequence.
-use Rattle.std.proofs.Common.{◌≡◌, ◌≢◌, ℕ, zero, suc, ◌<◌, ◌≤◌, inl, inr, Bool, true, false, ◌&&◌, List, [], ◌∷◌, Option, Some, None, refl, sym, ◌∙◌, ap, subst, arith, set, get_or, get_or-set_other, if◌then◌else◌}
+use Rattle.std.proofs.Common.{◌≡◌, ◌≢◌, ℕ, zero, suc, ◌<◌, ◌≤◌, inl, inr, Bool, true, false, ◌&&◌, List, [], ◌∷◌, Option, Some, None, refl, sym, ◌∙◌, ap, subst, arith, eqb-true, set, get_or, get_or-set_other, if◌then◌else◌}
 use Rattle.std.specs.Prelude.{◌==◌, is_none, not, option_map}
 use Rattle.std.proofs.lemmas.Grind.{common_steps}
 use Rattle.circuit_model.specs.declared.channel.Slot.{Slot}
 use Rattle.circuit_model.specs.Extent.{IsExternal}
+use Rattle.circuit_model.proofs.Slots.{true_or_false}
 use Rattle.control_memory.specs.Layout.{number_of}
 use Rattle.control_memory.proofs.Steps.{same_number}
 use Rattle.call_states.specs.Acts.{act_on}
@@ -105,6 +106,14 @@ module _ (d : Dimensions) (rule : SlotRule) (line : ℕ) (v : World) (given : Sl
         subst (λ (a : MessageOutcome). AreGiven (suc n) a.making) (sym (below_more d rule line v n))
         (one_more n (omega (arith, small)) (outcome_below d rule line v n).making (all_given n (omega (arith, small))))
 
+  -- all of them, if the condition that they are given is that of every channel of another line
+  pub each_given : (m : Making) → AreGiven 30 m → (z : Slot) → IsExternal d.external z → ((z.line == line) ≡ false → condition_at v.legs z ≡ given z)
+      → condition_at m.world.legs z ≡ given z
+  each_given m all z in_z off = elim (true_or_false (z.line == line)) [
+    | inl same ↦ all.done z in_z (eqb-true z.line line same) in_z.1
+    | inr apart ↦ all.others z in_z (λ is. grind (arith, common_steps, apart, is)) ∙ off apart
+  ]
+
 -- ---- a message
 
 -- the other leg of a call holds its slot
@@ -188,6 +197,10 @@ module _ (s : Setting) (w : World) where
   pub same_leaves : Leaves w.legs
   same_leaves z in_z = ((λ none. refl), (λ l at none. let wrong : Some l ≡ None = sym at ∙ none in absurd cc))
 
+  pub either_leaves : (b : Bool) (u : World) → Leaves u.legs → Leaves (if b then u else w).legs
+  either_leaves true u leaves = leaves
+  either_leaves false u leaves = same_leaves
+
   -- ---- RESTART ACKNOWLEDGE
 
   -- the condition of a channel then
@@ -237,20 +250,9 @@ module _ (s : Setting) (w : World) where
         let all = all_given d (confirm_rule r) line w (confirmed r line) SameHeld below refl turns 30 (omega arith) in
         record {
           held = all.fact;
-          conditions = λ z in_z. by z in_z all.done all.others (z.line == line) refl;
+          conditions = λ z in_z. each_given d (confirm_rule r) line w (confirmed r line) SameHeld (outcome_below d (confirm_rule r) line w 30).making all z in_z
+              (λ apart. ap (λ (b : Bool). if (b && is_restarted r z.place) && is_unconfirmed w.legs z then Idle else condition_at w.legs z) (sym apart));
         }
-      where
-        v : World
-        v = (outcome_below d (confirm_rule r) line w 30).making.world
-
-        by : (z : Slot) → IsExternal d.external z
-            → ((y : Slot) → IsExternal d.external y → y.line ≡ line → y.place < 30 → condition_at v.legs y ≡ confirmed r line y)
-            → ((y : Slot) → IsExternal d.external y → y.line ≢ line → condition_at v.legs y ≡ condition_at w.legs y)
-            → (on : Bool) → (z.line == line) ≡ on → condition_at v.legs z ≡ confirmed r line z
-        by z in_z done others true same = done z in_z (grind (arith, common_steps, same)) in_z.1
-        by z in_z done others false apart =
-            others z in_z (λ is. grind (arith, common_steps, apart, is))
-            ∙ ap (λ (b : Bool). if (b && is_restarted r z.place) && is_unconfirmed w.legs z then Idle else condition_at w.legs z) (sym apart)
 
   -- ---- each message
 

@@ -17,6 +17,8 @@ pub mod ResumedLineLemmas
 pub mod LinkStateLemmas
 mod RemovedSlotLemmas
 mod ChannelConditionLemmas
+mod RaisedConditionLemmas
+mod UnconfirmedLemmas
 mod OwedStillLemmas
 mod OwedEventLemmas
 mod OwedSlotLemmas

@@ -50,7 +50,7 @@ module _ (s : Setting) (w : World) (line : ℕ) (can : HasLine s w line) (outage
   d = s.dimensions
 
   -- the user of each removed leg is owed a RESTART
-  abbrev always : Slot → Leg → Condition
+  abbrev pub always : Slot → Leg → Condition
   always z l = Owed
 
   abbrev failed : World
@@ -70,7 +70,7 @@ module _ (s : Setting) (w : World) (line : ℕ) (can : HasLine s w line) (outage
   slot_tracks m x kept in_x t = at_held m.world.legs x (drop_leg s.tones m.world.legs) (TrackAll d w always) (λ none. tt)
       (λ leg at. drop_leg_tracks d w always s.tones m x leg kept in_x at t (λ z l. refl))
 
-  tracked : Tracks d w always failed
+  pub tracked : Tracks d w always failed
   tracked = (each_below d (rule_of s.tones false true) line (with_line w line true) (λ a. Tracks d w always a.making.world × Kept d s.tones a.making.world)
       (begins, linked_kept d s.tones w line true (can.stands.circuits, can.stands.legs)) (λ a place small k.
       let x : Slot = record { line = line; place = place } in (
@@ -101,7 +101,7 @@ module _ (s : Setting) (w : World) (input : Input) (stands : CallsStand s w) (ou
   after_frame = next s w (Frame input)
 
   -- the condition of the channel of a leg in this state, if a timer removes it
-  abbrev untold : Slot → Leg → Condition
+  abbrev pub untold : Slot → Leg → Condition
   untold z l = if l.state == active then Owed else if l.state == release_request then unanswered (is_down w.legs z.line) else Idle
 
   starts : Tracks s.dimensions passed untold passed
@@ -127,7 +127,7 @@ module _ (s : Setting) (w : World) (input : Input) (stands : CallsStand s w) (ou
         | inr late ↦ let early = due_since leg.state leg.resent leg.since frame s.timers e due in absurd (omega (arith, late, early))
       ]
 
-  turned : Tracks s.dimensions passed untold after_frame
+  pub turned : Tracks s.dimensions passed untold after_frame
   turned = (each_line s frame passed (λ a. Tracks s.dimensions passed untold a.making.world × Kept s.dimensions s.tones a.making.world × (a.making.world.legs.down ≡ w.legs.down))
       (starts, pass_kept s w stands.circuits stands.legs input, refl) (λ a line small k.
       let x : Slot = slot_looked_at frame line in

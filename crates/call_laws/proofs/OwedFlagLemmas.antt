@@ -40,7 +40,7 @@ performed_flags d m (op.Await x leg) = refl
 performed_flags d m (op.Remove x condition) = length-set m.world.legs.conditions (number_of x) condition
 performed_flags d m (op.Send line message) = refl
 
-performed_all_flags : (d : Dimensions) (m : Making) (os : List Operation) → flags_of (making_after_all d m os).world ≡ flags_of m.world
+pub performed_all_flags : (d : Dimensions) (m : Making) (os : List Operation) → flags_of (making_after_all d m os).world ≡ flags_of m.world
 performed_all_flags d m [] = refl
 performed_all_flags d m (o ∷ os) = performed_all_flags d (making_after d m o) os ∙ performed_flags d m o
 

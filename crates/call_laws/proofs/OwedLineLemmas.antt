@@ -188,7 +188,7 @@ module _ (s : Setting) (w : World) (line : ℕ) (can : HasLine s w line) (outage
   and_true true = refl
   and_true false = refl
 
-  none_too : (x : Slot) → IsExternal d.external x → x.line ≢ line → (o : Option Leg) → leg_at w.legs x ≡ o → is_none (leg_at after_restart.legs x) ≡ is_none o
+  pub none_too : (x : Slot) → IsExternal d.external x → x.line ≢ line → (o : Option Leg) → leg_at w.legs x ≡ o → is_none (leg_at after_restart.legs x) ≡ is_none o
   none_too x in_x off None at = ap is_none ((legs_below s w line can).empty x in_x at)
   none_too x in_x off (Some leg) at = ap is_none (other_lines_are_cleared s w line can x leg in_x off at)
 

@@ -187,6 +187,16 @@ module _ (d : Dimensions) (w : World) (cond : Slot → Leg → Condition) where
       exact_by (Some l) (Some k) at now =
           rw (at, now) (and_some (reads (condition_at v.legs z)) ∙ sym (ap (λ (b : Bool). b || false) (and_some before)))
 
+      -- what is read of a channel without a leg is read still
+      stays_by : (o : Option Leg) → leg_at w.legs z ≡ o → reads_at reads w.legs z ≡ ((reads_at reads w.legs z && true) && is_none (leg_at v.legs z))
+      stays_by None none =
+          let empty = (t.empty z in_z none).0 in
+          rw (none, empty) (sym (and_none ((before && true) && true) ∙ and_none (before && true)))
+      stays_by (Some l) at = rw at (and_some before ∙ sym (ap (λ (b : Bool). (b && true) && is_none (leg_at v.legs z)) (and_some before)))
+
+      pub read_stays : reads_at reads w.legs z ≡ ((reads_at reads w.legs z && true) && is_none (leg_at v.legs z))
+      read_stays = stays_by (leg_at w.legs z) refl
+
       pub read_exactly : reads_at reads v.legs z ≡ (reads_at reads w.legs z || (is_removed w v z && given z (leg_at w.legs z)))
       read_exactly = exact_by (leg_at w.legs z) (leg_at v.legs z) refl refl
 
