@@ -21,7 +21,7 @@ use Rattle.clearing_rules.specs.UnknownReference.{answer_without_call}
 use Rattle.exchange_events.specs.Sizes.{Setting, Dimensions}
 use Rattle.call_profile.specs.ActCourse.{course_of}
 use Rattle.call_profile.specs.Acts.{peer_of}
-use Rattle.call_profile.specs.Calls.{Request, For_leg, New_call, On_no_call, Restarts, Confirms, Unanswered, answer_back, outcome_for, request_of}
+use Rattle.call_profile.specs.Calls.{Request, For_leg, New_call, On_no_call, Restarts, Confirms, Unanswered, after_message, answer_back, outcome_for, request_of}
 use Rattle.call_profile.specs.Legs.{Legs, condition_at, is_unconfirmed, leg_at, with_entry, without_leg}
 use Rattle.call_profile.specs.LegStanding.{CallsStand}
 use Rattle.call_profile.specs.Operations as op
@@ -31,11 +31,13 @@ use Rattle.call_profile.specs.Restarts.{MessageOutcome, SlotRule, confirm_rule, 
 use Rattle.call_profile.specs.Setup.{course_of_setup, refusal}
 use Rattle.call_profile.specs.World.{World}
 use Rattle.call_profile.proofs.BesideLemmas.{look, same_or_apart}
+use Rattle.call_profile.proofs.CommandLemmas.{both_true}
 use Rattle.call_profile.proofs.ConfirmedSlotLemmas.{confirm_held}
 use Rattle.call_profile.proofs.NamedLegLemmas.{received_stands}
 use Rattle.call_profile.proofs.PermittedActLemmas.{peer_there_too}
 use Rattle.call_profile.proofs.RestartedSlotLemmas.{below_none, below_more}
 use Rattle.call_profile.proofs.VacantSlotLemmas.{same_parts}
+use Rattle.call_laws.specs.Unconfirmed.{confirms_slot}
 use Rattle.call_laws.proofs.LinkedLegLemmas.{entry_or_before}
 use Rattle.call_laws.proofs.OwedTrackLemmas.{reads_at}
 use Rattle.call_laws.proofs.RemovedSlotLemmas.{FlagAll, MayFlag, back_flags, course_flags, restart_flags, setup_flags}
@@ -43,7 +45,7 @@ use Rattle.call_laws.proofs.RestartedLineLemmas.{AreRestartedBelow, restarted_be
 
 -- ---- one entry
 
-pub set_idle : (l : List Condition) (n : ℕ) → get_or (set l n Idle) n Idle ≡ Idle
+set_idle : (l : List Condition) (n : ℕ) → get_or (set l n Idle) n Idle ≡ Idle
 set_idle [] n = refl
 set_idle (a ∷ rest) zero = refl
 set_idle (a ∷ rest) (suc n) = set_idle rest n
@@ -149,7 +151,7 @@ module _ (s : Setting) (w : World) where
   MayRemove x condition = IsExternal d.external x × WasHeld x × (condition ≡ Idle)
 
   -- a channel that had no leg has its condition, and one whose leg was removed is idle
-  abbrev pub Leaves : Legs → Type 0
+  abbrev Leaves : Legs → Type 0
   Leaves legs =
       (z : Slot) → IsExternal d.external z
       → (leg_at w.legs z ≡ None → condition_at legs z ≡ condition_at w.legs z)
@@ -194,22 +196,18 @@ module _ (s : Setting) (w : World) where
   leaves_all m [] may before = before
   leaves_all m (o ∷ os) may before = leaves_all (making_after d m o) os may.1 (performed m o may.0 before)
 
-  pub same_leaves : Leaves w.legs
+  same_leaves : Leaves w.legs
   same_leaves z in_z = ((λ none. refl), (λ l at none. let wrong : Some l ≡ None = sym at ∙ none in absurd cc))
-
-  pub either_leaves : (b : Bool) (u : World) → Leaves u.legs → Leaves (if b then u else w).legs
-  either_leaves true u leaves = leaves
-  either_leaves false u leaves = same_leaves
 
   -- ---- RESTART ACKNOWLEDGE
 
   -- the condition of a channel then
-  abbrev pub confirmed : Restart → ℕ → Slot → Condition
+  abbrev confirmed : Restart → ℕ → Slot → Condition
   confirmed r line z = if restarts_slot r line z && is_unconfirmed w.legs z then Idle else condition_at w.legs z
 
-  pub record AreConfirmed (r : Restart) (line : ℕ) (v : World) : Type 0 where
-    pub held : v.legs.held ≡ w.legs.held
-    pub conditions : (z : Slot) → IsExternal d.external z → condition_at v.legs z ≡ confirmed r line z
+  record AreConfirmed (r : Restart) (line : ℕ) (v : World) : Type 0 where
+    held : v.legs.held ≡ w.legs.held
+    conditions : (z : Slot) → IsExternal d.external z → condition_at v.legs z ≡ confirmed r line z
 
   module _ (r : Restart) (line : ℕ) (below : line < d.external) where
     abbrev SameHeld : ℕ → Making → Type 0
@@ -245,7 +243,7 @@ module _ (s : Setting) (w : World) where
           apart = λ z in_z apart. others_stay m x z (below, small) in_z apart (covers && is_unconfirmed m.world.legs x);
         }
 
-    pub are_confirmed : AreConfirmed r line (outcome_below d (confirm_rule r) line w 30).making.world
+    are_confirmed : AreConfirmed r line (outcome_below d (confirm_rule r) line w 30).making.world
     are_confirmed =
         let all = all_given d (confirm_rule r) line w (confirmed r line) SameHeld below refl turns 30 (omega arith) in
         record {
@@ -255,6 +253,11 @@ module _ (s : Setting) (w : World) where
         }
 
   -- ---- each message
+
+  -- what a request leaves
+  abbrev Received : ℕ → Request → World → Type 0
+  Received line (Confirms r) v = AreConfirmed r line v
+  Received line other v = Leaves v.legs
 
   module _ (stands : CallsStand s w) where
     was_held : (v : World) (x : Slot) (leg : Leg) → (leg_at w.legs x ≡ None → leg_at v.legs x ≡ None) → leg_at v.legs x ≡ Some leg → WasHeld x
@@ -288,25 +291,24 @@ module _ (s : Setting) (w : World) where
         (removes r line n a below (omega (arith, small)) (restarted_below s r line w below (stands.circuits, stands.legs) n (omega (arith, small))))
         (restarted r line below n (omega (arith, small))))
 
-    -- what a request leaves
-    abbrev pub Received : ℕ → Request → World → Type 0
-    Received line (Confirms r) v = AreConfirmed r line v
-    Received line other v = Leaves v.legs
-
-    pub received : (line : ℕ) (octets : List ℕ) → line < d.external → (r : Request) → request_of w.legs line octets ≡ r → Received line r (outcome_for s w line r).making.world
-    received line octets below (For_leg h m) is =
+    received_by : (line : ℕ) (octets : List ℕ) → line < d.external → (r : Request) → request_of w.legs line octets ≡ r
+        → Received line r (outcome_for s w line r).making.world
+    received_by line octets below (For_leg h m) is =
         let named = received_stands w.legs line octets h m is in
         let within : IsExternal d.external h.slot = (subst (λ n. n < d.external) (sym named.among.0) below, named.among.1) in
         let held : WasHeld h.slot = λ none. let wrong : None ≡ Some h.leg = sym none ∙ named.at in cc in
         leaves_all (making_at w) (course_of s w h m (act_on h.leg.state m)).operations
         (course_flags MayRemove s w h m (within, held, refl) (act_on h.leg.state m)) same_leaves
-    received line octets below (New_call m) is =
+    received_by line octets below (New_call m) is =
         leaves_all (making_at w) (course_of_setup s w line m).operations (setup_flags MayRemove s w line m (refusal s w line m)) same_leaves
-    received line octets below (On_no_call m) is =
+    received_by line octets below (On_no_call m) is =
         leaves_all (making_at w) (answer_back line (answer_without_call m)) (back_flags MayRemove line (answer_without_call m)) same_leaves
-    received line octets below (Restarts r) is = restarted r line below 30 (omega arith)
-    received line octets below (Confirms r) is = are_confirmed r line below
-    received line octets below Unanswered is = same_leaves
+    received_by line octets below (Restarts r) is = restarted r line below 30 (omega arith)
+    received_by line octets below (Confirms r) is = are_confirmed r line below
+    received_by line octets below Unanswered is = same_leaves
+
+    received : (line : ℕ) (octets : List ℕ) → line < d.external → Received line (request_of w.legs line octets) (after_message s w line octets)
+    received line octets below = received_by line octets below (request_of w.legs line octets) refl
 
 -- ---- two readings of the conditions
 
@@ -318,22 +320,32 @@ and_false : (b : Bool) → (b && false) ≡ false
 and_false true = refl
 and_false false = refl
 
--- by its conditions and its legs before and after the event: it is settled, or its leg was removed, or the condition is the same
-pub still_at : (settled before afterwards : Bool) (o p : Option Leg) → (p ≡ None → settled ≡ true → afterwards ≡ false)
-    → (p ≡ None → settled ≡ false → o ≡ None → afterwards ≡ before) → ((l : Leg) → p ≡ None → o ≡ Some l → afterwards ≡ false)
-    → (afterwards && is_none p) ≡ (((before && is_none o) && not settled) && is_none p)
-still_at settled before afterwards o (Some k) pays stays gone = and_false afterwards ∙ sym (and_false ((before && is_none o) && not settled))
-still_at true before afterwards o None pays stays gone = ap (λ (b : Bool). b && true) (pays refl refl ∙ sym (and_false (before && is_none o)))
-still_at false before afterwards None None pays stays gone =
-    ap (λ (b : Bool). b && true) (stays refl refl refl ∙ sym (and_true (before && true) ∙ and_true before))
-still_at false before afterwards (Some l) None pays stays gone =
-    ap (λ (b : Bool). b && true) (gone l refl refl ∙ sym (and_true (before && false) ∙ and_false before))
+-- by its conditions and its legs before and after the event: the condition is the same, or its leg was removed
+still_at : (before afterwards : Bool) (o p : Option Leg) → (o ≡ None → afterwards ≡ before) → ((l : Leg) → o ≡ Some l → p ≡ None → afterwards ≡ false)
+    → (afterwards && is_none p) ≡ (((before && is_none o) && true) && is_none p)
+still_at before afterwards o (Some k) stays gone = and_false afterwards ∙ sym (and_false ((before && is_none o) && true))
+still_at before afterwards None None stays gone = ap (λ (b : Bool). b && true) (stays refl ∙ sym (and_true (before && true) ∙ and_true before))
+still_at before afterwards (Some l) None stays gone = ap (λ (b : Bool). b && true) (gone l refl refl ∙ sym (and_true (before && false) ∙ and_false before))
 
--- what is read of a channel is read still, unless it gets a leg
-module _ (s : Setting) (w v : World) (reads : Condition → Bool) (idle : reads Idle ≡ false) (x : Slot) (in_x : IsExternal s.dimensions.external x) where
-  pub left_still : Leaves s w v.legs → reads_at reads v.legs x ≡ ((reads_at reads w.legs x && not false) && is_none (leg_at v.legs x))
-  left_still leaves = still_at false (reads (condition_at w.legs x)) (reads (condition_at v.legs x)) (leg_at w.legs x) (leg_at v.legs x)
-      (λ none settled. absurd cc) (λ none free empty. ap reads ((leaves x in_x).0 empty)) (λ l none at. ap reads ((leaves x in_x).1 l at none) ∙ idle)
+-- what is read of a channel is read still, unless the event settles it, or its slot gets a leg
+abbrev pub StillReads : ℕ → (Condition → Bool) → World → World → (Slot → Bool) → Type 0
+StillReads external reads w v settles =
+    (x : Slot) → IsExternal external x → reads_at reads v.legs x ≡ ((reads_at reads w.legs x && not (settles x)) && is_none (leg_at v.legs x))
+
+-- so what is read was read before
+pub was_read : (before settled none : Bool) → ((before && not settled) && none) ≡ true → before ≡ true
+was_read before settled none is = (both_true before (not settled) (both_true (before && not settled) none is).0).0
+
+module _ (s : Setting) (w v : World) (reads : Condition → Bool) (idle : reads Idle ≡ false) where
+  left_still : Leaves s w v.legs → StillReads s.dimensions.external reads w v (λ x. false)
+  left_still leaves x in_x = still_at (reads (condition_at w.legs x)) (reads (condition_at v.legs x)) (leg_at w.legs x) (leg_at v.legs x)
+      (λ empty. ap reads ((leaves x in_x).0 empty)) (λ l at none. ap reads ((leaves x in_x).1 l at none) ∙ idle)
+
+-- a command leaves it
+pub command_reads : (s : Setting) (w u : World) (reads : Condition → Bool) → reads Idle ≡ false → u.legs ≡ w.legs → (b : Bool)
+    → StillReads s.dimensions.external reads w (if b then u else w) (λ x. false)
+command_reads s w u reads idle same true = left_still s w u reads idle (subst (Leaves s w) (sym same) (same_leaves s w))
+command_reads s w u reads idle same false = left_still s w w reads idle (same_leaves s w)
 
 -- RESTART ACKNOWLEDGE settles what is unconfirmed, and nothing that is owed
 confirmed_reads : (covers : Bool) (k : Condition) (o : Option Leg)
@@ -359,12 +371,31 @@ module _ (s : Setting) (w v : World) (r : Restart) (line : ℕ) (done : AreConfi
   leg_then : is_none (leg_at w.legs x) ≡ is_none (leg_at v.legs x)
   leg_then = ap is_none (sym (ap (look x) done.held))
 
-  pub owed_still : reads_at is_owing v.legs x ≡ ((reads_at is_owing w.legs x && not false) && is_none (leg_at v.legs x))
-  owed_still =
-      read_then is_owing ∙ (confirmed_reads (restarts_slot r line x) (condition_at w.legs x) (leg_at w.legs x)).0
-      ∙ ap (λ (b : Bool). (reads_at is_owing w.legs x && not false) && b) leg_then
+  confirmed_then : (reads_at is_owing v.legs x ≡ ((reads_at is_owing w.legs x && not false) && is_none (leg_at v.legs x)))
+      × (reads_at is_open v.legs x ≡ ((reads_at is_open w.legs x && not (restarts_slot r line x)) && is_none (leg_at v.legs x)))
+  confirmed_then =
+      let both = confirmed_reads (restarts_slot r line x) (condition_at w.legs x) (leg_at w.legs x) in (
+        read_then is_owing ∙ both.0 ∙ ap (λ (b : Bool). (reads_at is_owing w.legs x && not false) && b) leg_then,
+        read_then is_open ∙ both.1 ∙ ap (λ (b : Bool). (reads_at is_open w.legs x && not (restarts_slot r line x)) && b) leg_then,
+      )
 
-  pub unconfirmed_still : reads_at is_open v.legs x ≡ ((reads_at is_open w.legs x && not (restarts_slot r line x)) && is_none (leg_at v.legs x))
-  unconfirmed_still =
-      read_then is_open ∙ (confirmed_reads (restarts_slot r line x) (condition_at w.legs x) (leg_at w.legs x)).1
-      ∙ ap (λ (b : Bool). (reads_at is_open w.legs x && not (restarts_slot r line x)) && b) leg_then
+-- what is owed after a message, and what is unconfirmed
+module _ (s : Setting) (w : World) where
+  abbrev MessageReads : (line : ℕ) → Request → World → Type 0
+  MessageReads line r v = StillReads s.dimensions.external is_owing w v (λ x. false) × StillReads s.dimensions.external is_open w v (confirms_slot line r)
+
+  left_reads : (v : World) → Leaves s w v.legs
+      → StillReads s.dimensions.external is_owing w v (λ x. false) × StillReads s.dimensions.external is_open w v (λ x. false)
+  left_reads v leaves = (left_still s w v is_owing refl leaves, left_still s w v is_open refl leaves)
+
+  reads_by : (line : ℕ) (r : Request) (v : World) → Received s w line r v → MessageReads line r v
+  reads_by line (For_leg h m) v leaves = left_reads v leaves
+  reads_by line (New_call m) v leaves = left_reads v leaves
+  reads_by line (On_no_call m) v leaves = left_reads v leaves
+  reads_by line (Restarts r) v leaves = left_reads v leaves
+  reads_by line (Confirms r) v done = ((λ x in_x. (confirmed_then s w v r line done x in_x).0), (λ x in_x. (confirmed_then s w v r line done x in_x).1))
+  reads_by line Unanswered v leaves = left_reads v leaves
+
+  pub message_reads : CallsStand s w → (line : ℕ) (octets : List ℕ) → line < s.dimensions.external
+      → MessageReads line (request_of w.legs line octets) (after_message s w line octets)
+  message_reads stands line octets below = reads_by line (request_of w.legs line octets) (after_message s w line octets) (received s w stands line octets below)

@@ -1,64 +1,59 @@
 -- For which channels exactly a RESTART is owed after a failure of a data link, after a frame, and after any other event.
-use Rattle.std.proofs.Common.{◌≡◌, ℕ, ◌<◌, inl, inr, Bool, true, false, ◌&&◌, ◌||◌, List, Option, Some, None, refl, sym, ◌∙◌, ap, arith, if◌then◌else◌}
+use Rattle.std.proofs.Common.{◌≡◌, ℕ, ◌<◌, inl, inr, ◌*◌, Bool, true, false, ◌&&◌, ◌||◌, List, length, Option, Some, None, refl, sym, ◌∙◌, ap, arith, if◌then◌else◌}
 use Rattle.std.specs.Prelude.{◌==◌, is_none, is_some, slice_index_or}
 use Rattle.circuit_model.specs.declared.channel.Slot.{Slot}
 use Rattle.circuit_model.specs.Extent.{IsExternal}
 use Rattle.circuit_model.specs.FrameInput.{Input}
 use Rattle.q931_codec.specs.CallStates.{active, release_request}
-use Rattle.call_states.specs.Acts.{act_on}
 use Rattle.call_states.specs.Conditions.{is_owing, unanswered}
 use Rattle.call_states.specs.declared.condition.Condition.{Condition}
 use Rattle.call_states.specs.declared.condition.Condition.TheVariants.{Idle, Owed}
 use Rattle.call_states.specs.declared.leg.Leg.{Leg}
 use Rattle.call_timers.specs.declared.expiry.Expiry.{Expiry}
-use Rattle.clearing_rules.specs.UnknownReference.{answer_without_call}
 use Rattle.exchange_events.specs.declared.trace.Event.{Event}
 use Rattle.exchange_events.specs.declared.trace.Event.TheVariants.{Nail, Seat, Free, Message, Frame, LinkUp, LinkDown, RestartLine}
 use Rattle.exchange_events.specs.Sizes.{Setting, Dimensions}
 use Rattle.exchange_events.specs.Sound.{Fits}
-use Rattle.call_profile.specs.ActCourse.{course_of}
-use Rattle.call_profile.specs.Calls.{Request, For_leg, New_call, On_no_call, Restarts, Confirms, Unanswered, answer_back, outcome_for, request_of}
+use Rattle.call_profile.specs.Calls.{after_message}
 use Rattle.call_laws.specs.Dropped.{HasLine}
 use Rattle.call_profile.specs.Expiring.{due_of, expire_slot, slot_looked_at}
 use Rattle.call_profile.specs.IdleSlots.{is_nailed}
-use Rattle.call_profile.specs.Legs.{is_down, is_owed, leg_at}
+use Rattle.call_profile.specs.Legs.{Legs, is_down, is_owed, leg_at}
 use Rattle.call_profile.specs.LegStanding.{CallsStand}
 use Rattle.call_profile.specs.LinkChanges.{drop_leg, drop_slot, resume_slot, rule_of, with_line}
 use Rattle.call_profile.specs.Operations.{Operation, Making, making_at}
-use Rattle.call_laws.specs.Outages.{OutagesStand}
 use Rattle.call_laws.specs.OwedRestarts.{OwesNoMore, is_removed, is_untold}
-use Rattle.call_profile.specs.Restarts.{confirm_rule, confirm_slot, restart_slot, restart_rule}
-use Rattle.call_profile.specs.Setup.{course_of_setup, refusal}
 use Rattle.call_profile.specs.Step.{next, may_nail, may_seat}
 use Rattle.call_profile.specs.World.{World, obey, pass}
 use Rattle.circuit_model.specs.Holding.{Connect, Seat as Take_seat, Clear}
 use Rattle.call_profile.proofs.ClearingLemmas.{Kept}
 use Rattle.call_profile.proofs.CommandLemmas.{pass_kept}
 use Rattle.call_profile.proofs.ExpiringLemmas.{at_slot, each_line, place_within, slot_fine}
+use Rattle.call_laws.proofs.ChannelConditionLemmas.{message_reads, was_read}
 use Rattle.call_laws.proofs.ExpiryChangeLemmas.{due_since}
 use Rattle.call_profile.proofs.ExpiryStateLemmas.{due_state}
 use Rattle.call_profile.proofs.LinkLemmas.{at_held, linked_kept, rule_kept}
 use Rattle.call_laws.proofs.LinkStateLemmas.{performed_all_down}
-use Rattle.call_laws.proofs.OwedSlotLemmas.{Owes, owed_all, restart_owes, confirm_owes, back_owes, course_owes, setup_owes, resume_owes}
+use Rattle.call_laws.proofs.OwedSlotLemmas.{Owes, owed_all, resume_owes}
 use Rattle.call_laws.proofs.OwedTrackLemmas.{Tracks, TrackAll, drop_leg_tracks, expiry_tracks, given, read_exactly, tracked_all}
 use Rattle.call_profile.proofs.RestartedSlotLemmas.{each_below, linked_by}
 
 -- ---- a failure of a data link
 
-module _ (s : Setting) (w : World) (line : ℕ) (can : HasLine s w line) (outages : OutagesStand s.dimensions.external w.legs) where
+-- the user of each removed leg is owed a RESTART
+abbrev pub always : Slot → Leg → Condition
+always z l = Owed
+
+module _ (s : Setting) (w : World) (line : ℕ) (can : HasLine s w line) (flags : length w.legs.conditions ≡ 30 * s.dimensions.external) where
   abbrev d : Dimensions
   d = s.dimensions
-
-  -- the user of each removed leg is owed a RESTART
-  abbrev pub always : Slot → Leg → Condition
-  always z l = Owed
 
   abbrev failed : World
   failed = next s w (LinkDown line)
 
   begins : Tracks d w always (with_line w line true)
   begins = record {
-    flags = outages.flags;
+    flags = flags;
     held = can.stands.legs.count;
     next = refl;
     empty = λ z in_z none. (none, refl);
@@ -90,7 +85,11 @@ module _ (s : Setting) (w : World) (line : ℕ) (can : HasLine s w line) (outage
 
 -- ---- a frame
 
-module _ (s : Setting) (w : World) (input : Input) (stands : CallsStand s w) (outages : OutagesStand s.dimensions.external w.legs) where
+-- the condition of the channel of a leg in this state, if a timer removes it
+abbrev pub condition_left : Legs → Slot → Leg → Condition
+condition_left legs z l = if l.state == active then Owed else if l.state == release_request then unanswered (is_down legs z.line) else Idle
+
+module _ (s : Setting) (w : World) (input : Input) (stands : CallsStand s w) (flags : length w.legs.conditions ≡ 30 * s.dimensions.external) where
   abbrev frame : ℕ
   frame = w.holding.next
 
@@ -100,13 +99,12 @@ module _ (s : Setting) (w : World) (input : Input) (stands : CallsStand s w) (ou
   abbrev after_frame : World
   after_frame = next s w (Frame input)
 
-  -- the condition of the channel of a leg in this state, if a timer removes it
-  abbrev pub untold : Slot → Leg → Condition
-  untold z l = if l.state == active then Owed else if l.state == release_request then unanswered (is_down w.legs z.line) else Idle
+  abbrev untold : Slot → Leg → Condition
+  untold = condition_left w.legs
 
   starts : Tracks s.dimensions passed untold passed
   starts = record {
-    flags = outages.flags;
+    flags = flags;
     held = stands.legs.count;
     next = refl;
     empty = λ z in_z none. (none, refl);
@@ -165,19 +163,10 @@ module _ (s : Setting) (w : World) (stands : CallsStand s w) where
   same_owed : NoMore w
   same_owed z in_z owed = owed
 
-  message_owes : (line : ℕ) (r : Request) → NoMore (outcome_for s w line r).making.world
-  message_owes line (For_leg h m) = owed_all s.dimensions Was (making_at w) (course_of s w h m (act_on h.leg.state m)).operations (course_owes s.dimensions Was s w h m (act_on h.leg.state m)) same_owed
-  message_owes line (New_call m) = owed_all s.dimensions Was (making_at w) (course_of_setup s w line m).operations (setup_owes s.dimensions Was s w line m (refusal s w line m)) same_owed
-  message_owes line (On_no_call m) = owed_all s.dimensions Was (making_at w) (answer_back line (answer_without_call m)) (back_owes s.dimensions Was line (answer_without_call m)) same_owed
-  message_owes line (Restarts r) =
-      each_below s.dimensions (restart_rule s.tones r) line w (λ a. NoMore a.making.world) same_owed (λ a place small so_far.
-      let x : Slot = record { line = line; place = place } in
-      owed_all s.dimensions Was a.making (restart_slot s.tones r a.making.world.legs x) (restart_owes s.dimensions Was s.tones r a.making.world.legs x) so_far) 30 (omega arith)
-  message_owes line (Confirms r) =
-      each_below s.dimensions (confirm_rule r) line w (λ a. NoMore a.making.world) same_owed (λ a place small so_far.
-      let x : Slot = record { line = line; place = place } in
-      owed_all s.dimensions Was a.making (confirm_slot r a.making.world.legs x) (confirm_owes s.dimensions Was r a.making.world.legs x) so_far) 30 (omega arith)
-  message_owes line Unanswered = same_owed
+  message_owes : (line : ℕ) (octets : List ℕ) → line < s.dimensions.external → NoMore (after_message s w line octets)
+  message_owes line octets below z in_z owed =
+      was_read (is_owed w.legs z) false (is_none (leg_at (after_message s w line octets).legs z))
+      (sym ((message_reads s w stands line octets below).0 z in_z) ∙ owed)
 
   up_owes : (line : ℕ) → line < s.dimensions.external → NoMore (next s w (LinkUp line))
   up_owes line below = linked_by s.dimensions s.tones false line w NoMore (λ whole.
@@ -196,7 +185,7 @@ module _ (s : Setting) (w : World) (stands : CallsStand s w) where
   owed_no_more (Nail x y) fits other = either_owes (may_nail w x y) (obey s.dimensions w (Connect x y)) w same_owed same_owed
   owed_no_more (Seat x room) fits other = either_owes (may_seat s.dimensions w x) (obey s.dimensions w (Take_seat x room)) w same_owed same_owed
   owed_no_more (Free x) fits other = either_owes (is_nailed w x) (obey s.dimensions w (Clear x)) w same_owed same_owed
-  owed_no_more (Message line octets) fits other = message_owes line (request_of w.legs line octets)
+  owed_no_more (Message line octets) fits other = message_owes line octets fits.0
   owed_no_more (LinkUp line) fits other = up_owes line fits
   owed_no_more (LinkDown line) fits other = absurd other
   owed_no_more (RestartLine line) fits other = absurd other

@@ -22,7 +22,6 @@ use Rattle.call_profile.specs.Legs.{condition_at, is_down, is_owed, leg_at}
 use Rattle.call_profile.specs.LinkChanges.{give_up_leg, give_up_rule, give_up_slot, whole_line}
 use Rattle.call_profile.specs.Operations as op
 use Rattle.call_profile.specs.Operations.{Operation, Making, making_after, making_after_all}
-use Rattle.call_laws.specs.Outages.{OutagesStand}
 use Rattle.call_laws.specs.OwedRestarts.{AreOwedByRestart}
 use Rattle.call_profile.specs.Peers.{PeerIsThere}
 use Rattle.call_profile.specs.Restarts.{MessageOutcome, outcome_at_slot, outcome_below, restart_peer, restarts_slot}
@@ -134,7 +133,7 @@ module _ (d : Dimensions) (line : ℕ) (condition : Condition) where
 
 -- ---- the slots of the line
 
-module _ (s : Setting) (w : World) (line : ℕ) (can : HasLine s w line) (outages : OutagesStand s.dimensions.external w.legs) where
+module _ (s : Setting) (w : World) (line : ℕ) (can : HasLine s w line) (flags : length w.legs.conditions ≡ 30 * s.dimensions.external) where
   abbrev d : Dimensions
   d = s.dimensions
 
@@ -168,7 +167,7 @@ module _ (s : Setting) (w : World) (line : ℕ) (can : HasLine s w line) (outage
   conditions_below : (n : ℕ) → n ≤ 30 → ConditionsBelow n (outcome_below d (give_up_rule s.tones due) line w n).making.world
   conditions_below zero small = subst (λ (a : MessageOutcome). ConditionsBelow 0 a.making.world) (sym (below_none d (give_up_rule s.tones due) line w)) (record {
     kept = (can.stands.circuits, can.stands.legs);
-    size = outages.flags;
+    size = flags;
     here = λ z in_z on less. absurd (omega (arith, less));
     others = λ z in_z off. refl;
   })
