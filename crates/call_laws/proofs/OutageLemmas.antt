@@ -267,7 +267,7 @@ outages_kept s w e fits stands outages =
     let links = next_links s w e in
     let wait = follow_all s.dimensions.external w.legs outages in
     let all = next_waits s w stands wait e fits outages.links in
-    let owed = next_owed s w stands outages.owed wait e fits outages.links in
+    let owed = next_owed s w stands outages.owed outages.flags wait e fits outages.links in
     outages_by s.dimensions.external (next s w e).legs (length-next_links s w e outages.links) (next_flags s w e ∙ outages.flags)
     (λ z l in_z at. subst (λ (bs : List Bool). Follows (slice_index_or bs z.line false) l) (sym links) (all z l in_z at))
     (λ z in_z is. ap (λ (bs : List Bool). slice_index_or bs z.line false) links ∙ owed z in_z is)

@@ -116,19 +116,6 @@ module _ (d : Dimensions) (May : Slot → Type 0) where
   owed_all m [] may before = before
   owed_all m (o ∷ os) may before = owed_all (making_after d m o) os may.1 (performed m o may.0 before)
 
-  -- ---- a restart, of the user or of the exchange
-
-  pub other_owes : (tones : Tones) (cause : ℕ) (condition : Condition) (r : Restart) (line : ℕ) (o : Option HeldLeg)
-      → ((k : HeldLeg) → o ≡ Some k → restarts_slot r line k.slot ≡ true → Due k.slot condition) → OweAll (with_peer o (restart_peer tones cause condition r line))
-  other_owes = other_flags Due
-
-  pub restart_owes : (tones : Tones) (r : Restart) (legs : Legs) (x : Slot) → OweAll (restart_slot tones r legs x)
-  restart_owes tones r legs x = restart_flags Due tones r legs x (λ leg at. ((λ e. absurd cc), (λ k is on e. absurd cc)))
-
-  -- the user acknowledges one
-  pub confirm_owes : (r : Restart) (legs : Legs) (x : Slot) → OweAll (confirm_slot r legs x)
-  confirm_owes r legs x = at_confirmed r legs x OweAll tt (λ none. ((λ e. absurd cc), tt))
-
   -- ---- an expiry
 
   expiry_owes : (tones : Tones) (legs : Legs) (h : HeldLeg) (e : Expiry) → h.slot.place < 30 → (e ≡ expiry.Outage → May h.slot) → (is_down legs h.slot.line ≡ true → May h.slot) → OweAll (on_expiry tones legs h e)
@@ -147,46 +134,9 @@ module _ (d : Dimensions) (May : Slot → Type 0) where
   expire_owes s frame legs x small lost down = at_slot s frame legs x OweAll tt (λ leg e at is.
       expiry_owes s.tones legs (record { slot = x; leg = leg }) e small (λ same. lost leg at (is ∙ ap (λ (k : Expiry). Some k) same)) down)
 
-  -- ---- a message
-
-  pub back_owes : (line : ℕ) (o : Option OutgoingMessage) → OweAll (answer_back line o)
-  back_owes = back_flags Due
-
-  pub course_owes : (s : Setting) (w : World) (h : HeldLeg) (m : Q931) (a : Act) → OweAll (course_of s w h m a).operations
-  course_owes s w h m a = course_flags Due s w h m (λ e. absurd cc) a
-
-  pub setup_owes : (s : Setting) (w : World) (line : ℕ) (m : Q931) (o : Option ℕ) → OweAll (setup s w line m o)
-  setup_owes = setup_flags Due
-
   -- ---- a data link
 
   module _ (tones : Tones) (m : Making) (x : Slot) (kept : Kept d tones m.world) (within : IsExternal d.external x) where
-    -- the link of its line fails, and each slot of the line may be owed
-    module _ (all : (z : Slot) → IsExternal d.external z → z.line ≡ x.line → May z) where
-      waits_owes : (leg : Leg) (runs : Bool) → OweAll (if runs then [] else Await x (with_enquiry false leg) ∷ [])
-      waits_owes leg true = tt
-      waits_owes leg false = (tt, tt)
-
-      too_owes : (leg : Leg) (o : Option HeldLeg) → PeerIsThere d.external (record { slot = x; leg = leg }) o
-          → (k : HeldLeg) → o ≡ Some k → restarts_slot whole_line x.line k.slot ≡ true → true ≡ true → (k.slot.place < 30) × May k.slot
-      too_owes leg None there k is on owed = absurd cc
-      too_owes leg (Some j) there k is on owed =
-          let same : j ≡ k = cc in
-          let in_k : IsExternal d.external k.slot = subst (λ (h : HeldLeg). IsExternal d.external h.slot) same there.0.within in
-          (in_k.1, all k.slot in_k (eqb-true k.slot.line x.line (both_true (k.slot.line == x.line) true on).0))
-
-      pub drop_owes : OweAll (drop_slot tones m.world.legs x)
-      drop_owes = at_held m.world.legs x (drop_leg tones m.world.legs) OweAll (λ none. tt) (λ leg at.
-          by_drop d tones m x leg kept within at OweAll (λ talks. waits_owes leg leg.resent) (λ clears. tt) (λ goes.
-          let h : HeldLeg = record { slot = x; leg = leg } in (
-            tt,
-            (
-              (λ e. (within.1, all x within refl)),
-              other_owes tones destination_out_of_order Owed whole_line x.line (peer_of m.world.legs leg.peer)
-                  (too_owes leg (peer_of m.world.legs leg.peer) (peer_there_too d.external tones m.world h kept.1 within at)),
-            ),
-          )))
-
     channel_owes : (awaits whole : Bool) → OweAll (if awaits then restart_channel whole x else [])
     channel_owes true true = ((λ e. absurd cc), tt)
     channel_owes true false = ((λ e. absurd cc), (tt, tt))

@@ -1,5 +1,5 @@
 -- What is sent when a data link is up again: an enquiry for each leg in active, RELEASE again for each in release request, and a RESTART of each channel that awaits one.
-use Rattle.std.proofs.Common.{◌≡◌, ℕ, zero, suc, ◌<◌, ◌≤◌, inl, inr, Bool, true, false, ◌&&◌, ◌||◌, List, [], ◌∷◌, Option, Some, None, refl, sym, ◌∙◌, ap, subst, arith, eqb-true, get_or-set_other, Contains, if◌then◌else◌}
+use Rattle.std.proofs.Common.{◌≡◌, ℕ, ◌*◌, zero, suc, ◌<◌, ◌≤◌, inl, inr, Bool, true, false, ◌&&◌, ◌||◌, List, [], ◌∷◌, length, Option, Some, None, refl, sym, ◌∙◌, ap, subst, arith, eqb-true, get_or-set_other, Contains, if◌then◌else◌}
 use Rattle.std.specs.Prelude.{◌==◌, is_none, is_some, nat_lt, not, option_map, slice_index_or, slice_set}
 use Rattle.std.proofs.lemmas.Grind.{common_steps}
 use Rattle.std.proofs.lemmas.List.Elements.{Contains-push}
@@ -11,8 +11,6 @@ use Rattle.control_memory.proofs.Steps.{same_number}
 use Rattle.q931_codec.specs.CallStates.{active, disconnect_indication, overlap_sending, release_request}
 use Rattle.call_states.specs.Acts.{is_among}
 use Rattle.call_states.specs.Conditions.{is_open, is_owing}
-use Rattle.call_states.specs.declared.condition.Condition.{Condition}
-use Rattle.call_states.specs.declared.condition.Condition.TheVariants.{Idle, Unconfirmed}
 use Rattle.call_states.specs.declared.leg.HeldLeg.{HeldLeg}
 use Rattle.call_states.specs.declared.leg.Leg.{Leg}
 use Rattle.call_timers.specs.Expiries.{expiry_in}
@@ -20,14 +18,12 @@ use Rattle.clearing_rules.specs.Restarting.{restart_of}
 use Rattle.clearing_rules.specs.declared.scope.Restart.TheVariants.{Channel}
 use Rattle.tone_rules.specs.declared.tones.Tones.{Tones}
 use Rattle.exchange_events.specs.declared.signal.Signal.{Signal}
-use Rattle.exchange_events.specs.declared.trace.Event.TheVariants.{LinkUp}
 use Rattle.exchange_events.specs.Sizes.{Dimensions, Setting}
 use Rattle.call_laws.specs.Dropped.{HasLine}
 use Rattle.call_profile.specs.Expiring.{send_again}
 use Rattle.call_profile.specs.Legs.{Legs, awaits_restart, condition_at, is_owed, kept_at, leg_at, is_down, retransmitted_from}
 use Rattle.call_profile.specs.LinkChanges.{being_cleared, enquire, outcome_of_link, restart_channel, restarts_interface, resume_held, resume_slot, rule_of, whole_line, with_interface, with_line}
 use Rattle.call_profile.specs.Operations.{Operation, Making, making_after_all, Send}
-use Rattle.call_laws.specs.Outages.{OutagesStand}
 use Rattle.call_laws.specs.Reconciled.{enquiry_signal, restart_signal, stored_signal, IsRestartSent, IsReconciled, IsAccounted, IsReleasedAgain}
 use Rattle.call_profile.specs.Restarts.{MessageOutcome, outcome_below, restarts_slot}
 use Rattle.call_laws.specs.Resumed.{resumed, resumed_on}
@@ -36,12 +32,10 @@ use Rattle.call_profile.proofs.ClearingLemmas.{Kept}
 use Rattle.call_profile.proofs.CommandLemmas.{is_empty}
 use Rattle.call_profile.proofs.KeptMessageLemmas.{kept_anew, stored_there}
 use Rattle.call_profile.proofs.LinkLemmas.{at_held, by_resume}
-use Rattle.call_laws.proofs.LinkStateLemmas.{is_down_next}
 use Rattle.call_laws.proofs.LostLegLemmas.{sent_still_all}
-use Rattle.call_laws.proofs.OutageLemmas.{outages_kept}
-use Rattle.call_laws.proofs.RestartedLineLemmas.{lt_false, none_before}
 use Rattle.call_profile.proofs.RestartedSlotLemmas.{below_none, below_more}
-use Rattle.call_laws.proofs.ResumedLineLemmas.{AreResumed, resumed_below, mapped, one_more as legs_one_more, start as legs_start, legs_are_resumed}
+use Rattle.call_laws.proofs.RaisedConditionLemmas.{leg_not_yet, owed_raised, raised_below}
+use Rattle.call_laws.proofs.ResumedLineLemmas.{AreResumed, one_more as legs_one_more, start as legs_start, legs_are_resumed}
 use Rattle.call_profile.proofs.BesideLemmas.{same_or_apart}
 use Rattle.call_profile.proofs.VacantSlotLemmas.{same_parts}
 use Rattle.q931_codec.specs.Outgoing.{encoding}
@@ -52,30 +46,7 @@ module _ (d : Dimensions) (tones : Tones) (whole : Bool) (m : Making) (x : Slot)
   abbrev done : Making
   done = making_after_all d m (resume_slot tones whole m.world.legs x)
 
-  -- no other channel gets another condition
-  abbrev condition_in : Slot → List Operation → Type 0
-  condition_in z os = condition_at (making_after_all d m os).world.legs z ≡ condition_at m.world.legs z
-
-  channel_apart : (z : Slot) → IsExternal d.external z → (z ≡ x → ⊥) → (awaits other : Bool)
-      → condition_in z (if awaits then restart_channel other x else [])
-  channel_apart z in_z apart true true =
-      get_or-set_other m.world.legs.conditions (number_of x) (number_of z) Unconfirmed Idle (λ n. apart (same_number z x in_z.1 within.1 n))
-  channel_apart z in_z apart true false =
-      get_or-set_other m.world.legs.conditions (number_of x) (number_of z) Unconfirmed Idle (λ n. apart (same_number z x in_z.1 within.1 n))
-  channel_apart z in_z apart false other = refl
-
-  condition_after_again : (z : Slot) (h : HeldLeg) (o : Option (List ℕ)) → condition_in z (send_again h o)
-  condition_after_again z h None = refl
-  condition_after_again z h (Some octets) = refl
-
-  pub conditions_apart : (z : Slot) → IsExternal d.external z → (z ≡ x → ⊥) → condition_at done.world.legs z ≡ condition_at m.world.legs z
-  conditions_apart z in_z apart =
-      at_held m.world.legs x (resume_held tones whole m.world.legs x) (condition_in z)
-      (λ none. channel_apart z in_z apart (awaits_restart m.world.legs x) whole)
-      (λ leg at. by_resume d tones m x leg kept within at (condition_in z)
-      (λ talks. refl) (λ dials. refl) (λ clears. condition_after_again z (record { slot = x; leg = leg }) (kept_at m.world.legs x)) refl)
-
-  -- nor has another stored message
+  -- no other slot gets another stored message
   abbrev stored_in : Slot → List Operation → Type 0
   stored_in z os = kept_at (making_after_all d m os).world.legs z ≡ kept_at m.world.legs z
 
@@ -131,7 +102,6 @@ module _ (d : Dimensions) (tones : Tones) (whole : Bool) (m : Making) (x : Slot)
 
 record AreSent (s : Setting) (whole : Bool) (line : ℕ) (w : World) (n : ℕ) (m : Making) : Type 0 where
   legs : AreResumed s line w n m.world
-  conditions : (z : Slot) → IsExternal s.dimensions.external z → z.line ≡ line → n ≤ z.place → condition_at m.world.legs z ≡ condition_at w.legs z
   stored : (z : Slot) → IsExternal s.dimensions.external z → z.line ≡ line → n ≤ z.place → kept_at m.world.legs z ≡ kept_at w.legs z
   enquiries : (z : Slot) (l : Leg) → IsExternal s.dimensions.external z → z.line ≡ line → z.place < n → leg_at w.legs z ≡ Some l → l.state ≡ active → Contains m.sends (enquiry_signal z l)
   releases : (z : Slot) (l : Leg) (octets : List ℕ) → IsExternal s.dimensions.external z → z.line ≡ line → z.place < n → leg_at w.legs z ≡ Some l → l.state ≡ release_request → kept_at w.legs z ≡ Some octets
@@ -139,7 +109,8 @@ record AreSent (s : Setting) (whole : Bool) (line : ℕ) (w : World) (n : ℕ) (
   restarts : (z : Slot) → IsExternal s.dimensions.external z → z.line ≡ line → z.place < n → awaits_restart w.legs z ≡ true → whole ≡ false
       → Contains m.sends (restart_signal z (Channel z.place))
 
-module _ (s : Setting) (whole : Bool) (line : ℕ) (w : World) (n : ℕ) (below : line < s.dimensions.external) (small : n < 30) (m : Making) (so_far : AreSent s whole line w n m) where
+module _ (s : Setting) (whole : Bool) (line : ℕ) (w : World) (n : ℕ) (below : line < s.dimensions.external) (small : n < 30) (m : Making)
+    (so_far : AreSent s whole line w n m) (condition : condition_at m.world.legs (record { line = line; place = n }) ≡ condition_at w.legs (record { line = line; place = n })) where
   abbrev d : Dimensions
   d = s.dimensions
 
@@ -156,14 +127,10 @@ module _ (s : Setting) (whole : Bool) (line : ℕ) (w : World) (n : ℕ) (below 
   turn = resume_slot s.tones whole m.world.legs here
 
   leg_here : leg_at m.world.legs here ≡ leg_at w.legs here
-  leg_here =
-      so_far.legs.legs here in_here
-      ∙ mapped (resumed_below line w n here) (leg_at w.legs here) (λ l. ap (λ (b : Bool). if b then resumed w l else l)
-      (none_before (restarts_slot whole_line line here) (nat_lt n n) (lt_false whole_line line n n (omega arith))))
+  leg_here = leg_not_yet s line w n below small m.world so_far.legs
 
   awaits_here : awaits_restart w.legs here ≡ true → awaits_restart m.world.legs here ≡ true
   awaits_here awaits =
-      let condition = so_far.conditions here in_here refl (omega arith) in
       (λ i. (is_owing (condition i) && is_none (leg_here i)) || (is_open (condition i) && is_none (leg_here i))) ∙ awaits
 
   -- no leg holds a slot that awaits RESTART
@@ -201,9 +168,8 @@ module _ (s : Setting) (whole : Bool) (line : ℕ) (w : World) (n : ℕ) (below 
   more_restarts z in_z on less awaits alone = elim (same_or_apart z here) [
     | inl same ↦
         let here_too : awaits_restart m.world.legs here ≡ true = awaits_here (sym (ap (awaits_restart w.legs) same) ∙ awaits) in
-        let condition : Condition = condition_at m.world.legs here in
         let none : leg_at m.world.legs here ≡ None = is_empty (leg_at m.world.legs here)
-            (without_leg (is_owing condition) (is_open condition) (is_none (leg_at m.world.legs here)) here_too) in
+            (without_leg (is_owing (condition_at m.world.legs here)) (is_open (condition_at m.world.legs here)) (is_none (leg_at m.world.legs here)) here_too) in
         subst (λ (q : Slot). Contains (making_after_all d m turn).sends (restart_signal q (Channel q.place))) (sym same)
             (restart_sent d s.tones whole m here kept in_here none here_too alone)
     | inr apart ↦ sent_still_all d m turn (restart_signal z (Channel z.place)) (so_far.restarts z in_z on (place_before z on less apart) awaits alone)
@@ -212,15 +178,13 @@ module _ (s : Setting) (whole : Bool) (line : ℕ) (w : World) (n : ℕ) (below 
   one_more : AreSent s whole line w (suc n) (making_after_all d m turn)
   one_more = record {
     legs = legs_one_more s whole line w n below small m so_far.legs;
-    conditions = λ z in_z on high.
-        conditions_apart d s.tones whole m here kept in_here z in_z (apart_later z high) ∙ so_far.conditions z in_z on (omega (arith, high));
     stored = λ z in_z on high. stored_apart d s.tones whole m here kept in_here z in_z (apart_later z high) ∙ so_far.stored z in_z on (omega (arith, high));
     enquiries = more_enquiries;
     releases = more_releases;
     restarts = more_restarts;
   }
 
-module _ (s : Setting) (line : ℕ) (w : World) (can : HasLine s w line) where
+module _ (s : Setting) (line : ℕ) (w : World) (can : HasLine s w line) (flags : length w.legs.conditions ≡ 30 * s.dimensions.external) where
   abbrev begins : World
   begins = with_line w line false
 
@@ -230,7 +194,6 @@ module _ (s : Setting) (line : ℕ) (w : World) (can : HasLine s w line) where
   start : (whole : Bool) → AreSent s whole line w 0 (so_far_at whole 0).making
   start whole = subst (λ (a : MessageOutcome). AreSent s whole line w 0 a.making) (sym (below_none s.dimensions (rule_of s.tones whole false) line begins)) (record {
     legs = legs_start s whole line w can.line_exists can.stands;
-    conditions = λ z in_z on high. refl;
     stored = λ z in_z on high. refl;
     enquiries = λ z l in_z on less at is. absurd (omega (arith, less));
     releases = λ z l octets in_z on less at is keeps. absurd (omega (arith, less));
@@ -241,7 +204,8 @@ module _ (s : Setting) (line : ℕ) (w : World) (can : HasLine s w line) where
   sent_below whole zero small = start whole
   sent_below whole (suc n) small =
       subst (λ (a : MessageOutcome). AreSent s whole line w (suc n) a.making) (sym (below_more s.dimensions (rule_of s.tones whole false) line begins n))
-      (one_more s whole line w n can.line_exists (omega (arith, small)) (so_far_at whole n).making (sent_below whole n (omega (arith, small))))
+      (one_more s whole line w n can.line_exists (omega (arith, small)) (so_far_at whole n).making (sent_below whole n (omega (arith, small)))
+      ((raised_below s w line can flags whole n (omega (arith, small))).later (record { line = line; place = n }) (can.line_exists, omega (arith, small)) refl (omega arith)))
 
   -- ---- after the last slot
 
@@ -284,82 +248,79 @@ module _ (s : Setting) (line : ℕ) (w : World) (can : HasLine s w line) where
 
     -- ---- each channel
 
-    module _ (outages : OutagesStand s.dimensions.external w.legs) where
-      none_owed : is_owed after_up.world.legs x ≡ false
-      none_owed = by (is_owed after_up.world.legs x) refl where
-        up : is_down after_up.world.legs x.line ≡ false
-        up = is_down_next s w (LinkUp line) x.line outages.links can.line_exists ∙ ap (λ (b : Bool). if b then false else is_down w.legs x.line) here where
-          here : (x.line == line) ≡ true
-          here = grind (arith, common_steps, on)
+    none_owed : is_owed after_up.world.legs x ≡ false
+    none_owed = owed_raised s w line can flags x in_x ∙ (λ i. (is_owed w.legs x && not (here i)) && empty) ∙ none_so (is_owed w.legs x) empty where
+      empty : Bool
+      empty = is_none (leg_at after_up.world.legs x)
 
-        by : (b : Bool) → is_owed after_up.world.legs x ≡ b → is_owed after_up.world.legs x ≡ false
-        by false is = is
-        by true is =
-            let down = (outages_kept s w (LinkUp line) can.line_exists can.stands outages).owed x in_x is in
-            let wrong : false ≡ true = sym up ∙ down in
-            absurd cc
+      here : (x.line == line) ≡ true
+      here = grind (arith, common_steps, on)
 
-      resumed_accounted : (l : Leg) → leg_at w.legs x ≡ Some l → IsAccounted w after_up x (resumed w l)
-      resumed_accounted l at = elim (true_or_false (l.state == active)) [
-        | inl up ↦
-            let is = eqb-true l.state active up in
-            rw up (record {
-              in_active = λ e. record { flag = refl; sent = enquired_by l at is };
-              in_clearing = λ clears. absurd (not_both l.state is clears);
-              in_disconnect = λ e. absurd (two_states l.state active disconnect_indication is e (λ same. absurd cc));
-              in_release = λ e. absurd (two_states l.state active release_request is e (λ same. absurd cc));
-              in_others = λ other goes. absurd (other is);
-            })
-        | inr not_up ↦ elim (true_or_false (l.state == overlap_sending)) [
-          | inl dials ↦ rw (not_up, dials) (record {
-            in_active = λ e. absurd cc;
-            in_clearing = λ clears. refl;
-            in_disconnect = λ e. record { timer = refl; since = inr refl };
-            in_release = λ e. absurd cc;
-            in_others = λ other goes. absurd cc;
+      none_so : (owed none : Bool) → ((owed && false) && none) ≡ false
+      none_so true none = refl
+      none_so false none = refl
+
+    resumed_accounted : (l : Leg) → leg_at w.legs x ≡ Some l → IsAccounted w after_up x (resumed w l)
+    resumed_accounted l at = elim (true_or_false (l.state == active)) [
+      | inl up ↦
+          let is = eqb-true l.state active up in
+          rw up (record {
+            in_active = λ e. record { flag = refl; sent = enquired_by l at is };
+            in_clearing = λ clears. absurd (not_both l.state is clears);
+            in_disconnect = λ e. absurd (two_states l.state active disconnect_indication is e (λ same. absurd cc));
+            in_release = λ e. absurd (two_states l.state active release_request is e (λ same. absurd cc));
+            in_others = λ other goes. absurd (other is);
           })
-          | inr other ↦ elim (true_or_false (l.state == release_request)) [
-            | inl asked ↦
-                let is = eqb-true l.state release_request asked in
-                rw (not_up, other, asked) (record {
-                  in_active = λ e. absurd (not_equal l.state active not_up e);
-                  in_clearing = λ clears. runs l.state true clears;
-                  in_disconnect = λ e. absurd (two_states l.state release_request disconnect_indication is e (λ same. absurd cc));
-                  in_release = λ e. released_by l at is;
-                  in_others = λ quiet goes. absurd (is_cleared l.state is goes);
-                })
-            | inr not_asked ↦ rw (not_up, other, not_asked) (record {
-              in_active = λ is. absurd (not_equal l.state active not_up is);
-              in_clearing = λ clears. runs l.state l.resent clears;
-              in_disconnect = λ is. record { timer = rw is refl; since = inl at };
-              in_release = λ is. absurd (not_equal l.state release_request not_asked is);
-              in_others = λ quiet goes. at;
-            })
-          ]
+      | inr not_up ↦ elim (true_or_false (l.state == overlap_sending)) [
+        | inl dials ↦ rw (not_up, dials) (record {
+          in_active = λ e. absurd cc;
+          in_clearing = λ clears. refl;
+          in_disconnect = λ e. record { timer = refl; since = inr refl };
+          in_release = λ e. absurd cc;
+          in_others = λ other goes. absurd cc;
+        })
+        | inr other ↦ elim (true_or_false (l.state == release_request)) [
+          | inl asked ↦
+              let is = eqb-true l.state release_request asked in
+              rw (not_up, other, asked) (record {
+                in_active = λ e. absurd (not_equal l.state active not_up e);
+                in_clearing = λ clears. runs l.state true clears;
+                in_disconnect = λ e. absurd (two_states l.state release_request disconnect_indication is e (λ same. absurd cc));
+                in_release = λ e. released_by l at is;
+                in_others = λ quiet goes. absurd (is_cleared l.state is goes);
+              })
+          | inr not_asked ↦ rw (not_up, other, not_asked) (record {
+            in_active = λ is. absurd (not_equal l.state active not_up is);
+            in_clearing = λ clears. runs l.state l.resent clears;
+            in_disconnect = λ is. record { timer = rw is refl; since = inl at };
+            in_release = λ is. absurd (not_equal l.state release_request not_asked is);
+            in_others = λ quiet goes. at;
+          })
         ]
       ]
-        where
-          not_equal : (state n : ℕ) → (state == n) ≡ false → state ≡ n → ⊥
-          not_equal state n apart is = grind (arith, common_steps, apart, is)
+    ]
+      where
+        not_equal : (state n : ℕ) → (state == n) ≡ false → state ≡ n → ⊥
+        not_equal state n apart is = grind (arith, common_steps, apart, is)
 
-          two_states : (state n k : ℕ) → state ≡ n → state ≡ k → (n ≡ k → ⊥) → ⊥
-          two_states state n k one other apart = apart (sym one ∙ other)
+        two_states : (state n k : ℕ) → state ≡ n → state ≡ k → (n ≡ k → ⊥) → ⊥
+        two_states state n k one other apart = apart (sym one ∙ other)
 
-          is_cleared : (state : ℕ) → state ≡ release_request → is_among being_cleared state ≡ false → ⊥
-          is_cleared state is goes = grind (arith, common_steps, is, goes)
+        is_cleared : (state : ℕ) → state ≡ release_request → is_among being_cleared state ≡ false → ⊥
+        is_cleared state is goes = grind (arith, common_steps, is, goes)
 
-          not_both : (state : ℕ) → state ≡ active → is_among being_cleared state ≡ true → ⊥
-          not_both state is clears = grind (arith, common_steps, is, clears)
+        not_both : (state : ℕ) → state ≡ active → is_among being_cleared state ≡ true → ⊥
+        not_both state is clears = grind (arith, common_steps, is, clears)
 
-          runs : (state : ℕ) (resent : Bool) → is_among being_cleared state ≡ true → is_some (expiry_in state resent) ≡ true
-          runs state true clears = grind (arith, common_steps, clears)
-          runs state false clears = grind (arith, common_steps, clears)
+        runs : (state : ℕ) (resent : Bool) → is_among being_cleared state ≡ true → is_some (expiry_in state resent) ≡ true
+        runs state true clears = grind (arith, common_steps, clears)
+        runs state false clears = grind (arith, common_steps, clears)
 
-      reconciled_by : (o : Option Leg) → leg_at w.legs x ≡ o → IsReconciled w after_up x (option_map (resumed_on line w x) o)
-      reconciled_by None none = record { none_owed = none_owed; sent = restarted_by (not false && restarts_interface w.legs line) }
-      reconciled_by (Some l) at = subst (λ (b : Bool). IsAccounted w after_up x (if b then resumed w l else l)) (sym here) (resumed_accounted l at) where
-        here : (x.line == line) ≡ true
-        here = grind (arith, common_steps, on)
+    reconciled_by : (o : Option Leg) → leg_at w.legs x ≡ o → IsReconciled w after_up x (option_map (resumed_on line w x) o)
+    reconciled_by None none = record { none_owed = none_owed; sent = restarted_by (not false && restarts_interface w.legs line) }
+    reconciled_by (Some l) at = subst (λ (b : Bool). IsAccounted w after_up x (if b then resumed w l else l)) (sym here) (resumed_accounted l at) where
+      here : (x.line == line) ≡ true
+      here = grind (arith, common_steps, on)
 
-      pub reconciled : IsReconciled w after_up x (leg_at after_up.world.legs x)
-      reconciled = subst (IsReconciled w after_up x) (sym (legs_are_resumed s w line can x in_x)) (reconciled_by (leg_at w.legs x) refl)
+    pub reconciled : IsReconciled w after_up x (leg_at after_up.world.legs x)
+    reconciled = subst (IsReconciled w after_up x) (sym (legs_are_resumed s w line can x in_x)) (reconciled_by (leg_at w.legs x) refl)
