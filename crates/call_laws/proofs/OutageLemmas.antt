@@ -48,7 +48,7 @@ use Rattle.call_laws.proofs.DroppedLineLemmas.{others_are_gone, cleared_stay, no
 use Rattle.call_profile.proofs.EntryLemmas.{get_or-bare}
 use Rattle.call_profile.proofs.ExpiringLemmas.{each_line, place_within}
 use Rattle.call_laws.proofs.LinkedLegLemmas.{Follows, follows_always, MayAll, Wait, performed_all, restart_may, give_up_starts, expire_may, back_may, course_may, setup_may, due_awaits}
-use Rattle.call_laws.proofs.LinkStateLemmas.{next_links, links_after, length-next_links, none_fails, all_up}
+use Rattle.call_laws.proofs.LinkStateLemmas.{next_links, links_after, length-next_links, none_fails}
 use Rattle.call_profile.proofs.MessageToLegLemmas.{Asked-act_of}
 use Rattle.call_profile.proofs.NamedLegLemmas.{received_stands}
 use Rattle.call_profile.proofs.RestartedSlotLemmas.{each_below, line_restarted_by}

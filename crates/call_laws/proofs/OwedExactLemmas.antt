@@ -21,7 +21,7 @@ use Rattle.call_profile.specs.IdleSlots.{is_nailed}
 use Rattle.call_profile.specs.Legs.{Legs, is_down, is_owed, leg_at}
 use Rattle.call_profile.specs.LegStanding.{CallsStand}
 use Rattle.call_profile.specs.LinkChanges.{drop_leg, drop_slot, resume_slot, rule_of, with_line}
-use Rattle.call_profile.specs.Operations.{Operation, Making, making_at}
+use Rattle.call_profile.specs.Operations.{Operation, Making}
 use Rattle.call_laws.specs.OwedRestarts.{OwesNoMore, is_removed, is_untold}
 use Rattle.call_profile.specs.Step.{next, may_nail, may_seat}
 use Rattle.call_profile.specs.World.{World, obey, pass}

@@ -1,5 +1,5 @@
 -- A RESTART is owed only on a line whose data link is down: the operations.
-use Rattle.std.proofs.Common.{◌≡◌, ℕ, zero, suc, ◌<◌, inl, inr, Bool, true, false, ◌&&◌, List, [], ◌∷◌, Option, Some, None, refl, sym, ◌∙◌, ap, subst, arith, eqb-true, set, get_or, get_or-set_other, if◌then◌else◌}
+use Rattle.std.proofs.Common.{◌≡◌, ℕ, zero, suc, ◌<◌, inl, inr, Bool, true, false, ◌&&◌, List, [], ◌∷◌, Some, None, refl, sym, ◌∙◌, ap, subst, arith, eqb-true, set, get_or, get_or-set_other, if◌then◌else◌}
 use Rattle.std.specs.Prelude.{◌==◌, is_none, slice_index_or}
 use Rattle.std.proofs.lemmas.Grind.{common_steps}
 use Rattle.circuit_model.specs.declared.channel.Slot.{Slot}
@@ -8,39 +8,27 @@ use Rattle.circuit_model.proofs.Slots.{true_or_false}
 use Rattle.control_memory.specs.Layout.{number_of}
 use Rattle.control_memory.proofs.Steps.{same_number}
 use Rattle.q931_codec.specs.Causes.{destination_out_of_order, invalid_number_format, no_answer_from_user, no_user_responding, recovery_on_timer_expiry, temporary_failure}
-use Rattle.q931_codec.specs.declared.message.Message.{Message as Q931}
-use Rattle.q931_codec.specs.Outgoing.{OutgoingMessage}
 use Rattle.call_timers.specs.declared.expiry.Expiry.{Expiry}
 use Rattle.call_timers.specs.declared.expiry.Expiry.TheVariants as expiry
 use Rattle.call_states.specs.Conditions.{is_owing, unanswered}
 use Rattle.call_states.specs.declared.condition.Condition.{Condition}
-use Rattle.call_states.specs.declared.condition.Condition.TheVariants.{Idle, Owed}
-use Rattle.call_states.specs.declared.act.Act.{Act}
+use Rattle.call_states.specs.declared.condition.Condition.TheVariants.{Idle}
 use Rattle.call_states.specs.declared.leg.HeldLeg.{HeldLeg}
 use Rattle.call_states.specs.declared.leg.Leg.{Leg}
-use Rattle.clearing_rules.specs.declared.scope.Restart.{Restart}
 use Rattle.tone_rules.specs.declared.tones.Tones.{Tones}
 use Rattle.exchange_events.specs.Sizes.{Setting, Dimensions}
-use Rattle.call_profile.specs.ActCourse.{course_of}
-use Rattle.call_profile.specs.Acts.{peer_of, with_enquiry, with_peer}
-use Rattle.call_profile.specs.Calls.{answer_back}
+use Rattle.call_profile.specs.Acts.{peer_of}
 use Rattle.call_profile.specs.Expiring.{due_of, on_expiry, expire_slot}
-use Rattle.call_profile.specs.LinkChanges.{whole_line, drop_leg, drop_slot, restart_channel, resume_held, resume_slot}
+use Rattle.call_profile.specs.LinkChanges.{restart_channel, resume_held, resume_slot}
 use Rattle.call_profile.specs.Legs.{Legs, awaits_restart, condition_at, is_down, is_owed, leg_at, kept_at, with_entry, without_leg}
 use Rattle.call_profile.specs.Operations as op
 use Rattle.call_profile.specs.Operations.{Operation, Making, Await, Put, begun, making_after, making_after_all}
-use Rattle.call_profile.specs.Peers.{PeerIsThere}
-use Rattle.call_profile.specs.Restarts.{confirm_slot, restarts_slot, restart_peer, restart_slot}
-use Rattle.call_profile.specs.Setup.{setup}
-use Rattle.call_profile.specs.World.{World}
 use Rattle.call_profile.proofs.ClearingLemmas.{Kept}
 use Rattle.call_profile.proofs.CommandLemmas.{both_true}
-use Rattle.call_profile.proofs.ConfirmedSlotLemmas.{at_confirmed}
 use Rattle.call_profile.proofs.ExpiringLemmas.{at_slot}
-use Rattle.call_profile.proofs.LinkLemmas.{at_held, by_drop, by_resume}
+use Rattle.call_profile.proofs.LinkLemmas.{at_held, by_resume}
 use Rattle.call_laws.proofs.LinkedLegLemmas.{entry_or_before}
-use Rattle.call_profile.proofs.PermittedActLemmas.{peer_there_too}
-use Rattle.call_laws.proofs.RemovedSlotLemmas.{FlagAll, MayFlag, again_flags, back_flags, cleared_flags, course_flags, other_flags, peer_flags, restart_flags, setup_flags}
+use Rattle.call_laws.proofs.RemovedSlotLemmas.{FlagAll, MayFlag, again_flags, cleared_flags, peer_flags}
 
 -- ---- one condition written
 

@@ -1,6 +1,6 @@
 -- What is sent when a data link is up again: an enquiry for each leg in active, RELEASE again for each in release request, and a RESTART of each channel that awaits one.
 use Rattle.std.proofs.Common.{◌≡◌, ℕ, ◌*◌, zero, suc, ◌<◌, ◌≤◌, inl, inr, Bool, true, false, ◌&&◌, ◌||◌, List, [], ◌∷◌, length, Option, Some, None, refl, sym, ◌∙◌, ap, subst, arith, eqb-true, get_or-set_other, Contains, if◌then◌else◌}
-use Rattle.std.specs.Prelude.{◌==◌, is_none, is_some, nat_lt, not, option_map, slice_index_or, slice_set}
+use Rattle.std.specs.Prelude.{◌==◌, is_none, is_some, not, option_map, slice_index_or, slice_set}
 use Rattle.std.proofs.lemmas.Grind.{common_steps}
 use Rattle.std.proofs.lemmas.List.Elements.{Contains-push}
 use Rattle.circuit_model.specs.declared.channel.Slot.{Slot}
@@ -11,7 +11,6 @@ use Rattle.control_memory.proofs.Steps.{same_number}
 use Rattle.q931_codec.specs.CallStates.{active, disconnect_indication, overlap_sending, release_request}
 use Rattle.call_states.specs.Acts.{is_among}
 use Rattle.call_states.specs.Conditions.{is_open, is_owing}
-use Rattle.call_states.specs.declared.leg.HeldLeg.{HeldLeg}
 use Rattle.call_states.specs.declared.leg.Leg.{Leg}
 use Rattle.call_timers.specs.Expiries.{expiry_in}
 use Rattle.clearing_rules.specs.Restarting.{restart_of}
@@ -21,11 +20,11 @@ use Rattle.exchange_events.specs.declared.signal.Signal.{Signal}
 use Rattle.exchange_events.specs.Sizes.{Dimensions, Setting}
 use Rattle.call_laws.specs.Dropped.{HasLine}
 use Rattle.call_profile.specs.Expiring.{send_again}
-use Rattle.call_profile.specs.Legs.{Legs, awaits_restart, condition_at, is_owed, kept_at, leg_at, is_down, retransmitted_from}
+use Rattle.call_profile.specs.Legs.{Legs, awaits_restart, condition_at, is_owed, kept_at, leg_at, retransmitted_from}
 use Rattle.call_profile.specs.LinkChanges.{being_cleared, enquire, outcome_of_link, restart_channel, restarts_interface, resume_held, resume_slot, rule_of, whole_line, with_interface, with_line}
 use Rattle.call_profile.specs.Operations.{Operation, Making, making_after_all, Send}
 use Rattle.call_laws.specs.Reconciled.{enquiry_signal, restart_signal, stored_signal, IsRestartSent, IsReconciled, IsAccounted, IsReleasedAgain}
-use Rattle.call_profile.specs.Restarts.{MessageOutcome, outcome_below, restarts_slot}
+use Rattle.call_profile.specs.Restarts.{MessageOutcome, outcome_below}
 use Rattle.call_laws.specs.Resumed.{resumed, resumed_on}
 use Rattle.call_profile.specs.World.{World}
 use Rattle.call_profile.proofs.ClearingLemmas.{Kept}

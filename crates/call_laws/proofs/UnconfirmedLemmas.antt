@@ -8,7 +8,6 @@ use Rattle.circuit_model.specs.FrameInput.{Input}
 use Rattle.circuit_model.specs.Holding.{Connect, Seat as Take_seat, Clear}
 use Rattle.q931_codec.specs.CallStates.{active, release_request}
 use Rattle.call_states.specs.Conditions.{is_open, unanswered}
-use Rattle.call_states.specs.declared.condition.Condition.{Condition}
 use Rattle.call_states.specs.declared.condition.Condition.TheVariants.{Idle, Owed}
 use Rattle.call_states.specs.declared.leg.Leg.{Leg}
 use Rattle.exchange_events.specs.declared.trace.Event.{Event}
@@ -26,7 +25,7 @@ use Rattle.call_laws.specs.Unconfirmed.{AreUnconfirmed, is_unreleased}
 use Rattle.call_laws.proofs.ChannelConditionLemmas.{StillReads, command_reads, message_reads}
 use Rattle.call_laws.proofs.OwedExactLemmas.{always, condition_left, tracked, turned}
 use Rattle.call_laws.proofs.OwedLineLemmas.{none_too, read_after_restart}
-use Rattle.call_laws.proofs.OwedTrackLemmas.{given, read_exactly, read_stays, reads_at}
+use Rattle.call_laws.proofs.OwedTrackLemmas.{given, read_exactly, read_stays}
 use Rattle.call_laws.proofs.RaisedConditionLemmas.{unconfirmed_raised}
 
 module _ (s : Setting) (w : World) (stands : CallsStand s w) (flags : length w.legs.conditions ≡ 30 * s.dimensions.external) where
