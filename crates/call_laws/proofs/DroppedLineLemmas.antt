@@ -8,6 +8,7 @@ use Rattle.circuit_model.proofs.Slots.{true_or_false}
 use Rattle.q931_codec.specs.CallStates.{active}
 use Rattle.q931_codec.specs.Causes.{destination_out_of_order}
 use Rattle.call_states.specs.declared.leg.HeldLeg.{HeldLeg}
+use Rattle.call_states.specs.declared.condition.Condition.TheVariants.{Owed}
 use Rattle.call_states.specs.declared.leg.Leg.{Leg}
 use Rattle.call_states.specs.declared.leg.Peer.{Peer}
 use Rattle.call_states.specs.declared.leg.Peer.TheVariants as peer
@@ -150,9 +151,9 @@ module _ (d : Dimensions) (tones : Tones) (line : ℕ) (m : Making) (x : Slot) (
       next = refl;
     }
 
-    removed : leg.state ≢ active → is_among being_cleared leg.state ≡ false → Drops d.external line u (After (restart_leg tones destination_out_of_order true whole_line u.legs (Some h))) x
+    removed : leg.state ≢ active → is_among being_cleared leg.state ≡ false → Drops d.external line u (After (restart_leg tones destination_out_of_order Owed whole_line u.legs (Some h))) x
     removed quiet goes =
-        let done = leg_done d tones whole_line destination_out_of_order true line m x on_line kept in_x leg at in
+        let done = leg_done d tones whole_line destination_out_of_order Owed line m x on_line kept in_x leg at in
         record {
           peers = λ z l in_z at_z names_x other. done.other_leg z l in_z at_z names_x;
           same = λ z in_z not_x active_if. done.legs z in_z not_x (λ l at_z names_x.

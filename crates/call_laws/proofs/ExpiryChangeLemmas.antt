@@ -54,7 +54,7 @@ module _ (d : Dimensions) (z : Slot) (in_z : IsExternal d.external z) where
   Spares (op.Expect x leg message) = Apart x
   Spares (op.Repeat h octets) = Apart h.slot
   Spares (op.Await x leg) = Apart x
-  Spares (op.Remove x owed) = Apart x
+  Spares (op.Remove x condition) = Apart x
   Spares (op.Send line message) = Unit {0}
 
   abbrev pub SparesAll : List Operation → Type 0
@@ -71,7 +71,7 @@ module _ (d : Dimensions) (z : Slot) (in_z : IsExternal d.external z) where
   leg_at_spared m (op.Expect x leg message) may = leg_at-with_entry_else d.external m.world.legs x z (Some (begun m.world leg)) may.0 in_z may.1
   leg_at_spared m (op.Repeat h octets) may = leg_at-with_entry_else d.external m.world.legs h.slot z (Some (retransmitted_from m.world.holding.next h.leg)) may.0 in_z may.1
   leg_at_spared m (op.Await x leg) may = leg_at-with_entry_else d.external m.world.legs x z (Some (retransmitted_from m.world.holding.next leg)) may.0 in_z may.1
-  leg_at_spared m (op.Remove x owed) may = leg_at-with_entry_else d.external m.world.legs x z None may.0 in_z may.1
+  leg_at_spared m (op.Remove x condition) may = leg_at-with_entry_else d.external m.world.legs x z None may.0 in_z may.1
   leg_at_spared m (op.Send line message) may = refl
 
   pub leg_at-making_after_all_spared : (m : Making) (os : List Operation) → SparesAll os → leg_at (making_after_all d m os).world.legs z ≡ leg_at m.world.legs z

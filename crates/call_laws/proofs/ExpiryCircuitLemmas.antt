@@ -62,7 +62,7 @@ module _ (Free : Slot → Type 0) where
   Clears (op.Expect x leg message) = Unit {0}
   Clears (op.Repeat h octets) = Unit {0}
   Clears (op.Await x leg) = Unit {0}
-  Clears (op.Remove x owed) = Unit {0}
+  Clears (op.Remove x condition) = Unit {0}
   Clears (op.Send line message) = Unit {0}
 
   abbrev ClearsAll : List Operation → Type 0
@@ -215,7 +215,7 @@ module _ (d : Dimensions) (talks : List Circuit) (layout : Layout) where
   talks_performed m (op.Expect x leg message) silent same = same
   talks_performed m (op.Repeat h octets) silent same = same
   talks_performed m (op.Await x leg) silent same = same
-  talks_performed m (op.Remove x owed) silent same = same
+  talks_performed m (op.Remove x condition) silent same = same
   talks_performed m (op.Send line message) silent same = same
 
   talks_performed_all : (m : Making) (os : List Operation) → ClearsAll Silent os → SameTalks m.world → SameTalks (making_after_all d m os).world
@@ -280,7 +280,7 @@ module _ (d : Dimensions) (ports : Ports) where
   ports_performed m (op.Expect x leg message) free same = same
   ports_performed m (op.Repeat h octets) free same = same
   ports_performed m (op.Await x leg) free same = same
-  ports_performed m (op.Remove x owed) free same = same
+  ports_performed m (op.Remove x condition) free same = same
   ports_performed m (op.Send line message) free same = same
 
   ports_performed_all : (m : Making) (os : List Operation) → ClearsAll Unowned os → m.world.ports ≡ ports → (making_after_all d m os).world.ports ≡ ports

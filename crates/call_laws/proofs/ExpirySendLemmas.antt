@@ -34,7 +34,7 @@ sent_by (op.Wait x leg p) = 0
 sent_by (op.Expect x leg message) = 1
 sent_by (op.Repeat h octets) = 1
 sent_by (op.Await x leg) = 0
-sent_by (op.Remove x owed) = 0
+sent_by (op.Remove x condition) = 0
 sent_by (op.Send line message) = 1
 
 abbrev sent_by_all : List Operation → ℕ
@@ -57,7 +57,7 @@ performed d m (op.Wait x leg p) = none_more _
 performed d m (op.Expect x leg message) = length-append_one m.sends (record { line = x.line; octets = encoding message })
 performed d m (op.Repeat h octets) = length-append_one m.sends (record { line = h.slot.line; octets = octets })
 performed d m (op.Await x leg) = none_more _
-performed d m (op.Remove x owed) = none_more _
+performed d m (op.Remove x condition) = none_more _
 performed d m (op.Send line message) = length-append_one m.sends (record { line = line; octets = encoding message })
 
 performed_all : (d : Dimensions) (m : Making) (os : List Operation) → length (making_after_all d m os).sends ≡ length m.sends + sent_by_all os

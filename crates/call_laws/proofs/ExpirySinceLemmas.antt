@@ -56,7 +56,7 @@ module _ (d : Dimensions) (tones : Tones) (plan : List Number) (before : Legs) (
   performed m (op.Await x leg) may fine =
       let waits = retransmitted_from m.world.holding.next leg in
       (fine.0, length-set m.world.legs.held (number_of x) (Some waits) ∙ fine.1, entered m.world.legs x (Some waits) may.0 fine.1 fine.2 fine.0)
-  performed m (op.Remove x owed) may fine = (fine.0, length-set m.world.legs.held (number_of x) None ∙ fine.1, entered m.world.legs x None may fine.1 fine.2 tt)
+  performed m (op.Remove x condition) may fine = (fine.0, length-set m.world.legs.held (number_of x) None ∙ fine.1, entered m.world.legs x None may fine.1 fine.2 tt)
   performed m (op.Send line message) may fine = fine
 
   pub performed_all : (m : Making) (os : List Operation) → ArePermitted d tones plan m os → Fine m.world → Fine (making_after_all d m os).world

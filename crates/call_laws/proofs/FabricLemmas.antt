@@ -7,6 +7,7 @@ use Rattle.circuit_model.specs.Holding.{Connect, Seat as Take_seat, Clear as Cle
 use Rattle.circuit_model.specs.Ports.{port_of, ports_with}
 use Rattle.control_memory.specs.Layout.{Layout}
 use Rattle.call_states.specs.Acts.{act_on}
+use Rattle.call_states.specs.Conditions.{unanswered}
 use Rattle.clearing_rules.specs.declared.scope.Restart.{Restart}
 use Rattle.clearing_rules.specs.Restarting.{acknowledgement, restart_of}
 use Rattle.clearing_rules.specs.UnknownReference.{answer_without_call}
@@ -17,13 +18,13 @@ use Rattle.exchange_events.specs.Sizes.{Setting, Dimensions}
 use Rattle.call_profile.specs.ActCourse.{course_of}
 use Rattle.call_profile.specs.Answered.{with_layout}
 use Rattle.call_profile.specs.CallRecords.{records, records_by}
-use Rattle.call_profile.specs.Calls.{Request, For_leg, New_call, On_no_call, Restarts, Unanswered, request_of, answer_back, outcome_for, outcome_of_octets}
+use Rattle.call_profile.specs.Calls.{Request, For_leg, New_call, On_no_call, Restarts, Confirms, Unanswered, request_of, answer_back, outcome_for, outcome_of_octets}
 use Rattle.call_profile.specs.Expiring.{cause_at, expire_slot, slot_looked_at, outcome_on_line, outcome_of_lines, outcome_of_frame}
 use Rattle.call_laws.specs.Fabrics.{with_slots, without_paths, without_moves, replies_of_run, world_of_run}
 use Rattle.call_profile.specs.IdleSlots.{idle, is_nailed}
 use Rattle.call_profile.specs.Legs.{Legs, is_down}
 use Rattle.call_profile.specs.Operations.{Operation, Clear, Pair, Seat, Sound, Put, Wait, Expect, Repeat, Remove, Send, Making, making_at, making_after, making_after_all, moves_for, moves_of_seat, Await}
-use Rattle.call_profile.specs.Restarts.{MessageOutcome, outcome_then, outcome_at_slot, outcome_below, outcome_of_restart, restart_rule, SlotRule}
+use Rattle.call_profile.specs.Restarts.{MessageOutcome, outcome_then, outcome_at_slot, outcome_below, outcome_of_restart, confirm_rule, restart_rule, SlotRule}
 use Rattle.call_profile.specs.Setup.{course_of_setup}
 use Rattle.call_profile.specs.Step.{reply, next, may_nail, may_seat, run, world_after_all, link_reply}
 use Rattle.call_profile.specs.World.{World, is_full, nail_reply, seat_reply, obey, pass, start}
@@ -92,7 +93,7 @@ module _ (s : Setting) (slots : ℕ) where
     moved = same.moved;
   }
   same_performed a b (Await x leg) same = record { world = ap (λ (v : World). (making_after s.dimensions (making_at v) (Await x leg)).world) same.world; sends = same.sends; moved = same.moved }
-  same_performed a b (Remove x owed) same = record { world = ap (λ (v : World). (making_after s.dimensions (making_at v) (Remove x owed)).world) same.world; sends = same.sends; moved = same.moved }
+  same_performed a b (Remove x condition) same = record { world = ap (λ (v : World). (making_after s.dimensions (making_at v) (Remove x condition)).world) same.world; sends = same.sends; moved = same.moved }
   same_performed a b (Send line message) same = record { world = same.world; sends = rw same.sends refl; moved = same.moved }
 
   same_performed_all : (a b : Making) (os : List Operation) → SameButPaths a b → SameButPaths (making_after_all t.dimensions a os) (making_after_all s.dimensions b os)
@@ -158,6 +159,7 @@ module _ (s : Setting) (slots : ℕ) where
     received_alike line (New_call m) = operations_alike None (course_of_setup s w line m).operations
     received_alike line (On_no_call m) = operations_alike None (answer_back line (answer_without_call m))
     received_alike line (Restarts r) = restarted_alike r line
+    received_alike line (Confirms r) = below_alike (confirm_rule r) line 30
     received_alike line Unanswered = operations_alike None []
 
     pub done_alike : (line : ℕ) (octets : List ℕ) → DoneAlike (outcome_of_octets t other line octets) (outcome_of_octets s w line octets)
@@ -198,9 +200,10 @@ module _ (s : Setting) (slots : ℕ) where
 
   line_restart_alike : (w : World) (layout : Layout) (line : ℕ) → DoneAlike (outcome_of_line_restart t.dimensions t.tones line (with_layout w layout)) (outcome_of_line_restart s.dimensions s.tones line w)
   line_restart_alike w layout line =
-      let owed : Bool = is_down w.legs line in
-      interface_alike (not owed) line (outcome_below t.dimensions (give_up_rule t.tones owed) line (with_layout w layout) 30) (outcome_below s.dimensions (give_up_rule s.tones owed) line w 30)
-      (below_alike w layout (give_up_rule s.tones owed) line 30)
+      let down : Bool = is_down w.legs line in
+      let condition = unanswered down in
+      interface_alike (not down) line (outcome_below t.dimensions (give_up_rule t.tones condition) line (with_layout w layout) 30) (outcome_below s.dimensions (give_up_rule s.tones condition) line w 30)
+      (below_alike w layout (give_up_rule s.tones condition) line 30)
 
   -- ---- an event
 

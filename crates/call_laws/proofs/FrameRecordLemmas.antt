@@ -77,7 +77,7 @@ module _ (d : Dimensions) (tones : Tones) (plan : List Number) (before : Legs) (
   Hushes (op.Expect x leg message) = is_calling (Some leg) ≡ false
   Hushes (op.Repeat h octets) = is_calling (Some h.leg) ≡ false
   Hushes (op.Await x leg) = is_calling (Some leg) ≡ false
-  Hushes (op.Remove x owed) = Unit {0}
+  Hushes (op.Remove x condition) = Unit {0}
   Hushes (op.Send line message) = Unit {0}
 
   abbrev HushesAll : List Operation → Type 0
@@ -112,7 +112,7 @@ module _ (d : Dimensions) (tones : Tones) (plan : List Number) (before : Legs) (
   performed m (op.Expect x leg message) may hushes so_far = entered m.world.legs x (Some (begun m.world leg)) may.0 hushes so_far
   performed m (op.Repeat h octets) may hushes so_far = entered m.world.legs h.slot (Some (retransmitted_from m.world.holding.next h.leg)) may.0 hushes so_far
   performed m (op.Await x leg) may hushes so_far = entered m.world.legs x (Some (retransmitted_from m.world.holding.next leg)) may.0 hushes so_far
-  performed m (op.Remove x owed) may hushes so_far = entered m.world.legs x None may refl so_far
+  performed m (op.Remove x condition) may hushes so_far = entered m.world.legs x None may refl so_far
   performed m (op.Send line message) may hushes so_far = so_far
 
   performed_all : (m : Making) (os : List Operation) → ArePermitted d tones plan m os → HushesAll os → Sized m.world.legs → Sized (making_after_all d m os).world.legs

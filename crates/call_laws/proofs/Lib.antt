@@ -5,6 +5,7 @@ pub mod ExpiryChangeLemmas
 pub mod ExpiryCircuitLemmas
 pub mod FabricLemmas
 pub mod HuntingLemmas
+pub mod ConfirmedLineLemmas
 pub mod RecordOrderLemmas
 pub mod NoCallEndedLemmas
 pub mod GrantedNailLemmas

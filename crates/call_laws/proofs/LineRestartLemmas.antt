@@ -8,6 +8,9 @@ use Rattle.circuit_model.specs.Circuits.{heard_by}
 use Rattle.circuit_model.specs.Holding.{Holding}
 use Rattle.circuit_model.proofs.Age.{at_head, none_in_nil}
 use Rattle.q931_codec.specs.Causes.{temporary_failure}
+use Rattle.call_states.specs.Conditions.{unanswered}
+use Rattle.call_states.specs.declared.condition.Condition.{Condition}
+use Rattle.call_states.specs.declared.condition.Condition.TheVariants.{Unconfirmed}
 use Rattle.call_states.specs.declared.leg.HeldLeg.{HeldLeg}
 use Rattle.call_states.specs.declared.leg.Leg.{Leg}
 use Rattle.call_states.specs.declared.leg.Peer.{Peer}
@@ -42,7 +45,7 @@ use Rattle.call_profile.proofs.RestartedSlotLemmas.{below_none, below_more, give
 
 -- ---- one slot
 
--- a slot that no leg holds is restarted, if nothing but the flag of what its user is owed changes
+-- a slot that no leg holds is restarted, if nothing but its condition changes
 flagged_done : (external line : ℕ) (u v : World) (x : Slot) → v.legs.held ≡ u.legs.held → v.holding ≡ u.holding → IsRestartedAt external whole_line temporary_failure line u u x
     → IsRestartedAt external whole_line temporary_failure line u v x
 flagged_done external line u v x held holding done = record {
@@ -54,7 +57,7 @@ flagged_done external line u v x held holding done = record {
   next = ap (λ (h : Holding). h.next) holding;
 }
 
-module _ (s : Setting) (line : ℕ) (w : World) (owed : Bool) (below : line < s.dimensions.external) (kept : Kept s.dimensions s.tones w) where
+module _ (s : Setting) (line : ℕ) (w : World) (condition : Condition) (below : line < s.dimensions.external) (kept : Kept s.dimensions s.tones w) where
   abbrev d : Dimensions
   d = s.dimensions
 
@@ -68,8 +71,8 @@ module _ (s : Setting) (line : ℕ) (w : World) (owed : Bool) (below : line < s.
     pub recorded : AreOfEnded d.external w a.making.world temporary_failure a.recorded
     pub rising : ComeBelow whole_line line n a.recorded
 
-  first : So_far 0 (outcome_below d (give_up_rule s.tones owed) line w 0)
-  first = subst (So_far 0) (sym (below_none d (give_up_rule s.tones owed) line w)) (record {
+  first : So_far 0 (outcome_below d (give_up_rule s.tones condition) line w 0)
+  first = subst (So_far 0) (sym (below_none d (give_up_rule s.tones condition) line w)) (record {
     legs = start_below s whole_line line w below kept;
     calls = λ x leg in_x at calls. (at, refl);
     recorded = record {
@@ -87,16 +90,16 @@ module _ (s : Setting) (line : ℕ) (w : World) (owed : Bool) (below : line < s.
     u = a.making.world
 
     abbrev next_one : MessageOutcome
-    next_one = outcome_at_slot d (give_up_rule s.tones owed) here a
+    next_one = outcome_at_slot d (give_up_rule s.tones condition) here a
 
     abbrev v : World
     v = next_one.making.world
 
     given_up_here : IsRestartedAt d.external whole_line temporary_failure line u v here
-    given_up_here = at_held u.legs here (give_up_leg s.tones owed u.legs here) (λ os. IsRestartedAt d.external whole_line temporary_failure line u (making_after_all d a.making os).world here)
-        (λ none. flagged_done d.external line u (flagged d s.tones owed a.making here) here (flagged_held d s.tones owed a.making here none) refl
-        (held_done d s.tones whole_line temporary_failure owed line a.making here refl so_far.legs.kept (below, small) None none))
-        (λ leg at. leg_done d s.tones whole_line temporary_failure owed line a.making here refl so_far.legs.kept (below, small) leg at)
+    given_up_here = at_held u.legs here (give_up_leg s.tones condition u.legs here) (λ os. IsRestartedAt d.external whole_line temporary_failure line u (making_after_all d a.making os).world here)
+        (λ none. flagged_done d.external line u (flagged d s.tones condition a.making here) here (flagged_held d s.tones condition a.making here none) refl
+        (held_done d s.tones whole_line temporary_failure condition line a.making here refl so_far.legs.kept (below, small) None none))
+        (λ leg at. leg_done d s.tones whole_line temporary_failure condition line a.making here refl so_far.legs.kept (below, small) leg at)
 
     -- it has the record of a call whose first restarted leg is here
     place_of : (o : Option Leg) → leg_at u.legs here ≡ o → (c : CallRecord)
@@ -111,7 +114,7 @@ module _ (s : Setting) (line : ℕ) (w : World) (owed : Bool) (below : line < s.
     step =
         let calls_here = calls_on d.external whole_line line u v here given_up_here in
         record {
-          legs = one_more s whole_line line w below n small u so_far.legs refl v (give_up_kept d s.tones owed a.making here so_far.legs.kept (below, small)) given_up_here;
+          legs = one_more s whole_line line w below n small u so_far.legs refl v (give_up_kept d s.tones condition a.making here so_far.legs.kept (below, small)) given_up_here;
           calls = λ x leg in_x at calls.
               let now = calls_here x leg in_x at calls in
               let before = so_far.calls x leg in_x now.0 calls in
@@ -120,15 +123,15 @@ module _ (s : Setting) (line : ℕ) (w : World) (owed : Bool) (below : line < s.
               (λ h e. record_same u w temporary_failure h so_far.legs.next (so_far.calls h.slot h.leg e.within e.at e.calls).1)
               (stays_silent d.external whole_line line u v here given_up_here) a.recorded (records u v temporary_failure)
               so_far.recorded (of_records d.external u v temporary_failure so_far.legs.kept.1.count);
-          rising = subst (λ (told : List CallRecord). ComeBelow whole_line line (suc n) (a.recorded ++ told)) (sym (give_up_told d s.tones owed a.making here so_far.legs.kept (below, small)))
+          rising = subst (λ (told : List CallRecord). ComeBelow whole_line line (suc n) (a.recorded ++ told)) (sym (give_up_told d s.tones condition a.making here so_far.legs.kept (below, small)))
               (below_then whole_line line n a.recorded so_far.rising one_at (place_of (leg_at u.legs here) refl));
         }
 
-  pub all_so_far : (n : ℕ) → n ≤ 30 → So_far n (outcome_below d (give_up_rule s.tones owed) line w n)
+  pub all_so_far : (n : ℕ) → n ≤ 30 → So_far n (outcome_below d (give_up_rule s.tones condition) line w n)
   all_so_far zero small = first
   all_so_far (suc n) small =
-      subst (So_far (suc n)) (sym (below_more d (give_up_rule s.tones owed) line w n))
-      (step n (omega (arith, small)) (outcome_below d (give_up_rule s.tones owed) line w n) (all_so_far n (omega (arith, small))))
+      subst (So_far (suc n)) (sym (below_more d (give_up_rule s.tones condition) line w n))
+      (step n (omega (arith, small)) (outcome_below d (give_up_rule s.tones condition) line w n) (all_so_far n (omega (arith, small))))
 
 -- ---- the whole line
 
@@ -139,8 +142,8 @@ module _ (s : Setting) (w : World) (line : ℕ) (can : HasLine s w line) where
   abbrev after_restart : World
   after_restart = next s w (RestartLine line)
 
-  done : So_far s line w (is_down w.legs line) can.line_exists (can.stands.circuits, can.stands.legs) 30 whole
-  done = all_so_far s line w (is_down w.legs line) can.line_exists (can.stands.circuits, can.stands.legs) 30 (omega arith)
+  done : So_far s line w (unanswered (is_down w.legs line)) can.line_exists (can.stands.circuits, can.stands.legs) 30 whole
+  done = all_so_far s line w (unanswered (is_down w.legs line)) can.line_exists (can.stands.circuits, can.stands.legs) 30 (omega arith)
 
   -- what the slots leave is what the event leaves
   abbrev by_line : (P : World → Type 0) → P whole.making.world → P after_restart
@@ -196,6 +199,6 @@ module _ (s : Setting) (w : World) (line : ℕ) (can : HasLine s w line) where
 
 pub request_is_sent : (s : Setting) (w : World) (line : ℕ) → IsRequestSent s w line
 request_is_sent s w line up =
-    let sent : Bool → MessageOutcome = λ owed. with_interface s.dimensions (not owed) line (outcome_below s.dimensions (give_up_rule s.tones owed) line w 30) in
-    subst (λ (owed : Bool). Contains (sent owed).making.sends (interface_restart line)) (sym up)
-    (Contains-append_right (outcome_below s.dimensions (give_up_rule s.tones false) line w 30).making.sends (interface_restart line ∷ []) (interface_restart line) (at_head (interface_restart line) [] (interface_restart line) refl))
+    let sent : Bool → MessageOutcome = λ down. with_interface s.dimensions (not down) line (outcome_below s.dimensions (give_up_rule s.tones (unanswered down)) line w 30) in
+    subst (λ (down : Bool). Contains (sent down).making.sends (interface_restart line)) (sym up)
+    (Contains-append_right (outcome_below s.dimensions (give_up_rule s.tones Unconfirmed) line w 30).making.sends (interface_restart line ∷ []) (interface_restart line) (at_head (interface_restart line) [] (interface_restart line) refl))

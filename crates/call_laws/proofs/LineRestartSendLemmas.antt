@@ -9,6 +9,9 @@ use Rattle.circuit_model.proofs.Age.{at_head, cons_cases, none_in_nil}
 use Rattle.circuit_model.proofs.Slots.{true_or_false}
 use Rattle.q931_codec.specs.Causes.{temporary_failure}
 use Rattle.q931_codec.specs.Outgoing.{encoding}
+use Rattle.call_states.specs.Conditions.{unanswered}
+use Rattle.call_states.specs.declared.condition.Condition.{Condition}
+use Rattle.call_states.specs.declared.condition.Condition.TheVariants.{Owed, Unconfirmed}
 use Rattle.call_states.specs.declared.leg.HeldLeg.{HeldLeg}
 use Rattle.call_states.specs.declared.leg.Leg.{Leg}
 use Rattle.call_states.specs.declared.leg.Peer.{Peer}
@@ -49,7 +52,7 @@ module _ (d : Dimensions) (line : ℕ) where
   MaySend (op.Expect x leg message) = x.line ≢ line
   MaySend (op.Repeat h octets) = h.slot.line ≢ line
   MaySend (op.Await x leg) = Unit {0}
-  MaySend (op.Remove x owed) = Unit {0}
+  MaySend (op.Remove x condition) = Unit {0}
   MaySend (op.Send to message) = to ≢ line
 
   abbrev SendAll : List Operation → Type 0
@@ -75,7 +78,7 @@ module _ (d : Dimensions) (line : ℕ) where
   performed m (op.Expect x leg message) may before = sent_more m.sends (record { line = x.line; octets = encoding message }) before may
   performed m (op.Repeat h octets) may before = sent_more m.sends (record { line = h.slot.line; octets = octets }) before may
   performed m (op.Await x leg) may before = before
-  performed m (op.Remove x owed) may before = before
+  performed m (op.Remove x condition) may before = before
   performed m (op.Send to message) may before = sent_more m.sends (record { line = to; octets = encoding message }) before may
 
   sent_all : (m : Making) (os : List Operation) → SendAll os → Elsewhere m.sends → Elsewhere (making_after_all d m os).sends
@@ -83,32 +86,32 @@ module _ (d : Dimensions) (line : ℕ) where
   sent_all m (o ∷ os) may before = sent_all (making_after d m o) os may.1 (performed m o may.0 before)
 
   -- the other leg of a call is cleared only if it is on another line
-  peer_sends : (tones : Tones) (owed : Bool) (o : Option HeldLeg) → SendAll (with_peer o (restart_peer tones temporary_failure owed whole_line line))
-  peer_sends tones owed None = tt
-  peer_sends tones owed (Some k) = elim (true_or_false (restarts_slot whole_line line k.slot)) [
+  peer_sends : (tones : Tones) (condition : Condition) (o : Option HeldLeg) → SendAll (with_peer o (restart_peer tones temporary_failure condition whole_line line))
+  peer_sends tones condition None = tt
+  peer_sends tones condition (Some k) = elim (true_or_false (restarts_slot whole_line line k.slot)) [
     | inl too ↦ rw too (tt, (tt, tt))
     | inr not_so ↦ rw not_so (tt, (tt, (tt, ((λ is. grind (arith, common_steps, not_so, is)), tt))))
   ]
 
-  slot_sends : (tones : Tones) (owed : Bool) (legs : Legs) (n : ℕ) → SendAll (give_up_slot tones owed legs (record { line = line; place = n }))
-  slot_sends tones owed legs n =
+  slot_sends : (tones : Tones) (condition : Condition) (legs : Legs) (n : ℕ) → SendAll (give_up_slot tones condition legs (record { line = line; place = n }))
+  slot_sends tones condition legs n =
       let x : Slot = record { line = line; place = n } in
-      at_held legs x (give_up_leg tones owed legs x) SendAll (λ none. (tt, tt)) (λ leg at. (tt, (tt, peer_sends tones owed (peer_of legs leg.peer))))
+      at_held legs x (give_up_leg tones condition legs x) SendAll (λ none. (tt, tt)) (λ leg at. (tt, (tt, peer_sends tones condition (peer_of legs leg.peer))))
 
-  walk_sends : (tones : Tones) (owed : Bool) (w : World) → Elsewhere (outcome_below d (give_up_rule tones owed) line w 30).making.sends
-  walk_sends tones owed w = each_below d (give_up_rule tones owed) line w (λ a. Elsewhere a.making.sends) (λ signal inside. absurd (none_in_nil signal inside)) (λ a place small so_far.
-      sent_all a.making (give_up_slot tones owed a.making.world.legs (record { line = line; place = place })) (slot_sends tones owed a.making.world.legs place) so_far) 30 (omega arith)
+  walk_sends : (tones : Tones) (condition : Condition) (w : World) → Elsewhere (outcome_below d (give_up_rule tones condition) line w 30).making.sends
+  walk_sends tones condition w = each_below d (give_up_rule tones condition) line w (λ a. Elsewhere a.making.sends) (λ signal inside. absurd (none_in_nil signal inside)) (λ a place small so_far.
+      sent_all a.making (give_up_slot tones condition a.making.world.legs (record { line = line; place = place })) (slot_sends tones condition a.making.world.legs place) so_far) 30 (omega arith)
 
 pub nothing_else_is_sent : (s : Setting) (w : World) (line : ℕ) → IsSentNothingElse s w line
 nothing_else_is_sent s w line signal inside on = by (is_down w.legs line) refl inside
   where
     walked : Bool → MessageOutcome
-    walked owed = outcome_below s.dimensions (give_up_rule s.tones owed) line w 30
+    walked down = outcome_below s.dimensions (give_up_rule s.tones (unanswered down)) line w 30
 
-    by : (owed : Bool) → is_down w.legs line ≡ owed → Contains (with_interface s.dimensions (not owed) line (walked owed)).making.sends signal → (signal ≡ interface_restart line) × (is_down w.legs line ≡ false)
-    by true is inside = absurd (walk_sends s.dimensions line s.tones true w signal inside on)
+    by : (down : Bool) → is_down w.legs line ≡ down → Contains (with_interface s.dimensions (not down) line (walked down)).making.sends signal → (signal ≡ interface_restart line) × (is_down w.legs line ≡ false)
+    by true is inside = absurd (walk_sends s.dimensions line s.tones Owed w signal inside on)
     by false is inside = elim (Contains-append_cases (walked false).making.sends (interface_restart line ∷ []) signal inside) [
-      | inl old ↦ absurd (walk_sends s.dimensions line s.tones false w signal old on)
+      | inl old ↦ absurd (walk_sends s.dimensions line s.tones Unconfirmed w signal old on)
       | inr new ↦ elim (cons_cases (interface_restart line) [] signal new) [
         | inl same ↦ (sym same, is)
         | inr none ↦ absurd (none_in_nil signal none)
@@ -131,17 +134,17 @@ sends_stay d m (op.Expect x leg message ∷ os) signal inside =
 sends_stay d m (op.Repeat h octets ∷ os) signal inside =
     sends_stay d (making_after d m (op.Repeat h octets)) os signal (Contains-append_left m.sends (record { line = h.slot.line; octets = octets } ∷ []) signal inside)
 sends_stay d m (op.Await x leg ∷ os) signal inside = sends_stay d (making_after d m (op.Await x leg)) os signal inside
-sends_stay d m (op.Remove x owed ∷ os) signal inside = sends_stay d (making_after d m (op.Remove x owed)) os signal inside
+sends_stay d m (op.Remove x condition ∷ os) signal inside = sends_stay d (making_after d m (op.Remove x condition)) os signal inside
 sends_stay d m (op.Send to message ∷ os) signal inside =
     sends_stay d (making_after d m (op.Send to message)) os signal (Contains-append_left m.sends (record { line = to; octets = encoding message } ∷ []) signal inside)
 
 -- the operations at a slot whose leg is in a call to another line
-module _ (tones : Tones) (owed : Bool) (legs : Legs) (x y : Slot) (leg other : Leg) where
+module _ (tones : Tones) (condition : Condition) (legs : Legs) (x y : Slot) (leg other : Leg) where
   call_is : leg_at legs y ≡ Some other → other.peer ≡ peer.Leg x → leg_at legs x ≡ Some leg → restarts_slot whole_line y.line x ≡ false
-      → give_up_slot tones owed legs y ≡ op.Clear y ∷ op.Remove y owed ∷ clear_with tones temporary_failure (record { slot = x; leg = leg })
+      → give_up_slot tones condition legs y ≡ op.Clear y ∷ op.Remove y condition ∷ clear_with tones temporary_failure (record { slot = x; leg = leg })
   call_is at_y back at_x apart = rw (at_y, back, at_x, apart) refl
 
-module _ (s : Setting) (line : ℕ) (w : World) (owed : Bool) (below : line < s.dimensions.external) (kept : Kept s.dimensions s.tones w) (n : ℕ) (small : n < 30)
+module _ (s : Setting) (line : ℕ) (w : World) (condition : Condition) (below : line < s.dimensions.external) (kept : Kept s.dimensions s.tones w) (n : ℕ) (small : n < 30)
     (x : Slot) (leg : Leg) (in_x : IsExternal s.dimensions.external x) (off : x.line ≢ line) (at : leg_at w.legs x ≡ Some leg) (names : leg.peer ≡ peer.Leg (record { line = line; place = n })) where
   abbrev d : Dimensions
   d = s.dimensions
@@ -153,13 +156,13 @@ module _ (s : Setting) (line : ℕ) (w : World) (owed : Bool) (below : line < s.
   sent = restart_signal s.tones x leg
 
   abbrev walked : ℕ → MessageOutcome
-  walked k = outcome_below d (give_up_rule s.tones owed) line w k
+  walked k = outcome_below d (give_up_rule s.tones condition) line w k
 
   abbrev u : World
   u = (walked n).making.world
 
-  so_far : So_far s line w owed below kept n (walked n)
-  so_far = all_so_far s line w owed below kept n (omega (arith, small))
+  so_far : So_far s line w condition below kept n (walked n)
+  so_far = all_so_far s line w condition below kept n (omega (arith, small))
 
   elsewhere : restarts_slot whole_line line x ≡ false
   elsewhere = grind (arith, common_steps, off)
@@ -180,8 +183,8 @@ module _ (s : Setting) (line : ℕ) (w : World) (owed : Bool) (below : line < s.
   at_turn =
       let other = call.1.0 in
       let peers = peers_of d.external u x y leg other in_x call.0 still call.1.1 call.1.2 in
-      subst (λ (b : MessageOutcome). Contains b.making.sends sent) (sym (below_more d (give_up_rule s.tones owed) line w n))
-      (subst (λ (os : List Operation). Contains (making_after_all d (walked n).making os).sends sent) (sym (call_is s.tones owed u.legs x y leg other call.1.1 peers.back still elsewhere))
+      subst (λ (b : MessageOutcome). Contains b.making.sends sent) (sym (below_more d (give_up_rule s.tones condition) line w n))
+      (subst (λ (os : List Operation). Contains (making_after_all d (walked n).making os).sends sent) (sym (call_is s.tones condition u.legs x y leg other call.1.1 peers.back still elsewhere))
       (Contains-append_right (walked n).making.sends (sent ∷ []) sent (at_head sent [] sent refl)))
 
   later : (k : ℕ) → suc n ≤ k → Contains (walked k).making.sends sent
@@ -190,8 +193,8 @@ module _ (s : Setting) (line : ℕ) (w : World) (owed : Bool) (below : line < s.
     | inl same ↦ subst (λ (j : ℕ). Contains (walked (suc j)).making.sends sent) (sym (eqb-true k n same)) at_turn
     | inr apart ↦
         let other : k ≡ n → ⊥ = λ is. grind (arith, common_steps, apart, is) in
-        subst (λ (b : MessageOutcome). Contains b.making.sends sent) (sym (below_more d (give_up_rule s.tones owed) line w k))
-        (sends_stay d (walked k).making (give_up_slot s.tones owed (walked k).making.world.legs (record { line = line; place = k })) sent (later k (omega (arith, low, other))))
+        subst (λ (b : MessageOutcome). Contains b.making.sends sent) (sym (below_more d (give_up_rule s.tones condition) line w k))
+        (sends_stay d (walked k).making (give_up_slot s.tones condition (walked k).making.world.legs (record { line = line; place = k })) sent (later k (omega (arith, low, other))))
   ]
 
   interface_too : (b : Bool) → Contains (with_interface d b line (walked 30)).making.sends sent
@@ -202,5 +205,5 @@ pub peers_are_disconnected : (s : Setting) (w : World) (line : ℕ) → HasLine 
 peers_are_disconnected s w line can x leg y in_x off at names on =
     let has = subst (HasPeer s.dimensions.external w.legs x leg) names (can.stands.legs.each x leg in_x at).peer in
     let same : y ≡ record { line = line; place = y.place } = same_parts y line y.place on refl in
-    let owed : Bool = is_down w.legs line in
-    interface_too s line w owed can.line_exists (can.stands.circuits, can.stands.legs) y.place has.0.1 x leg in_x off at (names ∙ ap (λ (q : Slot). let named : Peer = peer.Leg q in named) same) (not owed)
+    let down : Bool = is_down w.legs line in
+    interface_too s line w (unanswered down) can.line_exists (can.stands.circuits, can.stands.legs) y.place has.0.1 x leg in_x off at (names ∙ ap (λ (q : Slot). let named : Peer = peer.Leg q in named) same) (not down)

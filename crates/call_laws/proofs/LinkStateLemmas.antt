@@ -10,9 +10,10 @@ use Rattle.exchange_events.specs.declared.trace.Event.TheVariants.{Nail, Seat, F
 use Rattle.exchange_events.specs.Sizes.{Setting, Dimensions}
 use Rattle.exchange_events.specs.Sound.{Fits}
 use Rattle.call_states.specs.Acts.{act_on}
+use Rattle.call_states.specs.Conditions.{unanswered}
 use Rattle.clearing_rules.specs.UnknownReference.{answer_without_call}
 use Rattle.call_profile.specs.ActCourse.{course_of}
-use Rattle.call_profile.specs.Calls.{Request, For_leg, New_call, On_no_call, Restarts, Unanswered, request_of, answer_back, outcome_for}
+use Rattle.call_profile.specs.Calls.{Request, For_leg, New_call, On_no_call, Restarts, Confirms, Unanswered, request_of, answer_back, outcome_for}
 use Rattle.call_profile.specs.Expiring.{slot_looked_at, expire_slot}
 use Rattle.call_profile.specs.IdleSlots.{is_nailed}
 use Rattle.call_profile.specs.Legs.{is_down}
@@ -20,7 +21,7 @@ use Rattle.call_profile.specs.LinkChanges.{give_up_rule, give_up_slot, outcome_o
 use Rattle.call_profile.specs.Operations as op
 use Rattle.call_profile.specs.Operations.{Operation, Making, making_at, making_after, making_after_all}
 use Rattle.call_laws.specs.Outages.{down_after, down_after_all, KeepsLinks, HasNoFailure, NoLinkIsDown}
-use Rattle.call_profile.specs.Restarts.{restart_slot, restart_rule}
+use Rattle.call_profile.specs.Restarts.{confirm_rule, confirm_slot, restart_rule, restart_slot}
 use Rattle.call_profile.specs.Setup.{course_of_setup}
 use Rattle.call_profile.specs.Step.{next, may_nail, may_seat, world_after_all}
 use Rattle.call_profile.specs.World.{World, start, obey, pass}
@@ -39,7 +40,7 @@ performed_down d m (op.Wait x leg p) = refl
 performed_down d m (op.Expect x leg message) = refl
 performed_down d m (op.Repeat h octets) = refl
 performed_down d m (op.Await x leg) = refl
-performed_down d m (op.Remove x owed) = refl
+performed_down d m (op.Remove x condition) = refl
 performed_down d m (op.Send line message) = refl
 
 pub performed_all_down : (d : Dimensions) (m : Making) (os : List Operation) → (making_after_all d m os).world.legs.down ≡ m.world.legs.down
@@ -53,6 +54,9 @@ received_down s w line (On_no_call m) = performed_all_down s.dimensions (making_
 received_down s w line (Restarts r) =
     each_below s.dimensions (restart_rule s.tones r) line w (λ a. a.making.world.legs.down ≡ w.legs.down) refl
     (λ a place small same. performed_all_down s.dimensions a.making (restart_slot s.tones r a.making.world.legs (record { line = line; place = place })) ∙ same) 30 (omega arith)
+received_down s w line (Confirms r) =
+    each_below s.dimensions (confirm_rule r) line w (λ a. a.making.world.legs.down ≡ w.legs.down) refl
+    (λ a place small same. performed_all_down s.dimensions a.making (confirm_slot r a.making.world.legs (record { line = line; place = place })) ∙ same) 30 (omega arith)
 received_down s w line Unanswered = refl
 
 linked_down : (s : Setting) (w : World) (down : Bool) (line : ℕ) → (outcome_of_link s.dimensions s.tones down line w).making.world.legs.down ≡ slice_set w.legs.down line down
@@ -62,10 +66,10 @@ linked_down s w down line = linked_by s.dimensions s.tones down line w (λ v. v.
 
 line_restart_down : (s : Setting) (w : World) (line : ℕ) → (outcome_of_line_restart s.dimensions s.tones line w).making.world.legs.down ≡ w.legs.down
 line_restart_down s w line =
-    let owed : Bool = is_down w.legs line in
+    let condition = unanswered (is_down w.legs line) in
     line_restarted_by s.dimensions s.tones line w (λ v. v.legs.down ≡ w.legs.down)
-    (each_below s.dimensions (give_up_rule s.tones owed) line w (λ a. a.making.world.legs.down ≡ w.legs.down) refl
-    (λ a place small same. performed_all_down s.dimensions a.making (give_up_slot s.tones owed a.making.world.legs (record { line = line; place = place })) ∙ same) 30 (omega arith))
+    (each_below s.dimensions (give_up_rule s.tones condition) line w (λ a. a.making.world.legs.down ≡ w.legs.down) refl
+    (λ a place small same. performed_all_down s.dimensions a.making (give_up_slot s.tones condition a.making.world.legs (record { line = line; place = place })) ∙ same) 30 (omega arith))
 
 -- ---- an event
 

@@ -20,6 +20,8 @@ use Rattle.call_timers.specs.declared.expiry.Expiry.TheVariants as expiry
 use Rattle.call_states.specs.Acts.{is_among}
 use Rattle.call_states.specs.declared.act.Act.{Act}
 use Rattle.call_states.specs.declared.act.Act.TheVariants as act
+use Rattle.call_states.specs.declared.condition.Condition.{Condition}
+use Rattle.call_states.specs.declared.condition.Condition.TheVariants.{Idle}
 use Rattle.call_states.specs.declared.leg.HeldLeg.{HeldLeg}
 use Rattle.call_states.specs.declared.leg.Leg.{Leg}
 use Rattle.call_states.specs.declared.leg.Peer.{Peer}
@@ -137,7 +139,7 @@ module _ (d : Dimensions) (links : List Bool) where
   MayStart (op.Expect x leg message) = MayHold x (waits false leg)
   MayStart (op.Repeat h octets) = MayHold h.slot (waits true h.leg)
   MayStart (op.Await x leg) = MayHold x (waits true leg)
-  MayStart (op.Remove x owed) = Unit {0}
+  MayStart (op.Remove x condition) = Unit {0}
   MayStart (op.Send line message) = Unit {0}
 
   abbrev pub MayAll : List Operation → Type 0
@@ -175,7 +177,7 @@ module _ (d : Dimensions) (links : List Bool) where
   performed m (op.Expect x leg message) may wait = followed m.world.legs x (begun m.world leg) may wait
   performed m (op.Repeat h octets) may wait = followed m.world.legs h.slot (record h.leg { since = m.world.holding.next; resent = true }) may wait
   performed m (op.Await x leg) may wait = followed m.world.legs x (record leg { since = m.world.holding.next; resent = true }) may wait
-  performed m (op.Remove x owed) may wait = emptied m.world.legs x wait
+  performed m (op.Remove x condition) may wait = emptied m.world.legs x wait
   performed m (op.Send line message) may wait = wait
 
   pub performed_all : (m : Making) (os : List Operation) → MayAll os → Wait m.world.legs → Wait (making_after_all d m os).world.legs
@@ -196,20 +198,20 @@ module _ (d : Dimensions) (links : List Bool) where
 
   -- ---- a restart
 
-  other_may : (tones : Tones) (cause : ℕ) (owed : Bool) (r : Restart) (line : ℕ) (o : Option HeldLeg) → MayAll (with_peer o (restart_peer tones cause owed r line))
-  other_may tones cause owed r line None = tt
-  other_may tones cause owed r line (Some k) = elim (true_or_false (restarts_slot r line k.slot)) [
+  other_may : (tones : Tones) (cause : ℕ) (condition : Condition) (r : Restart) (line : ℕ) (o : Option HeldLeg) → MayAll (with_peer o (restart_peer tones cause condition r line))
+  other_may tones cause condition r line None = tt
+  other_may tones cause condition r line (Some k) = elim (true_or_false (restarts_slot r line k.slot)) [
     | inl too ↦ rw too (tt, (tt, tt))
     | inr not_so ↦ rw not_so (cleared_may tones cause k)
   ]
 
   pub restart_may : (tones : Tones) (r : Restart) (legs : Legs) (x : Slot) → MayAll (restart_slot tones r legs x)
   restart_may tones r legs x =
-      at_restarted tones r legs x MayAll tt (λ leg at. (tt, (tt, other_may tones temporary_failure false r x.line (peer_of legs leg.peer))))
+      at_restarted tones r legs x MayAll tt (λ leg at. (tt, (tt, other_may tones temporary_failure Idle r x.line (peer_of legs leg.peer))))
 
-  pub give_up_starts : (tones : Tones) (owed : Bool) (legs : Legs) (x : Slot) → MayAll (give_up_slot tones owed legs x)
-  give_up_starts tones owed legs x =
-      at_held legs x (give_up_leg tones owed legs x) MayAll (λ none. (tt, tt)) (λ leg at. (tt, (tt, other_may tones temporary_failure owed whole_line x.line (peer_of legs leg.peer))))
+  pub give_up_starts : (tones : Tones) (condition : Condition) (legs : Legs) (x : Slot) → MayAll (give_up_slot tones condition legs x)
+  give_up_starts tones condition legs x =
+      at_held legs x (give_up_leg tones condition legs x) MayAll (λ none. (tt, tt)) (λ leg at. (tt, (tt, other_may tones temporary_failure condition whole_line x.line (peer_of legs leg.peer))))
 
   -- ---- an expiry
 

@@ -16,6 +16,7 @@ use Rattle.q931_codec.specs.Causes.{destination_out_of_order}
 use Rattle.call_timers.specs.declared.expiry.Expiry.{Expiry}
 use Rattle.call_timers.specs.declared.expiry.Expiry.TheVariants as expiry
 use Rattle.call_timers.specs.declared.timers.Timers.{Timers}
+use Rattle.call_states.specs.declared.condition.Condition.TheVariants.{Owed}
 use Rattle.call_states.specs.declared.leg.HeldLeg.{HeldLeg}
 use Rattle.call_states.specs.declared.leg.Leg.{Leg}
 use Rattle.call_states.specs.declared.leg.Peer.{Peer}
@@ -64,7 +65,7 @@ module _ (d : Dimensions) (z : Slot) (in_z : IsExternal d.external z) where
   idle_spared m (op.Expect x leg message) may idle = idle
   idle_spared m (op.Repeat h octets) may idle = idle
   idle_spared m (op.Await x leg) may idle = idle
-  idle_spared m (op.Remove x owed) may idle = idle
+  idle_spared m (op.Remove x condition) may idle = idle
   idle_spared m (op.Send line message) may idle = idle
 
   idle_spared_all : (m : Making) (os : List Operation) → SparesAll d z in_z os → is_idle m.world.holding.circuits z ≡ true → is_idle (making_after_all d m os).world.holding.circuits z ≡ true
@@ -83,7 +84,7 @@ sent_still d m (op.Wait x leg p) one sent = sent
 sent_still d m (op.Expect x leg message) one sent = Contains-append_left m.sends _ one sent
 sent_still d m (op.Repeat h octets) one sent = Contains-append_left m.sends _ one sent
 sent_still d m (op.Await x leg) one sent = sent
-sent_still d m (op.Remove x owed) one sent = sent
+sent_still d m (op.Remove x condition) one sent = sent
 sent_still d m (op.Send line message) one sent = Contains-append_left m.sends _ one sent
 
 pub sent_still_all : (d : Dimensions) (m : Making) (os : List Operation) (one : Signal) → Contains m.sends one → Contains (making_after_all d m os).sends one
@@ -302,7 +303,7 @@ module _ (s : Setting) (frame : ℕ) (w : World) (kept : Kept s.dimensions s.ton
     now_kept = lines_kept s frame w kept x.line (omega (arith, below))
 
     abbrev gone : Making
-    gone = making_after_all d now (remove_leg true h)
+    gone = making_after_all d now (remove_leg Owed h)
 
     abbrev rest : List Operation
     rest = with_peer (peer_of now.world.legs leg.peer) (clear_with s.tones destination_out_of_order)

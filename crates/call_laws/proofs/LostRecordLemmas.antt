@@ -85,7 +85,7 @@ module _ (c : Circuit) where
   Keeps (op.Expect x leg message) = Unit {0}
   Keeps (op.Repeat h octets) = Unit {0}
   Keeps (op.Await x leg) = Unit {0}
-  Keeps (op.Remove x owed) = Unit {0}
+  Keeps (op.Remove x condition) = Unit {0}
   Keeps (op.Send line message) = Unit {0}
 
   abbrev KeepsAll : List Operation → Type 0
@@ -103,7 +103,7 @@ module _ (c : Circuit) where
   heard_still d z m (op.Expect x leg message) keeps heard = heard
   heard_still d z m (op.Repeat h octets) keeps heard = heard
   heard_still d z m (op.Await x leg) keeps heard = heard
-  heard_still d z m (op.Remove x owed) keeps heard = heard
+  heard_still d z m (op.Remove x condition) keeps heard = heard
   heard_still d z m (op.Send line message) keeps heard = heard
 
   heard_still_all : (d : Dimensions) (z : Slot) (m : Making) (os : List Operation) → KeepsAll os → heard_by m.world.holding.circuits z ≡ Some c → heard_by (making_after_all d m os).world.holding.circuits z ≡ Some c

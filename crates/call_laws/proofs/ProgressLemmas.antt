@@ -18,6 +18,8 @@ use Rattle.call_timers.specs.declared.expiry.Expiry.TheVariants as expiry
 use Rattle.q931_codec.specs.CallStates.{active, call_delivered, null}
 use Rattle.call_states.specs.declared.act.Act.{Act}
 use Rattle.call_states.specs.declared.act.Act.TheVariants as act
+use Rattle.call_states.specs.declared.condition.Condition.{Condition}
+use Rattle.call_states.specs.declared.condition.Condition.TheVariants.{Idle}
 use Rattle.call_states.specs.declared.leg.HeldLeg.{HeldLeg}
 use Rattle.call_states.specs.declared.leg.Leg.{Leg}
 use Rattle.clearing_rules.specs.declared.scope.Restart.{Restart}
@@ -144,17 +146,17 @@ either_tells : (b : Bool) (p q : List Operation) → TellsOfTones p → TellsOfT
 either_tells true p q one other = one
 either_tells false p q one other = other
 
-restarted_peer_tells : (tones : Tones) (cause : ℕ) (owed : Bool) (r : Restart) (line : ℕ) (o : Option HeldLeg) → TellsOfTones (with_peer o (restart_peer tones cause owed r line))
-restarted_peer_tells tones cause owed r line None = refl
-restarted_peer_tells tones cause owed r line (Some other) =
-    either_tells (restarts_slot r line other.slot) (remove_leg owed other) (clear_with tones cause other) refl (cleared_tells tones cause other)
+restarted_peer_tells : (tones : Tones) (cause : ℕ) (condition : Condition) (r : Restart) (line : ℕ) (o : Option HeldLeg) → TellsOfTones (with_peer o (restart_peer tones cause condition r line))
+restarted_peer_tells tones cause condition r line None = refl
+restarted_peer_tells tones cause condition r line (Some other) =
+    either_tells (restarts_slot r line other.slot) (remove_leg condition other) (clear_with tones cause other) refl (cleared_tells tones cause other)
 
-pub restarted_leg_tells : (tones : Tones) (cause : ℕ) (owed : Bool) (r : Restart) (legs : Legs) (o : Option HeldLeg) → TellsOfTones (restart_leg tones cause owed r legs o)
-restarted_leg_tells tones cause owed r legs None = refl
-restarted_leg_tells tones cause owed r legs (Some h) = restarted_peer_tells tones cause owed r h.slot.line (peer_of legs h.leg.peer)
+pub restarted_leg_tells : (tones : Tones) (cause : ℕ) (condition : Condition) (r : Restart) (legs : Legs) (o : Option HeldLeg) → TellsOfTones (restart_leg tones cause condition r legs o)
+restarted_leg_tells tones cause condition r legs None = refl
+restarted_leg_tells tones cause condition r legs (Some h) = restarted_peer_tells tones cause condition r h.slot.line (peer_of legs h.leg.peer)
 
 pub restart_tells : (tones : Tones) (r : Restart) (legs : Legs) (x : Slot) → TellsOfTones (restart_slot tones r legs x)
-restart_tells tones r legs x = either_tells (is_restarted r x.place) (restart_leg tones temporary_failure false r legs (held_at legs x)) [] (restarted_leg_tells tones temporary_failure false r legs (held_at legs x)) refl
+restart_tells tones r legs x = either_tells (is_restarted r x.place) (restart_leg tones temporary_failure Idle r legs (held_at legs x)) [] (restarted_leg_tells tones temporary_failure Idle r legs (held_at legs x)) refl
 
 -- ---- a message on no call
 

@@ -26,7 +26,7 @@ use Rattle.tone_rules.specs.declared.tones.Tones.{Tones}
 use Rattle.exchange_events.specs.Sizes.{Setting}
 use Rattle.call_profile.specs.Acts.{peer_of}
 use Rattle.call_profile.specs.CallRecords.{is_calling, party_of, record_of}
-use Rattle.call_profile.specs.Calls.{Request, For_leg, New_call, On_no_call, Restarts, Unanswered, request_of, outcome_for, answer_to}
+use Rattle.call_profile.specs.Calls.{Request, For_leg, New_call, On_no_call, Restarts, Confirms, Unanswered, request_of, outcome_for, answer_to}
 use Rattle.call_profile.specs.EndedCalls.{caller_in, record_calling, record_ended, record_of_act, slot_records}
 use Rattle.call_profile.specs.LegStanding.{HasPeer, IsInCall, LegsStand}
 use Rattle.call_profile.specs.Legs.{leg_at, held_at}
@@ -34,6 +34,7 @@ use Rattle.call_laws.specs.Recorded.{Arrive, ComeByPlace, RestartsNothing, first
 use Rattle.call_laws.specs.Restarted.{IsRestart}
 use Rattle.call_profile.specs.Restarts.{MessageOutcome, outcome_at_slot, outcome_below, restarts_slot, restart_rule}
 use Rattle.call_profile.specs.World.{World}
+use Rattle.call_laws.proofs.ConfirmedLineLemmas.{confirmed_records}
 use Rattle.call_profile.proofs.ClearingLemmas.{Kept, held_there}
 use Rattle.call_profile.proofs.NamedLegLemmas.{received_stands}
 use Rattle.call_profile.proofs.RecordOfActLemmas.{leg_records}
@@ -252,6 +253,8 @@ length-outcome_for-le s w line octets may (For_leg h m) is other =
 length-outcome_for-le s w line octets may (New_call m) is other = omega arith
 length-outcome_for-le s w line octets may (On_no_call m) is other = omega arith
 length-outcome_for-le s w line octets may (Restarts r) is other = absurd (other r refl)
+length-outcome_for-le s w line octets may (Confirms r) is other =
+    subst (λ (told : List CallRecord). length told ≤ 1) (sym (confirmed_records s.dimensions s.tones r line w)) (omega arith)
 length-outcome_for-le s w line octets may Unanswered is other = omega arith
 
 pub length-answer_to_others-le : (s : Setting) (w : World) (line : ℕ) (octets : List ℕ) → Arrive s w line octets → RestartsNothing w line octets → length (answer_to s w line octets).records ≤ 1

@@ -14,6 +14,7 @@ use Rattle.q931_codec.specs.declared.message.Message.{Message}
 use Rattle.call_states.specs.Acts.{act_on}
 use Rattle.call_states.specs.declared.act.Act.{Act}
 use Rattle.call_states.specs.declared.act.Act.TheVariants as act
+use Rattle.call_states.specs.declared.condition.Condition.TheVariants.{Idle}
 use Rattle.call_states.specs.declared.leg.HeldLeg.{HeldLeg}
 use Rattle.call_states.specs.declared.leg.Leg.{Leg}
 use Rattle.call_states.specs.declared.leg.Peer.TheVariants as peer
@@ -22,7 +23,7 @@ use Rattle.clearing_rules.specs.Restarting.{is_restarted}
 use Rattle.exchange_events.specs.declared.record.CallRecord.{CallRecord}
 use Rattle.exchange_events.specs.Sizes.{Setting}
 use Rattle.call_profile.specs.CallRecords.{is_calling, record_of, records}
-use Rattle.call_profile.specs.Calls.{Request, For_leg, New_call, On_no_call, Restarts, Unanswered, request_of, outcome_for, after_message, answer_to, course_on, making_by}
+use Rattle.call_profile.specs.Calls.{Request, For_leg, New_call, On_no_call, Restarts, Confirms, Unanswered, request_of, outcome_for, after_message, answer_to, course_on, making_by}
 use Rattle.call_profile.specs.EndedCalls.{cause_of_act_at, record_ended}
 use Rattle.call_profile.specs.Legs.{leg_at, held_at}
 use Rattle.call_profile.specs.Operations.{making_after_all}
@@ -30,6 +31,7 @@ use Rattle.call_laws.specs.Recorded.{Arrive, HasEnded, IsRecordOf, IsRecorded, c
 use Rattle.call_profile.specs.Restarts.{MessageOutcome, restarts_slot, restart_leg, outcome_at_slot, outcome_below, restart_rule}
 use Rattle.call_profile.specs.World.{World}
 use Rattle.call_profile.proofs.BesideLemmas.{same_or_apart}
+use Rattle.call_laws.proofs.ConfirmedLineLemmas.{confirmed_held, confirmed_records, records_of_none}
 use Rattle.call_profile.proofs.ClearingLemmas.{Kept}
 use Rattle.call_profile.proofs.NamedLegLemmas.{received_stands}
 use Rattle.call_laws.proofs.NoCallEndedLemmas.{records_answer_ends_none}
@@ -198,7 +200,7 @@ module _ (s : Setting) (r : Restart) (line : ℕ) (w : World) (below : line < s.
           let done = slot_done s.dimensions s.tones r line a.making here refl so_far.legs.kept (below, small) restarted in
           step_by (stays_silent external r line u v here done) (calls_on external r line u v here done)
       | inr not_so ↦
-          let same : v ≡ u = ap (λ (b : Bool). (making_after_all s.dimensions a.making (if b then restart_leg s.tones temporary_failure false r u.legs (held_at u.legs here) else [])).world) not_so in
+          let same : v ≡ u = ap (λ (b : Bool). (making_after_all s.dimensions a.making (if b then restart_leg s.tones temporary_failure Idle r u.legs (held_at u.legs here) else [])).world) not_so in
           step_by
           (λ z in_z silent. ap (λ (q : World). is_calling (leg_at q.legs z)) same ∙ silent)
           (λ z l in_z at calls. (sym (ap (λ (q : World). leg_at q.legs z) same) ∙ at, ap (λ (q : World). heard_by q.holding.circuits z) same))
@@ -269,6 +271,10 @@ module _ (s : Setting) (w : World) (line : ℕ) (octets : List ℕ) (may : Arriv
   request_accounted (New_call m) is = none_accounted (outcome_for s w line (New_call m)).making.world None (records_setup_ends_none s w line m may.planned may.stands may.fits.0)
   request_accounted (On_no_call m) is = none_accounted (outcome_for s w line (On_no_call m)).making.world None (records_answer_ends_none s w line m)
   request_accounted (Restarts r) is = (temporary_failure, restart_recorded s r line w may.fits.0 (may.stands.circuits, may.stands.legs), inl refl)
+  request_accounted (Confirms r) is =
+      let v = (outcome_for s w line (Confirms r)).making.world in
+      subst (IsAccounted s.dimensions.external w v None) (sym (confirmed_records s.dimensions s.tones r line w))
+      (none_accounted v None (records_of_none w v 0 (confirmed_held s.dimensions s.tones r line w)))
   request_accounted Unanswered is = none_accounted w None (no_records w 0)
 
   all_accounted : IsAccounted s.dimensions.external w (after_message s w line octets) (cause_of_clearing (request_of w.legs line octets)) (answer_to s w line octets).records

@@ -12,6 +12,8 @@ use Rattle.circuit_model.proofs.Hearing.{heard_by-stands}
 use Rattle.circuit_model.proofs.Slots.{true_or_false, same_slot-true, same_slot-false}
 use Rattle.circuit_model.proofs.Validity.{valid-clear, heard_by-clear, heard_by-mutual}
 use Rattle.q931_codec.specs.Causes.{temporary_failure}
+use Rattle.call_states.specs.declared.condition.Condition.{Condition}
+use Rattle.call_states.specs.declared.condition.Condition.TheVariants.{Idle}
 use Rattle.call_states.specs.declared.leg.Leg.{Leg}
 use Rattle.call_states.specs.declared.leg.Peer.{Peer}
 use Rattle.call_states.specs.declared.leg.Peer.TheVariants as peer
@@ -89,7 +91,7 @@ pub record IsRestartedAt (external : ℕ) (r : Restart) (cause line : ℕ) (u v 
   pub unheld : (z : Slot) → IsExternal external z → leg_at u.legs z ≡ None → heard_by v.holding.circuits z ≡ heard_by u.holding.circuits z
   pub next : v.holding.next ≡ u.holding.next
 
-module _ (d : Dimensions) (tones : Tones) (r : Restart) (cause : ℕ) (owed : Bool) (line : ℕ) (m : Making) (x : Slot) (on_line : x.line ≡ line) (kept : Kept d tones m.world) (in_x : IsExternal d.external x) where
+module _ (d : Dimensions) (tones : Tones) (r : Restart) (cause : ℕ) (condition : Condition) (line : ℕ) (m : Making) (x : Slot) (on_line : x.line ≡ line) (kept : Kept d tones m.world) (in_x : IsExternal d.external x) where
   abbrev u : World
   u = m.world
 
@@ -112,7 +114,7 @@ module _ (d : Dimensions) (tones : Tones) (r : Restart) (cause : ℕ) (owed : Bo
     held = record { slot = x; leg = leg }
 
     abbrev gone : Making
-    gone = making_after_all d m (remove_leg owed held)
+    gone = making_after_all d m (remove_leg condition held)
 
     keeps_unheld : (y : Slot) → leg_at u.legs y ≡ None → heard_by (after u.holding (Clear_slot x)).circuits y ≡ heard_by u.holding.circuits y
     keeps_unheld y none = heard_by-clear u.holding.circuits x y (kept.0.standing y) ∙ unless_naming_unheld_keeps d.external d.bridges tones u kept.0 kept.1 x leg in_x at y none
@@ -193,27 +195,27 @@ module _ (d : Dimensions) (tones : Tones) (r : Restart) (cause : ℕ) (owed : Bo
         next = ap (λ (h : Holding). h.next) holding ∙ with_tone_sounding_next cleared y tone;
       }
 
-    with_peer_done : (p : Peer) → leg.peer ≡ p → HasPeer d.external u.legs x leg p → Done (making_after_all d gone (with_peer (peer_of u.legs p) (restart_peer tones cause owed r line))).world
+    with_peer_done : (p : Peer) → leg.peer ≡ p → HasPeer d.external u.legs x leg p → Done (making_after_all d gone (with_peer (peer_of u.legs p) (restart_peer tones cause condition r line))).world
     with_peer_done peer.Alone is has = one_done (λ p same. let e : peer.Alone ≡ peer.Leg p = sym is ∙ same in cc)
     with_peer_done (peer.Leg y) is has =
         let other = has.1.0 in
         rw (held_there u.legs y other has.1.1) (elim (true_or_false (restarts_slot r line y)) [
           | inl too ↦ rw too (both_done y other has.0 has.1.1 has.1.2 None (rw too refl) None
-              (making_after_all d gone (remove_leg owed (record { slot = y; leg = other }))).world refl refl)
+              (making_after_all d gone (remove_leg condition (record { slot = y; leg = other }))).world refl refl)
           | inr not_so ↦ rw not_so (both_done y other has.0 has.1.1 has.1.2 (Some (begun u (in_disconnect_indication cause other))) (rw not_so refl)
               (tone_of tones (in_disconnect_indication cause other))
               (making_after_all d gone (clear_with tones cause (record { slot = y; leg = other }))).world refl refl)
         ])
     with_peer_done (peer.Room room) is has = one_done (λ p same. let e : peer.Room room ≡ peer.Leg p = sym is ∙ same in cc)
 
-    pub leg_done : Done (making_after_all d m (restart_leg tones cause owed r u.legs (Some held))).world
-    leg_done = subst (λ n. Done (making_after_all d gone (with_peer (peer_of u.legs leg.peer) (restart_peer tones cause owed r n))).world) (sym on_line) (with_peer_done leg.peer refl (kept.1.each x leg in_x at).peer)
+    pub leg_done : Done (making_after_all d m (restart_leg tones cause condition r u.legs (Some held))).world
+    leg_done = subst (λ n. Done (making_after_all d gone (with_peer (peer_of u.legs leg.peer) (restart_peer tones cause condition r n))).world) (sym on_line) (with_peer_done leg.peer refl (kept.1.each x leg in_x at).peer)
 
   pub held_done : (o : Option Leg) → leg_at u.legs x ≡ o
-      → Done (making_after_all d m (restart_leg tones cause owed r u.legs (option_map (λ (leg : Leg). let h : HeldLeg = record { slot = x; leg = leg } in h) o))).world
+      → Done (making_after_all d m (restart_leg tones cause condition r u.legs (option_map (λ (leg : Leg). let h : HeldLeg = record { slot = x; leg = leg } in h) o))).world
   held_done None none = none_done none
   held_done (Some leg) at = leg_done leg at
 
 module _ (d : Dimensions) (tones : Tones) (r : Restart) (line : ℕ) (m : Making) (x : Slot) (on_line : x.line ≡ line) (kept : Kept d tones m.world) (in_x : IsExternal d.external x) where
   pub slot_done : is_restarted r x.place ≡ true → IsRestartedAt d.external r temporary_failure line m.world (making_after_all d m (restart_slot tones r m.world.legs x)).world x
-  slot_done restarted = rw restarted (held_done d tones r temporary_failure false line m x on_line kept in_x (leg_at m.world.legs x) refl)
+  slot_done restarted = rw restarted (held_done d tones r temporary_failure Idle line m x on_line kept in_x (leg_at m.world.legs x) refl)
