@@ -29,7 +29,7 @@ use Rattle.exchange_events.specs.Sizes.{Setting, Dimensions}
 use Rattle.exchange_events.specs.Sound.{IsPlanned}
 use Rattle.call_profile.specs.ActCourse.{course_of}
 use Rattle.call_profile.specs.Acts.{answered, in_state, with_enquiry, peer_of, with_peer, on_alerting, on_connect}
-use Rattle.call_profile.specs.Calls.{Request, For_leg, New_call, On_no_call, Restarts, Unanswered, request_of, answer_back, outcome_for, after_message}
+use Rattle.call_profile.specs.Calls.{Request, For_leg, New_call, On_no_call, Restarts, Confirms, Unanswered, request_of, answer_back, outcome_for, after_message}
 use Rattle.call_profile.specs.Course.{only, nothing}
 use Rattle.call_laws.specs.Dropped.{HasLine, left_by_failure, waiting_for_link}
 use Rattle.call_profile.specs.LegStanding.{CallsStand, HasPeer, IsInCall, AreOneCall, are_matched}
@@ -43,8 +43,9 @@ use Rattle.call_profile.specs.Setup.{setup, refusal}
 use Rattle.call_profile.specs.Step.{next}
 use Rattle.call_profile.specs.World.{World}
 use Rattle.call_profile.proofs.AnsweredLegLemmas.{answered_does}
-use Rattle.call_profile.proofs.BesideLemmas.{leg_at-with_entry_here, leg_at-with_entry_else, same_or_apart}
+use Rattle.call_profile.proofs.BesideLemmas.{look, leg_at-with_entry_here, leg_at-with_entry_else, same_or_apart}
 use Rattle.call_profile.proofs.ClearingLemmas.{held_there}
+use Rattle.call_laws.proofs.ConfirmedLineLemmas.{confirmed_held}
 use Rattle.call_laws.proofs.DroppedLineLemmas.{active_wait, call_active, other_lines_are_left}
 use Rattle.call_laws.proofs.LineRestartLemmas.{line_is_empty}
 use Rattle.call_profile.proofs.NamedLegLemmas.{received_stands}
@@ -111,7 +112,7 @@ module _ (d : Dimensions) (z : Slot) (in_z : IsExternal d.external z) (leg : Leg
   Keeps (op.Expect x l message) = Writes x l
   Keeps (op.Repeat h octets) = Writes h.slot h.leg
   Keeps (op.Await x l) = Writes x l
-  Keeps (op.Remove x owed) = IsExternal d.external x × (z ≡ x → ⊥)
+  Keeps (op.Remove x condition) = IsExternal d.external x × (z ≡ x → ⊥)
   Keeps (op.Send line message) = Unit {0}
 
   abbrev KeepAll : List Operation → Type 0
@@ -153,7 +154,7 @@ module _ (d : Dimensions) (z : Slot) (in_z : IsExternal d.external z) (leg : Leg
   one_kept m (op.Await x l) may so_far =
       let new = retransmitted_from m.world.holding.next l in
       record { size = length-set m.world.legs.held (number_of x) (Some new) ∙ so_far.size; stays = wrote m.world.legs x new so_far.size (may.0, λ same. from_now m.world.holding.next true l (may.1 same)) so_far.stays }
-  one_kept m (op.Remove x owed) may so_far = record {
+  one_kept m (op.Remove x condition) may so_far = record {
     size = length-set m.world.legs.held (number_of x) None ∙ so_far.size;
     stays = (so_far.stays.0, leg_at-with_entry_else d.external m.world.legs x z None may.0 in_z may.1 ∙ so_far.stays.1, so_far.stays.2);
   }
@@ -556,6 +557,10 @@ module _ (s : Setting) (w : World) (line : ℕ) (planned : IsPlanned s) (stands 
     request_lasts (Restarts r) asks stands_v =
         subst (λ (q : Request). LastsIn (outcome_for s w line q).making.world ⊎ Ends) asks
         (restart_lasts r asks (subst (λ (q : Request). CallsStand s (outcome_for s w line q).making.world) (sym asks) stands_v))
+    request_lasts (Confirms r) asks stands_v =
+        let v = (outcome_for s w line (Confirms r)).making.world in
+        let same = confirmed_held s.dimensions s.tones r line w in
+        inl (same_legs v stands_v (ap (look x) same) (ap (look y) same))
     request_lasts Unanswered asks stands_v = inl (same_legs w stands refl refl)
 
     pub message_lasts : CallsStand s (after_message s w line octets) → LastsIn (after_message s w line octets) ⊎ Ends

@@ -33,7 +33,7 @@ use Rattle.exchange_events.specs.declared.trace.Event.TheVariants.{Nail, Seat, F
 use Rattle.exchange_events.specs.Sizes.{Setting, Dimensions}
 use Rattle.exchange_events.specs.Sound.{Fits, IsPlanned}
 use Rattle.call_profile.specs.ActCourse.{course_of}
-use Rattle.call_profile.specs.Calls.{Request, For_leg, New_call, On_no_call, Restarts, Unanswered, request_of, answer_back, outcome_for, after_message}
+use Rattle.call_profile.specs.Calls.{Request, For_leg, New_call, On_no_call, Restarts, Confirms, Unanswered, request_of, answer_back, outcome_for, after_message}
 use Rattle.call_profile.specs.Digits.{asked_with, digits_refusal, dial_on, with_pending}
 use Rattle.call_profile.specs.IdleSlots.{idle, is_nailed}
 use Rattle.call_profile.specs.LegStanding.{CallsStand}
@@ -52,7 +52,7 @@ use Rattle.privacy.specs.Lines.{IsAsBefore, IsChange}
 use Rattle.privacy.specs.Undisturbed.{IsOnLine, IsSingle}
 use Rattle.privacy.proofs.CalledLemmas.{called_idle}
 use Rattle.privacy.proofs.FootprintLemmas.{MissAll, Misses}
-use Rattle.privacy.proofs.LineLemmas.{IsStrange, own_cleared, course_skip, answer_skip, linked, given_up, restarted}
+use Rattle.privacy.proofs.LineLemmas.{IsStrange, own_cleared, course_skip, answer_skip, confirmed, linked, given_up, restarted}
 use Rattle.privacy.proofs.StayingLemmas.{turn_leaves}
 use Rattle.privacy.proofs.VoicedLemmas.{tone_before_pair, tone_before_seat}
 
@@ -76,7 +76,7 @@ module _ (d : Dimensions) (z : Slot) (in_z : IsExternal d.external z) where
   Spares (op.Expect x leg message) = Writes x leg
   Spares (op.Repeat h octets) = Writes h.slot h.leg
   Spares (op.Await x leg) = Writes x leg
-  Spares (op.Remove x owed) = IsExternal d.external x
+  Spares (op.Remove x condition) = IsExternal d.external x
   Spares (op.Send line message) = Unit {0}
 
   abbrev pub SpareAll : List Operation → Type 0
@@ -94,7 +94,7 @@ module _ (d : Dimensions) (z : Slot) (in_z : IsExternal d.external z) where
   one_misses u (op.Expect x leg message) may = (may.0, λ same. absurd (may.1 same))
   one_misses u (op.Repeat h octets) may = (may.0, λ same. absurd (may.1 same))
   one_misses u (op.Await x leg) may = (may.0, λ same. absurd (may.1 same))
-  one_misses u (op.Remove x owed) may = may.0
+  one_misses u (op.Remove x condition) may = may.0
   one_misses u (op.Send line message) may = tt
 
   pub all_miss : (u : World) (os : List Operation) → MissAll d u z in_z os → SpareAll os
@@ -144,7 +144,7 @@ module _ (d : Dimensions) (z : Slot) (in_z : IsExternal d.external z) where
   one_spared m (op.Await x leg) may so_far =
       let again = retransmitted_from m.world.holding.next leg in
       record { size = length-set m.world.legs.held (number_of x) (Some again) ∙ so_far.size; leg = put m.world.legs x again so_far.size may so_far.leg; tone = so_far.tone }
-  one_spared m (op.Remove x owed) may so_far = record { size = length-set m.world.legs.held (number_of x) None ∙ so_far.size; leg = wrote m.world.legs x None so_far.size may (λ l e. absurd cc) so_far.leg; tone = so_far.tone }
+  one_spared m (op.Remove x condition) may so_far = record { size = length-set m.world.legs.held (number_of x) None ∙ so_far.size; leg = wrote m.world.legs x None so_far.size may (λ l e. absurd cc) so_far.leg; tone = so_far.tone }
   one_spared m (op.Send line message) may so_far = record { size = so_far.size; leg = so_far.leg; tone = so_far.tone }
 
   pub all_spared : (m : Making) (os : List Operation) → SpareAll os → IsSpared m.world → IsSpared (making_after_all d m os).world
@@ -281,6 +281,7 @@ module _ (s : Setting) (w : World) (planned : IsPlanned s) (stands : CallsStand 
     request_spares (On_no_call m) is =
         by_spare (answer_back line (answer_without_call m)) (all_miss s.dimensions z in_z w (answer_back line (answer_without_call m)) (answer_skip s w z stands in_z line (answer_without_call m)))
     request_spares (Restarts r) is = same_out (outcome_for s w line (Restarts r)).making.world (restarted s w line z stands in_z (λ v same x l on at. no_leg v same x l at) exists r).same
+    request_spares (Confirms r) is = same_out (outcome_for s w line (Confirms r)).making.world (confirmed s w line z stands in_z (λ v same x l on at. no_leg v same x l at) exists r).same
     request_spares Unanswered is = same_out w (record { leg = refl; pending = refl; kept = refl; heard = refl })
 
     pub message_spares : IsLeftOut (after_message s w line octets)

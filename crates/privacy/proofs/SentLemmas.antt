@@ -12,8 +12,11 @@ use Rattle.q931_codec.specs.Causes.{destination_out_of_order, invalid_number_for
 use Rattle.q931_codec.specs.Contents.{called_in, channel_in}
 use Rattle.q931_codec.specs.Outgoing.{OutgoingMessage}
 use Rattle.call_states.specs.Acts.{act_on}
+use Rattle.call_states.specs.Conditions.{unanswered}
 use Rattle.call_states.specs.declared.act.Act.{Act}
 use Rattle.call_states.specs.declared.act.Act.TheVariants as act
+use Rattle.call_states.specs.declared.condition.Condition.{Condition}
+use Rattle.call_states.specs.declared.condition.Condition.TheVariants.{Idle, Owed}
 use Rattle.call_states.specs.declared.leg.HeldLeg.{HeldLeg}
 use Rattle.call_states.specs.declared.leg.Leg.{Leg}
 use Rattle.call_states.specs.declared.leg.Peer.{Peer}
@@ -31,7 +34,7 @@ use Rattle.exchange_events.specs.Sizes.{Setting, Dimensions}
 use Rattle.exchange_events.specs.Sound.{Fits, IsPlanned}
 use Rattle.call_profile.specs.ActCourse.{course_of}
 use Rattle.call_profile.specs.Acts.{peer_of, with_peer, clear_with, on_alerting, on_connect, on_disconnect, on_release, on_release_complete, answered, in_state}
-use Rattle.call_profile.specs.Calls.{Request, For_leg, New_call, On_no_call, Restarts, Unanswered, request_of, answer_back, outcome_for, outcome_of_octets}
+use Rattle.call_profile.specs.Calls.{Request, For_leg, New_call, On_no_call, Restarts, Confirms, Unanswered, request_of, answer_back, outcome_for, outcome_of_octets}
 use Rattle.call_profile.specs.Digits.{asked_with, digits_refusal, dial_on, with_pending}
 use Rattle.call_profile.specs.IdleSlots.{idle}
 use Rattle.call_profile.specs.LegStanding.{CallsStand, LegsStand, HasPeer}
@@ -42,12 +45,13 @@ use Rattle.call_profile.specs.Legs.{leg_at, pending_at, kept_at, is_down, lowest
 use Rattle.call_profile.specs.LinkChanges.{give_up_rule, rule_of, outcome_of_line_restart, outcome_of_link, whole_line, with_interface, with_line, restarts_interface}
 use Rattle.call_profile.specs.Operations as op
 use Rattle.call_profile.specs.Operations.{Operation, Making, begun, making_at, making_after, making_after_all}
-use Rattle.call_profile.specs.Restarts.{MessageOutcome, restart_peer, restart_leg, restart_slot, restarts_slot, restart_rule, outcome_below}
+use Rattle.call_profile.specs.Restarts.{MessageOutcome, restart_peer, restart_leg, restart_slot, restarts_slot, restart_rule, confirm_rule, confirm_slot, outcome_below}
 use Rattle.call_profile.specs.Setup.{call, call_line, accept, accept_at, setup, refusal, caller_slot, called_slot, target_dialled, call_asked, caller_leg, called_leg, ask_for_digits}
 use Rattle.call_profile.specs.Step.{next, reply}
 use Rattle.call_profile.specs.World.{World}
 use Rattle.call_profile.proofs.BesideLemmas.{leg_at-with_entry_here}
 use Rattle.call_profile.proofs.ClearingLemmas.{held_there}
+use Rattle.call_profile.proofs.ConfirmedSlotLemmas.{at_confirmed, confirm_kept}
 use Rattle.call_profile.proofs.GivenUpSlotLemmas.{give_up_kept}
 use Rattle.call_profile.proofs.LinkLemmas.{rule_kept}
 use Rattle.call_profile.proofs.NamedLegLemmas.{received_stands}
@@ -59,7 +63,7 @@ use Rattle.call_profile.proofs.AnsweredLegLemmas.{answered_does}
 use Rattle.privacy.specs.Lines.{IsChange, IsConcerned, Itself, In_call, Offered, IsInCallWith, Own, Other_leg, sends_of}
 use Rattle.privacy.specs.Undisturbed.{IsOnLine}
 use Rattle.privacy.proofs.CalledLemmas.{called_idle}
-use Rattle.privacy.proofs.CourseLemmas.{give_up_orderly, restart_slot_orderly, rule_orderly}
+use Rattle.privacy.proofs.CourseLemmas.{confirm_orderly, give_up_orderly, restart_slot_orderly, rule_orderly}
 use Rattle.privacy.proofs.GrowthLemmas.{IsWalked, walk, walk_first, linked_first}
 use Rattle.privacy.proofs.OrderlyLemmas.{none}
 use Rattle.privacy.proofs.LinkRuleLemmas.{IsAtLeg, give_up_by, rule_by}
@@ -77,7 +81,7 @@ module _ (d : Dimensions) (To : ℕ → Type 0) where
   Sends (op.Expect x leg message) = To x.line
   Sends (op.Repeat h octets) = To h.slot.line
   Sends (op.Await x leg) = Unit {0}
-  Sends (op.Remove x owed) = Unit {0}
+  Sends (op.Remove x condition) = Unit {0}
   Sends (op.Send line message) = To line
 
   abbrev pub SendAll : List Operation → Type 0
@@ -101,7 +105,7 @@ module _ (d : Dimensions) (To : ℕ → Type 0) where
   one_sent m (op.Expect x leg message) may so_far = All-push (λ (q : Signal). To q.line) m.sends _ so_far may
   one_sent m (op.Repeat h octets) may so_far = All-push (λ (q : Signal). To q.line) m.sends _ so_far may
   one_sent m (op.Await x leg) may so_far = so_far
-  one_sent m (op.Remove x owed) may so_far = so_far
+  one_sent m (op.Remove x condition) may so_far = so_far
   one_sent m (op.Send line message) may so_far = All-push (λ (q : Signal). To q.line) m.sends _ so_far may
 
   pub all_sent : (m : Making) (os : List Operation) → SendAll os → AreTo m.sends → AreTo (making_after_all d m os).sends
@@ -131,14 +135,14 @@ module _ (d : Dimensions) (tones : Tones) (u : World) (stand : LegsStand d.exter
   pub and_peer : (os : List Operation) (cause : ℕ) → SendOut os → SendOut (os ++ with_peer (peer_of u.legs h.leg.peer) (clear_with tones cause))
   and_peer os cause first = send_both d To os (with_peer (peer_of u.legs h.leg.peer) (clear_with tones cause)) first (peer_sends h.leg.peer (clear_with tones cause) refl (clear_sends cause))
 
-  restarted_peer : (cause : ℕ) (owed : Bool) (r : Restart) (k : HeldLeg) → To k.slot.line → SendOut (restart_peer tones cause owed r h.slot.line k)
-  restarted_peer cause owed r k to = elim (true_or_false (restarts_slot r h.slot.line k.slot)) [
+  restarted_peer : (cause : ℕ) (condition : Condition) (r : Restart) (k : HeldLeg) → To k.slot.line → SendOut (restart_peer tones cause condition r h.slot.line k)
+  restarted_peer cause condition r k to = elim (true_or_false (restarts_slot r h.slot.line k.slot)) [
     | inl too ↦ rw too (tt, (tt, tt))
     | inr not_so ↦ rw not_so (clear_sends cause k to)
   ]
 
-  pub restart_sends : (cause : ℕ) (owed : Bool) (r : Restart) → SendOut (restart_leg tones cause owed r u.legs (Some h))
-  restart_sends cause owed r = (tt, (tt, peer_sends h.leg.peer (restart_peer tones cause owed r h.slot.line) refl (restarted_peer cause owed r)))
+  pub restart_sends : (cause : ℕ) (condition : Condition) (r : Restart) → SendOut (restart_leg tones cause condition r u.legs (Some h))
+  restart_sends cause condition r = (tt, (tt, peer_sends h.leg.peer (restart_peer tones cause condition r h.slot.line) refl (restarted_peer cause condition r)))
 
   again : (o : Option (List ℕ)) → SendOut (send_again h o)
   again None = tt
@@ -162,7 +166,7 @@ module _ (d : Dimensions) (tones : Tones) (u : World) (stand : LegsStand d.exter
   pub link_sends : IsAtLeg tones u.legs SendOut h
   link_sends = record {
     waits = (tt, tt);
-    goes = restart_sends destination_out_of_order true whole_line;
+    goes = restart_sends destination_out_of_order Owed whole_line;
     asks = (tt, (own, tt));
     clears = own_cleared temporary_failure;
     again = again (kept_at u.legs h.slot);
@@ -199,9 +203,22 @@ module _ (s : Setting) (w : World) (e : Event) (line : ℕ) (planned : IsPlanned
       let m : Making = a.making in
       let os = restart_slot s.tones r m.world.legs x in
       let out : Reach os = restarts.at_slot s.tones r m.world.legs x Reach tt (λ leg at.
-      restart_sends s.dimensions s.tones m.world so_far.0.kept.1 To (record { slot = x; leg = leg }) (exists, small) at own (walked_to a so_far x leg (exists, small) refl at) temporary_failure false r) in (
+      restart_sends s.dimensions s.tones m.world so_far.0.kept.1 To (record { slot = x; leg = leg }) (exists, small) at own (walked_to a so_far x leg (exists, small) refl at) temporary_failure Idle r) in (
         walk s w e planned stands m os so_far.0 (restart_slot_orderly s.dimensions s.tones m.world so_far.0.kept.1 none x (exists, small) r) (restarts.slot_kept s.dimensions s.tones r m x so_far.0.kept (exists, small)),
         all_sent s.dimensions To m os out so_far.1,
+      ))
+      30 (omega arith)
+
+  -- nothing is sent at a slot whose restart is acknowledged
+  pub confirmed : (r : Restart) → HasWalked (outcome_below s.dimensions (confirm_rule r) line w 30)
+  confirmed r =
+      each_below s.dimensions (confirm_rule r) line w HasWalked (walk_first s w e planned stands, none_reached)
+      (λ a place small so_far.
+      let x : Slot = record { line = line; place = place } in
+      let m : Making = a.making in
+      let os = confirm_slot r m.world.legs x in (
+        walk s w e planned stands m os so_far.0 (confirm_orderly s.dimensions s.tones m.world so_far.0.kept.1 none x (exists, small) r) (confirm_kept s.dimensions s.tones r m x so_far.0.kept (exists, small)),
+        all_sent s.dimensions To m os (at_confirmed r m.world.legs x Reach tt (λ none. (tt, tt))) so_far.1,
       ))
       30 (omega arith)
 
@@ -238,30 +255,31 @@ module _ (s : Setting) (w : World) (e : Event) (line : ℕ) (planned : IsPlanned
 
   -- ---- the restart of the line
 
-  give_up_sends : (a : MessageOutcome) → HasWalked a → (place : ℕ) → place < 30 → (owed : Bool) → Reach ((give_up_rule s.tones owed).does a.making.world.legs (record { line = line; place = place }))
-  give_up_sends a so_far place small owed =
+  give_up_sends : (a : MessageOutcome) → HasWalked a → (place : ℕ) → place < 30 → (condition : Condition) → Reach ((give_up_rule s.tones condition).does a.making.world.legs (record { line = line; place = place }))
+  give_up_sends a so_far place small condition =
       let x : Slot = record { line = line; place = place } in
-      give_up_by s.tones a.making.world.legs Reach x owed
+      give_up_by s.tones a.making.world.legs Reach x condition
       (λ leg at.
-      restart_sends s.dimensions s.tones a.making.world so_far.0.kept.1 To (record { slot = x; leg = leg }) (exists, small) at own (walked_to a so_far x leg (exists, small) refl at) temporary_failure owed whole_line)
+      restart_sends s.dimensions s.tones a.making.world so_far.0.kept.1 To (record { slot = x; leg = leg }) (exists, small) at own (walked_to a so_far x leg (exists, small) refl at) temporary_failure condition whole_line)
       (λ none. (tt, tt))
 
-  line_sends : (owed : Bool) → HasWalked (outcome_below s.dimensions (give_up_rule s.tones owed) line w 30)
-  line_sends owed =
-      each_below s.dimensions (give_up_rule s.tones owed) line w HasWalked (walk_first s w e planned stands, none_reached)
+  line_sends : (condition : Condition) → HasWalked (outcome_below s.dimensions (give_up_rule s.tones condition) line w 30)
+  line_sends condition =
+      each_below s.dimensions (give_up_rule s.tones condition) line w HasWalked (walk_first s w e planned stands, none_reached)
       (λ a place small so_far.
       let x : Slot = record { line = line; place = place } in
       let m : Making = a.making in
-      let os = (give_up_rule s.tones owed).does m.world.legs x in (
-        walk s w e planned stands m os so_far.0 (give_up_orderly s.dimensions s.tones m.world so_far.0.kept.1 none x (exists, small) owed) (give_up_kept s.dimensions s.tones owed m x so_far.0.kept (exists, small)),
-        all_sent s.dimensions To m os (give_up_sends a so_far place small owed) so_far.1,
+      let os = (give_up_rule s.tones condition).does m.world.legs x in (
+        walk s w e planned stands m os so_far.0 (give_up_orderly s.dimensions s.tones m.world so_far.0.kept.1 none x (exists, small) condition) (give_up_kept s.dimensions s.tones condition m x so_far.0.kept (exists, small)),
+        all_sent s.dimensions To m os (give_up_sends a so_far place small condition) so_far.1,
       ))
       30 (omega arith)
 
   pub given_up_sends : ReachAll (outcome_of_line_restart s.dimensions s.tones line w).making.sends
   given_up_sends =
-      let owed : Bool = is_down w.legs line in
-      interface_sends (not owed) (outcome_below s.dimensions (give_up_rule s.tones owed) line w 30) (line_sends owed).1
+      let down : Bool = is_down w.legs line in
+      let condition = unanswered down in
+      interface_sends (not down) (outcome_below s.dimensions (give_up_rule s.tones condition) line w 30) (line_sends condition).1
 
 -- ---- an event on a line
 
@@ -403,6 +421,7 @@ module _ (s : Setting) (w : World) (e : Event) (line : ℕ) (planned : IsPlanned
     request_sends (New_call m) asks after = by_list (setup s w line m (refusal s w line m)) (setup_sends octets is m (refusal s w line m) after)
     request_sends (On_no_call m) asks after = by_list (answer_back line (answer_without_call m)) (answer_sends octets is (answer_without_call m))
     request_sends (Restarts r) asks after = All-push (λ (m : Signal). To m.line) (outcome_below s.dimensions (restart_rule s.tones r) line w 30).making.sends _ (restarted s w e line planned stands exists To (Itself refl) in_call r).1 (Itself refl)
+    request_sends (Confirms r) asks after = (confirmed s w e line planned stands exists To (Itself refl) in_call r).1
     request_sends Unanswered asks after = none_sent
 
     pub message_sends : AllTo (outcome_of_octets s w line octets).making.sends
