@@ -282,7 +282,8 @@ module _ (s : Setting) (w : World) where
           ))
 
     restarted : (r : Restart) (line : ℕ) → line < d.external → (n : ℕ) → n ≤ 30 → Leaves (outcome_below d (restart_rule s.tones r) line w n).making.world.legs
-    restarted r line below zero small = subst (λ (a : MessageOutcome). Leaves a.making.world.legs) (sym (below_none d (restart_rule s.tones r) line w)) same_leaves
+    restarted r line below zero small = subst (λ (a : MessageOutcome). Leaves a.making.world.legs)
+        (sym (below_none d (restart_rule s.tones r) line w)) same_leaves
     restarted r line below (suc n) small =
         let a : MessageOutcome = outcome_below d (restart_rule s.tones r) line w n in
         let x : Slot = record { line = line; place = n } in

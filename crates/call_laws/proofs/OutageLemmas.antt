@@ -67,7 +67,8 @@ module _ (external : ℕ) (legs : Legs) where
   abbrev FollowAll : Type 0
   FollowAll = (z : Slot) (l : Leg) → IsExternal external z → leg_at legs z ≡ Some l → Follows (is_down legs z.line) l
 
-  resent_by : (down : Bool) (leg : Leg) → (leg.state ≡ active → leg.resent ≡ true → down ≡ true) → (leg.state ≡ active → down ≡ true → leg.resent ≡ true) → leg.state ≡ active → leg.resent ≡ down
+  resent_by : (down : Bool) (leg : Leg) → (leg.state ≡ active → leg.resent ≡ true → down ≡ true) → (leg.state ≡ active → down ≡ true → leg.resent ≡ true)
+      → leg.state ≡ active → leg.resent ≡ down
   resent_by true leg only runs is = runs is refl
   resent_by false leg only runs is = never leg.resent refl where
     never : (b : Bool) → leg.resent ≡ b → b ≡ false
@@ -103,22 +104,28 @@ module _ (s : Setting) (w : World) (stands : CallsStand s w) (wait : Wait s.dime
   abbrev Now : List Bool → World → Type 0
   Now links v = Wait d links v.legs
 
-  received : (line : ℕ) (octets : List ℕ) → line < d.external → (r : Request) → request_of w.legs line octets ≡ r → Now w.legs.down (outcome_for s w line r).making.world
+  received : (line : ℕ) (octets : List ℕ) → line < d.external → (r : Request) → request_of w.legs line octets ≡ r
+      → Now w.legs.down (outcome_for s w line r).making.world
   received line octets below (For_leg h m) is =
       let named = received_stands w.legs line octets h m is in
       let within : IsExternal d.external h.slot = (subst (λ n. n < d.external) (sym named.among.0) below, named.among.1) in
       performed_all d w.legs.down (making_at w) (course_of s w h m (act_on h.leg.state m)).operations
-      (course_may s w stands.legs h within named.at wait m (act_on h.leg.state m) (Asked-act_of h.leg.state m.kind (clearing_cause m.elements) (call_state_in m.elements) (cause_fits m.elements))) wait
-  received line octets below (New_call m) is = performed_all d w.legs.down (making_at w) (course_of_setup s w line m).operations (setup_may s w line m (refusal s w line m)) wait
-  received line octets below (On_no_call m) is = performed_all d w.legs.down (making_at w) (answer_back line (answer_without_call m)) (back_may d w.legs.down line (answer_without_call m)) wait
+      (course_may s w stands.legs h within named.at wait m (act_on h.leg.state m)
+          (Asked-act_of h.leg.state m.kind (clearing_cause m.elements) (call_state_in m.elements) (cause_fits m.elements))) wait
+  received line octets below (New_call m) is = performed_all d w.legs.down (making_at w) (course_of_setup s w line m).operations
+      (setup_may s w line m (refusal s w line m)) wait
+  received line octets below (On_no_call m) is = performed_all d w.legs.down (making_at w) (answer_back line (answer_without_call m))
+      (back_may d w.legs.down line (answer_without_call m)) wait
   received line octets below (Restarts r) is =
       each_below d (restart_rule s.tones r) line w (λ a. Wait d w.legs.down a.making.world.legs) wait (λ a place small so_far.
       let x : Slot = record { line = line; place = place } in
-      performed_all d w.legs.down a.making (restart_slot s.tones r a.making.world.legs x) (restart_may d w.legs.down s.tones r a.making.world.legs x) so_far) 30 (omega arith)
+      performed_all d w.legs.down a.making (restart_slot s.tones r a.making.world.legs x)
+          (restart_may d w.legs.down s.tones r a.making.world.legs x) so_far) 30 (omega arith)
   received line octets below (Confirms r) is =
       each_below d (confirm_rule r) line w (λ a. Wait d w.legs.down a.making.world.legs) wait (λ a place small so_far.
       let x : Slot = record { line = line; place = place } in
-      performed_all d w.legs.down a.making (confirm_slot r a.making.world.legs x) (at_confirmed r a.making.world.legs x (MayAll d w.legs.down) tt (λ none. (tt, tt))) so_far) 30 (omega arith)
+      performed_all d w.legs.down a.making (confirm_slot r a.making.world.legs x)
+          (at_confirmed r a.making.world.legs x (MayAll d w.legs.down) tt (λ none. (tt, tt))) so_far) 30 (omega arith)
   received line octets below Unanswered is = wait
 
   turned : (input : Input) → Now w.legs.down (next s w (Frame input))
@@ -126,19 +133,22 @@ module _ (s : Setting) (w : World) (stands : CallsStand s w) (wait : Wait s.dime
       let f : ℕ = w.holding.next in
       each_line s f (pass w input) (λ a. Wait d w.legs.down a.making.world.legs) wait (λ a line small so_far.
       let x : Slot = slot_looked_at f line in
-      performed_all d w.legs.down a.making (expire_slot s f a.making.world.legs x) (expire_may d w.legs.down s f a.making.world.legs x (place_within d.external f line small) so_far) so_far) d.external (omega arith)
+      performed_all d w.legs.down a.making (expire_slot s f a.making.world.legs x)
+          (expire_may d w.legs.down s f a.making.world.legs x (place_within d.external f line small) so_far) so_far) d.external (omega arith)
 
   -- ---- a change of a data link
 
   module _ (line : ℕ) (can : HasLine s w line) (size : length w.legs.down ≡ d.external) where
     links_here : (down : Bool) (z : Slot) → z.line ≡ line → slice_index_or (set w.legs.down line down) z.line false ≡ down
-    links_here down z on = ap (λ (n : ℕ). slice_index_or (set w.legs.down line down) n false) on ∙ get_or-set_same w.legs.down line down false (let below = can.line_exists in omega (arith, below, size))
+    links_here down z on = ap (λ (n : ℕ). slice_index_or (set w.legs.down line down) n false) on
+        ∙ get_or-set_same w.legs.down line down false (let below = can.line_exists in omega (arith, below, size))
 
     links_else : (down : Bool) (z : Slot) → z.line ≢ line → slice_index_or (set w.legs.down line down) z.line false ≡ slice_index_or w.legs.down z.line false
     links_else down z off = get_or-set_other w.legs.down line z.line down false off
 
     -- a leg that is as it was, on another line
-    unmoved : (down : Bool) (z : Slot) (l : Leg) → IsExternal d.external z → z.line ≢ line → leg_at w.legs z ≡ Some l → Follows (slice_index_or (set w.legs.down line down) z.line false) l
+    unmoved : (down : Bool) (z : Slot) (l : Leg) → IsExternal d.external z → z.line ≢ line → leg_at w.legs z ≡ Some l
+        → Follows (slice_index_or (set w.legs.down line down) z.line false) l
     unmoved down z l in_z off at = subst (λ (b : Bool). Follows b l) (sym (links_else down z off)) (wait z l in_z at)
 
     same_leg : (v : World) (z : Slot) (new leg : Leg) → leg_at v.legs z ≡ Some new → leg_at v.legs z ≡ Some leg → new ≡ leg
@@ -159,10 +169,12 @@ module _ (s : Setting) (w : World) (stands : CallsStand s w) (wait : Wait s.dime
     cut_follows : (down : Bool) (l : Leg) → Follows down (begun w (in_disconnect_indication destination_out_of_order l))
     cut_follows down l = ((λ e. absurd cc), (λ e asked. absurd cc), (λ asked. refl))
 
-    left_follows : (z : Slot) (l : Leg) → IsExternal d.external z → z.line ≢ line → leg_at w.legs z ≡ Some l → (p : Peer) → Follows (slice_index_or (set w.legs.down line true) z.line false) (left_by_failure line w l p)
+    left_follows : (z : Slot) (l : Leg) → IsExternal d.external z → z.line ≢ line → leg_at w.legs z ≡ Some l → (p : Peer)
+        → Follows (slice_index_or (set w.legs.down line true) z.line false) (left_by_failure line w l p)
     left_follows z l in_z off at peer.Alone = unmoved true z l in_z off at
     left_follows z l in_z off at (peer.Leg y) = by ((y.line == line) && not (l.state == active)) where
-      by : (b : Bool) → Follows (slice_index_or (set w.legs.down line true) z.line false) (if b then begun w (in_disconnect_indication destination_out_of_order l) else l)
+      by : (b : Bool) → Follows (slice_index_or (set w.legs.down line true) z.line false)
+          (if b then begun w (in_disconnect_indication destination_out_of_order l) else l)
       by true = cut_follows (slice_index_or (set w.legs.down line true) z.line false) l
       by false = unmoved true z l in_z off at
     left_follows z l in_z off at (peer.Room room) = unmoved true z l in_z off at
@@ -170,7 +182,8 @@ module _ (s : Setting) (w : World) (stands : CallsStand s w) (wait : Wait s.dime
     goes_always : (l : Leg) → is_among being_cleared l.state ≡ true → l.state ≢ active
     goes_always l clears is = grind (arith, common_steps, clears, is)
 
-    failed_on : (z : Slot) (l leg : Leg) → IsExternal d.external z → z.line ≡ line → leg_at w.legs z ≡ Some l → leg_at failed.legs z ≡ Some leg → Follows true leg
+    failed_on : (z : Slot) (l leg : Leg) → IsExternal d.external z → z.line ≡ line → leg_at w.legs z ≡ Some l → leg_at failed.legs z ≡ Some leg
+        → Follows true leg
     failed_on z l leg in_z on at now =
         let old : Follows (slice_index_or w.legs.down line false) l = subst (λ (n : ℕ). Follows (slice_index_or w.legs.down n false) l) on (wait z l in_z at) in
         elim (true_or_false (l.state == active)) [
@@ -179,7 +192,8 @@ module _ (s : Setting) (w : World) (stands : CallsStand s w) (wait : Wait s.dime
               subst (Follows true) (same_leg failed z (waiting_for_link w l) leg (active_wait s w line can z l in_z on at is) now) (waiting_follows l old is)
           | inr not_up ↦ elim (true_or_false (is_among being_cleared l.state)) [
             | inl clears ↦
-                subst (Follows true) (same_leg failed z l leg (cleared_stay s w line can z l in_z on at clears) now) (follows_always true l (goes_always l clears, old.2))
+                subst (Follows true) (same_leg failed z l leg (cleared_stay s w line can z l in_z on at clears) now)
+                    (follows_always true l (goes_always l clears, old.2))
             | inr goes ↦
                 let none = others_are_gone s w line can z l in_z on at (λ is. grind (arith, common_steps, not_up, is)) goes in
                 let wrong : None ≡ Some leg = sym none ∙ now in
@@ -187,7 +201,8 @@ module _ (s : Setting) (w : World) (stands : CallsStand s w) (wait : Wait s.dime
           ]
         ]
 
-    failed_by : (z : Slot) (leg : Leg) (o : Option Leg) → IsExternal d.external z → leg_at w.legs z ≡ o → leg_at failed.legs z ≡ Some leg → Follows (slice_index_or (set w.legs.down line true) z.line false) leg
+    failed_by : (z : Slot) (leg : Leg) (o : Option Leg) → IsExternal d.external z → leg_at w.legs z ≡ o → leg_at failed.legs z ≡ Some leg
+        → Follows (slice_index_or (set w.legs.down line true) z.line false) leg
     failed_by z leg None in_z none now = let wrong : None ≡ Some leg = sym (none_stay s w line can z in_z none) ∙ now in absurd cc
     failed_by z leg (Some l) in_z at now = elim (true_or_false (z.line == line)) [
       | inl same ↦
@@ -195,7 +210,8 @@ module _ (s : Setting) (w : World) (stands : CallsStand s w) (wait : Wait s.dime
           subst (λ (b : Bool). Follows b leg) (sym (links_here true z on)) (failed_on z l leg in_z on at now)
       | inr apart ↦
           let off : z.line ≢ line = λ is. grind (arith, common_steps, apart, is) in
-          subst (Follows (slice_index_or (set w.legs.down line true) z.line false)) (same_leg failed z (left_by_failure line w l l.peer) leg (other_lines_are_left s w line can z l in_z off at) now)
+          subst (Follows (slice_index_or (set w.legs.down line true) z.line false))
+              (same_leg failed z (left_by_failure line w l l.peer) leg (other_lines_are_left s w line can z l in_z off at) now)
           (left_follows z l in_z off at l.peer)
     ]
 
@@ -218,20 +234,26 @@ module _ (s : Setting) (w : World) (stands : CallsStand s w) (wait : Wait s.dime
       ]
     ]
 
-    raised_on : (z : Slot) (l : Leg) → IsExternal d.external z → leg_at w.legs z ≡ Some l → Follows (slice_index_or (set w.legs.down line false) z.line false) (resumed_on line w z l)
+    raised_on : (z : Slot) (l : Leg) → IsExternal d.external z → leg_at w.legs z ≡ Some l
+        → Follows (slice_index_or (set w.legs.down line false) z.line false) (resumed_on line w z l)
     raised_on z l in_z at = elim (true_or_false (z.line == line)) [
       | inl same ↦
           let on = eqb-true z.line line same in
-          let old : Follows (slice_index_or w.legs.down line false) l = subst (λ (n : ℕ). Follows (slice_index_or w.legs.down n false) l) on (wait z l in_z at) in
-          subst (λ (b : Bool). Follows b (resumed_on line w z l)) (sym (links_here false z on)) (subst (λ (b : Bool). Follows false (if b then resumed w l else l)) (sym same) (resumed_follows l old))
+          let old : Follows (slice_index_or w.legs.down line false) l =
+              subst (λ (n : ℕ). Follows (slice_index_or w.legs.down n false) l) on (wait z l in_z at) in
+          subst (λ (b : Bool). Follows b (resumed_on line w z l)) (sym (links_here false z on))
+              (subst (λ (b : Bool). Follows false (if b then resumed w l else l)) (sym same) (resumed_follows l old))
       | inr apart ↦
           let off : z.line ≢ line = λ is. grind (arith, common_steps, apart, is) in
-          subst (λ (b : Bool). Follows (slice_index_or (set w.legs.down line false) z.line false) (if b then resumed w l else l)) (sym apart) (unmoved false z l in_z off at)
+          subst (λ (b : Bool). Follows (slice_index_or (set w.legs.down line false) z.line false) (if b then resumed w l else l)) (sym apart)
+              (unmoved false z l in_z off at)
     ]
 
-    raised_by : (z : Slot) (leg : Leg) (o : Option Leg) → IsExternal d.external z → leg_at w.legs z ≡ o → option_map (resumed_on line w z) o ≡ Some leg → Follows (slice_index_or (set w.legs.down line false) z.line false) leg
+    raised_by : (z : Slot) (leg : Leg) (o : Option Leg) → IsExternal d.external z → leg_at w.legs z ≡ o → option_map (resumed_on line w z) o ≡ Some leg
+        → Follows (slice_index_or (set w.legs.down line false) z.line false) leg
     raised_by z leg None in_z at is = absurd cc
-    raised_by z leg (Some l) in_z at is = let same : resumed_on line w z l ≡ leg = cc in subst (Follows (slice_index_or (set w.legs.down line false) z.line false)) same (raised_on z l in_z at)
+    raised_by z leg (Some l) in_z at is = let same : resumed_on line w z l ≡ leg = cc in
+        subst (Follows (slice_index_or (set w.legs.down line false) z.line false)) same (raised_on z l in_z at)
 
     established : Now (set w.legs.down line false) raised
     established z leg in_z at = raised_by z leg (leg_at w.legs z) in_z refl (sym (legs_are_resumed s w line can z in_z) ∙ at)
@@ -244,7 +266,8 @@ module _ (s : Setting) (w : World) (stands : CallsStand s w) (wait : Wait s.dime
       line_restarted_by d s.tones line w (Now w.legs.down)
       (each_below d (give_up_rule s.tones condition) line w (λ a. Wait d w.legs.down a.making.world.legs) wait (λ a place small so_far.
       let x : Slot = record { line = line; place = place } in
-      performed_all d w.legs.down a.making (give_up_slot s.tones condition a.making.world.legs x) (give_up_starts d w.legs.down s.tones condition a.making.world.legs x) so_far) 30 (omega arith))
+      performed_all d w.legs.down a.making (give_up_slot s.tones condition a.making.world.legs x)
+          (give_up_starts d w.legs.down s.tones condition a.making.world.legs x) so_far) 30 (omega arith))
 
   -- ---- every event
 
@@ -262,7 +285,8 @@ module _ (s : Setting) (w : World) (stands : CallsStand s w) (wait : Wait s.dime
   next_waits (RestartLine line) fits size = line_restarted line
   next_waits (Frame input) fits size = turned input
 
-pub outages_kept : (s : Setting) (w : World) (e : Event) → Fits s.dimensions.external e → CallsStand s w → OutagesStand s.dimensions.external w.legs → OutagesStand s.dimensions.external (next s w e).legs
+pub outages_kept : (s : Setting) (w : World) (e : Event) → Fits s.dimensions.external e → CallsStand s w → OutagesStand s.dimensions.external w.legs
+    → OutagesStand s.dimensions.external (next s w e).legs
 outages_kept s w e fits stands outages =
     let links = next_links s w e in
     let wait = follow_all s.dimensions.external w.legs outages in
@@ -295,18 +319,22 @@ start_outages s = record {
       absurd cc;
 }
 
-run_outages : (s : Setting) (w : World) (es : List Event) → IsPlanned s → All (Fits s.dimensions.external) es → CallsStand s w → OutagesStand s.dimensions.external w.legs → OutagesStand s.dimensions.external (world_after_all s w es).legs
+run_outages : (s : Setting) (w : World) (es : List Event) → IsPlanned s → All (Fits s.dimensions.external) es → CallsStand s w
+    → OutagesStand s.dimensions.external w.legs → OutagesStand s.dimensions.external (world_after_all s w es).legs
 run_outages s w [] planned fits stands outages = outages
 run_outages s w (e ∷ es) planned fits stands outages =
     let can = fits 0 e (omega arith) in
-    run_outages s (next s w e) es planned (λ k d inside. fits (suc k) d (omega (arith, inside))) (happened_kept s w e planned can stands) (outages_kept s w e can stands outages)
+    run_outages s (next s w e) es planned (λ k d inside. fits (suc k) d (omega (arith, inside))) (happened_kept s w e planned can stands)
+        (outages_kept s w e can stands outages)
 
-pub outages_stand : (s : Setting) (es : List Event) → IsPlanned s → All (Fits s.dimensions.external) es → OutagesStand s.dimensions.external (world_after_all s (start s.dimensions) es).legs
+pub outages_stand : (s : Setting) (es : List Event) → IsPlanned s → All (Fits s.dimensions.external) es
+    → OutagesStand s.dimensions.external (world_after_all s (start s.dimensions) es).legs
 outages_stand s es planned fits = run_outages s (start s.dimensions) es planned fits (start_stands s) (start_outages s)
 
 -- ---- T309 expires only where it runs
 
-pub up_not_lost : (s : Setting) (w : World) (frame : ℕ) → OutagesStand s.dimensions.external w.legs → (x : Slot) (leg : Leg) → IsOnLineUp s w x leg → due_of s.timers frame leg ≢ Some expiry.Outage
+pub up_not_lost : (s : Setting) (w : World) (frame : ℕ) → OutagesStand s.dimensions.external w.legs → (x : Slot) (leg : Leg) → IsOnLineUp s w x leg
+    → due_of s.timers frame leg ≢ Some expiry.Outage
 up_not_lost s w frame outages x leg is due =
     let wrong : false ≡ true = sym is.up ∙ outages.waits x leg is.within is.at (due_awaits s.timers frame leg due) in
     cc
@@ -316,7 +344,8 @@ some_inside [] k leg at = absurd cc
 some_inside (a ∷ rest) zero leg at = omega arith
 some_inside (a ∷ rest) (suc k) leg at = let more = some_inside rest k leg at in omega (arith, more)
 
-pub none_is_lost : (s : Setting) (w : World) (frame : ℕ) → CallsStand s w → OutagesStand s.dimensions.external w.legs → NoLinkIsDown w.legs → NoneIsLost s.timers frame w.legs
+pub none_is_lost : (s : Setting) (w : World) (frame : ℕ) → CallsStand s w → OutagesStand s.dimensions.external w.legs → NoLinkIsDown w.legs
+    → NoneIsLost s.timers frame w.legs
 none_is_lost s w frame stands outages up x leg at is =
     let size = stands.legs.count in
     let n : ℕ = number_of x in
@@ -329,7 +358,8 @@ none_is_lost s w frame stands outages up x leg at is =
 
 pub never_lost : (s : Setting) (es : List Event) (frame : ℕ) → HasNoFailure s es → NoneIsLost s.timers frame (world_after_all s (start s.dimensions) es).legs
 never_lost s es frame calm =
-    none_is_lost s (world_after_all s (start s.dimensions) es) frame (run_stands s (start s.dimensions) es calm.planned calm.fits (start_stands s)) (outages_stand s es calm.planned calm.fits) (none_fails s es calm)
+    none_is_lost s (world_after_all s (start s.dimensions) es) frame (run_stands s (start s.dimensions) es calm.planned calm.fits (start_stands s))
+        (outages_stand s es calm.planned calm.fits) (none_fails s es calm)
 
 -- ---- no call is offered on a channel that is owed a RESTART
 
@@ -346,7 +376,8 @@ offered_is_up w x (Room room) y chosen = absurd cc
 offered_is_up w x More y chosen = absurd cc
 offered_is_up w x Nothing y chosen = absurd cc
 
-pub offered_owes_none : (s : Setting) (w : World) → OutagesStand s.dimensions.external w.legs → (x : Slot) (t : Found) (y : Slot) → IsExternal s.dimensions.external y → called_slot w x t ≡ Some y
+pub offered_owes_none : (s : Setting) (w : World) → OutagesStand s.dimensions.external w.legs → (x : Slot) (t : Found) (y : Slot)
+    → IsExternal s.dimensions.external y → called_slot w x t ≡ Some y
     → is_owed w.legs y ≡ false
 offered_owes_none s w outages x t y in_y chosen = by (is_owed w.legs y) refl where
   by : (b : Bool) → is_owed w.legs y ≡ b → b ≡ false

@@ -56,7 +56,8 @@ module _ (s : Setting) (w : World) (stands : CallsStand s w) where
     turned wait input =
         let f : ℕ = w.holding.next in
         let links : List Bool = w.legs.down in
-        (each_line s f (pass w input) (λ a. OnlyDown links a.making.world × Wait d links a.making.world.legs × (a.making.world.legs.down ≡ links)) (before, wait, refl) (λ a line small so_far.
+        (each_line s f (pass w input) (λ a. OnlyDown links a.making.world × Wait d links a.making.world.legs × (a.making.world.legs.down ≡ links))
+            (before, wait, refl) (λ a line small so_far.
         let x : Slot = slot_looked_at f line in
         let legs : Legs = a.making.world.legs in
         let in_x = place_within d.external f line small in
@@ -72,7 +73,8 @@ module _ (s : Setting) (w : World) (stands : CallsStand s w) where
 
     module _ (line : ℕ) (below : line < d.external) (size : length w.legs.down ≡ d.external) where
       links_here : (down : Bool) (z : Slot) → z.line ≡ line → slice_index_or (set w.legs.down line down) z.line false ≡ down
-      links_here down z on = ap (λ (n : ℕ). slice_index_or (set w.legs.down line down) n false) on ∙ get_or-set_same w.legs.down line down false (omega (arith, below, size))
+      links_here down z on = ap (λ (n : ℕ). slice_index_or (set w.legs.down line down) n false) on
+          ∙ get_or-set_same w.legs.down line down false (omega (arith, below, size))
 
       links_else : (down : Bool) (z : Slot) → (z.line == line) ≡ false → Down w.legs.down z → Down (set w.legs.down line down) z
       links_else down z apart is = get_or-set_other w.legs.down line z.line down false (λ same. grind (arith, common_steps, apart, same)) ∙ is
@@ -97,7 +99,8 @@ module _ (s : Setting) (w : World) (stands : CallsStand s w) where
       dropped : OnlyDown (set w.legs.down line true) failed
       dropped z in_z owed = elim (true_or_false (z.line == line)) [
         | inl same ↦ links_here true z (eqb-true z.line line same)
-        | inr apart ↦ links_else true z apart (before z in_z (was_owed (is_owed w.legs z) (is_removed w failed z) (none_removed z in_z apart (leg_at w.legs z) refl)
+        | inr apart ↦ links_else true z apart (before z in_z
+            (was_owed (is_owed w.legs z) (is_removed w failed z) (none_removed z in_z apart (leg_at w.legs z) refl)
             (sym (owed_by_failure s w line can flags z in_z) ∙ owed)))
       ]
 
@@ -132,7 +135,8 @@ module _ (s : Setting) (w : World) (stands : CallsStand s w) where
     either_owed true u v one other = one
     either_owed false u v one other = other
 
-    pub next_owed : Wait d w.legs.down w.legs → (e : Event) → Fits d.external e → length w.legs.down ≡ d.external → OnlyDown (links_after w.legs.down e) (next s w e)
+    pub next_owed : Wait d w.legs.down w.legs → (e : Event) → Fits d.external e → length w.legs.down ≡ d.external
+        → OnlyDown (links_after w.legs.down e) (next s w e)
     next_owed wait (Nail x y) fits size = either_owed (may_nail w x y) (obey d w (Connect x y)) w before before
     next_owed wait (Seat x room) fits size = either_owed (may_seat d w x) (obey d w (Take_seat x room)) w before before
     next_owed wait (Free x) fits size = either_owed (is_nailed w x) (obey d w (Clear x)) w before before

@@ -61,7 +61,8 @@ module _ (s : Setting) (w : World) (line : ℕ) (can : HasLine s w line) (flags 
     same = λ z k in_z at. inl at;
   }
 
-  slot_tracks : (m : Making) (x : Slot) → Kept d s.tones m.world → IsExternal d.external x → Tracks d w always m.world → TrackAll d w always (drop_slot s.tones m.world.legs x)
+  slot_tracks : (m : Making) (x : Slot) → Kept d s.tones m.world → IsExternal d.external x → Tracks d w always m.world
+      → TrackAll d w always (drop_slot s.tones m.world.legs x)
   slot_tracks m x kept in_x t = at_held m.world.legs x (drop_leg s.tones m.world.legs) (TrackAll d w always) (λ none. tt)
       (λ leg at. drop_leg_tracks d w always s.tones m x leg kept in_x at t (λ z l. refl))
 
@@ -112,7 +113,8 @@ module _ (s : Setting) (w : World) (input : Input) (stands : CallsStand s w) (fl
     same = λ z k in_z at. inl at;
   }
 
-  turn_tracks : (m : Making) (x : Slot) → Kept s.dimensions s.tones m.world → IsExternal s.dimensions.external x → Tracks s.dimensions passed untold m.world → m.world.legs.down ≡ w.legs.down
+  turn_tracks : (m : Making) (x : Slot) → Kept s.dimensions s.tones m.world → IsExternal s.dimensions.external x → Tracks s.dimensions passed untold m.world
+      → m.world.legs.down ≡ w.legs.down
       → TrackAll s.dimensions passed untold (expire_slot s frame m.world.legs x)
   turn_tracks m x kept in_x t down = at_slot s frame m.world.legs x (TrackAll s.dimensions passed untold) tt (λ leg e at due.
       expiry_tracks s.dimensions passed untold s.tones m x leg kept in_x at t (still leg e at due) (λ is. rw is refl) (λ is. rw is refl)
@@ -126,7 +128,8 @@ module _ (s : Setting) (w : World) (input : Input) (stands : CallsStand s w) (fl
       ]
 
   pub turned : Tracks s.dimensions passed untold after_frame
-  turned = (each_line s frame passed (λ a. Tracks s.dimensions passed untold a.making.world × Kept s.dimensions s.tones a.making.world × (a.making.world.legs.down ≡ w.legs.down))
+  turned = (each_line s frame passed (λ a. Tracks s.dimensions passed untold a.making.world × Kept s.dimensions s.tones a.making.world
+      × (a.making.world.legs.down ≡ w.legs.down))
       (starts, pass_kept s w stands.circuits stands.legs input, refl) (λ a line small k.
       let x : Slot = slot_looked_at frame line in
       let in_x = place_within s.dimensions.external frame line small in
@@ -146,7 +149,8 @@ module _ (s : Setting) (w : World) (input : Input) (stands : CallsStand s w) (fl
   untold_owes z None = refl
   untold_owes z (Some l) = owing_by (l.state == active) (l.state == release_request) (is_down w.legs z.line)
 
-  pub owed_by_frame : (x : Slot) → IsExternal s.dimensions.external x → is_owed after_frame.legs x ≡ (is_owed w.legs x || (is_removed w after_frame x && is_untold w.legs x (leg_at w.legs x)))
+  pub owed_by_frame : (x : Slot) → IsExternal s.dimensions.external x
+      → is_owed after_frame.legs x ≡ (is_owed w.legs x || (is_removed w after_frame x && is_untold w.legs x (leg_at w.legs x)))
   owed_by_frame x in_x =
       read_exactly s.dimensions passed untold is_owing after_frame turned x in_x
       ∙ ap (λ (b : Bool). is_owed w.legs x || (is_removed w after_frame x && b)) (untold_owes x (leg_at w.legs x))
@@ -170,10 +174,12 @@ module _ (s : Setting) (w : World) (stands : CallsStand s w) where
 
   up_owes : (line : ℕ) → line < s.dimensions.external → NoMore (next s w (LinkUp line))
   up_owes line below = linked_by s.dimensions s.tones false line w NoMore (λ whole.
-      (each_below s.dimensions (rule_of s.tones whole false) line (with_line w line false) (λ a. NoMore a.making.world × Kept s.dimensions s.tones a.making.world)
+      (each_below s.dimensions (rule_of s.tones whole false) line (with_line w line false)
+          (λ a. NoMore a.making.world × Kept s.dimensions s.tones a.making.world)
       (same_owed, linked_kept s.dimensions s.tones w line false (stands.circuits, stands.legs)) (λ a place small k.
       let x : Slot = record { line = line; place = place } in (
-        owed_all s.dimensions Was a.making (resume_slot s.tones whole a.making.world.legs x) (resume_owes s.dimensions Was s.tones a.making x k.1 (below, small) whole) k.0,
+        owed_all s.dimensions Was a.making (resume_slot s.tones whole a.making.world.legs x)
+            (resume_owes s.dimensions Was s.tones a.making x k.1 (below, small) whole) k.0,
         rule_kept s.dimensions s.tones a.making x k.1 (below, small) whole false,
       )) 30 (omega arith)).0)
 

@@ -50,23 +50,27 @@ received_flags s w line (New_call m) = performed_all_flags s.dimensions (making_
 received_flags s w line (On_no_call m) = performed_all_flags s.dimensions (making_at w) (answer_back line (answer_without_call m))
 received_flags s w line (Restarts r) =
     each_below s.dimensions (restart_rule s.tones r) line w (λ a. flags_of a.making.world ≡ flags_of w) refl
-    (λ a place small same. performed_all_flags s.dimensions a.making (restart_slot s.tones r a.making.world.legs (record { line = line; place = place })) ∙ same) 30 (omega arith)
+    (λ a place small same. performed_all_flags s.dimensions a.making (restart_slot s.tones r a.making.world.legs (record { line = line; place = place })) ∙ same)
+    30 (omega arith)
 received_flags s w line (Confirms r) =
     each_below s.dimensions (confirm_rule r) line w (λ a. flags_of a.making.world ≡ flags_of w) refl
-    (λ a place small same. performed_all_flags s.dimensions a.making (confirm_slot r a.making.world.legs (record { line = line; place = place })) ∙ same) 30 (omega arith)
+    (λ a place small same. performed_all_flags s.dimensions a.making (confirm_slot r a.making.world.legs (record { line = line; place = place })) ∙ same)
+    30 (omega arith)
 received_flags s w line Unanswered = refl
 
 linked_flags : (s : Setting) (w : World) (down : Bool) (line : ℕ) → flags_of (outcome_of_link s.dimensions s.tones down line w).making.world ≡ flags_of w
 linked_flags s w down line = linked_by s.dimensions s.tones down line w (λ v. flags_of v ≡ flags_of w) (λ whole.
     each_below s.dimensions (rule_of s.tones whole down) line (with_line w line down) (λ a. flags_of a.making.world ≡ flags_of w) refl
-    (λ a place small same. performed_all_flags s.dimensions a.making ((rule_of s.tones whole down).does a.making.world.legs (record { line = line; place = place })) ∙ same) 30 (omega arith))
+    (λ a place small same. performed_all_flags s.dimensions a.making
+        ((rule_of s.tones whole down).does a.making.world.legs (record { line = line; place = place })) ∙ same) 30 (omega arith))
 
 line_restart_flags : (s : Setting) (w : World) (line : ℕ) → flags_of (outcome_of_line_restart s.dimensions s.tones line w).making.world ≡ flags_of w
 line_restart_flags s w line =
     let condition : Condition = unanswered (is_down w.legs line) in
     line_restarted_by s.dimensions s.tones line w (λ v. flags_of v ≡ flags_of w)
     (each_below s.dimensions (give_up_rule s.tones condition) line w (λ a. flags_of a.making.world ≡ flags_of w) refl
-    (λ a place small same. performed_all_flags s.dimensions a.making (give_up_slot s.tones condition a.making.world.legs (record { line = line; place = place })) ∙ same) 30 (omega arith))
+    (λ a place small same. performed_all_flags s.dimensions a.making
+        (give_up_slot s.tones condition a.making.world.legs (record { line = line; place = place })) ∙ same) 30 (omega arith))
 
 either_flags : (b : Bool) (v w : World) → flags_of v ≡ flags_of w → flags_of (if b then v else w) ≡ flags_of w
 either_flags true v w same = same
@@ -83,4 +87,5 @@ next_flags s w (RestartLine line) = line_restart_flags s w line
 next_flags s w (Frame input) =
     let f : ℕ = w.holding.next in
     each_line s f (pass w input) (λ a. flags_of a.making.world ≡ flags_of w) refl
-    (λ a line small same. performed_all_flags s.dimensions a.making (expire_slot s f a.making.world.legs (slot_looked_at f line)) ∙ same) s.dimensions.external (omega arith)
+    (λ a line small same. performed_all_flags s.dimensions a.making (expire_slot s f a.making.world.legs (slot_looked_at f line)) ∙ same)
+    s.dimensions.external (omega arith)

@@ -94,7 +94,8 @@ module _ (d : Dimensions) (line : ℕ) (condition : Condition) where
   performed_all : (m : Making) (os : List Operation) → FlagAll Here os → Sets m.world (making_after_all d m os).world
   performed_all m [] may = sets_none m.world m.world refl
   performed_all m (o ∷ os) may =
-      sets_both m.world (making_after d m o).world (making_after_all d (making_after d m o) os).world (performed m o may.0) (performed_all (making_after d m o) os may.1)
+      sets_both m.world (making_after d m o).world (making_after_all d (making_after d m o) os).world (performed m o may.0)
+          (performed_all (making_after d m o) os may.1)
 
   -- ---- one slot
 
@@ -103,18 +104,22 @@ module _ (d : Dimensions) (line : ℕ) (condition : Condition) where
     here : condition_at v.legs x ≡ condition
     sets : Sets u v
 
-  module _ (tones : Tones) (m : Making) (x : Slot) (on_line : x.line ≡ line) (kept : Kept d tones m.world) (within : IsExternal d.external x) (size : length m.world.legs.conditions ≡ 30 * d.external) where
+  module _ (tones : Tones) (m : Making) (x : Slot) (on_line : x.line ≡ line) (kept : Kept d tones m.world) (within : IsExternal d.external x)
+      (size : length m.world.legs.conditions ≡ 30 * d.external) where
     set_here : slice_index_or (set m.world.legs.conditions (number_of x) condition) (number_of x) Idle ≡ condition
-    set_here = get_or-set_same m.world.legs.conditions (number_of x) condition Idle (let inside = number_inside d.external x within in omega (arith, inside, size))
+    set_here = get_or-set_same m.world.legs.conditions (number_of x) condition Idle
+        (let inside = number_inside d.external x within in omega (arith, inside, size))
 
-    peer_sets : (leg : Leg) (o : Option HeldLeg) → PeerIsThere d.external (record { slot = x; leg = leg }) o → FlagAll Here (with_peer o (restart_peer tones temporary_failure condition whole_line x.line))
+    peer_sets : (leg : Leg) (o : Option HeldLeg) → PeerIsThere d.external (record { slot = x; leg = leg }) o
+        → FlagAll Here (with_peer o (restart_peer tones temporary_failure condition whole_line x.line))
     peer_sets leg None there = tt
     peer_sets leg (Some k) there = elim (true_or_false (restarts_slot whole_line x.line k.slot)) [
       | inl too ↦ rw too (tt, ((there.0.within, eqb-true k.slot.line x.line (both_true (k.slot.line == x.line) true too).0 ∙ on_line, refl), tt))
       | inr not_so ↦ rw not_so (tt, (tt, (tt, (tt, tt))))
     ]
 
-    leg_sets : (leg : Leg) → leg_at m.world.legs x ≡ Some leg → SetsHere m.world (making_after_all d m (give_up_leg tones condition m.world.legs x (Some (record { slot = x; leg = leg })))).world x
+    leg_sets : (leg : Leg) → leg_at m.world.legs x ≡ Some leg
+        → SetsHere m.world (making_after_all d m (give_up_leg tones condition m.world.legs x (Some (record { slot = x; leg = leg })))).world x
     leg_sets leg at =
         let h : HeldLeg = record { slot = x; leg = leg } in
         let gone : Making = making_after_all d m (remove_leg condition h) in
@@ -146,7 +151,8 @@ module _ (s : Setting) (w : World) (line : ℕ) (can : HasLine s w line) (flags 
     here : (z : Slot) → IsExternal d.external z → z.line ≡ line → z.place < n → condition_at v.legs z ≡ due
     others : (z : Slot) → IsExternal d.external z → z.line ≢ line → condition_at v.legs z ≡ condition_at w.legs z
 
-  step : (n : ℕ) → n < 30 → (a : MessageOutcome) → ConditionsBelow n a.making.world → ConditionsBelow (suc n) (outcome_at_slot d (give_up_rule s.tones due) (record { line = line; place = n }) a).making.world
+  step : (n : ℕ) → n < 30 → (a : MessageOutcome) → ConditionsBelow n a.making.world
+      → ConditionsBelow (suc n) (outcome_at_slot d (give_up_rule s.tones due) (record { line = line; place = n }) a).making.world
   step n small a so_far =
       let x : Slot = record { line = line; place = n } in
       let u : World = a.making.world in
@@ -187,7 +193,8 @@ module _ (s : Setting) (w : World) (line : ℕ) (can : HasLine s w line) (flags 
   and_true true = refl
   and_true false = refl
 
-  pub none_too : (x : Slot) → IsExternal d.external x → x.line ≢ line → (o : Option Leg) → leg_at w.legs x ≡ o → is_none (leg_at after_restart.legs x) ≡ is_none o
+  pub none_too : (x : Slot) → IsExternal d.external x → x.line ≢ line → (o : Option Leg) → leg_at w.legs x ≡ o
+      → is_none (leg_at after_restart.legs x) ≡ is_none o
   none_too x in_x off None at = ap is_none ((legs_below s w line can).empty x in_x at)
   none_too x in_x off (Some leg) at = ap is_none (other_lines_are_cleared s w line can x leg in_x off at)
 

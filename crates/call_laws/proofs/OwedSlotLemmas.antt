@@ -106,18 +106,23 @@ module _ (d : Dimensions) (May : Slot → Type 0) where
 
   -- ---- an expiry
 
-  expiry_owes : (tones : Tones) (legs : Legs) (h : HeldLeg) (e : Expiry) → h.slot.place < 30 → (e ≡ expiry.Outage → May h.slot) → (is_down legs h.slot.line ≡ true → May h.slot) → OweAll (on_expiry tones legs h e)
+  expiry_owes : (tones : Tones) (legs : Legs) (h : HeldLeg) (e : Expiry) → h.slot.place < 30 → (e ≡ expiry.Outage → May h.slot)
+      → (is_down legs h.slot.line ≡ true → May h.slot) → OweAll (on_expiry tones legs h e)
   expiry_owes tones legs h expiry.Digits small lost down = cleared_flags Due tones invalid_number_format h [] tt
   expiry_owes tones legs h expiry.SetupAgain small lost down = again_flags Due h (kept_at legs h.slot)
   expiry_owes tones legs h expiry.SetupOver small lost down = (tt, ((λ e. absurd cc), (tt, peer_flags Due tones no_user_responding (peer_of legs h.leg.peer))))
-  expiry_owes tones legs h expiry.Proceeding small lost down = cleared_flags Due tones recovery_on_timer_expiry h _ (peer_flags Due tones no_user_responding (peer_of legs h.leg.peer))
-  expiry_owes tones legs h expiry.Alerting small lost down = cleared_flags Due tones recovery_on_timer_expiry h _ (peer_flags Due tones no_answer_from_user (peer_of legs h.leg.peer))
-  expiry_owes tones legs h expiry.Outage small lost down = (tt, ((λ e. (small, lost refl)), peer_flags Due tones destination_out_of_order (peer_of legs h.leg.peer)))
+  expiry_owes tones legs h expiry.Proceeding small lost down =
+      cleared_flags Due tones recovery_on_timer_expiry h _ (peer_flags Due tones no_user_responding (peer_of legs h.leg.peer))
+  expiry_owes tones legs h expiry.Alerting small lost down =
+      cleared_flags Due tones recovery_on_timer_expiry h _ (peer_flags Due tones no_answer_from_user (peer_of legs h.leg.peer))
+  expiry_owes tones legs h expiry.Outage small lost down =
+      (tt, ((λ e. (small, lost refl)), peer_flags Due tones destination_out_of_order (peer_of legs h.leg.peer)))
   expiry_owes tones legs h expiry.Disconnect small lost down = (tt, tt)
   expiry_owes tones legs h expiry.ReleaseAgain small lost down = again_flags Due h (kept_at legs h.slot)
   expiry_owes tones legs h expiry.ReleaseOver small lost down = (tt, ((λ e. (small, down (sym (owing_unanswered (is_down legs h.slot.line)) ∙ e))), tt))
 
-  pub expire_owes : (s : Setting) (frame : ℕ) (legs : Legs) (x : Slot) → x.place < 30 → ((leg : Leg) → leg_at legs x ≡ Some leg → due_of s.timers frame leg ≡ Some expiry.Outage → May x) → (is_down legs x.line ≡ true → May x)
+  pub expire_owes : (s : Setting) (frame : ℕ) (legs : Legs) (x : Slot) → x.place < 30
+      → ((leg : Leg) → leg_at legs x ≡ Some leg → due_of s.timers frame leg ≡ Some expiry.Outage → May x) → (is_down legs x.line ≡ true → May x)
       → OweAll (expire_slot s frame legs x)
   expire_owes s frame legs x small lost down = at_slot s frame legs x OweAll tt (λ leg e at is.
       expiry_owes s.tones legs (record { slot = x; leg = leg }) e small (λ same. lost leg at (is ∙ ap (λ (k : Expiry). Some k) same)) down)
@@ -131,6 +136,8 @@ module _ (d : Dimensions) (May : Slot → Type 0) where
     channel_owes false whole = tt
 
     pub resume_owes : (whole : Bool) → OweAll (resume_slot tones whole m.world.legs x)
-    resume_owes whole = at_held m.world.legs x (resume_held tones whole m.world.legs x) OweAll (λ none. channel_owes (awaits_restart m.world.legs x) whole) (λ leg at.
-        by_resume d tones m x leg kept within at OweAll (λ talks. (tt, (tt, tt))) (λ dials. cleared_flags Due tones temporary_failure (record { slot = x; leg = leg }) [] tt)
+    resume_owes whole = at_held m.world.legs x (resume_held tones whole m.world.legs x) OweAll
+        (λ none. channel_owes (awaits_restart m.world.legs x) whole) (λ leg at.
+        by_resume d tones m x leg kept within at OweAll (λ talks. (tt, (tt, tt)))
+        (λ dials. cleared_flags Due tones temporary_failure (record { slot = x; leg = leg }) [] tt)
         (λ clears. again_flags Due (record { slot = x; leg = leg }) (kept_at m.world.legs x)) tt)

@@ -75,9 +75,11 @@ module _ (d : Dimensions) (w : World) (cond : Slot → Leg → Condition) where
   -- the legs are the same, and the number of the next frame
   heard_tracks : (u v : World) → v.legs ≡ u.legs → v.holding.next ≡ u.holding.next → Tracks u → Tracks v
   heard_tracks u v legs next t =
-      subst (λ (ls : Legs). Tracks (with_legs v ls)) (sym legs) (record { flags = t.flags; held = t.held; next = next ∙ t.next; empty = t.empty; gone = t.gone; same = t.same })
+      subst (λ (ls : Legs). Tracks (with_legs v ls)) (sym legs)
+          (record { flags = t.flags; held = t.held; next = next ∙ t.next; empty = t.empty; gone = t.gone; same = t.same })
 
-  written_tracks : (v : World) (x : Slot) (stored : Leg) → stored.since ≡ w.holding.next → WasHeld x → Tracks v → Tracks (with_legs v (with_entry v.legs x (Some stored)))
+  written_tracks : (v : World) (x : Slot) (stored : Leg) → stored.since ≡ w.holding.next → WasHeld x → Tracks v
+      → Tracks (with_legs v (with_entry v.legs x (Some stored)))
   written_tracks v x stored since was t = record {
     flags = t.flags;
     held = length-set v.legs.held (number_of x) (Some stored) ∙ t.held;
@@ -87,13 +89,15 @@ module _ (d : Dimensions) (w : World) (cond : Slot → Leg → Condition) where
         (leg_at-with_entry_else d.external v.legs x z (Some stored) was.0 in_z (λ is. was.1 (sym (ap (leg_at w.legs) is) ∙ none)) ∙ before.0, before.1);
     gone = λ z l in_z at none. elim (same_or_apart z x) [
       | inl is ↦
-          let wrong : Some stored ≡ None = sym (leg_at-with_entry_here d.external v.legs x (Some stored) t.held was.0) ∙ ap (leg_at (with_entry v.legs x (Some stored))) (sym is) ∙ none in
+          let wrong : Some stored ≡ None = sym (leg_at-with_entry_here d.external v.legs x (Some stored) t.held was.0)
+              ∙ ap (leg_at (with_entry v.legs x (Some stored))) (sym is) ∙ none in
           absurd cc
       | inr apart ↦ t.gone z l in_z at (sym (leg_at-with_entry_else d.external v.legs x z (Some stored) was.0 in_z apart) ∙ none)
     ];
     same = λ z k in_z at. elim (same_or_apart z x) [
       | inl is ↦
-          let e : Some stored ≡ Some k = sym (leg_at-with_entry_here d.external v.legs x (Some stored) t.held was.0) ∙ ap (leg_at (with_entry v.legs x (Some stored))) (sym is) ∙ at in
+          let e : Some stored ≡ Some k = sym (leg_at-with_entry_here d.external v.legs x (Some stored) t.held was.0)
+              ∙ ap (leg_at (with_entry v.legs x (Some stored))) (sym is) ∙ at in
           let same : stored ≡ k = cc in
           inr (ap (λ (l : Leg). l.since) (sym same) ∙ since)
       | inr apart ↦ t.same z k in_z (sym (leg_at-with_entry_else d.external v.legs x z (Some stored) was.0 in_z apart) ∙ at)
@@ -116,14 +120,16 @@ module _ (d : Dimensions) (w : World) (cond : Slot → Leg → Condition) where
         gone = λ z l in_z at none. elim (same_or_apart z x) [
           | inl is ↦
               ap (condition_at (without_leg v.legs x condition)) is
-              ∙ get_or-set_same v.legs.conditions (number_of x) condition Idle (let n = number_inside d.external x was.0 in let size = t.flags in omega (arith, n, size))
+              ∙ get_or-set_same v.legs.conditions (number_of x) condition Idle
+                  (let n = number_inside d.external x was.0 in let size = t.flags in omega (arith, n, size))
               ∙ is_cond l (sym (ap (leg_at w.legs) is) ∙ at)
               ∙ ap (λ (q : Slot). cond q l) (sym is)
           | inr apart ↦ apart_flag z in_z apart ∙ t.gone z l in_z at (sym (leg_at-with_entry_else d.external v.legs x z None was.0 in_z apart) ∙ none)
         ];
         same = λ z k in_z at. elim (same_or_apart z x) [
           | inl is ↦
-              let wrong : None ≡ Some k = sym (leg_at-with_entry_here d.external v.legs x None t.held was.0) ∙ ap (leg_at (with_entry v.legs x None)) (sym is) ∙ at in
+              let wrong : None ≡ Some k = sym (leg_at-with_entry_here d.external v.legs x None t.held was.0)
+                  ∙ ap (leg_at (with_entry v.legs x None)) (sym is) ∙ at in
               absurd cc
           | inr apart ↦ t.same z k in_z (sym (leg_at-with_entry_else d.external v.legs x z None was.0 in_z apart) ∙ at)
         ];
@@ -209,11 +215,13 @@ module _ (d : Dimensions) (w : World) (cond : Slot → Leg → Condition) where
   cleared_tracks : (tones : Tones) (cause : ℕ) (k : HeldLeg) (os : List Operation) → WasHeld k.slot → TrackAll os → TrackAll (clear_with tones cause k ++ os)
   cleared_tracks tones cause k os was rest = (tt, (was, (tt, (tt, rest))))
 
-  module _ (tones : Tones) (m : Making) (x : Slot) (leg : Leg) (kept : Kept d tones m.world) (in_x : IsExternal d.external x) (at : leg_at m.world.legs x ≡ Some leg) (t : Tracks m.world) where
+  module _ (tones : Tones) (m : Making) (x : Slot) (leg : Leg) (kept : Kept d tones m.world) (in_x : IsExternal d.external x)
+      (at : leg_at m.world.legs x ≡ Some leg) (t : Tracks m.world) where
     peer_tracks_by : (cause : ℕ) (p : Peer) → HasPeer d.external m.world.legs x leg p → TrackAll (with_peer (peer_of m.world.legs p) (clear_with tones cause))
     peer_tracks_by cause peer.Alone has = tt
     peer_tracks_by cause (peer.Leg y) has =
-        rw (held_there m.world.legs y has.1.0 has.1.1) (cleared_tracks tones cause (record { slot = y; leg = has.1.0 }) [] (was_held m.world t y has.1.0 has.0 has.1.1) tt)
+        rw (held_there m.world.legs y has.1.0 has.1.1) (cleared_tracks tones cause (record { slot = y; leg = has.1.0 }) []
+            (was_held m.world t y has.1.0 has.0 has.1.1) tt)
     peer_tracks_by cause (peer.Room room) has = tt
 
     peer_tracks : (cause : ℕ) → TrackAll (with_peer (peer_of m.world.legs leg.peer) (clear_with tones cause))
@@ -221,7 +229,8 @@ module _ (d : Dimensions) (w : World) (cond : Slot → Leg → Condition) where
 
     -- the link of its line fails, and the user of every removed leg is owed a RESTART
     module _ (always : (z : Slot) (l : Leg) → cond z l ≡ Owed) where
-      other_tracks_by : (p : Peer) → HasPeer d.external m.world.legs x leg p → TrackAll (with_peer (peer_of m.world.legs p) (restart_peer tones destination_out_of_order Owed whole_line x.line))
+      other_tracks_by : (p : Peer) → HasPeer d.external m.world.legs x leg p
+          → TrackAll (with_peer (peer_of m.world.legs p) (restart_peer tones destination_out_of_order Owed whole_line x.line))
       other_tracks_by peer.Alone has = tt
       other_tracks_by (peer.Leg y) has =
           let k : HeldLeg = record { slot = y; leg = has.1.0 } in

@@ -68,9 +68,11 @@ module _ (d : Dimensions) (tones : Tones) (whole : Bool) (m : Making) (x : Slot)
   -- and is unconfirmed if it awaited RESTART
   module _ (size : length m.world.legs.conditions ≡ 30 * d.external) where
     sent : condition_at (without_leg m.world.legs x Unconfirmed) x ≡ Unconfirmed
-    sent = get_or-set_same m.world.legs.conditions (number_of x) Unconfirmed Idle (let inside = number_inside d.external x within in omega (arith, inside, size))
+    sent = get_or-set_same m.world.legs.conditions (number_of x) Unconfirmed Idle
+        (let inside = number_inside d.external x within in omega (arith, inside, size))
 
-    channel_own : (awaits other : Bool) → condition_after (if awaits then restart_channel other x else []) x ≡ (if awaits then Unconfirmed else condition_at m.world.legs x)
+    channel_own : (awaits other : Bool) → condition_after (if awaits then restart_channel other x else []) x
+        ≡ (if awaits then Unconfirmed else condition_at m.world.legs x)
     channel_own true true = sent
     channel_own true false = sent
     channel_own false other = refl
@@ -81,7 +83,8 @@ module _ (d : Dimensions) (tones : Tones) (whole : Bool) (m : Making) (x : Slot)
     no_leg false true = refl
     no_leg false false = refl
 
-    held_stays : (leg : Leg) → leg_at m.world.legs x ≡ Some leg → (if awaits_restart m.world.legs x then Unconfirmed else condition_at m.world.legs x) ≡ condition_at m.world.legs x
+    held_stays : (leg : Leg) → leg_at m.world.legs x ≡ Some leg
+        → (if awaits_restart m.world.legs x then Unconfirmed else condition_at m.world.legs x) ≡ condition_at m.world.legs x
     held_stays leg at =
         let k : Condition = condition_at m.world.legs x in
         (λ i. if (is_owing k && is_none (at i)) || (is_open k && is_none (at i)) then Unconfirmed else k)
@@ -142,7 +145,8 @@ module _ (s : Setting) (w : World) (line : ℕ) (can : HasLine s w line) (flags 
   pub raised_below : (whole : Bool) (n : ℕ) → n ≤ 30
       → AreGiven d (rule_of s.tones whole false) line begins raised Fact n (outcome_below d (rule_of s.tones whole false) line begins n).making
   raised_below whole n small =
-      all_given d (rule_of s.tones whole false) line begins raised Fact can.line_exists (legs_start s whole line w can.line_exists can.stands, flags) (turns whole) n small
+      all_given d (rule_of s.tones whole false) line begins raised Fact can.line_exists (legs_start s whole line w can.line_exists can.stands, flags)
+          (turns whole) n small
 
   pub conditions_raised : (z : Slot) → IsExternal d.external z → condition_at (next s w (LinkUp line)).legs z ≡ raised z
   conditions_raised z in_z = linked_by d s.tones false line w (λ v. condition_at v.legs z ≡ raised z) (λ whole.

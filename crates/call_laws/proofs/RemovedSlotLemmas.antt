@@ -65,7 +65,8 @@ module _ (Flag : Slot → Condition → Type 0) where
 
   -- ---- a restart, of the user or of the exchange
 
-  pub other_flags : (tones : Tones) (cause : ℕ) (condition : Condition) (r : Restart) (line : ℕ) (o : Option HeldLeg) → ((k : HeldLeg) → o ≡ Some k → restarts_slot r line k.slot ≡ true → Flag k.slot condition)
+  pub other_flags : (tones : Tones) (cause : ℕ) (condition : Condition) (r : Restart) (line : ℕ) (o : Option HeldLeg)
+      → ((k : HeldLeg) → o ≡ Some k → restarts_slot r line k.slot ≡ true → Flag k.slot condition)
       → FlagAll (with_peer o (restart_peer tones cause condition r line))
   other_flags tones cause condition r line None may = tt
   other_flags tones cause condition r line (Some k) may = elim (true_or_false (restarts_slot r line k.slot)) [
@@ -75,7 +76,8 @@ module _ (Flag : Slot → Condition → Type 0) where
 
   -- the user who requests a restart knows that the channel is idle
   pub restart_flags : (tones : Tones) (r : Restart) (legs : Legs) (x : Slot)
-      → ((leg : Leg) → leg_at legs x ≡ Some leg → Flag x Idle × ((k : HeldLeg) → peer_of legs leg.peer ≡ Some k → restarts_slot r x.line k.slot ≡ true → Flag k.slot Idle))
+      → ((leg : Leg) → leg_at legs x ≡ Some leg → Flag x Idle
+          × ((k : HeldLeg) → peer_of legs leg.peer ≡ Some k → restarts_slot r x.line k.slot ≡ true → Flag k.slot Idle))
       → FlagAll (restart_slot tones r legs x)
   restart_flags tones r legs x may = at_restarted tones r legs x FlagAll tt (λ leg at.
       (tt, ((may leg at).0, other_flags tones temporary_failure Idle r x.line (peer_of legs leg.peer) (may leg at).1)))
@@ -129,12 +131,15 @@ module _ (Flag : Slot → Condition → Type 0) where
   digits_flags s w h m None = tt
   digits_flags s w h m (Some p) = dial_flags s w h (asked_with p m) (digits_refusal s w h.slot p.called m)
 
-  report_flags : (s : Setting) (w : World) (h : HeldLeg) (asked same : Bool) → FlagAll ((if asked then (if same then only (Put h.slot (with_enquiry false h.leg) ∷ []) else record {
-    operations = clear_with s.tones message_not_compatible_with_call_state h ++ with_peer (peer_of w.legs h.leg.peer) (clear_with s.tones message_not_compatible_with_call_state);
+  report_flags : (s : Setting) (w : World) (h : HeldLeg) (asked same : Bool)
+      → FlagAll ((if asked then (if same then only (Put h.slot (with_enquiry false h.leg) ∷ []) else record {
+    operations = clear_with s.tones message_not_compatible_with_call_state h ++ with_peer (peer_of w.legs h.leg.peer)
+        (clear_with s.tones message_not_compatible_with_call_state);
     cause = Some message_not_compatible_with_call_state;
   }) else nothing)).operations
   report_flags s w h true true = (tt, tt)
-  report_flags s w h true false = cleared_flags s.tones message_not_compatible_with_call_state h _ (peer_flags s.tones message_not_compatible_with_call_state (peer_of w.legs h.leg.peer))
+  report_flags s w h true false = cleared_flags s.tones message_not_compatible_with_call_state h _
+      (peer_flags s.tones message_not_compatible_with_call_state (peer_of w.legs h.leg.peer))
   report_flags s w h false same = tt
 
   pub course_flags : (s : Setting) (w : World) (h : HeldLeg) (m : Q931) → Flag h.slot Idle → (a : Act) → FlagAll (course_of s w h m a).operations

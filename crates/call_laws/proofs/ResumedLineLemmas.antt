@@ -40,23 +40,31 @@ record Resumes (external : ℕ) (u v : World) (x : Slot) : Type 0 where
   same : (z : Slot) → IsExternal external z → (z ≡ x → ⊥) → leg_at v.legs z ≡ leg_at u.legs z
   next : v.holding.next ≡ u.holding.next
 
-module _ (d : Dimensions) (tones : Tones) (m : Making) (x : Slot) (kept : Kept d tones m.world) (waits : LegsWait d.external m.world.holding.next m.world.legs) (in_x : IsExternal d.external x) where
+module _ (d : Dimensions) (tones : Tones) (m : Making) (x : Slot) (kept : Kept d tones m.world)
+    (waits : LegsWait d.external m.world.holding.next m.world.legs) (in_x : IsExternal d.external x) where
   abbrev u : World
   u = m.world
 
   -- no leg holds the slot, and none holds it after its RESTART
   unheld_resumes : leg_at u.legs x ≡ None → (v : World) → v.legs.held ≡ u.legs.held → v.holding.next ≡ u.holding.next → Resumes d.external u v x
-  unheld_resumes none v held next = record { here = ap (look x) held ∙ none ∙ ap (option_map (resumed u)) (sym none); same = λ z in_z apart. ap (look z) held; next = next }
+  unheld_resumes none v held next = record {
+    here = ap (look x) held ∙ none ∙ ap (option_map (resumed u)) (sym none);
+    same = λ z in_z apart. ap (look z) held;
+    next = next;
+  }
 
-  none_resumes : leg_at u.legs x ≡ None → (awaits whole : Bool) → Resumes d.external u (making_after_all d m (if awaits then restart_channel whole x else [])).world x
+  none_resumes : leg_at u.legs x ≡ None → (awaits whole : Bool)
+      → Resumes d.external u (making_after_all d m (if awaits then restart_channel whole x else [])).world x
   none_resumes none true true = unheld_resumes none _ (held_same d tones m x kept in_x none) refl
   none_resumes none true false = unheld_resumes none _ (held_same d tones m x kept in_x none) refl
   none_resumes none false whole = unheld_resumes none u refl refl
 
   -- the slot has another leg
-  entered : (leg new : Leg) → leg_at u.legs x ≡ Some leg → resumed u leg ≡ new → (v : World) → ((z : Slot) → leg_at v.legs z ≡ leg_at (with_entry u.legs x (Some new)) z) → v.holding.next ≡ u.holding.next → Resumes d.external u v x
+  entered : (leg new : Leg) → leg_at u.legs x ≡ Some leg → resumed u leg ≡ new → (v : World)
+      → ((z : Slot) → leg_at v.legs z ≡ leg_at (with_entry u.legs x (Some new)) z) → v.holding.next ≡ u.holding.next → Resumes d.external u v x
   entered leg new at is v legs next = record {
-    here = legs x ∙ leg_at-with_entry_here d.external u.legs x (Some new) kept.1.count in_x ∙ ap (λ (l : Leg). Some l) (sym is) ∙ ap (option_map (resumed u)) (sym at);
+    here = legs x ∙ leg_at-with_entry_here d.external u.legs x (Some new) kept.1.count in_x ∙ ap (λ (l : Leg). Some l) (sym is)
+        ∙ ap (option_map (resumed u)) (sym at);
     same = λ z in_z apart. legs z ∙ leg_at-with_entry_else d.external u.legs x z (Some new) in_x in_z apart;
     next = next;
   }
@@ -118,7 +126,8 @@ both_mapped : (f g : Leg → Leg) (o : Option Leg) → ((l : Leg) → f l ≡ g 
 both_mapped f g None same = refl
 both_mapped f g (Some l) same = ap (λ (k : Leg). Some k) (same l)
 
-module _ (s : Setting) (whole : Bool) (line : ℕ) (w : World) (n : ℕ) (below : line < s.dimensions.external) (small : n < 30) (m : Making) (so_far : AreResumed s line w n m.world) where
+module _ (s : Setting) (whole : Bool) (line : ℕ) (w : World) (n : ℕ) (below : line < s.dimensions.external) (small : n < 30) (m : Making)
+    (so_far : AreResumed s line w n m.world) where
   abbrev d : Dimensions
   d = s.dimensions
 
@@ -149,17 +158,21 @@ module _ (s : Setting) (whole : Bool) (line : ℕ) (w : World) (n : ℕ) (below 
   legs_then z in_z = elim (same_or_apart z here) [
     | inl same ↦ subst (λ (q : Slot). leg_at v.legs q ≡ option_map (resumed_below line w (suc n) q) (leg_at w.legs q)) (sym same) (
         done.here
-        ∙ ap (option_map (resumed m.world)) (so_far.legs here in_here ∙ mapped (resumed_below line w n here) (leg_at w.legs here) (λ l. ap (λ (b : Bool). if b then resumed w l else l) not_yet))
-        ∙ both_mapped (resumed m.world) (resumed_below line w (suc n) here) (leg_at w.legs here) (λ l. same_resumed l ∙ sym (ap (λ (b : Bool). if b then resumed w l else l) now)))
+        ∙ ap (option_map (resumed m.world)) (so_far.legs here in_here
+            ∙ mapped (resumed_below line w n here) (leg_at w.legs here) (λ l. ap (λ (b : Bool). if b then resumed w l else l) not_yet))
+        ∙ both_mapped (resumed m.world) (resumed_below line w (suc n) here) (leg_at w.legs here)
+            (λ l. same_resumed l ∙ sym (ap (λ (b : Bool). if b then resumed w l else l) now)))
     | inr apart ↦
         done.same z in_z apart ∙ so_far.legs z in_z
-        ∙ both_mapped (resumed_below line w n z) (resumed_below line w (suc n) z) (leg_at w.legs z) (λ l. ap (λ (b : Bool). if b then resumed w l else l) (sym (same_where_apart whole_line line z n apart)))
+        ∙ both_mapped (resumed_below line w n z) (resumed_below line w (suc n) z) (leg_at w.legs z)
+            (λ l. ap (λ (b : Bool). if b then resumed w l else l) (sym (same_where_apart whole_line line z n apart)))
   ]
 
   pub one_more : AreResumed s line w (suc n) v
   one_more = record {
     kept = resume_slot_kept d s.tones m here so_far.kept in_here whole;
-    entries = performed_all d s.tones s.plan m (resume_slot s.tones whole m.world.legs here) (resume_slot_may d s.tones m here so_far.kept in_here whole s.plan) so_far.entries;
+    entries = performed_all d s.tones s.plan m (resume_slot s.tones whole m.world.legs here)
+        (resume_slot_may d s.tones m here so_far.kept in_here whole s.plan) so_far.entries;
     legs = legs_then;
     next = done.next ∙ so_far.next;
   }
@@ -172,20 +185,26 @@ module _ (s : Setting) (whole : Bool) (line : ℕ) (w : World) (below : line < s
   start = record {
     kept = linked_kept s.dimensions s.tones w line false (stands.circuits, stands.legs);
     entries = flags_stand s.dimensions.external s.plan w _ _ (stands.numbers, stands.waits);
-    legs = λ z in_z. sym (mapped (resumed_below line w 0 z) (leg_at w.legs z) (λ l. ap (λ (b : Bool). if b then resumed w l else l) (none_before (restarts_slot whole_line line z) (nat_lt z.place 0) (lt_false whole_line line z.place 0 (omega arith)))));
+    legs = λ z in_z. sym (mapped (resumed_below line w 0 z) (leg_at w.legs z)
+        (λ l. ap (λ (b : Bool). if b then resumed w l else l)
+        (none_before (restarts_slot whole_line line z) (nat_lt z.place 0) (lt_false whole_line line z.place 0 (omega arith)))));
     next = refl;
   }
 
   resumed_so_far : (n : ℕ) → n ≤ 30 → AreResumed s line w n (outcome_below s.dimensions (rule_of s.tones whole false) line begins n).making.world
-  resumed_so_far zero small = subst (λ (a : MessageOutcome). AreResumed s line w 0 a.making.world) (sym (below_none s.dimensions (rule_of s.tones whole false) line begins)) start
+  resumed_so_far zero small = subst (λ (a : MessageOutcome). AreResumed s line w 0 a.making.world)
+      (sym (below_none s.dimensions (rule_of s.tones whole false) line begins)) start
   resumed_so_far (suc n) small =
       subst (λ (a : MessageOutcome). AreResumed s line w (suc n) a.making.world) (sym (below_more s.dimensions (rule_of s.tones whole false) line begins n))
-      (one_more s whole line w n below (omega (arith, small)) (outcome_below s.dimensions (rule_of s.tones whole false) line begins n).making (resumed_so_far n (omega (arith, small))))
+      (one_more s whole line w n below (omega (arith, small)) (outcome_below s.dimensions (rule_of s.tones whole false) line begins n).making
+          (resumed_so_far n (omega (arith, small))))
 
 -- ---- what is left
 
-pub legs_are_resumed : (s : Setting) (w : World) (line : ℕ) → HasLine s w line → LegsAreResumed s.dimensions.external line w (outcome_of_link s.dimensions s.tones false line w).making.world
-legs_are_resumed s w line can x in_x = linked_by s.dimensions s.tones false line w (λ v. leg_at v.legs x ≡ option_map (resumed_on line w x) (leg_at w.legs x)) (λ whole.
+pub legs_are_resumed : (s : Setting) (w : World) (line : ℕ) → HasLine s w line
+    → LegsAreResumed s.dimensions.external line w (outcome_of_link s.dimensions s.tones false line w).making.world
+legs_are_resumed s w line can x in_x =
+    linked_by s.dimensions s.tones false line w (λ v. leg_at v.legs x ≡ option_map (resumed_on line w x) (leg_at w.legs x)) (λ whole.
     (resumed_so_far s whole line w can.line_exists can.stands 30 (omega arith)).legs x in_x
     ∙ both_mapped (resumed_below line w 30 x) (resumed_on line w x) (leg_at w.legs x) (λ l. ap (λ (b : Bool). if b then resumed w l else l) on_line))
   where

@@ -1,4 +1,5 @@
--- What is sent when a data link is up again: an enquiry for each leg in active, RELEASE again for each in release request, and a RESTART of each channel that awaits one.
+-- What is sent when a data link is up again: an enquiry for each leg in active, RELEASE again for each in release request,
+-- and a RESTART of each channel that awaits one.
 use Rattle.std.proofs.Common.{◌≡◌, ℕ, ◌*◌, zero, suc, ◌<◌, ◌≤◌, inl, inr, Bool, true, false, ◌&&◌, ◌||◌, List, [], ◌∷◌, length, Option, Some, None, refl, sym, ◌∙◌, ap, subst, arith, eqb-true, get_or-set_other, Contains, if◌then◌else◌}
 use Rattle.std.specs.Prelude.{◌==◌, is_none, is_some, not, option_map, slice_index_or, slice_set}
 use Rattle.std.proofs.lemmas.Grind.{common_steps}
@@ -65,36 +66,47 @@ module _ (d : Dimensions) (tones : Tones) (whole : Bool) (m : Making) (x : Slot)
     pub stored_apart : kept_at done.world.legs z ≡ kept_at m.world.legs z
     stored_apart =
         at_held m.world.legs x (resume_held tones whole m.world.legs x) (stored_in z) (λ none. channel_stored (awaits_restart m.world.legs x) whole)
-        (λ leg at. by_resume d tones m x leg kept within at (stored_in z) (λ talks. other_stored None) (λ dials. other_stored None) (λ clears. again_stored leg (kept_at m.world.legs x)) refl)
+        (λ leg at. by_resume d tones m x leg kept within at (stored_in z) (λ talks. other_stored None) (λ dials. other_stored None)
+            (λ clears. again_stored leg (kept_at m.world.legs x)) refl)
 
   -- the enquiry, the stored message, and the RESTART
   pub enquiry_sent : (leg : Leg) → leg_at m.world.legs x ≡ Some leg → leg.state ≡ active → Contains done.sends (enquiry_signal x leg)
   enquiry_sent leg at is =
       let up : (leg.state == active) ≡ true = rw is refl in
-      subst (λ (os : List Operation). Contains (making_after_all d m os).sends (enquiry_signal x leg)) (sym (enquires leg at up)) (Contains-push m.sends (enquiry_signal x leg))
+      subst (λ (os : List Operation). Contains (making_after_all d m os).sends (enquiry_signal x leg)) (sym (enquires leg at up))
+          (Contains-push m.sends (enquiry_signal x leg))
     where
-      enquires : (leg : Leg) → leg_at m.world.legs x ≡ Some leg → (leg.state == active) ≡ true → resume_slot tones whole m.world.legs x ≡ enquire (record { slot = x; leg = leg })
+      enquires : (leg : Leg) → leg_at m.world.legs x ≡ Some leg → (leg.state == active) ≡ true
+          → resume_slot tones whole m.world.legs x ≡ enquire (record { slot = x; leg = leg })
       enquires leg at up = rw (at, up) refl
 
-  pub stored_sent : (leg : Leg) (octets : List ℕ) → leg_at m.world.legs x ≡ Some leg → leg.state ≡ release_request → kept_at m.world.legs x ≡ Some octets → Contains done.sends (stored_signal x octets)
+  pub stored_sent : (leg : Leg) (octets : List ℕ) → leg_at m.world.legs x ≡ Some leg → leg.state ≡ release_request → kept_at m.world.legs x ≡ Some octets
+      → Contains done.sends (stored_signal x octets)
   stored_sent leg octets at is keeps =
-      subst (λ (os : List Operation). Contains (making_after_all d m os).sends (stored_signal x octets)) (sym (repeats leg at (rw is refl) (rw is refl) (rw is refl)))
-      (subst (λ (o : Option (List ℕ)). Contains (making_after_all d m (send_again (record { slot = x; leg = leg }) o)).sends (stored_signal x octets)) (sym keeps) (Contains-push m.sends (stored_signal x octets)))
+      subst (λ (os : List Operation). Contains (making_after_all d m os).sends (stored_signal x octets))
+          (sym (repeats leg at (rw is refl) (rw is refl) (rw is refl)))
+      (subst (λ (o : Option (List ℕ)). Contains (making_after_all d m (send_again (record { slot = x; leg = leg }) o)).sends (stored_signal x octets))
+          (sym keeps) (Contains-push m.sends (stored_signal x octets)))
     where
-      repeats : (leg : Leg) → leg_at m.world.legs x ≡ Some leg → (leg.state == active) ≡ false → (leg.state == overlap_sending) ≡ false → (leg.state == release_request) ≡ true
+      repeats : (leg : Leg) → leg_at m.world.legs x ≡ Some leg → (leg.state == active) ≡ false → (leg.state == overlap_sending) ≡ false
+          → (leg.state == release_request) ≡ true
           → resume_slot tones whole m.world.legs x ≡ send_again (record { slot = x; leg = leg }) (kept_at m.world.legs x)
       repeats leg at not_up not_dials asked = rw (at, not_up, not_dials, asked) refl
 
-  pub restart_sent : leg_at m.world.legs x ≡ None → awaits_restart m.world.legs x ≡ true → whole ≡ false → Contains done.sends (restart_signal x (Channel x.place))
+  pub restart_sent : leg_at m.world.legs x ≡ None → awaits_restart m.world.legs x ≡ true → whole ≡ false
+      → Contains done.sends (restart_signal x (Channel x.place))
   restart_sent none awaits alone =
-      subst (λ (os : List Operation). Contains (making_after_all d m os).sends (restart_signal x (Channel x.place))) (sym (restarts none awaits alone)) (Contains-push m.sends (restart_signal x (Channel x.place)))
+      subst (λ (os : List Operation). Contains (making_after_all d m os).sends (restart_signal x (Channel x.place))) (sym (restarts none awaits alone))
+          (Contains-push m.sends (restart_signal x (Channel x.place)))
     where
-      held_none : (legs : Legs) → (o : Option Leg) → leg_at legs x ≡ o → o ≡ None → awaits_restart legs x ≡ true → (w : Bool) → w ≡ false → resume_slot tones w legs x ≡ restart_channel false x
+      held_none : (legs : Legs) → (o : Option Leg) → leg_at legs x ≡ o → o ≡ None → awaits_restart legs x ≡ true → (w : Bool) → w ≡ false
+          → resume_slot tones w legs x ≡ restart_channel false x
       held_none legs o at is owes w alone = rw (at, is) ends where
         ends : (if awaits_restart legs x then restart_channel w x else []) ≡ restart_channel false x
         ends = rw (owes, alone) refl
 
-      restarts : leg_at m.world.legs x ≡ None → awaits_restart m.world.legs x ≡ true → whole ≡ false → resume_slot tones whole m.world.legs x ≡ restart_channel false x
+      restarts : leg_at m.world.legs x ≡ None → awaits_restart m.world.legs x ≡ true → whole ≡ false
+          → resume_slot tones whole m.world.legs x ≡ restart_channel false x
       restarts none awaits alone = held_none m.world.legs None none refl awaits whole alone
 
 -- ---- the slots of the line
@@ -102,14 +114,17 @@ module _ (d : Dimensions) (tones : Tones) (whole : Bool) (m : Making) (x : Slot)
 record AreSent (s : Setting) (whole : Bool) (line : ℕ) (w : World) (n : ℕ) (m : Making) : Type 0 where
   legs : AreResumed s line w n m.world
   stored : (z : Slot) → IsExternal s.dimensions.external z → z.line ≡ line → n ≤ z.place → kept_at m.world.legs z ≡ kept_at w.legs z
-  enquiries : (z : Slot) (l : Leg) → IsExternal s.dimensions.external z → z.line ≡ line → z.place < n → leg_at w.legs z ≡ Some l → l.state ≡ active → Contains m.sends (enquiry_signal z l)
-  releases : (z : Slot) (l : Leg) (octets : List ℕ) → IsExternal s.dimensions.external z → z.line ≡ line → z.place < n → leg_at w.legs z ≡ Some l → l.state ≡ release_request → kept_at w.legs z ≡ Some octets
+  enquiries : (z : Slot) (l : Leg) → IsExternal s.dimensions.external z → z.line ≡ line → z.place < n → leg_at w.legs z ≡ Some l → l.state ≡ active
+      → Contains m.sends (enquiry_signal z l)
+  releases : (z : Slot) (l : Leg) (octets : List ℕ) → IsExternal s.dimensions.external z → z.line ≡ line → z.place < n → leg_at w.legs z ≡ Some l
+      → l.state ≡ release_request → kept_at w.legs z ≡ Some octets
       → Contains m.sends (stored_signal z octets)
   restarts : (z : Slot) → IsExternal s.dimensions.external z → z.line ≡ line → z.place < n → awaits_restart w.legs z ≡ true → whole ≡ false
       → Contains m.sends (restart_signal z (Channel z.place))
 
 module _ (s : Setting) (whole : Bool) (line : ℕ) (w : World) (n : ℕ) (below : line < s.dimensions.external) (small : n < 30) (m : Making)
-    (so_far : AreSent s whole line w n m) (condition : condition_at m.world.legs (record { line = line; place = n }) ≡ condition_at w.legs (record { line = line; place = n })) where
+    (so_far : AreSent s whole line w n m)
+    (condition : condition_at m.world.legs (record { line = line; place = n }) ≡ condition_at w.legs (record { line = line; place = n })) where
   abbrev d : Dimensions
   d = s.dimensions
 
@@ -146,14 +161,16 @@ module _ (s : Setting) (whole : Bool) (line : ℕ) (w : World) (n : ℕ) (below 
   place_before : (z : Slot) → z.line ≡ line → z.place < suc n → (z ≡ here → ⊥) → z.place < n
   place_before z on less apart = let other : z.place ≡ n → ⊥ = (λ place. apart (same_parts z line n on place)) in omega (arith, less, other)
 
-  more_enquiries : (z : Slot) (l : Leg) → IsExternal d.external z → z.line ≡ line → z.place < suc n → leg_at w.legs z ≡ Some l → l.state ≡ active → Contains (making_after_all d m turn).sends (enquiry_signal z l)
+  more_enquiries : (z : Slot) (l : Leg) → IsExternal d.external z → z.line ≡ line → z.place < suc n → leg_at w.legs z ≡ Some l → l.state ≡ active
+      → Contains (making_after_all d m turn).sends (enquiry_signal z l)
   more_enquiries z l in_z on less at is = elim (same_or_apart z here) [
     | inl same ↦ subst (λ (q : Slot). Contains (making_after_all d m turn).sends (enquiry_signal q l)) (sym same)
         (enquiry_sent d s.tones whole m here kept in_here l (leg_here ∙ sym (ap (leg_at w.legs) same) ∙ at) is)
     | inr apart ↦ sent_still_all d m turn (enquiry_signal z l) (so_far.enquiries z l in_z on (place_before z on less apart) at is)
   ]
 
-  more_releases : (z : Slot) (l : Leg) (octets : List ℕ) → IsExternal d.external z → z.line ≡ line → z.place < suc n → leg_at w.legs z ≡ Some l → l.state ≡ release_request → kept_at w.legs z ≡ Some octets
+  more_releases : (z : Slot) (l : Leg) (octets : List ℕ) → IsExternal d.external z → z.line ≡ line → z.place < suc n → leg_at w.legs z ≡ Some l
+      → l.state ≡ release_request → kept_at w.legs z ≡ Some octets
       → Contains (making_after_all d m turn).sends (stored_signal z octets)
   more_releases z l octets in_z on less at is keeps = elim (same_or_apart z here) [
     | inl same ↦ subst (λ (q : Slot). Contains (making_after_all d m turn).sends (stored_signal q octets)) (sym same)
@@ -168,7 +185,8 @@ module _ (s : Setting) (whole : Bool) (line : ℕ) (w : World) (n : ℕ) (below 
     | inl same ↦
         let here_too : awaits_restart m.world.legs here ≡ true = awaits_here (sym (ap (awaits_restart w.legs) same) ∙ awaits) in
         let none : leg_at m.world.legs here ≡ None = is_empty (leg_at m.world.legs here)
-            (without_leg (is_owing (condition_at m.world.legs here)) (is_open (condition_at m.world.legs here)) (is_none (leg_at m.world.legs here)) here_too) in
+            (without_leg (is_owing (condition_at m.world.legs here)) (is_open (condition_at m.world.legs here))
+                (is_none (leg_at m.world.legs here)) here_too) in
         subst (λ (q : Slot). Contains (making_after_all d m turn).sends (restart_signal q (Channel q.place))) (sym same)
             (restart_sent d s.tones whole m here kept in_here none here_too alone)
     | inr apart ↦ sent_still_all d m turn (restart_signal z (Channel z.place)) (so_far.restarts z in_z on (place_before z on less apart) awaits alone)
@@ -191,7 +209,8 @@ module _ (s : Setting) (line : ℕ) (w : World) (can : HasLine s w line) (flags 
   so_far_at whole n = outcome_below s.dimensions (rule_of s.tones whole false) line begins n
 
   start : (whole : Bool) → AreSent s whole line w 0 (so_far_at whole 0).making
-  start whole = subst (λ (a : MessageOutcome). AreSent s whole line w 0 a.making) (sym (below_none s.dimensions (rule_of s.tones whole false) line begins)) (record {
+  start whole = subst (λ (a : MessageOutcome). AreSent s whole line w 0 a.making)
+      (sym (below_none s.dimensions (rule_of s.tones whole false) line begins)) (record {
     legs = legs_start s whole line w can.line_exists can.stands;
     stored = λ z in_z on high. refl;
     enquiries = λ z l in_z on less at is. absurd (omega (arith, less));
@@ -204,7 +223,8 @@ module _ (s : Setting) (line : ℕ) (w : World) (can : HasLine s w line) (flags 
   sent_below whole (suc n) small =
       subst (λ (a : MessageOutcome). AreSent s whole line w (suc n) a.making) (sym (below_more s.dimensions (rule_of s.tones whole false) line begins n))
       (one_more s whole line w n can.line_exists (omega (arith, small)) (so_far_at whole n).making (sent_below whole n (omega (arith, small)))
-      ((raised_below s w line can flags whole n (omega (arith, small))).later (record { line = line; place = n }) (can.line_exists, omega (arith, small)) refl (omega arith)))
+      ((raised_below s w line can flags whole n (omega (arith, small))).later
+          (record { line = line; place = n }) (can.line_exists, omega (arith, small)) refl (omega arith)))
 
   -- ---- after the last slot
 
@@ -212,12 +232,14 @@ module _ (s : Setting) (line : ℕ) (w : World) (can : HasLine s w line) (flags 
   after_up = (outcome_of_link s.dimensions s.tones false line w).making
 
   -- the RESTART of the interface comes last
-  last_sent : (whole : Bool) (a : MessageOutcome) (one : Signal) → Contains a.making.sends one → Contains (with_interface s.dimensions whole line a).making.sends one
+  last_sent : (whole : Bool) (a : MessageOutcome) (one : Signal) → Contains a.making.sends one
+      → Contains (with_interface s.dimensions whole line a).making.sends one
   last_sent true a one sent = sent_still_all s.dimensions a.making (Send line (restart_of whole_line) ∷ []) one sent
   last_sent false a one sent = sent
 
   whole_sent : (a : MessageOutcome) (x : Slot) → x.line ≡ line → Contains (with_interface s.dimensions true line a).making.sends (restart_signal x whole_line)
-  whole_sent a x on = subst (λ (n : ℕ). Contains (with_interface s.dimensions true line a).making.sends (record { line = n; octets = encoding (restart_of whole_line) })) (sym on)
+  whole_sent a x on = subst (λ (n : ℕ). Contains (with_interface s.dimensions true line a).making.sends
+      (record { line = n; octets = encoding (restart_of whole_line) })) (sym on)
       (Contains-push a.making.sends (record { line = line; octets = encoding (restart_of whole_line) }))
 
   module _ (x : Slot) (in_x : IsExternal s.dimensions.external x) (on : x.line ≡ line) where
@@ -234,7 +256,8 @@ module _ (s : Setting) (line : ℕ) (w : World) (can : HasLine s w line) (flags 
           octets = keeps.0;
           stored = keeps.1;
           release = kept_anew w.holding.next l keeps.0 keeps.2;
-          sent = last_sent whole (so_far_at whole 30) (stored_signal x keeps.0) ((sent_below whole 30 (omega arith)).releases x l keeps.0 in_x on in_x.1 at is keeps.1);
+          sent = last_sent whole (so_far_at whole 30) (stored_signal x keeps.0)
+              ((sent_below whole 30 (omega arith)).releases x l keeps.0 in_x on in_x.1 at is keeps.1);
           timer = rw is refl;
           since = refl;
         }

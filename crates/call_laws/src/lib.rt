@@ -14,9 +14,9 @@
 //!   user is sent RESTART for each channel whose leg the outage removed, STATUS ENQUIRY for each leg in state 10, and the
 //!   stored RELEASE for each leg in state 19. T305 of each leg in state 12 runs, and its expiry sends RELEASE. After a
 //!   failure no other leg of the line is left ([`law_of_link_failures`]). If the link fails again before it delivers
-//!   these messages, the next establishment repeats STATUS ENQUIRY and RELEASE, but not RESTART: T316 does not run.
-//!   Theorems state which RESTARTs are owed ([`law_of_owed_restarts`]) and the effect of a reply to an enquiry
-//!   ([`law_of_enquiry_replies`]).
+//!   these messages, the next establishment repeats them. T316 does not run, but RESTART is repeated at each establishment
+//!   until it is acknowledged ([`law_of_unconfirmed_channels`]). Theorems state which RESTARTs are owed
+//!   ([`law_of_owed_restarts`]) and the effect of a reply to an enquiry ([`law_of_enquiry_replies`]).
 //! - A number of several lines gets the lowest idle slot of the first line that has one ([`law_of_hunting`]).
 //! - Further digits are refused with cause 34 only if each called line is down or has no idle slot, and with cause 42
 //!   only if no port is free. They end no call, so nothing is recorded ([`law_of_digits`]).
@@ -49,7 +49,6 @@ pub use legs::{
 };
 pub use outages::{
     law_of_enquiry_replies, law_of_lost_legs, law_of_outages, law_of_owed_restarts,
-    law_of_unconfirmed_channels,
-    law_of_reconciliation, law_of_unfailing_links,
+    law_of_reconciliation, law_of_unconfirmed_channels, law_of_unfailing_links,
 };
 pub use runs::{later_frames_change_nothing, law_of_fabrics, worlds_are_made};
