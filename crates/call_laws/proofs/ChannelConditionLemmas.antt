@@ -57,7 +57,7 @@ empty_before legs x z leg none = elim (entry_or_before legs.held (number_of x) (
   | inr old ↦ sym old ∙ none
 ]
 
--- ---- the slots of a line in sequence: each turn gives its channel a condition, and leaves that of every other
+-- ---- the slots of a line in sequence: each turn gives its channel a condition, and leaves every other channel
 
 module _ (d : Dimensions) (rule : SlotRule) (line : ℕ) (v : World) (given : Slot → Condition) (Fact : ℕ → Making → Type 0) where
   abbrev here : ℕ → Slot
@@ -108,7 +108,7 @@ module _ (d : Dimensions) (rule : SlotRule) (line : ℕ) (v : World) (given : Sl
         subst (λ (a : MessageOutcome). AreGiven (suc n) a.making) (sym (below_more d rule line v n))
         (one_more n (omega (arith, small)) (outcome_below d rule line v n).making (all_given n (omega (arith, small))))
 
-  -- all of them, if the condition that they are given is that of every channel of another line
+  -- all of them, if each channel of another line is given the condition that it had
   pub each_given : (m : Making) → AreGiven 30 m → (z : Slot) → IsExternal d.external z → ((z.line == line) ≡ false → condition_at v.legs z ≡ given z)
       → condition_at m.world.legs z ≡ given z
   each_given m all z in_z off = elim (true_or_false (z.line == line)) [
