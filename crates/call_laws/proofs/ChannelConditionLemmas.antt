@@ -40,7 +40,7 @@ use Rattle.call_profile.proofs.VacantSlotLemmas.{same_parts}
 use Rattle.call_laws.specs.Unconfirmed.{confirms_slot}
 use Rattle.call_laws.proofs.LinkedLegLemmas.{entry_or_before}
 use Rattle.call_laws.proofs.OwedTrackLemmas.{reads_at}
-use Rattle.call_laws.proofs.RemovedSlotLemmas.{FlagAll, MayFlag, back_flags, course_flags, restart_flags, setup_flags}
+use Rattle.call_laws.proofs.RemovedSlotLemmas.{GiveAll, MayGive, back_given, course_given, restart_given, setup_given}
 use Rattle.call_laws.proofs.RestartedLineLemmas.{AreRestartedBelow, restarted_below}
 
 -- ---- one entry
@@ -179,7 +179,7 @@ module _ (s : Setting) (w : World) where
         )
   ]
 
-  performed : (m : Making) (o : Operation) → MayFlag MayRemove o → Leaves m.world.legs → Leaves (making_after d m o).world.legs
+  performed : (m : Making) (o : Operation) → MayGive MayRemove o → Leaves m.world.legs → Leaves (making_after d m o).world.legs
   performed m (op.Clear x) may before = before
   performed m (op.Pair x y) may before = before
   performed m (op.Seat x room) may before = before
@@ -192,7 +192,7 @@ module _ (s : Setting) (w : World) where
   performed m (op.Remove x condition) may before = removed_leaves m.world.legs x condition may before
   performed m (op.Send line message) may before = before
 
-  leaves_all : (m : Making) (os : List Operation) → FlagAll MayRemove os → Leaves m.world.legs → Leaves (making_after_all d m os).world.legs
+  leaves_all : (m : Making) (os : List Operation) → GiveAll MayRemove os → Leaves m.world.legs → Leaves (making_after_all d m os).world.legs
   leaves_all m [] may before = before
   leaves_all m (o ∷ os) may before = leaves_all (making_after d m o) os may.1 (performed m o may.0 before)
 
@@ -271,8 +271,8 @@ module _ (s : Setting) (w : World) where
       abbrev legs : Legs
       legs = a.making.world.legs
 
-      removes : FlagAll MayRemove (restart_slot s.tones r legs at_place)
-      removes = restart_flags MayRemove s.tones r legs at_place (λ leg at.
+      removes : GiveAll MayRemove (restart_slot s.tones r legs at_place)
+      removes = restart_given MayRemove s.tones r legs at_place (λ leg at.
           let h : HeldLeg = record { slot = at_place; leg = leg } in
           let there = peer_there_too d.external s.tones a.making.world h so_far.kept.1 (below, small) at in (
             ((below, small), was_held a.making.world at_place leg (so_far.empty at_place (below, small)) at, refl),
@@ -299,11 +299,11 @@ module _ (s : Setting) (w : World) where
         let within : IsExternal d.external h.slot = (subst (λ n. n < d.external) (sym named.among.0) below, named.among.1) in
         let held : WasHeld h.slot = λ none. let wrong : None ≡ Some h.leg = sym none ∙ named.at in cc in
         leaves_all (making_at w) (course_of s w h m (act_on h.leg.state m)).operations
-        (course_flags MayRemove s w h m (within, held, refl) (act_on h.leg.state m)) same_leaves
+        (course_given MayRemove s w h m (within, held, refl) (act_on h.leg.state m)) same_leaves
     received_by line octets below (New_call m) is =
-        leaves_all (making_at w) (course_of_setup s w line m).operations (setup_flags MayRemove s w line m (refusal s w line m)) same_leaves
+        leaves_all (making_at w) (course_of_setup s w line m).operations (setup_given MayRemove s w line m (refusal s w line m)) same_leaves
     received_by line octets below (On_no_call m) is =
-        leaves_all (making_at w) (answer_back line (answer_without_call m)) (back_flags MayRemove line (answer_without_call m)) same_leaves
+        leaves_all (making_at w) (answer_back line (answer_without_call m)) (back_given MayRemove line (answer_without_call m)) same_leaves
     received_by line octets below (Restarts r) is = restarted r line below 30 (omega arith)
     received_by line octets below (Confirms r) is = are_confirmed r line below
     received_by line octets below Unanswered is = same_leaves

@@ -24,7 +24,7 @@ mod OwedStillLemmas
 mod OwedEventLemmas
 mod OwedSlotLemmas
 mod OwedTrackLemmas
-mod OwedFlagLemmas
+mod ConditionCountLemmas
 mod OwedExactLemmas
 mod ResumedSendLemmas
 mod EnquiryReplyLemmas

@@ -59,7 +59,7 @@ use Rattle.call_profile.proofs.CommandLemmas.{both_true}
 use Rattle.call_profile.proofs.SetupLemmas.{called_is, lowest_idle_beside_hunted_on}
 use Rattle.number_plan.specs.declared.target.Found.{Found}
 use Rattle.number_plan.specs.declared.target.Found.TheVariants.{Line, Lines, Room, More, Nothing}
-use Rattle.call_laws.proofs.OwedFlagLemmas.{next_flags}
+use Rattle.call_laws.proofs.ConditionCountLemmas.{next_conditions}
 
 -- ---- what the invariant says of a leg
 
@@ -86,9 +86,9 @@ module _ (external : ℕ) (legs : Legs) where
   OnlyDown = (z : Slot) → IsExternal external z → is_owed legs z ≡ true → is_down legs z.line ≡ true
 
   pub outages_by : length legs.down ≡ external → length legs.conditions ≡ 30 * external → FollowAll → OnlyDown → OutagesStand external legs
-  outages_by links flags all owed = record {
+  outages_by links conditions all owed = record {
     links = links;
-    flags = flags;
+    conditions = conditions;
     waits = λ x leg in_x at awaits. sym ((all x leg in_x at).0 awaits.0) ∙ awaits.1;
     runs = λ x leg in_x at is down. (is, (all x leg in_x at).0 is ∙ down);
     enquiries = λ x leg in_x at asked. let follows = all x leg in_x at in record { states = follows.2 asked; up = λ is. follows.1 is asked };
@@ -291,8 +291,8 @@ outages_kept s w e fits stands outages =
     let links = next_links s w e in
     let wait = follow_all s.dimensions.external w.legs outages in
     let all = next_waits s w stands wait e fits outages.links in
-    let owed = next_owed s w stands outages.owed outages.flags wait e fits outages.links in
-    outages_by s.dimensions.external (next s w e).legs (length-next_links s w e outages.links) (next_flags s w e ∙ outages.flags)
+    let owed = next_owed s w stands outages.owed outages.conditions wait e fits outages.links in
+    outages_by s.dimensions.external (next s w e).legs (length-next_links s w e outages.links) (next_conditions s w e ∙ outages.conditions)
     (λ z l in_z at. subst (λ (bs : List Bool). Follows (slice_index_or bs z.line false) l) (sym links) (all z l in_z at))
     (λ z in_z is. ap (λ (bs : List Bool). slice_index_or bs z.line false) links ∙ owed z in_z is)
 
@@ -309,7 +309,7 @@ all_idle (suc size) (suc n) = all_idle size n
 pub start_outages : (s : Setting) → OutagesStand s.dimensions.external (start s.dimensions).legs
 start_outages s = record {
   links = length-replicate s.dimensions.external false;
-  flags = length-replicate (30 * s.dimensions.external) Idle;
+  conditions = length-replicate (30 * s.dimensions.external) Idle;
   waits = λ x leg in_x at awaits. absurd (none_at s.dimensions.external x leg at);
   runs = λ x leg in_x at is down. absurd (none_at s.dimensions.external x leg at);
   enquiries = λ x leg in_x at asked. absurd (none_at s.dimensions.external x leg at);

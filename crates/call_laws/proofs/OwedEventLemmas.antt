@@ -46,7 +46,7 @@ module _ (s : Setting) (w : World) (stands : CallsStand s w) where
   abbrev pub OnlyDown : List Bool → World → Type 0
   OnlyDown links v = Owes d (Down links) v.legs
 
-  module _ (before : OnlyDown w.legs.down w) (flags : length w.legs.conditions ≡ 30 * d.external) where
+  module _ (before : OnlyDown w.legs.down w) (count : length w.legs.conditions ≡ 30 * d.external) where
     received : (line : ℕ) (octets : List ℕ) → line < d.external → OnlyDown w.legs.down (after_message s w line octets)
     received line octets below z in_z owed = before z in_z (was_read (is_owed w.legs z) false (is_none (leg_at (after_message s w line octets).legs z))
         (sym ((message_reads s w stands line octets below).0 z in_z) ∙ owed))
@@ -101,7 +101,7 @@ module _ (s : Setting) (w : World) (stands : CallsStand s w) where
         | inl same ↦ links_here true z (eqb-true z.line line same)
         | inr apart ↦ links_else true z apart (before z in_z
             (was_owed (is_owed w.legs z) (is_removed w failed z) (none_removed z in_z apart (leg_at w.legs z) refl)
-            (sym (owed_by_failure s w line can flags z in_z) ∙ owed)))
+            (sym (owed_by_failure s w line can count z in_z) ∙ owed)))
       ]
 
       -- it is established: nothing is owed on the line
@@ -112,7 +112,7 @@ module _ (s : Setting) (w : World) (stands : CallsStand s w) where
       established : OnlyDown (set w.legs.down line false) (next s w (LinkUp line))
       established z in_z owed =
           let none : Bool = is_none (leg_at (next s w (LinkUp line)).legs z) in
-          let still = sym (owed_raised s w line can flags z in_z) ∙ owed in
+          let still = sym (owed_raised s w line can count z in_z) ∙ owed in
           let both = both_true (is_owed w.legs z && not (z.line == line)) none still in
           let off = both_true (is_owed w.legs z) (not (z.line == line)) both.0 in
           links_else false z (is_off (z.line == line) off.1) (before z in_z off.0)
@@ -125,7 +125,7 @@ module _ (s : Setting) (w : World) (stands : CallsStand s w) where
       ]
         where
           now : (if z.line == line then is_down w.legs line else is_owed w.legs z) ≡ true
-          now = sym (owed_by_restart s w line can flags z in_z) ∙ owed
+          now = sym (owed_by_restart s w line can count z in_z) ∙ owed
 
           by_place : (on : Bool) → (z.line == line) ≡ on
               → (if z.line == line then is_down w.legs line else is_owed w.legs z) ≡ (if on then is_down w.legs line else is_owed w.legs z)

@@ -44,7 +44,7 @@ use Rattle.call_profile.proofs.RestartedSlotLemmas.{each_below, linked_by}
 abbrev pub always : Slot → Leg → Condition
 always z l = Owed
 
-module _ (s : Setting) (w : World) (line : ℕ) (can : HasLine s w line) (flags : length w.legs.conditions ≡ 30 * s.dimensions.external) where
+module _ (s : Setting) (w : World) (line : ℕ) (can : HasLine s w line) (count : length w.legs.conditions ≡ 30 * s.dimensions.external) where
   abbrev d : Dimensions
   d = s.dimensions
 
@@ -53,7 +53,7 @@ module _ (s : Setting) (w : World) (line : ℕ) (can : HasLine s w line) (flags 
 
   begins : Tracks d w always (with_line w line true)
   begins = record {
-    flags = flags;
+    conditions = count;
     held = can.stands.legs.count;
     next = refl;
     empty = λ z in_z none. (none, refl);
@@ -90,7 +90,7 @@ module _ (s : Setting) (w : World) (line : ℕ) (can : HasLine s w line) (flags 
 abbrev pub condition_left : Legs → Slot → Leg → Condition
 condition_left legs z l = if l.state == active then Owed else if l.state == release_request then unanswered (is_down legs z.line) else Idle
 
-module _ (s : Setting) (w : World) (input : Input) (stands : CallsStand s w) (flags : length w.legs.conditions ≡ 30 * s.dimensions.external) where
+module _ (s : Setting) (w : World) (input : Input) (stands : CallsStand s w) (count : length w.legs.conditions ≡ 30 * s.dimensions.external) where
   abbrev frame : ℕ
   frame = w.holding.next
 
@@ -105,7 +105,7 @@ module _ (s : Setting) (w : World) (input : Input) (stands : CallsStand s w) (fl
 
   starts : Tracks s.dimensions passed untold passed
   starts = record {
-    flags = flags;
+    conditions = count;
     held = stands.legs.count;
     next = refl;
     empty = λ z in_z none. (none, refl);

@@ -37,7 +37,7 @@ use Rattle.call_laws.proofs.LinkedLegLemmas.{entry_or_before}
 use Rattle.call_profile.proofs.PermittedActLemmas.{peer_there_too}
 use Rattle.call_laws.proofs.OwedSlotLemmas.{owing_unanswered}
 use Rattle.call_laws.proofs.OwedTrackLemmas.{reads_at}
-use Rattle.call_laws.proofs.RemovedSlotLemmas.{FlagAll, MayFlag}
+use Rattle.call_laws.proofs.RemovedSlotLemmas.{GiveAll, MayGive}
 use Rattle.call_profile.proofs.RestartedSlotLemmas.{below_none, below_more, line_restarted_by}
 use Rattle.call_profile.proofs.VacantSlotLemmas.{same_parts}
 
@@ -71,7 +71,7 @@ module _ (d : Dimensions) (line : ℕ) (condition : Condition) where
         (λ n. off (ap (λ (q : Slot). q.line) (same_number z x in_z.1 may.0.1 n) ∙ may.1));
   }
 
-  performed : (m : Making) (o : Operation) → MayFlag Here o → Sets m.world (making_after d m o).world
+  performed : (m : Making) (o : Operation) → MayGive Here o → Sets m.world (making_after d m o).world
   performed m (op.Clear x) may = sets_none m.world (making_after d m (op.Clear x)).world refl
   performed m (op.Pair x y) may = sets_none m.world (making_after d m (op.Pair x y)).world refl
   performed m (op.Seat x room) may = sets_none m.world (making_after d m (op.Seat x room)).world refl
@@ -91,7 +91,7 @@ module _ (d : Dimensions) (line : ℕ) (condition : Condition) where
     others = λ z in_z off. other.others z in_z off ∙ one.others z in_z off;
   }
 
-  performed_all : (m : Making) (os : List Operation) → FlagAll Here os → Sets m.world (making_after_all d m os).world
+  performed_all : (m : Making) (os : List Operation) → GiveAll Here os → Sets m.world (making_after_all d m os).world
   performed_all m [] may = sets_none m.world m.world refl
   performed_all m (o ∷ os) may =
       sets_both m.world (making_after d m o).world (making_after_all d (making_after d m o) os).world (performed m o may.0)
@@ -111,7 +111,7 @@ module _ (d : Dimensions) (line : ℕ) (condition : Condition) where
         (let inside = number_inside d.external x within in omega (arith, inside, size))
 
     peer_sets : (leg : Leg) (o : Option HeldLeg) → PeerIsThere d.external (record { slot = x; leg = leg }) o
-        → FlagAll Here (with_peer o (restart_peer tones temporary_failure condition whole_line x.line))
+        → GiveAll Here (with_peer o (restart_peer tones temporary_failure condition whole_line x.line))
     peer_sets leg None there = tt
     peer_sets leg (Some k) there = elim (true_or_false (restarts_slot whole_line x.line k.slot)) [
       | inl too ↦ rw too (tt, ((there.0.within, eqb-true k.slot.line x.line (both_true (k.slot.line == x.line) true too).0 ∙ on_line, refl), tt))
@@ -138,7 +138,7 @@ module _ (d : Dimensions) (line : ℕ) (condition : Condition) where
 
 -- ---- the slots of the line
 
-module _ (s : Setting) (w : World) (line : ℕ) (can : HasLine s w line) (flags : length w.legs.conditions ≡ 30 * s.dimensions.external) where
+module _ (s : Setting) (w : World) (line : ℕ) (can : HasLine s w line) (count : length w.legs.conditions ≡ 30 * s.dimensions.external) where
   abbrev d : Dimensions
   d = s.dimensions
 
@@ -173,7 +173,7 @@ module _ (s : Setting) (w : World) (line : ℕ) (can : HasLine s w line) (flags 
   conditions_below : (n : ℕ) → n ≤ 30 → ConditionsBelow n (outcome_below d (give_up_rule s.tones due) line w n).making.world
   conditions_below zero small = subst (λ (a : MessageOutcome). ConditionsBelow 0 a.making.world) (sym (below_none d (give_up_rule s.tones due) line w)) (record {
     kept = (can.stands.circuits, can.stands.legs);
-    size = flags;
+    size = count;
     here = λ z in_z on less. absurd (omega (arith, less));
     others = λ z in_z off. refl;
   })

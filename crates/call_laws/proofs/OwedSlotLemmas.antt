@@ -28,7 +28,7 @@ use Rattle.call_profile.proofs.CommandLemmas.{both_true}
 use Rattle.call_profile.proofs.ExpiringLemmas.{at_slot}
 use Rattle.call_profile.proofs.LinkLemmas.{at_held, by_resume}
 use Rattle.call_laws.proofs.LinkedLegLemmas.{entry_or_before}
-use Rattle.call_laws.proofs.RemovedSlotLemmas.{FlagAll, MayFlag, again_flags, cleared_flags, peer_flags}
+use Rattle.call_laws.proofs.RemovedSlotLemmas.{GiveAll, MayGive, again_given, cleared_given, peer_given}
 
 -- ---- one condition written
 
@@ -65,7 +65,7 @@ module _ (d : Dimensions) (May : Slot → Type 0) where
   Due x condition = is_owing condition ≡ true → (x.place < 30) × May x
 
   abbrev pub OweAll : List Operation → Type 0
-  OweAll = FlagAll Due
+  OweAll = GiveAll Due
 
   put_owes : (legs : Legs) (x : Slot) (leg : Leg) → Owes legs → Owes (with_entry legs x (Some leg))
   put_owes legs x leg before z in_z owed = before z in_z (owed_by_put legs x z leg owed)
@@ -87,7 +87,7 @@ module _ (d : Dimensions) (May : Slot → Type 0) where
             (sym (ap is_none (get_or-set_other legs.held (number_of x) (number_of z) None None other)) ∙ both.1))
       ]
 
-  performed : (m : Making) (o : Operation) → MayFlag Due o → Owes m.world.legs → Owes (making_after d m o).world.legs
+  performed : (m : Making) (o : Operation) → MayGive Due o → Owes m.world.legs → Owes (making_after d m o).world.legs
   performed m (op.Clear x) may before = before
   performed m (op.Pair x y) may before = before
   performed m (op.Seat x room) may before = before
@@ -108,17 +108,17 @@ module _ (d : Dimensions) (May : Slot → Type 0) where
 
   expiry_owes : (tones : Tones) (legs : Legs) (h : HeldLeg) (e : Expiry) → h.slot.place < 30 → (e ≡ expiry.Outage → May h.slot)
       → (is_down legs h.slot.line ≡ true → May h.slot) → OweAll (on_expiry tones legs h e)
-  expiry_owes tones legs h expiry.Digits small lost down = cleared_flags Due tones invalid_number_format h [] tt
-  expiry_owes tones legs h expiry.SetupAgain small lost down = again_flags Due h (kept_at legs h.slot)
-  expiry_owes tones legs h expiry.SetupOver small lost down = (tt, ((λ e. absurd cc), (tt, peer_flags Due tones no_user_responding (peer_of legs h.leg.peer))))
+  expiry_owes tones legs h expiry.Digits small lost down = cleared_given Due tones invalid_number_format h [] tt
+  expiry_owes tones legs h expiry.SetupAgain small lost down = again_given Due h (kept_at legs h.slot)
+  expiry_owes tones legs h expiry.SetupOver small lost down = (tt, ((λ e. absurd cc), (tt, peer_given Due tones no_user_responding (peer_of legs h.leg.peer))))
   expiry_owes tones legs h expiry.Proceeding small lost down =
-      cleared_flags Due tones recovery_on_timer_expiry h _ (peer_flags Due tones no_user_responding (peer_of legs h.leg.peer))
+      cleared_given Due tones recovery_on_timer_expiry h _ (peer_given Due tones no_user_responding (peer_of legs h.leg.peer))
   expiry_owes tones legs h expiry.Alerting small lost down =
-      cleared_flags Due tones recovery_on_timer_expiry h _ (peer_flags Due tones no_answer_from_user (peer_of legs h.leg.peer))
+      cleared_given Due tones recovery_on_timer_expiry h _ (peer_given Due tones no_answer_from_user (peer_of legs h.leg.peer))
   expiry_owes tones legs h expiry.Outage small lost down =
-      (tt, ((λ e. (small, lost refl)), peer_flags Due tones destination_out_of_order (peer_of legs h.leg.peer)))
+      (tt, ((λ e. (small, lost refl)), peer_given Due tones destination_out_of_order (peer_of legs h.leg.peer)))
   expiry_owes tones legs h expiry.Disconnect small lost down = (tt, tt)
-  expiry_owes tones legs h expiry.ReleaseAgain small lost down = again_flags Due h (kept_at legs h.slot)
+  expiry_owes tones legs h expiry.ReleaseAgain small lost down = again_given Due h (kept_at legs h.slot)
   expiry_owes tones legs h expiry.ReleaseOver small lost down = (tt, ((λ e. (small, down (sym (owing_unanswered (is_down legs h.slot.line)) ∙ e))), tt))
 
   pub expire_owes : (s : Setting) (frame : ℕ) (legs : Legs) (x : Slot) → x.place < 30
@@ -139,5 +139,5 @@ module _ (d : Dimensions) (May : Slot → Type 0) where
     resume_owes whole = at_held m.world.legs x (resume_held tones whole m.world.legs x) OweAll
         (λ none. channel_owes (awaits_restart m.world.legs x) whole) (λ leg at.
         by_resume d tones m x leg kept within at OweAll (λ talks. (tt, (tt, tt)))
-        (λ dials. cleared_flags Due tones temporary_failure (record { slot = x; leg = leg }) [] tt)
-        (λ clears. again_flags Due (record { slot = x; leg = leg }) (kept_at m.world.legs x)) tt)
+        (λ dials. cleared_given Due tones temporary_failure (record { slot = x; leg = leg }) [] tt)
+        (λ clears. again_given Due (record { slot = x; leg = leg }) (kept_at m.world.legs x)) tt)

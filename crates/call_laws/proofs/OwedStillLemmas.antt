@@ -21,7 +21,7 @@ module _ (s : Setting) (w : World) (stands : CallsStand s w) (outages : OutagesS
   still_owed (Seat x room) fits other = command_reads s w (obey s.dimensions w (Take_seat x room)) is_owing refl refl (may_seat s.dimensions w x)
   still_owed (Free x) fits other = command_reads s w (obey s.dimensions w (Clear x)) is_owing refl refl (is_nailed w x)
   still_owed (Message line octets) fits other = (message_reads s w stands line octets fits.0).0
-  still_owed (LinkUp line) fits other = owed_raised s w line (record { stands = stands; line_exists = fits }) outages.flags
+  still_owed (LinkUp line) fits other = owed_raised s w line (record { stands = stands; line_exists = fits }) outages.conditions
   still_owed (LinkDown line) fits other = absurd other
   still_owed (RestartLine line) fits other = absurd other
   still_owed (Frame input) fits other = absurd other

@@ -43,7 +43,7 @@ reads_at reads legs z = reads (condition_at legs z) && is_none (leg_at legs z)
 -- the condition of a channel if its leg is removed
 module _ (d : Dimensions) (w : World) (cond : Slot → Leg → Condition) where
   pub record Tracks (v : World) : Type 0 where
-    pub flags : length v.legs.conditions ≡ 30 * d.external
+    pub conditions : length v.legs.conditions ≡ 30 * d.external
     pub held : length v.legs.held ≡ 30 * d.external
     pub next : v.holding.next ≡ w.holding.next
     pub empty : (z : Slot) → IsExternal d.external z → leg_at w.legs z ≡ None
@@ -76,12 +76,12 @@ module _ (d : Dimensions) (w : World) (cond : Slot → Leg → Condition) where
   heard_tracks : (u v : World) → v.legs ≡ u.legs → v.holding.next ≡ u.holding.next → Tracks u → Tracks v
   heard_tracks u v legs next t =
       subst (λ (ls : Legs). Tracks (with_legs v ls)) (sym legs)
-          (record { flags = t.flags; held = t.held; next = next ∙ t.next; empty = t.empty; gone = t.gone; same = t.same })
+          (record { conditions = t.conditions; held = t.held; next = next ∙ t.next; empty = t.empty; gone = t.gone; same = t.same })
 
   written_tracks : (v : World) (x : Slot) (stored : Leg) → stored.since ≡ w.holding.next → WasHeld x → Tracks v
       → Tracks (with_legs v (with_entry v.legs x (Some stored)))
   written_tracks v x stored since was t = record {
-    flags = t.flags;
+    conditions = t.conditions;
     held = length-set v.legs.held (number_of x) (Some stored) ∙ t.held;
     next = t.next;
     empty = λ z in_z none.
@@ -107,24 +107,24 @@ module _ (d : Dimensions) (w : World) (cond : Slot → Leg → Condition) where
   removed_tracks : (v : World) (x : Slot) (condition : Condition) → WasHeld x → ((l : Leg) → leg_at w.legs x ≡ Some l → condition ≡ cond x l) → Tracks v
       → Tracks (with_legs v (without_leg v.legs x condition))
   removed_tracks v x condition was is_cond t =
-      let apart_flag : (z : Slot) → IsExternal d.external z → (z ≡ x → ⊥) → condition_at (without_leg v.legs x condition) z ≡ condition_at v.legs z =
+      let apart_stays : (z : Slot) → IsExternal d.external z → (z ≡ x → ⊥) → condition_at (without_leg v.legs x condition) z ≡ condition_at v.legs z =
       λ z in_z apart. get_or-set_other v.legs.conditions (number_of x) (number_of z) condition Idle (λ n. apart (same_number z x in_z.1 was.0.1 n)) in
       record {
-        flags = length-set v.legs.conditions (number_of x) condition ∙ t.flags;
+        conditions = length-set v.legs.conditions (number_of x) condition ∙ t.conditions;
         held = length-set v.legs.held (number_of x) None ∙ t.held;
         next = t.next;
         empty = λ z in_z none.
             let before = t.empty z in_z none in
             let apart : z ≡ x → ⊥ = λ is. was.1 (sym (ap (leg_at w.legs) is) ∙ none) in
-            (leg_at-with_entry_else d.external v.legs x z None was.0 in_z apart ∙ before.0, apart_flag z in_z apart ∙ before.1);
+            (leg_at-with_entry_else d.external v.legs x z None was.0 in_z apart ∙ before.0, apart_stays z in_z apart ∙ before.1);
         gone = λ z l in_z at none. elim (same_or_apart z x) [
           | inl is ↦
               ap (condition_at (without_leg v.legs x condition)) is
               ∙ get_or-set_same v.legs.conditions (number_of x) condition Idle
-                  (let n = number_inside d.external x was.0 in let size = t.flags in omega (arith, n, size))
+                  (let n = number_inside d.external x was.0 in let size = t.conditions in omega (arith, n, size))
               ∙ is_cond l (sym (ap (leg_at w.legs) is) ∙ at)
               ∙ ap (λ (q : Slot). cond q l) (sym is)
-          | inr apart ↦ apart_flag z in_z apart ∙ t.gone z l in_z at (sym (leg_at-with_entry_else d.external v.legs x z None was.0 in_z apart) ∙ none)
+          | inr apart ↦ apart_stays z in_z apart ∙ t.gone z l in_z at (sym (leg_at-with_entry_else d.external v.legs x z None was.0 in_z apart) ∙ none)
         ];
         same = λ z k in_z at. elim (same_or_apart z x) [
           | inl is ↦
@@ -143,13 +143,13 @@ module _ (d : Dimensions) (w : World) (cond : Slot → Leg → Condition) where
   performed m (op.Put x leg) may t = written_tracks m.world x (begun m.world leg) t.next may t
   performed m (op.Wait x leg p) may t =
       let done = written_tracks m.world x (begun m.world leg) t.next may t in
-      record { flags = done.flags; held = done.held; next = done.next; empty = done.empty; gone = done.gone; same = done.same }
+      record { conditions = done.conditions; held = done.held; next = done.next; empty = done.empty; gone = done.gone; same = done.same }
   performed m (op.Expect x leg message) may t =
       let done = written_tracks m.world x (begun m.world leg) t.next may t in
-      record { flags = done.flags; held = done.held; next = done.next; empty = done.empty; gone = done.gone; same = done.same }
+      record { conditions = done.conditions; held = done.held; next = done.next; empty = done.empty; gone = done.gone; same = done.same }
   performed m (op.Repeat h octets) may t =
       let done = written_tracks m.world h.slot (record h.leg { since = m.world.holding.next; resent = true }) t.next may t in
-      record { flags = done.flags; held = done.held; next = done.next; empty = done.empty; gone = done.gone; same = done.same }
+      record { conditions = done.conditions; held = done.held; next = done.next; empty = done.empty; gone = done.gone; same = done.same }
   performed m (op.Await x leg) may t = written_tracks m.world x (record leg { since = m.world.holding.next; resent = true }) t.next may t
   performed m (op.Remove x condition) may t = removed_tracks m.world x condition may.0 may.1 t
   performed m (op.Send line message) may t = t

@@ -27,7 +27,7 @@ use Rattle.call_profile.proofs.ClearingLemmas.{Kept}
 use Rattle.call_profile.proofs.LinkLemmas.{at_held, by_resume}
 use Rattle.call_profile.proofs.RestartedSlotLemmas.{linked_by}
 use Rattle.call_laws.proofs.ChannelConditionLemmas.{AreGiven, Turns, all_given, each_given}
-use Rattle.call_laws.proofs.OwedFlagLemmas.{performed_all_flags}
+use Rattle.call_laws.proofs.ConditionCountLemmas.{performed_all_conditions}
 use Rattle.call_laws.proofs.OwedTrackLemmas.{reads_at}
 use Rattle.call_laws.proofs.RestartedLineLemmas.{lt_false, none_before}
 use Rattle.call_laws.proofs.ResumedLineLemmas.{AreResumed, resumed_below, mapped, one_more as legs_one_more, start as legs_start, legs_are_resumed}
@@ -107,7 +107,7 @@ leg_not_yet s line w n below small v so_far =
     ∙ mapped (resumed_below line w n here) (leg_at w.legs here) (λ l. ap (λ (b : Bool). if b then resumed w l else l)
     (none_before (restarts_slot whole_line line here) (nat_lt n n) (lt_false whole_line line n n (omega arith))))
 
-module _ (s : Setting) (w : World) (line : ℕ) (can : HasLine s w line) (flags : length w.legs.conditions ≡ 30 * s.dimensions.external) where
+module _ (s : Setting) (w : World) (line : ℕ) (can : HasLine s w line) (count : length w.legs.conditions ≡ 30 * s.dimensions.external) where
   abbrev d : Dimensions
   d = s.dimensions
 
@@ -133,7 +133,7 @@ module _ (s : Setting) (w : World) (line : ℕ) (can : HasLine s w line) (flags 
       record {
         next = (
           legs_one_more s whole line w n can.line_exists small m fact.0,
-          performed_all_flags d m (resume_slot s.tones whole m.world.legs x) ∙ fact.1,
+          performed_all_conditions d m (resume_slot s.tones whole m.world.legs x) ∙ fact.1,
         );
         own =
             own_raised d s.tones whole m x fact.0.kept in_x fact.1
@@ -145,7 +145,7 @@ module _ (s : Setting) (w : World) (line : ℕ) (can : HasLine s w line) (flags 
   pub raised_below : (whole : Bool) (n : ℕ) → n ≤ 30
       → AreGiven d (rule_of s.tones whole false) line begins raised Fact n (outcome_below d (rule_of s.tones whole false) line begins n).making
   raised_below whole n small =
-      all_given d (rule_of s.tones whole false) line begins raised Fact can.line_exists (legs_start s whole line w can.line_exists can.stands, flags)
+      all_given d (rule_of s.tones whole false) line begins raised Fact can.line_exists (legs_start s whole line w can.line_exists can.stands, count)
           (turns whole) n small
 
   pub conditions_raised : (z : Slot) → IsExternal d.external z → condition_at (next s w (LinkUp line)).legs z ≡ raised z

@@ -201,7 +201,7 @@ module _ (s : Setting) (whole : Bool) (line : ℕ) (w : World) (n : ℕ) (below 
     restarts = more_restarts;
   }
 
-module _ (s : Setting) (line : ℕ) (w : World) (can : HasLine s w line) (flags : length w.legs.conditions ≡ 30 * s.dimensions.external) where
+module _ (s : Setting) (line : ℕ) (w : World) (can : HasLine s w line) (count : length w.legs.conditions ≡ 30 * s.dimensions.external) where
   abbrev begins : World
   begins = with_line w line false
 
@@ -223,7 +223,7 @@ module _ (s : Setting) (line : ℕ) (w : World) (can : HasLine s w line) (flags 
   sent_below whole (suc n) small =
       subst (λ (a : MessageOutcome). AreSent s whole line w (suc n) a.making) (sym (below_more s.dimensions (rule_of s.tones whole false) line begins n))
       (one_more s whole line w n can.line_exists (omega (arith, small)) (so_far_at whole n).making (sent_below whole n (omega (arith, small)))
-      ((raised_below s w line can flags whole n (omega (arith, small))).later
+      ((raised_below s w line can count whole n (omega (arith, small))).later
           (record { line = line; place = n }) (can.line_exists, omega (arith, small)) refl (omega arith)))
 
   -- ---- after the last slot
@@ -271,7 +271,7 @@ module _ (s : Setting) (line : ℕ) (w : World) (can : HasLine s w line) (flags 
     -- ---- each channel
 
     none_owed : is_owed after_up.world.legs x ≡ false
-    none_owed = owed_raised s w line can flags x in_x ∙ (λ i. (is_owed w.legs x && not (here i)) && empty) ∙ none_so (is_owed w.legs x) empty where
+    none_owed = owed_raised s w line can count x in_x ∙ (λ i. (is_owed w.legs x && not (here i)) && empty) ∙ none_so (is_owed w.legs x) empty where
       empty : Bool
       empty = is_none (leg_at after_up.world.legs x)
 

@@ -28,7 +28,7 @@ use Rattle.call_laws.proofs.OwedLineLemmas.{none_too, read_after_restart}
 use Rattle.call_laws.proofs.OwedTrackLemmas.{given, read_exactly, read_stays}
 use Rattle.call_laws.proofs.RaisedConditionLemmas.{unconfirmed_raised}
 
-module _ (s : Setting) (w : World) (stands : CallsStand s w) (flags : length w.legs.conditions ≡ 30 * s.dimensions.external) where
+module _ (s : Setting) (w : World) (stands : CallsStand s w) (count : length w.legs.conditions ≡ 30 * s.dimensions.external) where
   -- ---- the failure of a data link
 
   or_none : (b : Bool) → (b || false) ≡ b
@@ -43,7 +43,7 @@ module _ (s : Setting) (w : World) (stands : CallsStand s w) (flags : length w.l
   by_failure : (line : ℕ) → HasLine s w line → StillReads s.dimensions.external is_open w (next s w (LinkDown line)) (λ x. false)
   by_failure line can x in_x =
       let v : World = next s w (LinkDown line) in
-      let t = tracked s w line can flags in
+      let t = tracked s w line can count in
       read_exactly s.dimensions w always is_open v t x in_x
       ∙ ap (λ (b : Bool). is_unconfirmed w.legs x || b) (none_left x (leg_at w.legs x) (leg_at v.legs x))
       ∙ or_none (is_unconfirmed w.legs x)
@@ -80,7 +80,7 @@ module _ (s : Setting) (w : World) (stands : CallsStand s w) (flags : length w.l
     by_frame : (x : Slot) → IsExternal s.dimensions.external x → is_unconfirmed v.legs x
         ≡ ((is_removed w v x && is_unreleased w.legs x (leg_at w.legs x)) || ((is_unconfirmed w.legs x && not false) && is_none (leg_at v.legs x)))
     by_frame x in_x =
-        let t = turned s w input stands flags in
+        let t = turned s w input stands count in
         read_exactly s.dimensions passed (condition_left w.legs) is_open v t x in_x
         ∙ or_swapped (is_unconfirmed w.legs x) (is_removed w v x && given s.dimensions passed (condition_left w.legs) is_open x (leg_at w.legs x))
         ∙ (λ i. (is_removed w v x && opens x (leg_at w.legs x) i) || read_stays s.dimensions passed (condition_left w.legs) is_open v t x in_x i)
@@ -114,11 +114,11 @@ module _ (s : Setting) (w : World) (stands : CallsStand s w) (flags : length w.l
     by_place false apart =
         unsettled (is_open (condition_at w.legs x)) (is_none (leg_at w.legs x))
         ∙ ap (λ (b : Bool). (is_unconfirmed w.legs x && true) && b)
-        (sym (none_too s w line can flags x in_x (λ is. grind (arith, common_steps, apart, is)) (leg_at w.legs x) refl))
+        (sym (none_too s w line can count x in_x (λ is. grind (arith, common_steps, apart, is)) (leg_at w.legs x) refl))
 
     by_restart : is_unconfirmed (next s w (RestartLine line)).legs x
         ≡ (((x.line == line) && not down) || ((is_unconfirmed w.legs x && not (x.line == line)) && empty))
-    by_restart = read_after_restart s w line can flags is_open x in_x ∙ by_place (x.line == line) refl
+    by_restart = read_after_restart s w line can count is_open x in_x ∙ by_place (x.line == line) refl
 
   -- ---- every event
 
@@ -130,7 +130,7 @@ module _ (s : Setting) (w : World) (stands : CallsStand s w) (flags : length w.l
   unconfirmed_after (Seat x room) fits = command_reads s w (obey s.dimensions w (Take_seat x room)) is_open refl refl (may_seat s.dimensions w x)
   unconfirmed_after (Free x) fits = command_reads s w (obey s.dimensions w (Clear x)) is_open refl refl (is_nailed w x)
   unconfirmed_after (Message line octets) fits = (message_reads s w stands line octets fits.0).1
-  unconfirmed_after (LinkUp line) fits = unconfirmed_raised s w line (has_line line fits) flags
+  unconfirmed_after (LinkUp line) fits = unconfirmed_raised s w line (has_line line fits) count
   unconfirmed_after (LinkDown line) fits = by_failure line (has_line line fits)
   unconfirmed_after (RestartLine line) fits = by_restart line (has_line line fits)
   unconfirmed_after (Frame input) fits = by_frame input

@@ -60,7 +60,7 @@ pub record MayEnquire (down : Bool) (leg : Leg) : Type 0 where
 -- the link of its line is down, an enquiry is open only while it is up, and a RESTART is owed only while it is down
 pub record OutagesStand (external : ℕ) (legs : Legs) : Type 0 where
   pub links : length legs.down ≡ external
-  pub flags : length legs.conditions ≡ 30 * external
+  pub conditions : length legs.conditions ≡ 30 * external
   pub waits : (x : Slot) (leg : Leg) → IsExternal external x → leg_at legs x ≡ Some leg → AwaitsLink leg → is_down legs x.line ≡ true
   pub runs : (x : Slot) (leg : Leg) → IsExternal external x → leg_at legs x ≡ Some leg → leg.state ≡ active → is_down legs x.line ≡ true → AwaitsLink leg
   pub enquiries : (x : Slot) (leg : Leg) → IsExternal external x → leg_at legs x ≡ Some leg → leg.enquired ≡ true → MayEnquire (is_down legs x.line) leg
