@@ -163,16 +163,16 @@ module _ (s : Setting) (w : World) where
   removed_leaves : (legs : Legs) (x : Slot) (condition : Condition) → MayRemove x condition → Leaves legs → Leaves (without_leg legs x condition)
   removed_leaves legs x condition may before z in_z = elim (same_or_apart z x) [
     | inl is ↦ (
-        (λ none. absurd (may.1 (sym (ap (leg_at w.legs) is) ∙ none))),
-        (λ l at none.
-            ap (condition_at (without_leg legs x condition)) is
-            ∙ ap (λ (c : Condition). get_or (set legs.conditions (number_of x) c) (number_of x) Idle) may.2
-            ∙ set_idle legs.conditions (number_of x)),
-      )
+      (λ none. absurd (may.1 (sym (ap (leg_at w.legs) is) ∙ none))),
+      (λ l at none.
+          ap (condition_at (without_leg legs x condition)) is
+          ∙ ap (λ (c : Condition). get_or (set legs.conditions (number_of x) c) (number_of x) Idle) may.2
+          ∙ set_idle legs.conditions (number_of x)),
+    )
     | inr apart ↦
         let other : number_of z ≡ number_of x → ⊥ = λ n. apart (same_number z x in_z.1 may.0.1 n) in
         let stays : condition_at (without_leg legs x condition) z ≡ condition_at legs z =
-            get_or-set_other legs.conditions (number_of x) (number_of z) condition Idle other in
+        get_or-set_other legs.conditions (number_of x) (number_of z) condition Idle other in
         let held : leg_at (without_leg legs x condition) z ≡ leg_at legs z = get_or-set_other legs.held (number_of x) (number_of z) None None other in (
           (λ none. stays ∙ (before z in_z).0 none),
           (λ l at none. stays ∙ (before z in_z).1 l at (sym held ∙ none)),

@@ -62,7 +62,7 @@ linked_conditions : (s : Setting) (w : World) (down : Bool) (line : ℕ) → con
 linked_conditions s w down line = linked_by s.dimensions s.tones down line w (λ v. conditions_of v ≡ conditions_of w) (λ whole.
     each_below s.dimensions (rule_of s.tones whole down) line (with_line w line down) (λ a. conditions_of a.making.world ≡ conditions_of w) refl
     (λ a place small same. performed_all_conditions s.dimensions a.making
-        ((rule_of s.tones whole down).does a.making.world.legs (record { line = line; place = place })) ∙ same) 30 (omega arith))
+    ((rule_of s.tones whole down).does a.making.world.legs (record { line = line; place = place })) ∙ same) 30 (omega arith))
 
 line_restart_conditions : (s : Setting) (w : World) (line : ℕ) → conditions_of (outcome_of_line_restart s.dimensions s.tones line w).making.world ≡ conditions_of w
 line_restart_conditions s w line =
@@ -70,7 +70,7 @@ line_restart_conditions s w line =
     line_restarted_by s.dimensions s.tones line w (λ v. conditions_of v ≡ conditions_of w)
     (each_below s.dimensions (give_up_rule s.tones condition) line w (λ a. conditions_of a.making.world ≡ conditions_of w) refl
     (λ a place small same. performed_all_conditions s.dimensions a.making
-        (give_up_slot s.tones condition a.making.world.legs (record { line = line; place = place })) ∙ same) 30 (omega arith))
+    (give_up_slot s.tones condition a.making.world.legs (record { line = line; place = place })) ∙ same) 30 (omega arith))
 
 either_conditions : (b : Bool) (v w : World) → conditions_of v ≡ conditions_of w → conditions_of (if b then v else w) ≡ conditions_of w
 either_conditions true v w same = same

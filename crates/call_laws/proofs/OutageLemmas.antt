@@ -111,7 +111,7 @@ module _ (s : Setting) (w : World) (stands : CallsStand s w) (wait : Wait s.dime
       let within : IsExternal d.external h.slot = (subst (λ n. n < d.external) (sym named.among.0) below, named.among.1) in
       performed_all d w.legs.down (making_at w) (course_of s w h m (act_on h.leg.state m)).operations
       (course_may s w stands.legs h within named.at wait m (act_on h.leg.state m)
-          (Asked-act_of h.leg.state m.kind (clearing_cause m.elements) (call_state_in m.elements) (cause_fits m.elements))) wait
+      (Asked-act_of h.leg.state m.kind (clearing_cause m.elements) (call_state_in m.elements) (cause_fits m.elements))) wait
   received line octets below (New_call m) is = performed_all d w.legs.down (making_at w) (course_of_setup s w line m).operations
       (setup_may s w line m (refusal s w line m)) wait
   received line octets below (On_no_call m) is = performed_all d w.legs.down (making_at w) (answer_back line (answer_without_call m))
@@ -120,12 +120,12 @@ module _ (s : Setting) (w : World) (stands : CallsStand s w) (wait : Wait s.dime
       each_below d (restart_rule s.tones r) line w (λ a. Wait d w.legs.down a.making.world.legs) wait (λ a place small so_far.
       let x : Slot = record { line = line; place = place } in
       performed_all d w.legs.down a.making (restart_slot s.tones r a.making.world.legs x)
-          (restart_may d w.legs.down s.tones r a.making.world.legs x) so_far) 30 (omega arith)
+      (restart_may d w.legs.down s.tones r a.making.world.legs x) so_far) 30 (omega arith)
   received line octets below (Confirms r) is =
       each_below d (confirm_rule r) line w (λ a. Wait d w.legs.down a.making.world.legs) wait (λ a place small so_far.
       let x : Slot = record { line = line; place = place } in
       performed_all d w.legs.down a.making (confirm_slot r a.making.world.legs x)
-          (at_confirmed r a.making.world.legs x (MayAll d w.legs.down) tt (λ none. (tt, tt))) so_far) 30 (omega arith)
+      (at_confirmed r a.making.world.legs x (MayAll d w.legs.down) tt (λ none. (tt, tt))) so_far) 30 (omega arith)
   received line octets below Unanswered is = wait
 
   turned : (input : Input) → Now w.legs.down (next s w (Frame input))
@@ -134,7 +134,7 @@ module _ (s : Setting) (w : World) (stands : CallsStand s w) (wait : Wait s.dime
       each_line s f (pass w input) (λ a. Wait d w.legs.down a.making.world.legs) wait (λ a line small so_far.
       let x : Slot = slot_looked_at f line in
       performed_all d w.legs.down a.making (expire_slot s f a.making.world.legs x)
-          (expire_may d w.legs.down s f a.making.world.legs x (place_within d.external f line small) so_far) so_far) d.external (omega arith)
+      (expire_may d w.legs.down s f a.making.world.legs x (place_within d.external f line small) so_far) so_far) d.external (omega arith)
 
   -- ---- a change of a data link
 
@@ -193,7 +193,7 @@ module _ (s : Setting) (w : World) (stands : CallsStand s w) (wait : Wait s.dime
           | inr not_up ↦ elim (true_or_false (is_among being_cleared l.state)) [
             | inl clears ↦
                 subst (Follows true) (same_leg failed z l leg (cleared_stay s w line can z l in_z on at clears) now)
-                    (follows_always true l (goes_always l clears, old.2))
+                (follows_always true l (goes_always l clears, old.2))
             | inr goes ↦
                 let none = others_are_gone s w line can z l in_z on at (λ is. grind (arith, common_steps, not_up, is)) goes in
                 let wrong : None ≡ Some leg = sym none ∙ now in
@@ -211,7 +211,7 @@ module _ (s : Setting) (w : World) (stands : CallsStand s w) (wait : Wait s.dime
       | inr apart ↦
           let off : z.line ≢ line = λ is. grind (arith, common_steps, apart, is) in
           subst (Follows (slice_index_or (set w.legs.down line true) z.line false))
-              (same_leg failed z (left_by_failure line w l l.peer) leg (other_lines_are_left s w line can z l in_z off at) now)
+          (same_leg failed z (left_by_failure line w l l.peer) leg (other_lines_are_left s w line can z l in_z off at) now)
           (left_follows z l in_z off at l.peer)
     ]
 
@@ -240,13 +240,13 @@ module _ (s : Setting) (w : World) (stands : CallsStand s w) (wait : Wait s.dime
       | inl same ↦
           let on = eqb-true z.line line same in
           let old : Follows (slice_index_or w.legs.down line false) l =
-              subst (λ (n : ℕ). Follows (slice_index_or w.legs.down n false) l) on (wait z l in_z at) in
+          subst (λ (n : ℕ). Follows (slice_index_or w.legs.down n false) l) on (wait z l in_z at) in
           subst (λ (b : Bool). Follows b (resumed_on line w z l)) (sym (links_here false z on))
-              (subst (λ (b : Bool). Follows false (if b then resumed w l else l)) (sym same) (resumed_follows l old))
+          (subst (λ (b : Bool). Follows false (if b then resumed w l else l)) (sym same) (resumed_follows l old))
       | inr apart ↦
           let off : z.line ≢ line = λ is. grind (arith, common_steps, apart, is) in
           subst (λ (b : Bool). Follows (slice_index_or (set w.legs.down line false) z.line false) (if b then resumed w l else l)) (sym apart)
-              (unmoved false z l in_z off at)
+          (unmoved false z l in_z off at)
     ]
 
     raised_by : (z : Slot) (leg : Leg) (o : Option Leg) → IsExternal d.external z → leg_at w.legs z ≡ o → option_map (resumed_on line w z) o ≡ Some leg
@@ -267,7 +267,7 @@ module _ (s : Setting) (w : World) (stands : CallsStand s w) (wait : Wait s.dime
       (each_below d (give_up_rule s.tones condition) line w (λ a. Wait d w.legs.down a.making.world.legs) wait (λ a place small so_far.
       let x : Slot = record { line = line; place = place } in
       performed_all d w.legs.down a.making (give_up_slot s.tones condition a.making.world.legs x)
-          (give_up_starts d w.legs.down s.tones condition a.making.world.legs x) so_far) 30 (omega arith))
+      (give_up_starts d w.legs.down s.tones condition a.making.world.legs x) so_far) 30 (omega arith))
 
   -- ---- every event
 
@@ -325,7 +325,7 @@ run_outages s w [] planned fits stands outages = outages
 run_outages s w (e ∷ es) planned fits stands outages =
     let can = fits 0 e (omega arith) in
     run_outages s (next s w e) es planned (λ k d inside. fits (suc k) d (omega (arith, inside))) (happened_kept s w e planned can stands)
-        (outages_kept s w e can stands outages)
+    (outages_kept s w e can stands outages)
 
 pub outages_stand : (s : Setting) (es : List Event) → IsPlanned s → All (Fits s.dimensions.external) es
     → OutagesStand s.dimensions.external (world_after_all s (start s.dimensions) es).legs
@@ -359,7 +359,7 @@ none_is_lost s w frame stands outages up x leg at is =
 pub never_lost : (s : Setting) (es : List Event) (frame : ℕ) → HasNoFailure s es → NoneIsLost s.timers frame (world_after_all s (start s.dimensions) es).legs
 never_lost s es frame calm =
     none_is_lost s (world_after_all s (start s.dimensions) es) frame (run_stands s (start s.dimensions) es calm.planned calm.fits (start_stands s))
-        (outages_stand s es calm.planned calm.fits) (none_fails s es calm)
+    (outages_stand s es calm.planned calm.fits) (none_fails s es calm)
 
 -- ---- no call is offered on a channel that is owed a RESTART
 

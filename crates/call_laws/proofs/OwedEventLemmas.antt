@@ -57,7 +57,7 @@ module _ (s : Setting) (w : World) (stands : CallsStand s w) where
         let f : ℕ = w.holding.next in
         let links : List Bool = w.legs.down in
         (each_line s f (pass w input) (λ a. OnlyDown links a.making.world × Wait d links a.making.world.legs × (a.making.world.legs.down ≡ links))
-            (before, wait, refl) (λ a line small so_far.
+        (before, wait, refl) (λ a line small so_far.
         let x : Slot = slot_looked_at f line in
         let legs : Legs = a.making.world.legs in
         let in_x = place_within d.external f line small in

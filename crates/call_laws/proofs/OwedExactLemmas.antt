@@ -175,7 +175,7 @@ module _ (s : Setting) (w : World) (stands : CallsStand s w) where
   up_owes : (line : ℕ) → line < s.dimensions.external → NoMore (next s w (LinkUp line))
   up_owes line below = linked_by s.dimensions s.tones false line w NoMore (λ whole.
       (each_below s.dimensions (rule_of s.tones whole false) line (with_line w line false)
-          (λ a. NoMore a.making.world × Kept s.dimensions s.tones a.making.world)
+      (λ a. NoMore a.making.world × Kept s.dimensions s.tones a.making.world)
       (same_owed, linked_kept s.dimensions s.tones w line false (stands.circuits, stands.legs)) (λ a place small k.
       let x : Slot = record { line = line; place = place } in (
         owed_all s.dimensions Was a.making (resume_slot s.tones whole a.making.world.legs x)

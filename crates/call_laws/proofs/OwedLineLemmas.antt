@@ -95,7 +95,7 @@ module _ (d : Dimensions) (line : ℕ) (condition : Condition) where
   performed_all m [] may = sets_none m.world m.world refl
   performed_all m (o ∷ os) may =
       sets_both m.world (making_after d m o).world (making_after_all d (making_after d m o) os).world (performed m o may.0)
-          (performed_all (making_after d m o) os may.1)
+      (performed_all (making_after d m o) os may.1)
 
   -- ---- one slot
 

@@ -77,7 +77,7 @@ module _ (d : Dimensions) (May : Slot → Type 0) where
         | inl same ↦
             let n = eqb-true (number_of z) (number_of x) same in
             let owing = set_owing legs.conditions (number_of x) condition
-                (sym (ap (λ (k : ℕ). is_owing (slice_index_or (without_leg legs x condition).conditions k Idle)) n) ∙ both.0) in
+            (sym (ap (λ (k : ℕ). is_owing (slice_index_or (without_leg legs x condition).conditions k Idle)) n) ∙ both.0) in
             let here = may owing in
             subst May (sym (same_number z x in_z.1 here.0 n)) here.1
         | inr apart ↦

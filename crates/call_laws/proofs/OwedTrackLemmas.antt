@@ -76,7 +76,7 @@ module _ (d : Dimensions) (w : World) (cond : Slot → Leg → Condition) where
   heard_tracks : (u v : World) → v.legs ≡ u.legs → v.holding.next ≡ u.holding.next → Tracks u → Tracks v
   heard_tracks u v legs next t =
       subst (λ (ls : Legs). Tracks (with_legs v ls)) (sym legs)
-          (record { conditions = t.conditions; held = t.held; next = next ∙ t.next; empty = t.empty; gone = t.gone; same = t.same })
+      (record { conditions = t.conditions; held = t.held; next = next ∙ t.next; empty = t.empty; gone = t.gone; same = t.same })
 
   written_tracks : (v : World) (x : Slot) (stored : Leg) → stored.since ≡ w.holding.next → WasHeld x → Tracks v
       → Tracks (with_legs v (with_entry v.legs x (Some stored)))
@@ -90,14 +90,14 @@ module _ (d : Dimensions) (w : World) (cond : Slot → Leg → Condition) where
     gone = λ z l in_z at none. elim (same_or_apart z x) [
       | inl is ↦
           let wrong : Some stored ≡ None = sym (leg_at-with_entry_here d.external v.legs x (Some stored) t.held was.0)
-              ∙ ap (leg_at (with_entry v.legs x (Some stored))) (sym is) ∙ none in
+          ∙ ap (leg_at (with_entry v.legs x (Some stored))) (sym is) ∙ none in
           absurd cc
       | inr apart ↦ t.gone z l in_z at (sym (leg_at-with_entry_else d.external v.legs x z (Some stored) was.0 in_z apart) ∙ none)
     ];
     same = λ z k in_z at. elim (same_or_apart z x) [
       | inl is ↦
           let e : Some stored ≡ Some k = sym (leg_at-with_entry_here d.external v.legs x (Some stored) t.held was.0)
-              ∙ ap (leg_at (with_entry v.legs x (Some stored))) (sym is) ∙ at in
+          ∙ ap (leg_at (with_entry v.legs x (Some stored))) (sym is) ∙ at in
           let same : stored ≡ k = cc in
           inr (ap (λ (l : Leg). l.since) (sym same) ∙ since)
       | inr apart ↦ t.same z k in_z (sym (leg_at-with_entry_else d.external v.legs x z (Some stored) was.0 in_z apart) ∙ at)
@@ -121,7 +121,7 @@ module _ (d : Dimensions) (w : World) (cond : Slot → Leg → Condition) where
           | inl is ↦
               ap (condition_at (without_leg v.legs x condition)) is
               ∙ get_or-set_same v.legs.conditions (number_of x) condition Idle
-                  (let n = number_inside d.external x was.0 in let size = t.conditions in omega (arith, n, size))
+              (let n = number_inside d.external x was.0 in let size = t.conditions in omega (arith, n, size))
               ∙ is_cond l (sym (ap (leg_at w.legs) is) ∙ at)
               ∙ ap (λ (q : Slot). cond q l) (sym is)
           | inr apart ↦ apart_stays z in_z apart ∙ t.gone z l in_z at (sym (leg_at-with_entry_else d.external v.legs x z None was.0 in_z apart) ∙ none)
@@ -129,7 +129,7 @@ module _ (d : Dimensions) (w : World) (cond : Slot → Leg → Condition) where
         same = λ z k in_z at. elim (same_or_apart z x) [
           | inl is ↦
               let wrong : None ≡ Some k = sym (leg_at-with_entry_here d.external v.legs x None t.held was.0)
-                  ∙ ap (leg_at (with_entry v.legs x None)) (sym is) ∙ at in
+              ∙ ap (leg_at (with_entry v.legs x None)) (sym is) ∙ at in
               absurd cc
           | inr apart ↦ t.same z k in_z (sym (leg_at-with_entry_else d.external v.legs x z None was.0 in_z apart) ∙ at)
         ];
@@ -221,7 +221,7 @@ module _ (d : Dimensions) (w : World) (cond : Slot → Leg → Condition) where
     peer_tracks_by cause peer.Alone has = tt
     peer_tracks_by cause (peer.Leg y) has =
         rw (held_there m.world.legs y has.1.0 has.1.1) (cleared_tracks tones cause (record { slot = y; leg = has.1.0 }) []
-            (was_held m.world t y has.1.0 has.0 has.1.1) tt)
+        (was_held m.world t y has.1.0 has.0 has.1.1) tt)
     peer_tracks_by cause (peer.Room room) has = tt
 
     peer_tracks : (cause : ℕ) → TrackAll (with_peer (peer_of m.world.legs leg.peer) (clear_with tones cause))

@@ -146,7 +146,7 @@ module _ (s : Setting) (w : World) (line : ℕ) (can : HasLine s w line) (count 
       → AreGiven d (rule_of s.tones whole false) line begins raised Fact n (outcome_below d (rule_of s.tones whole false) line begins n).making
   raised_below whole n small =
       all_given d (rule_of s.tones whole false) line begins raised Fact can.line_exists (legs_start s whole line w can.line_exists can.stands, count)
-          (turns whole) n small
+      (turns whole) n small
 
   pub conditions_raised : (z : Slot) → IsExternal d.external z → condition_at (next s w (LinkUp line)).legs z ≡ raised z
   conditions_raised z in_z = linked_by d s.tones false line w (λ v. condition_at v.legs z ≡ raised z) (λ whole.

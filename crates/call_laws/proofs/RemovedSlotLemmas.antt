@@ -77,7 +77,7 @@ module _ (Given : Slot → Condition → Type 0) where
   -- the user who requests a restart knows that the channel is idle
   pub restart_given : (tones : Tones) (r : Restart) (legs : Legs) (x : Slot)
       → ((leg : Leg) → leg_at legs x ≡ Some leg → Given x Idle
-          × ((k : HeldLeg) → peer_of legs leg.peer ≡ Some k → restarts_slot r x.line k.slot ≡ true → Given k.slot Idle))
+      × ((k : HeldLeg) → peer_of legs leg.peer ≡ Some k → restarts_slot r x.line k.slot ≡ true → Given k.slot Idle))
       → GiveAll (restart_slot tones r legs x)
   restart_given tones r legs x may = at_restarted tones r legs x GiveAll tt (λ leg at.
       (tt, ((may leg at).0, other_given tones temporary_failure Idle r x.line (peer_of legs leg.peer) (may leg at).1)))
@@ -133,10 +133,10 @@ module _ (Given : Slot → Condition → Type 0) where
 
   report_given : (s : Setting) (w : World) (h : HeldLeg) (asked same : Bool)
       → GiveAll ((if asked then (if same then only (Put h.slot (with_enquiry false h.leg) ∷ []) else record {
-    operations = clear_with s.tones message_not_compatible_with_call_state h ++ with_peer (peer_of w.legs h.leg.peer)
-        (clear_with s.tones message_not_compatible_with_call_state);
-    cause = Some message_not_compatible_with_call_state;
-  }) else nothing)).operations
+        operations = clear_with s.tones message_not_compatible_with_call_state h ++ with_peer (peer_of w.legs h.leg.peer)
+            (clear_with s.tones message_not_compatible_with_call_state);
+        cause = Some message_not_compatible_with_call_state;
+      }) else nothing)).operations
   report_given s w h true true = (tt, tt)
   report_given s w h true false = cleared_given s.tones message_not_compatible_with_call_state h _
       (peer_given s.tones message_not_compatible_with_call_state (peer_of w.legs h.leg.peer))

@@ -159,13 +159,13 @@ module _ (s : Setting) (whole : Bool) (line : ℕ) (w : World) (n : ℕ) (below 
     | inl same ↦ subst (λ (q : Slot). leg_at v.legs q ≡ option_map (resumed_below line w (suc n) q) (leg_at w.legs q)) (sym same) (
         done.here
         ∙ ap (option_map (resumed m.world)) (so_far.legs here in_here
-            ∙ mapped (resumed_below line w n here) (leg_at w.legs here) (λ l. ap (λ (b : Bool). if b then resumed w l else l) not_yet))
+        ∙ mapped (resumed_below line w n here) (leg_at w.legs here) (λ l. ap (λ (b : Bool). if b then resumed w l else l) not_yet))
         ∙ both_mapped (resumed m.world) (resumed_below line w (suc n) here) (leg_at w.legs here)
-            (λ l. same_resumed l ∙ sym (ap (λ (b : Bool). if b then resumed w l else l) now)))
+        (λ l. same_resumed l ∙ sym (ap (λ (b : Bool). if b then resumed w l else l) now)))
     | inr apart ↦
         done.same z in_z apart ∙ so_far.legs z in_z
         ∙ both_mapped (resumed_below line w n z) (resumed_below line w (suc n) z) (leg_at w.legs z)
-            (λ l. ap (λ (b : Bool). if b then resumed w l else l) (sym (same_where_apart whole_line line z n apart)))
+        (λ l. ap (λ (b : Bool). if b then resumed w l else l) (sym (same_where_apart whole_line line z n apart)))
   ]
 
   pub one_more : AreResumed s line w (suc n) v
@@ -197,7 +197,7 @@ module _ (s : Setting) (whole : Bool) (line : ℕ) (w : World) (below : line < s
   resumed_so_far (suc n) small =
       subst (λ (a : MessageOutcome). AreResumed s line w (suc n) a.making.world) (sym (below_more s.dimensions (rule_of s.tones whole false) line begins n))
       (one_more s whole line w n below (omega (arith, small)) (outcome_below s.dimensions (rule_of s.tones whole false) line begins n).making
-          (resumed_so_far n (omega (arith, small))))
+      (resumed_so_far n (omega (arith, small))))
 
 -- ---- what is left
 

@@ -67,14 +67,14 @@ module _ (d : Dimensions) (tones : Tones) (whole : Bool) (m : Making) (x : Slot)
     stored_apart =
         at_held m.world.legs x (resume_held tones whole m.world.legs x) (stored_in z) (λ none. channel_stored (awaits_restart m.world.legs x) whole)
         (λ leg at. by_resume d tones m x leg kept within at (stored_in z) (λ talks. other_stored None) (λ dials. other_stored None)
-            (λ clears. again_stored leg (kept_at m.world.legs x)) refl)
+        (λ clears. again_stored leg (kept_at m.world.legs x)) refl)
 
   -- the enquiry, the stored message, and the RESTART
   pub enquiry_sent : (leg : Leg) → leg_at m.world.legs x ≡ Some leg → leg.state ≡ active → Contains done.sends (enquiry_signal x leg)
   enquiry_sent leg at is =
       let up : (leg.state == active) ≡ true = rw is refl in
       subst (λ (os : List Operation). Contains (making_after_all d m os).sends (enquiry_signal x leg)) (sym (enquires leg at up))
-          (Contains-push m.sends (enquiry_signal x leg))
+      (Contains-push m.sends (enquiry_signal x leg))
     where
       enquires : (leg : Leg) → leg_at m.world.legs x ≡ Some leg → (leg.state == active) ≡ true
           → resume_slot tones whole m.world.legs x ≡ enquire (record { slot = x; leg = leg })
@@ -84,9 +84,9 @@ module _ (d : Dimensions) (tones : Tones) (whole : Bool) (m : Making) (x : Slot)
       → Contains done.sends (stored_signal x octets)
   stored_sent leg octets at is keeps =
       subst (λ (os : List Operation). Contains (making_after_all d m os).sends (stored_signal x octets))
-          (sym (repeats leg at (rw is refl) (rw is refl) (rw is refl)))
+      (sym (repeats leg at (rw is refl) (rw is refl) (rw is refl)))
       (subst (λ (o : Option (List ℕ)). Contains (making_after_all d m (send_again (record { slot = x; leg = leg }) o)).sends (stored_signal x octets))
-          (sym keeps) (Contains-push m.sends (stored_signal x octets)))
+      (sym keeps) (Contains-push m.sends (stored_signal x octets)))
     where
       repeats : (leg : Leg) → leg_at m.world.legs x ≡ Some leg → (leg.state == active) ≡ false → (leg.state == overlap_sending) ≡ false
           → (leg.state == release_request) ≡ true
@@ -97,7 +97,7 @@ module _ (d : Dimensions) (tones : Tones) (whole : Bool) (m : Making) (x : Slot)
       → Contains done.sends (restart_signal x (Channel x.place))
   restart_sent none awaits alone =
       subst (λ (os : List Operation). Contains (making_after_all d m os).sends (restart_signal x (Channel x.place))) (sym (restarts none awaits alone))
-          (Contains-push m.sends (restart_signal x (Channel x.place)))
+      (Contains-push m.sends (restart_signal x (Channel x.place)))
     where
       held_none : (legs : Legs) → (o : Option Leg) → leg_at legs x ≡ o → o ≡ None → awaits_restart legs x ≡ true → (w : Bool) → w ≡ false
           → resume_slot tones w legs x ≡ restart_channel false x
@@ -185,10 +185,10 @@ module _ (s : Setting) (whole : Bool) (line : ℕ) (w : World) (n : ℕ) (below 
     | inl same ↦
         let here_too : awaits_restart m.world.legs here ≡ true = awaits_here (sym (ap (awaits_restart w.legs) same) ∙ awaits) in
         let none : leg_at m.world.legs here ≡ None = is_empty (leg_at m.world.legs here)
-            (without_leg (is_owing (condition_at m.world.legs here)) (is_open (condition_at m.world.legs here))
-                (is_none (leg_at m.world.legs here)) here_too) in
+        (without_leg (is_owing (condition_at m.world.legs here)) (is_open (condition_at m.world.legs here))
+        (is_none (leg_at m.world.legs here)) here_too) in
         subst (λ (q : Slot). Contains (making_after_all d m turn).sends (restart_signal q (Channel q.place))) (sym same)
-            (restart_sent d s.tones whole m here kept in_here none here_too alone)
+        (restart_sent d s.tones whole m here kept in_here none here_too alone)
     | inr apart ↦ sent_still_all d m turn (restart_signal z (Channel z.place)) (so_far.restarts z in_z on (place_before z on less apart) awaits alone)
   ]
 
@@ -211,12 +211,12 @@ module _ (s : Setting) (line : ℕ) (w : World) (can : HasLine s w line) (count 
   start : (whole : Bool) → AreSent s whole line w 0 (so_far_at whole 0).making
   start whole = subst (λ (a : MessageOutcome). AreSent s whole line w 0 a.making)
       (sym (below_none s.dimensions (rule_of s.tones whole false) line begins)) (record {
-    legs = legs_start s whole line w can.line_exists can.stands;
-    stored = λ z in_z on high. refl;
-    enquiries = λ z l in_z on less at is. absurd (omega (arith, less));
-    releases = λ z l octets in_z on less at is keeps. absurd (omega (arith, less));
-    restarts = λ z in_z on less awaits alone. absurd (omega (arith, less));
-  })
+        legs = legs_start s whole line w can.line_exists can.stands;
+        stored = λ z in_z on high. refl;
+        enquiries = λ z l in_z on less at is. absurd (omega (arith, less));
+        releases = λ z l octets in_z on less at is keeps. absurd (omega (arith, less));
+        restarts = λ z in_z on less awaits alone. absurd (omega (arith, less));
+      })
 
   sent_below : (whole : Bool) (n : ℕ) → n ≤ 30 → AreSent s whole line w n (so_far_at whole n).making
   sent_below whole zero small = start whole
@@ -224,7 +224,7 @@ module _ (s : Setting) (line : ℕ) (w : World) (can : HasLine s w line) (count 
       subst (λ (a : MessageOutcome). AreSent s whole line w (suc n) a.making) (sym (below_more s.dimensions (rule_of s.tones whole false) line begins n))
       (one_more s whole line w n can.line_exists (omega (arith, small)) (so_far_at whole n).making (sent_below whole n (omega (arith, small)))
       ((raised_below s w line can count whole n (omega (arith, small))).later
-          (record { line = line; place = n }) (can.line_exists, omega (arith, small)) refl (omega arith)))
+      (record { line = line; place = n }) (can.line_exists, omega (arith, small)) refl (omega arith)))
 
   -- ---- after the last slot
 
