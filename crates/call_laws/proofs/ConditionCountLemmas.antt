@@ -50,7 +50,8 @@ received_conditions s w line (New_call m) = performed_all_conditions s.dimension
 received_conditions s w line (On_no_call m) = performed_all_conditions s.dimensions (making_at w) (answer_back line (answer_without_call m))
 received_conditions s w line (Restarts r) =
     each_below s.dimensions (restart_rule s.tones r) line w (λ a. conditions_of a.making.world ≡ conditions_of w) refl
-    (λ a place small same. performed_all_conditions s.dimensions a.making (restart_slot s.tones r a.making.world.legs (record { line = line; place = place })) ∙ same)
+    (λ a place small same. performed_all_conditions s.dimensions a.making (restart_slot s.tones r a.making.world.legs (record { line = line; place = place }))
+    ∙ same)
     30 (omega arith)
 received_conditions s w line (Confirms r) =
     each_below s.dimensions (confirm_rule r) line w (λ a. conditions_of a.making.world ≡ conditions_of w) refl
@@ -58,13 +59,15 @@ received_conditions s w line (Confirms r) =
     30 (omega arith)
 received_conditions s w line Unanswered = refl
 
-linked_conditions : (s : Setting) (w : World) (down : Bool) (line : ℕ) → conditions_of (outcome_of_link s.dimensions s.tones down line w).making.world ≡ conditions_of w
+linked_conditions : (s : Setting) (w : World) (down : Bool) (line : ℕ)
+    → conditions_of (outcome_of_link s.dimensions s.tones down line w).making.world ≡ conditions_of w
 linked_conditions s w down line = linked_by s.dimensions s.tones down line w (λ v. conditions_of v ≡ conditions_of w) (λ whole.
     each_below s.dimensions (rule_of s.tones whole down) line (with_line w line down) (λ a. conditions_of a.making.world ≡ conditions_of w) refl
     (λ a place small same. performed_all_conditions s.dimensions a.making
     ((rule_of s.tones whole down).does a.making.world.legs (record { line = line; place = place })) ∙ same) 30 (omega arith))
 
-line_restart_conditions : (s : Setting) (w : World) (line : ℕ) → conditions_of (outcome_of_line_restart s.dimensions s.tones line w).making.world ≡ conditions_of w
+line_restart_conditions : (s : Setting) (w : World) (line : ℕ)
+    → conditions_of (outcome_of_line_restart s.dimensions s.tones line w).making.world ≡ conditions_of w
 line_restart_conditions s w line =
     let condition : Condition = unanswered (is_down w.legs line) in
     line_restarted_by s.dimensions s.tones line w (λ v. conditions_of v ≡ conditions_of w)

@@ -171,12 +171,13 @@ module _ (s : Setting) (w : World) (line : ℕ) (can : HasLine s w line) (count 
       }
 
   conditions_below : (n : ℕ) → n ≤ 30 → ConditionsBelow n (outcome_below d (give_up_rule s.tones due) line w n).making.world
-  conditions_below zero small = subst (λ (a : MessageOutcome). ConditionsBelow 0 a.making.world) (sym (below_none d (give_up_rule s.tones due) line w)) (record {
-    kept = (can.stands.circuits, can.stands.legs);
-    size = count;
-    here = λ z in_z on less. absurd (omega (arith, less));
-    others = λ z in_z off. refl;
-  })
+  conditions_below zero small = subst (λ (a : MessageOutcome). ConditionsBelow 0 a.making.world)
+      (sym (below_none d (give_up_rule s.tones due) line w)) (record {
+        kept = (can.stands.circuits, can.stands.legs);
+        size = count;
+        here = λ z in_z on less. absurd (omega (arith, less));
+        others = λ z in_z off. refl;
+      })
   conditions_below (suc n) small =
       subst (λ (a : MessageOutcome). ConditionsBelow (suc n) a.making.world) (sym (below_more d (give_up_rule s.tones due) line w n))
       (step n (omega (arith, small)) (outcome_below d (give_up_rule s.tones due) line w n) (conditions_below n (omega (arith, small))))
