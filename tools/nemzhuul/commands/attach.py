@@ -20,6 +20,7 @@ from nemzhuul.command_line import NAME, Refused, WrongWords, say
 from nemzhuul.live.clock import WallClock
 from nemzhuul.live.control import REPLIES
 from nemzhuul.live.following import Follower
+from nemzhuul.live.linked import LinkedFollower
 from nemzhuul.live.lines import SHUT_DOWN, DChannel, Line, Port
 from nemzhuul.live.log import Writer
 from nemzhuul.live.operators import Operators, Places
@@ -259,7 +260,7 @@ class Live:
             writers.append(Writer(options.output(name), what))
             ends.callback(writers[-1].close)
         self.log, report, self.capture, records = writers
-        self.follower = Follower(options.trace) if options.is_followed else None
+        self.follower = self.make_follower()
         self.records = self.record_calls(records)
         self.history = self.read_history(self.log.output)
         self.packets = CaptureWriter(options.linked)
@@ -284,13 +285,27 @@ class Live:
             ask_for_realtime()
         for writer in writers:
             writer.begin()
-        self.exchange = self.make_exchange([program, "follow", *options.flags], report)
+        words = [program, "follow", *options.flags]
+        self.exchange = self.make_exchange(words, report)
         ends.callback(self.exchange.kill)
+        if self.follower is not None:
+            self.follower.begin(words, self.loop)
+            ends.callback(self.follower.kill)
 
     def make_exchange(self, words: Sequence[str | Path], report: Writer) -> Exchange | Pair:
         if self.options.has_standby:
             return Pair(words, self.loop, self.take, report, self.log, self.use.period)
         return Exchange(words, self.loop, self.take, report)
+
+    def make_follower(self) -> Follower | None:
+        """What follows the calls, if that is wanted."""
+        if not self.options.is_followed:
+            return None
+        return LinkedFollower(self.options.trace, self.options.settings) if self.options.linked else Follower(self.options.trace)
+
+    def pids(self) -> list[int]:
+        """The processes of the exchange."""
+        return self.exchange.pids() + (self.follower.pids() if self.follower is not None else [])
 
     def record_calls(self, writer: Writer) -> CallRecords | None:
         """The records of calls, if they are wanted."""
@@ -339,7 +354,7 @@ class Live:
     def run(self) -> None:
         """Makes frames by the clock until an interrupt, the end of the exchange, or the end of its time."""
         self.returns.begin()
-        self.use.begin(self.exchange.pids)
+        self.use.begin(self.pids)
         self.exchange.begin(self.given)
         clock = WallClock.at_once(self.frame)
         self.packets.start = clock.microseconds(0)
@@ -353,8 +368,9 @@ class Live:
                 self.loop.wait(1 if waits else left)
             else:
                 self.returns.check()
+                is_current = self.follower is None or self.follower.is_current()
                 self.burst()
-                if self.operators is not None:  # while the exchange works
+                if self.operators is not None and is_current:  # while the exchange works
                     self.operators.serve()
 
     def read_history(self, output: Output) -> History | None:
@@ -400,6 +416,8 @@ class Live:
         """Ends the exchange, and says what was used and taken."""
         ended = self.exchange.has_ended
         status = self.exchange.finish(lambda: len(self.interrupts) > 1)
+        if self.follower is not None:
+            self.follower.finish(lambda: len(self.interrupts) > 1)
         self.part()
         say(self.use.text())
         for line in self.lines.values():
@@ -457,7 +475,7 @@ class Live:
             text.append(b"restart %d\n" % line)
             self.asked.append(Asked(line, Cause.START))
             if self.follower is not None:
-                self.follower.commands.append(Restart(line))
+                self.follower.expect(Restart(line))
 
     def link_frames(self, text: list[bytes]) -> int:
         """Appends the frames of data links that have come, each below a comment. Returns how many they are."""
@@ -473,7 +491,7 @@ class Live:
     def command(self, event: Event, line: str) -> None:
         """Gives the exchange a command of an operator."""
         if self.follower is not None:
-            self.follower.commands.append(event)
+            self.follower.expect(event)
         if isinstance(event, Restart):
             self.asked.append(Asked(event.line, Cause.OPERATOR))
         self.give(f"{line}\n".encode(), 1)

@@ -8,10 +8,9 @@ from __future__ import annotations
 
 from collections.abc import Iterator
 
-from nemzhuul.command_line import Refused, WrongWords, write_parts
-from nemzhuul.signalling.lapd import USUAL_TIMERS, read_frame
-from nemzhuul.traces import runs
-from nemzhuul.traces.events import LinkArrival, Reply
+from nemzhuul.command_line import WrongWords, write_parts
+from nemzhuul.traces import plain, runs
+from nemzhuul.traces.events import Link, LinkArrival, Reply
 from nemzhuul.traces.reading import is_said
 
 USAGE = """usage: tools/plain TRACE REPORT >TRACE
@@ -30,11 +29,11 @@ def main(*words: str) -> str:
 def plain_lines(path: str, run: runs.Run) -> Iterator[str]:
     """The lines of the trace, where the links are down before the first event."""
     steps = iter(run.steps)
-    starts = [f"down {line}" for line in sorted(run.trace.linked)]
+    starts = [plain.line_of(event) for event in plain.starts(run.trace.linked)]
     for text in runs.lines_in(path):
         line = text.removesuffix("\n")
         word = (line.split(maxsplit=1) or [""])[0] if is_said(line) else "#"
-        if word == "link" or word == "timer" and line.split()[1] in USUAL_TIMERS:
+        if plain.is_of_links(line):
             continue
         if word in ("#", "exchange", "number", "tone", "timer", "sync", "change"):
             yield line
@@ -43,7 +42,7 @@ def plain_lines(path: str, run: runs.Run) -> Iterator[str]:
         yield from starts
         starts = []
         yield from lines_of_frame(event, reply) if isinstance(event, LinkArrival) else [line]
-        yield from [f"{reply.told} {reply.turned}"] if reply.turned is not None else []
+        yield from [plain.line_of(Link(reply.turned, reply.told == "up"))] if reply.turned is not None else []
         yield "sync"
     yield from starts
     next(steps, None)  # refuses a report that goes on
@@ -51,10 +50,6 @@ def plain_lines(path: str, run: runs.Run) -> Iterator[str]:
 
 def lines_of_frame(event: LinkArrival, reply: Reply) -> Iterator[str]:
     """The line for a frame that a data link received, if the link indicates something."""
-    if reply.told == "took":
-        frame = read_frame(event.octets, is_from_user=True)
-        if frame is None:
-            raise Refused(f"event {reply.event} of the report takes a message from octets that are no frame")
-        yield f"M {event.line} {frame.information.hex().upper()}".rstrip()
-    elif reply.told:
-        yield f"{reply.told} {event.line}"
+    found = plain.delivered(event.line, event.octets, reply.told, reply.event)
+    if found is not None:
+        yield plain.line_of(found)

@@ -87,6 +87,9 @@ class Follower(Protocol):
 
     def take(self, words: Sequence[bytes], asked: tuple[int, bytes] | None) -> None: ...
 
+    @property
+    def lags(self) -> bool: ...
+
 
 class Replay:
     """Gives a new process what the old one had, and takes its replies, which nobody gets again."""
@@ -118,7 +121,7 @@ class Replay:
                 self.follower.read(piece)
             self.events += frames + len(OTHER_EVENT.findall(text))
             self.send(piece, history)
-        while self.replied < self.events:
+        while self.replied < self.events or self.lags():
             self.wait(history)
         self.exchange.replies, self.exchange.report = replies, report
 
@@ -129,8 +132,12 @@ class Replay:
 
     def send(self, text: bytes, history: History) -> None:
         self.exchange.send(text)
-        while self.exchange.unsent:
+        while self.exchange.unsent or self.lags():
             self.wait(history)
+
+    def lags(self) -> bool:
+        """Whether the calls are followed later than the exchange replies."""
+        return self.follower is not None and self.follower.lags
 
     def wait(self, history: History) -> None:
         self.loop.wait(SAID_SECONDS)

@@ -171,7 +171,7 @@ class Observer:
             if channel is not None:
                 is_attached = channel.endpoint is not None
                 yield LinkState(number, is_up, channel.listener.place, is_attached, channel.frames, channel.cut, channel.lost)
-            elif number in self.follower.sides or not is_up:
+            elif number in self.follower.trace.linked or not is_up:
                 yield LinkState(number, is_up)
 
 

@@ -88,7 +88,7 @@ class Leg:
     slot: Slot
     dials: bool  # whether more digits are awaited
     releases: int = 0  # how often RELEASE was sent to it
-    since: int = 0  # the next frame when it was sent last, or the clearing began
+    since: int = 0  # the next frame when it was sent last
     outage: int | None = None  # the next frame when the data link of its line failed, while T309 runs
     has_ended: bool = False
 
@@ -187,8 +187,7 @@ class Run:
         self._legs: dict[LegName, Leg] = {}
         self._legs_of: defaultdict[int, dict[LegName, Leg]] = defaultdict(dict)  # by line
         self._waiting: list[dict[LegName, Leg]] = [{} for _ in range(PLACES)]  # by place, the legs that a frame may end
-        self._linked = frozenset(trace.linked)
-        self._down = set(trace.linked)  # the lines whose data links are down
+        self._down: set[int] = set()  # the lines whose data links are down
 
     def take(self, event: Event, reply: Reply) -> None:
         self.joined, self.left, self.answered, self.ended = [], [], [], []
@@ -259,7 +258,7 @@ class Run:
             call.cleared = Clearing(frame, cause)
             for leg in filter(None, (call.caller, call.called)):
                 self._leave(leg.slot)
-                leg.since, leg.outage = frame, None
+                leg.outage = None
                 self._watch(leg)
 
     def _frame(self, frame: int, reply: Reply) -> None:
@@ -283,11 +282,8 @@ class Run:
             if leg.outage + self.timers["T309"] <= frame:
                 self._clear(leg.call, self.frames, DESTINATION_OUT_OF_ORDER)
                 self._end(leg.name)
-        elif leg.since + self.timers["T308" if leg.releases else "T305"] <= frame:
-            if leg.releases >= 2:
-                self._end(leg.name)
-            elif self._is_unseen(leg):
-                self._released(leg, self.frames)
+        elif leg.since + self.timers["T308"] <= frame:
+            self._end(leg.name)
 
     def _sent_in_frame(self, name: LegName, row: Row, message: Message) -> None:
         leg = self._legs[name]
@@ -459,7 +455,7 @@ class Run:
     def _watch(self, leg: Leg) -> None:
         """Has each frame look at a leg, if a timer may end it."""
         legs = self._waiting[place_of_channel(leg.slot.channel) or 0]
-        if not leg.has_ended and (leg.awaits_timer or self._is_unseen(leg)):
+        if not leg.has_ended and leg.awaits_timer:
             legs[leg.name] = leg
         elif legs.get(leg.name) is leg:
             del legs[leg.name]
@@ -482,16 +478,9 @@ class Run:
     def _sent(self, leg: Leg, message: Message, frame: int) -> None:
         """Counts a message that is sent to a leg before a frame."""
         if message.kind == RELEASE:
-            self._released(leg, frame)
-
-    def _released(self, leg: Leg, frame: int) -> None:
-        leg.releases += 1
-        leg.since = frame
-        self._watch(leg)
-
-    def _is_unseen(self, leg: Leg) -> bool:
-        """Whether a leg is being cleared over a data link of the exchange that is down, so that its messages are not sent."""
-        return leg.call.cleared is not None and leg.name.line in self._linked and leg.name.line in self._down
+            leg.releases += 1
+            leg.since = frame
+            self._watch(leg)
 
     def _on_none(self, row: Row, sent: Iterable[SentMessage]) -> None:
         self.on_no_call.append(row)
