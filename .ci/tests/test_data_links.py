@@ -57,6 +57,11 @@ class LinkUser:
                 self.get(datagram[:-2], datagram[-2:])
             self.act(lambda link, now: link.turn(now))
 
+    def is_busy(self, is_so: bool) -> None:
+        """Says that it takes no I frames, or that it takes them again."""
+        frame = lapd.LinkFrame("RNR" if is_so else "RR", is_command=False, nr=self.link.received)
+        self.send(lapd.write_frame(frame, is_from_user=True))
+
     def establish(self) -> None:
         self.act(lambda link, now: link.establish(now))
         self.until(lambda user: user.link.is_multiple_frame)

@@ -11,7 +11,7 @@ import stat
 import subprocess
 
 import support
-from attached import Attached, Raw
+from attached import RESTART, Attached, Raw
 from support import PATIENCE, InFolder, command, environment, needs_program, stream, tool
 from test_data_links import SETUP, LinkUser
 
@@ -193,6 +193,14 @@ class Consoles(Attached):
             other.close()
         self.end()
 
+    def drawn(self) -> str:
+        """The first line of what tools/calls prints of the log, whose data links tools/plain leaves out."""
+        plain = tool("plain", "live.trace", "live.report", folder=self.folder).output
+        (self.folder / "plain.trace").write_bytes(plain)
+        report = subprocess.run([PROGRAM, "follow"], input=plain, capture_output=True, check=True).stdout
+        (self.folder / "plain.report").write_bytes(report)
+        return tool("calls", "plain.trace", "plain.report", folder=self.folder).output.decode().splitlines()[0]
+
     def test_a_data_link(self) -> None:
         """A call that comes over a link is shown as it is in the trace without links."""
         (self.folder / "settings").write_text(self.SETTINGS.replace("\n", "\ntimer T200 80000\n", 1))
@@ -210,12 +218,27 @@ class Consoles(Attached):
         self.assertRegex(self.shows("links")[0], "^line 0: its data link is up; endpoint at unix:link0; [0-9]+ frames were taken, 0 cut; ")
         shown = self.shows("calls")
         self.end()
-        plain = tool("plain", "live.trace", "live.report", folder=self.folder).output
-        (self.folder / "plain.trace").write_bytes(plain)
-        report = subprocess.run([PROGRAM, "follow"], input=plain, capture_output=True, check=True).stdout
-        (self.folder / "plain.report").write_bytes(report)
-        drawn = tool("calls", "plain.trace", "plain.report", folder=self.folder).output.decode()
-        self.assertEqual((shown[0], len(shown)), (drawn.splitlines()[0], 2))
+        self.assertEqual((shown[0], len(shown)), (self.drawn(), 2))
+
+    def test_messages_that_wait(self) -> None:
+        """A call to the user of a link who takes no I frames is shown with its channel, and a command has its effect at once."""
+        (self.folder / "settings").write_text(self.SETTINGS.replace("\n", "\ntimer T200 80000\n", 1))
+        self.attach("--burst", "5", "--control", "unix:control", lines=(1,), linked=(0,))
+        self.until("attach: the console listens on unix:control")
+        user, endpoint = LinkUser(self.folder / "link0"), self.attached(1)
+        self.addCleanup(user.connection.close)
+        user.establish()
+        user.gets(RESTART)
+        user.is_busy(True)
+        user.submit(bytes.fromhex("0802000175"))
+        endpoint.send("M 080200010504038090A3700480313030")
+        self.assertEqual(endpoint.gets("M 08028001"), "M 08028001021803A98381")
+        shown = self.shows("calls")
+        self.assertTrue(self.ask("nail 0/20 2/20")[1].endswith(" granted 0 0\n"))
+        self.assertIn("nail 0/20 2/20", self.shows("nails"))
+        self.assertEqual(user.messages, [])
+        self.end()
+        self.assertEqual((shown[0], len(shown)), (self.drawn(), 2))
 
     def until_shown(self, raw: Raw, line: str) -> None:
         """Asks for nails until one is there."""

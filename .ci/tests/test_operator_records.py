@@ -9,12 +9,13 @@ import subprocess
 from datetime import datetime, timedelta
 
 import support
-from attached import Attached, Raw
+from attached import RESTART, Attached, Raw
 from support import PATIENCE, command, environment, needs_program, stream, tool
 from test_data_links import SETUP, LinkUser
 
 from nemzhuul.live.clock import WallClock
 from nemzhuul.live.records import HEADER
+from nemzhuul.programs.program import PROGRAM
 
 TIMES = ("setup", "alerting", "answer", "clearing", "release")
 CALL = "M 08020001"
@@ -65,16 +66,20 @@ class Records(Attached):
                 found[name] = str(clock.frame + round((then - begun) / timedelta(microseconds=125)))
         return found
 
-    def is_as_recorded(self) -> None:
+    def run_again(self, trace: str, report: str) -> None:
+        """Runs a trace to its report."""
+        done = subprocess.run([PROGRAM, "follow"], input=(self.folder / trace).read_bytes(), capture_output=True, check=True)
+        (self.folder / report).write_bytes(done.stdout)
+
+    def is_as_recorded(self, is_linked: bool = False) -> None:
         """The records are what tools/records prints of the log, in the order in which the calls ended."""
-        report = subprocess.run(
-            [support.TOP / "crates" / "tst" / "out" / "tst", "follow"],
-            input=(self.folder / "live.trace").read_bytes(),
-            capture_output=True,
-            check=True,
-        )
-        (self.folder / "whole.report").write_bytes(report.stdout)
-        status, output, said = tool("records", "live.trace", "whole.report", folder=self.folder)
+        trace, report = "live.trace", "whole.report"
+        self.run_again(trace, report)
+        if is_linked:
+            (self.folder / "plain.trace").write_bytes(tool("plain", trace, report, folder=self.folder).output)
+            trace, report = "plain.trace", "plain.report"
+            self.run_again(trace, report)
+        status, output, said = tool("records", trace, report, folder=self.folder)
         self.assertEqual((status, said), (0, ""))
         wanted = [row for row in csv.DictReader(output.decode().splitlines()) if row["release"]]
         found = [self.frames(row) for row in self.rows()]
@@ -164,6 +169,71 @@ class Records(Attached):
         self.assertEqual((row["caller"], row["called"], row["number"]), ("0/1", "1/1", "101"))
         self.assertTrue(all(re.match("20..-", row[name]) for name in TIMES if name != "alerting"), row)
         self.end()
+        self.is_as_recorded(is_linked=True)
+
+    def waiting_call(self, user: LinkUser) -> Raw:
+        """A call of a user who takes no I frames meanwhile, to the endpoint of line 1, which answers."""
+        endpoint = self.attached(1)
+        user.establish()
+        user.gets(RESTART)
+        user.is_busy(True)
+        user.submit(SETUP)
+        endpoint.gets("M 0802000105")
+        endpoint.send("M 0802800101", "M 0802800107")
+        endpoint.gets("M 080200010F")
+        return endpoint
+
+    def end_waiting_call(self, user: LinkUser, endpoint: Raw) -> None:
+        """The call ends before the user of the link has any of its messages."""
+        endpoint.send("M 080280014508028090")
+        endpoint.gets("M 080200014D")
+        endpoint.send("M 080280015A")
+        user.submit(bytes.fromhex("080200014D"))
+
+    def user(self) -> LinkUser:
+        """A user at the data link of line 0, whose T200 runs so long that the exchange does not enquire of it."""
+        user = LinkUser(self.folder / "link0")
+        self.addCleanup(user.connection.close)
+        return user
+
+    def test_messages_that_wait(self) -> None:
+        """The record of a call has its answer, although its CONNECT waits for the user of a data link until it has ended."""
+        (self.folder / "settings").write_text(self.SETTINGS.replace("\n", "\ntimer T200 80000\n", 1))
+        for options in ((), ("--standby",)):
+            with self.subTest(options=options):
+                self.attach("--burst", "5", "--overwrite", "--records", "records", *options, lines=(1,), linked=(0,))
+                user = self.user()
+                self.end_waiting_call(user, self.waiting_call(user))
+                (row,) = self.until_rows(1)
+                self.assertEqual((row["called"], row["cause"], user.messages), ("1/1", "16", []))
+                self.assertTrue(all(re.match("20..-", row[name]) for name in TIMES), row)
+                user.is_busy(False)
+                for message in ("0802800101", "0802800107", "080280014508028290"):
+                    user.gets(message)
+                self.end()
+                self.is_as_recorded(is_linked=True)
+                (self.folder / "records").unlink()
+
+    def test_messages_that_wait_over_a_kill(self) -> None:
+        """So it is if the exchange is killed in the call, and goes on."""
+        (self.folder / "settings").write_text(self.SETTINGS.replace("\n", "\ntimer T200 80000\n", 1))
+        self.attach("--burst", "5", "--records", "records", lines=(1,), linked=(0,))
+        user = self.user()
+        self.waiting_call(user).close()
+        self.kill()
+        lines = ("--line", "1", "unix:line1", "--link", "0", "unix:link0")
+        words = command("attach", "--burst", "5", *lines, "--records", "records", "--resume", "live.trace", "settings")
+        with subprocess.Popen(words, cwd=self.folder, env=environment(), stderr=subprocess.PIPE, text=True) as self.work:
+            self.errors = stream(self.work.stderr)
+            self.until("attach: line 0: its data link listens")
+            again, endpoint = self.user(), self.attached(1)
+            again.link = user.link
+            self.end_waiting_call(again, endpoint)
+            (row,) = self.until_rows(1)
+            self.assertTrue(all(re.match("20..-", row[name]) for name in TIMES), row)
+            self.work.send_signal(signal.SIGTERM)
+            self.assertEqual(self.work.wait(), 0)
+        self.is_as_recorded(is_linked=True)
 
 
 if __name__ == "__main__":
