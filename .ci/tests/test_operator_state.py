@@ -4,16 +4,19 @@ from __future__ import annotations
 
 import csv
 import json
+import os
 import re
+import signal
 import subprocess
 import unittest
 from collections import Counter
 from collections.abc import Callable, Sequence
 from pathlib import Path
 from typing import Any, NamedTuple
+from unittest import mock
 
 import support
-from support import LINKED, TRACES, InFolder, is_refused, needs_program, report_of, slow
+from support import LINKED, PATIENCE, TRACES, InFolder, is_refused, needs_program, report_of, slow
 from test_pages import Elements
 from watched import Metrics, causes
 
@@ -296,7 +299,7 @@ class LinkedStates(Checked):
         self.assertGreater(state.totals.answered, 0)
 
     def test_a_full_window(self) -> None:
-        """A call whose messages wait for the window, and are sent after it was cleared. Its times are those of the call."""
+        """A call whose messages wait for the window, and are sent after it was cleared. Its record has the times of the call."""
         user = User(0)
         lines = [*self.full(user), *self.call(user), *["F"] * 10]
         found, rows = self.check(lines)
@@ -361,24 +364,54 @@ class LinkedStates(Checked):
             self.check([*talks, *clears, *["F"] * 500, again.sends("SABME"), again.sends("UA"), *["F"] * 700], timer)
             self.assertEqual(len(self.sent("46")), int(down < 661))
 
-    def test_a_process_that_ends(self) -> None:
-        """Calls are followed no more if the process that follows them ends, and that is shown."""
+    def begun(self) -> tuple[LinkedFollower, Loop]:
+        """A follower of an exchange that has sent three frames."""
         follower, loop = LinkedFollower(Trace(Sizes(2, 0, 1), {}, USUAL_TIMERS, (0,)), b"exchange 1 2 0 1\nlink 0\n"), Loop()
-        observer = Observer(follower, {}, {}, Use(160), {})
         follower.begin([PROGRAM, "follow"], loop)
-        for frame in range(3):
-            follower.take([b"%d" % (frame + 1), b"frame", b"%d" % frame], None)
+        self.addCleanup(follower.kill)
+        self.pass_frames(follower, 3)
         while follower.lags:
             loop.wait(1)
-        self.assertEqual(observer.snapshot().frame, 3)
+        return follower, loop
+
+    @staticmethod
+    def pass_frames(follower: LinkedFollower, count: int) -> None:
+        for frame in range(follower.passed, follower.passed + count):
+            follower.take([b"%d" % (frame + 1), b"frame", b"%d" % frame], None)
+
+    def check_refusal(self, follower: LinkedFollower, why: str) -> None:
+        """Nothing is followed any more, frames are counted, and operators can be shown why."""
+        self.pass_frames(follower, 1)
+        state = Observer(follower, {}, {}, Use(160), {}).snapshot()
+        self.assertEqual((state.refusal, state.frame, follower.lags), (why, follower.passed, False))
+        self.assertEqual((follower.pids(), follower.is_current()), ([], True))
+
+    def test_a_process_that_ends(self) -> None:
+        """Calls are followed no more, and that is shown."""
+        follower, loop = self.begun()
         follower.kill()
-        follower.take([b"4", b"frame", b"3"], None)
+        self.pass_frames(follower, 1)
         while not follower.refusal:
             loop.wait(1)
-        follower.take([b"5", b"frame", b"4"], None)
-        state = observer.snapshot()
-        self.assertEqual((state.refusal, state.frame), ("the process that follows them has ended", 5))
-        self.assertEqual((follower.pids(), follower.lags, follower.is_current()), ([], False, True))
+        self.check_refusal(follower, "the process that follows them has ended")
+
+    def test_a_process_that_is_stopped(self) -> None:
+        """Operators are shown the state before it, and it is given up if too much waits for it, or at the end."""
+        follower, loop = self.begun()
+        os.kill(follower.pids()[0], signal.SIGSTOP)
+        self.pass_frames(follower, 5)
+        loop.wait(0)
+        for patience, is_current in ((PATIENCE, False), (-1, True)):
+            with mock.patch("nemzhuul.live.linked.PATIENCE", patience):
+                self.assertEqual((follower.lags, follower.is_current(), follower.frames), (True, is_current, 3))
+        with mock.patch("nemzhuul.live.linked.MAX_QUEUED", 10):
+            self.pass_frames(follower, 6)
+        self.check_refusal(follower, "the process that follows them takes nothing")
+        follower, loop = self.begun()
+        os.kill(follower.pids()[0], signal.SIGSTOP)
+        self.pass_frames(follower, 5)
+        follower.finish(lambda: True)
+        self.check_refusal(follower, "the process that follows them does not reply")
 
 
 if __name__ == "__main__":

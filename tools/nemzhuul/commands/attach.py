@@ -416,9 +416,9 @@ class Live:
         """Ends the exchange, and says what was used and taken."""
         ended = self.exchange.has_ended
         status = self.exchange.finish(lambda: len(self.interrupts) > 1)
+        self.part()
         if self.follower is not None:
             self.follower.finish(lambda: len(self.interrupts) > 1)
-        self.part()
         say(self.use.text())
         for line in self.lines.values():
             late = f"; the octets of {line.late} frames came late" if line.late else ""

@@ -1,7 +1,7 @@
 """Follows a running exchange by its replies: its calls, its slots and its data links. A line takes constant work.
 
-Operators and the records of calls see the exchange through it. It decides nothing. The replies are those of an exchange
-without data links. `nemzhuul.live.linked` follows one with data links.
+Operators and the records of calls see the exchange through it. It decides nothing. The exchange has no data links:
+`nemzhuul.live.linked` follows one that has some.
 """
 
 from __future__ import annotations

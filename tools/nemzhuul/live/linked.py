@@ -49,7 +49,8 @@ class PlainExchange(Exchange):
     def leave(self) -> None:
         """Ends the process, and takes nothing more of it."""
         self.has_ended = True
-        self.loop.watch(self.input)
+        if not self.input.closed:
+            self.loop.watch(self.input)
         self.loop.watch(self.output)
         self.kill()
 
@@ -59,9 +60,9 @@ class LinkedFollower(Follower):
 
     def __init__(self, trace: Trace, settings: bytes) -> None:
         super().__init__(trace)
-        lines = settings.decode("latin-1").splitlines(keepends=True)
-        said = [line for line in lines if line.strip(" ").startswith(SETTINGS) and not plain.is_of_links(line)]
-        self.settings = "".join(said).encode("latin-1")
+        lines = settings.decode("latin-1").split("\n")
+        said = [line for line in lines if line.lstrip(" ").startswith(SETTINGS) and not plain.is_of_links(line)]
+        self.settings = "".join(f"{line}\n" for line in said).encode("latin-1")
         self.expected: deque[Event] = deque(trace.events)  # commands to which the exchange has not replied
         self.commands.clear()  # to which the process has not replied
         self.asked: deque[Asked | None] = deque()  # of the process, for each reply `message`
@@ -74,6 +75,7 @@ class LinkedFollower(Follower):
     # ---- the process
 
     def begin(self, words: Sequence[str | Path], loop: Loop) -> None:
+        self.current_at = time.monotonic()
         self.exchange = PlainExchange(words, loop, self)
         self.exchange.send(self.settings)
         for event in plain.starts(self.trace.linked):
@@ -123,7 +125,7 @@ class LinkedFollower(Follower):
         word = words[1] if len(words) > 1 else b""
         self.taken += 1
         self.passed += word == b"frame"
-        if self.refusal or self.exchange is None:
+        if self.refusal:
             super().take(words, asked)
             return
         try:
