@@ -7,6 +7,7 @@ that the links deliver, and their changes. Its replies have each message at the 
 
 from __future__ import annotations
 
+import re
 import time
 from collections import deque
 from collections.abc import Callable, Sequence
@@ -23,6 +24,7 @@ from nemzhuul.traces.events import Arrival, Event, Link, Restart, Trace
 
 PATIENCE = 1.0  # seconds that operators wait for what is followed
 SETTINGS = ("exchange", "number", "tone", "timer")  # the lines before the first event
+QUIET = re.compile(rb"(?:[0-9]+ frame [0-9]+\n)+")
 TURNS = {b"up": True, b"down": False}  # of a data link
 
 Asked = tuple[int, bytes]  # a message: its line and its digits
@@ -174,11 +176,21 @@ class LinkedFollower(Follower):
             raise Refused("the process that follows them takes nothing")
 
     def take_plain(self, text: bytes) -> None:
-        """Takes whole lines of the report of the process."""
-        for reply in text.replace(b":", b" ").split(b"\n"):
-            if self.refusal:
-                return
-            words = reply.split(b" ")
-            self.replied += 1
-            is_message = len(words) > 1 and words[1] == b"message"
-            super().take(words, self.asked.popleft() if is_message and self.asked else None)
+        """Takes whole lines of the report of the process. Frames in which nothing can happen are counted together."""
+        text, at = text + b"\n", 0
+        while at < len(text) and not self.refusal:
+            quiet = None if self.run.may_end_legs() else QUIET.match(text, at)
+            end = quiet.end() if quiet else text.index(b"\n", at) + 1
+            if quiet:
+                count = text.count(b"\n", at, end)
+                self.events += count
+                self.frames += count
+                self.replied += count
+            else:
+                self._take_line(text[at : end - 1].replace(b":", b" ").split(b" "))
+            at = end
+
+    def _take_line(self, words: Sequence[bytes]) -> None:
+        self.replied += 1
+        is_message = len(words) > 1 and words[1] == b"message"
+        super().take(words, self.asked.popleft() if is_message and self.asked else None)

@@ -197,6 +197,10 @@ class Run:
         """Whether a frame may end a leg without a message."""
         return bool(self._waiting[frame % PLACES])
 
+    def may_end_legs(self) -> bool:
+        """Whether any frame may."""
+        return any(self._waiting)
+
     def pass_frame(self, frame: int) -> None:
         """Takes a frame in which no message is sent, and no data link changes."""
         if self.may_end_leg(frame) or self.ended or self.left or self.joined:
