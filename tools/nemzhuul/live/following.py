@@ -109,7 +109,8 @@ class Follower:
     def _take_reply(self, words: Sequence[bytes], asked: tuple[int, bytes] | None) -> None:
         word = words[1] if len(words) > 1 else b""
         if word == b"frame":
-            at, sent = 3, []
+            at = 3
+            sent: list[Sent] = []
             while words[at : at + 1] == [b"send"]:
                 sent += sent_in(words[at + 1 : at + 3])
                 at += 3
