@@ -222,7 +222,7 @@ class Consoles(Attached):
 
     def test_messages_that_wait(self) -> None:
         """A call to the user of a link who takes no I frames is shown with its channel, and a command has its effect at once."""
-        (self.folder / "settings").write_text(self.SETTINGS.replace("\n", "\ntimer T200 80000\n", 1))
+        (self.folder / "settings").write_text(self.SETTINGS.replace("\n", "\ntimer T200 80000\ntimer T303 8000000\n", 1))
         self.attach("--burst", "5", "--control", "unix:control", lines=(1,), linked=(0,))
         self.until("attach: the console listens on unix:control")
         user, endpoint = LinkUser(self.folder / "link0"), self.attached(1)
