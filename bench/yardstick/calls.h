@@ -27,8 +27,9 @@ static uint32_t references[EXTERNAL];
 
 static uint32_t down; // the lines whose data links are down
 
-// The places of each line whose users are owed a RESTART, since nothing was sent when their legs were removed.
-static uint32_t owed[EXTERNAL];
+// The places of each line whose users are owed a RESTART, since nothing was sent when their legs were removed, and those
+// whose users have not acknowledged one, or left RELEASE without a reply. They count where no leg is.
+static uint32_t owed[EXTERNAL], unconfirmed[EXTERNAL];
 
 static Leg *leg(Slot x) { return &legs[x.line][x.place]; }
 
@@ -111,7 +112,8 @@ static void remove_leg(Slot x) {
     clear(x);
     take_out(taken, x);
     take_out(held, x);
-    owed[x.line] &= ~(1u << x.place);
+    take_out(owed, x);
+    take_out(unconfirmed, x);
     if (l->called) {
         called_at[x.line][l->reference] = 0;
         references[x.line] &= ~(1u << (l->reference - 1));
@@ -452,21 +454,31 @@ static void restart_leg(Slot x, uint32_t slots, Cause cause) {
     else leg(l.other)->peer = ALONE; // it is removed in its turn, and the call was noted
 }
 
-static void restart(unsigned line, const Message *m) {
-    Element e = find(*m, RESTART_INDICATOR);
-    uint8_t indicator = e.length ? e.at[0] : 0;
-    Channel channel = { NONE_NAMED, 0 };
-    if (indicator != 0x80 && indicator != 0x86 && indicator != 0x87) return;
-    if (indicator == 0x80) {
-        channel = channel_in(find(*m, CHANNEL));
-        if (channel.kind != PREFERRED && channel.kind != EXCLUSIVE) return;
-    }
-    uint32_t slots = indicator == 0x80 ? 1u << channel.place : ALL_SLOTS;
+// The places that a RESTART or a RESTART ACKNOWLEDGE is about: one, all, or none where its indicator or its channel is none
+// that counts.
+static uint32_t slots_meant(const Message *m, uint8_t indicator) {
+    if (indicator == 0x86 || indicator == 0x87) return ALL_SLOTS;
+    Channel channel = channel_in(find(*m, CHANNEL));
+    return indicator == 0x80 && (channel.kind == PREFERRED || channel.kind == EXCLUSIVE) ? 1u << channel.place : 0;
+}
+
+static void restart(unsigned line, const Message *m, uint8_t indicator) {
+    uint32_t slots = slots_meant(m, indicator);
+    if (!slots) return;
     for (uint32_t left = slots & held[line]; left; left &= left - 1)
         restart_leg((Slot){ line, __builtin_ctz(left) }, slots, TEMPORARY_FAILURE);
     put_message(line, 1, 0, RESTART_ACKNOWLEDGE);
-    if (indicator == 0x80) put_channel(channel.place);
+    if (indicator == 0x80) put_channel(__builtin_ctz(slots));
     put_element(RESTART_INDICATOR, &indicator, 1);
+}
+
+// A message on the global call reference: a RESTART from the side that chose it, or a RESTART ACKNOWLEDGE to that side.
+// A slot that has a leg keeps what was noted of it, for when it is removed something else is noted.
+static void take_global(unsigned line, const Message *m) {
+    Element e = find(*m, RESTART_INDICATOR);
+    uint8_t indicator = e.length ? e.at[0] : 0;
+    if (m->type == RESTART && !m->flag) restart(line, m, indicator);
+    if (m->type == RESTART_ACKNOWLEDGE && m->flag) unconfirmed[line] &= ~slots_meant(m, indicator);
 }
 
 static void answer_unknown(unsigned line, const Message *m) {
@@ -495,7 +507,7 @@ static void message(unsigned line, const uint8_t *octets, unsigned length) {
     put(" message");
     if (!read_message(&m, octets, length)) return;
     if (!m.reference) {
-        if (m.type == RESTART && !m.flag) restart(line, &m);
+        take_global(line, &m);
         return;
     }
     unsigned at = !m.flag ? caller_at[line][m.reference] : m.reference <= PLACES ? called_at[line][m.reference] : 0;
@@ -524,7 +536,7 @@ static void link_down(unsigned line) {
         case DISCONNECT_INDICATION: case RELEASE_REQUEST: break; // their timers end them
         default:
             restart_leg(x, ALL_SLOTS, OUT_OF_ORDER);
-            owed[line] |= 1u << x.place;
+            add(owed, x);
         }
     }
 }
@@ -536,11 +548,13 @@ static void put_restart(unsigned line, const Slot *x) {
     put_element(RESTART_INDICATOR, &indicator, 1);
 }
 
+// Each slot without a leg that waits for a RESTART has it now, and is not acknowledged yet.
 static void link_up(unsigned line) {
     put(" message");
-    int whole = owed[line] && !held[line];
+    uint32_t renewed = (owed[line] | unconfirmed[line]) & ~held[line];
+    int whole = renewed && !held[line];
     down &= ~(1u << line);
-    for (uint32_t left = held[line] | owed[line]; left; left &= left - 1) {
+    for (uint32_t left = held[line] | renewed; left; left &= left - 1) {
         Slot x = { line, __builtin_ctz(left) };
         if (!(held[line] >> x.place & 1)) {
             if (!whole) put_restart(line, &x);
@@ -556,6 +570,7 @@ static void link_up(unsigned line) {
     }
     if (whole) put_restart(line, NULL);
     owed[line] = 0;
+    unconfirmed[line] = renewed;
 }
 
 // The exchange restarts a line. While its data link is down, its user is owed the RESTART of all its channels.
@@ -563,6 +578,8 @@ static void restart_line(unsigned line) {
     put(" message");
     for (uint32_t left = held[line]; left; left &= left - 1)
         restart_leg((Slot){ line, __builtin_ctz(left) }, ALL_SLOTS, TEMPORARY_FAILURE);
-    owed[line] = down >> line & 1 ? ALL_SLOTS : 0;
-    if (!owed[line]) put_restart(line, NULL);
+    int is_down = down >> line & 1;
+    owed[line] = is_down ? ALL_SLOTS : 0;
+    unconfirmed[line] = is_down ? 0 : ALL_SLOTS;
+    if (!is_down) put_restart(line, NULL);
 }

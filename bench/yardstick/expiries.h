@@ -34,13 +34,13 @@ static void run_out(Slot x) {
     Leg l = *leg(x);
     if (l.state == RELEASE_REQUEST && l.resent) {
         remove_leg(x);
-        if (down >> x.line & 1) owed[x.line] |= 1u << x.place;
+        add(down >> x.line & 1 ? owed : unconfirmed, x);
         return;
     }
     if (l.state == ACTIVE) {
         end_call(x, OUT_OF_ORDER);
         remove_leg(x);
-        owed[x.line] |= 1u << x.place;
+        add(owed, x);
         clear_other(l, OUT_OF_ORDER);
         return;
     }
