@@ -2,7 +2,8 @@
 
 Timers are short, so that they expire. Numbers lead to lists of lines, and commands fill lines, so hunts pass full lines
 and find none. On crowded lines new paths move others. In some traces data links go down and come up, and an
-operator restarts lines. Then users report their call states, the right one or another, and obey RESTART.
+operator restarts lines. Then users report their call states, the right one or another, and obey RESTART, which not all
+acknowledge. A link often fails or comes up twice.
 """
 
 from __future__ import annotations
@@ -15,6 +16,8 @@ from pathlib import Path
 from typing import NamedTuple
 
 from nemzhuul.command_line import Refused
+from nemzhuul.repository import restarts
+from nemzhuul.repository.restarts import Restarts
 from nemzhuul.signalling.q931 import (
     ALERTING,
     CALL_PROCEEDING,
@@ -46,7 +49,7 @@ RUNG, NOT_RUNG = "T301 expired under ringing tone", "T301 expired without a tone
 HUNTED, NOT_FOUND = "calls offered after full lines", "hunts that found no line"
 LINK_LOST, LINK_DOWN = "T309 expired", "calls refused while data links were down"
 RESTARTED, RELEASED = "calls cleared as the exchange restarted a line", "RELEASE again as a data link was up"
-CASES = (RUNG, NOT_RUNG, HUNTED, NOT_FOUND, LINK_LOST, LINK_DOWN, RESTARTED, RELEASED)
+CASES = (RUNG, NOT_RUNG, HUNTED, NOT_FOUND, LINK_LOST, LINK_DOWN, RESTARTED, RELEASED, *restarts.CASES)
 # The elements of causes 19, 27, 34 and 41.
 NO_ANSWER, OUT_OF_ORDER, FULL_LINE, FAILURE = "08028293", "0802829B", "080282A2", "080282A9"
 # The likely replies of a user to each kind of message; None is no reply.
@@ -128,7 +131,9 @@ class Users:
         self.frames = 0  # frames of a run that are left
         self.outages = draw.choice((0, 0.02, 0.05, 0.05))
         self.down: set[int] = set()  # the lines whose data links are down
+        self.changed: int | None = None  # the line whose data link changed last
         self.restarts = draw.choice((0, 0.01, 0.02))
+        self.acknowledges = draw.choice((0.2, 0.6, 1))  # how likely a user acknowledges RESTART
         self.is_crowded = draw.random() < 0.15
         self.waiting = self.crowd() if self.is_crowded else self.full_lines()
 
@@ -167,8 +172,7 @@ class Users:
         if self.frames == 0 and draw.random() < self.pauses:
             self.frames = draw.randint(30, 90)
         if self.frames:
-            self.frames -= 1
-            return self.frame(0.1)
+            return self.frame_of_a_run()
         if self.is_crowded and draw.random() < 0.7:
             return self.crowded_command()
         acts: Sequence[Callable[[], str | None]] = (
@@ -180,16 +184,34 @@ class Users:
         )
         return draw.choices(acts, (9, 5, 2, 2, 4))[0]() or self.setup()
 
+    def frame_of_a_run(self) -> str:
+        """One of the frames in which timers expire. After the last one a data link often comes up, also one that is up."""
+        self.frames -= 1
+        if self.frames == 0 and self.draw.random() < 10 * self.outages:
+            self.waiting.append(self.comes_up(self.draw.randrange(self.setting.external)))
+        return self.frame(0.1)
+
+    def comes_up(self, line: int) -> str:
+        self.down.discard(line)
+        return f"up {line}"
+
     def link(self) -> str:
         """A data link goes down, or mostly up if it is down. At times frames follow in which timers expire."""
-        is_of_these = self.down and self.draw.random() < 0.2
-        line = self.draw.choice(sorted(self.down)) if is_of_these else self.draw.randrange(self.setting.external)
+        line = self.line_that_changes()
         if (line in self.down) != (self.draw.random() < 0.2):
-            self.down.discard(line)
-            return f"up {line}"
+            return self.comes_up(line)
         self.down.add(line)
         self.frames = max(self.frames, self.draw.choice((0, 0, 0, 0, 30, 100)))
         return f"down {line}"
+
+    def line_that_changes(self) -> int:
+        """The line whose data link changes: at times one that is down, or the last one again."""
+        kind = self.draw.random()
+        if self.down and kind < 0.2:
+            self.changed = self.draw.choice(sorted(self.down))
+        elif self.changed is None or kind < 0.7:
+            self.changed = self.draw.randrange(self.setting.external)
+        return self.changed
 
     def slot(self) -> str:
         return f"{self.draw.randrange(self.setting.external)}/{self.draw.choice(CHANNELS)}"
@@ -266,10 +288,11 @@ class Users:
                     self.channels[leg] = sent.channel
 
     def obey(self, restart: Sent) -> None:
-        """Drops the calls of the channels that are restarted."""
+        """Drops the calls of the channels that are restarted, and mostly acknowledges it."""
         for leg in [leg for leg in self.legs if leg.line == restart.line and restart.channel in (None, self.channels.get(leg))]:
             del self.legs[leg]
-        self.due.append(f"M {restart.line} 08028000{RESTART_ACKNOWLEDGE:02X}{restart.octets[10:]}")
+        if self.draw.random() < self.acknowledges:
+            self.due.append(f"M {restart.line} 08028000{RESTART_ACKNOWLEDGE:02X}{restart.octets[10:]}")
 
     def report(self, leg: Leg) -> None:
         """Mostly has a user reply to STATUS ENQUIRY."""
@@ -329,6 +352,7 @@ def write(draw: random.Random, program: Path, events: int, cases: Counter[str]) 
     """A trace that simulated users write, and the report of the exchange that they talk to. It counts the cases."""
     setting = Setting(draw)
     users, pace = Users(setting, draw), draw.choice((1, 1 / 2, 1 / 4, 1 / 12, 1 / 60, 0))
+    restarted = Restarts(cases)
     lines = [*setting.lines]
     replies: list[str] = []
     with subprocess.Popen([program, "follow"], stdin=subprocess.PIPE, stdout=subprocess.PIPE, text=True) as exchange:
@@ -348,6 +372,7 @@ def write(draw: random.Random, program: Path, events: int, cases: Counter[str]) 
             sent = [*sent_in(replies[-1])]
             users.learn(sent)
             count_cases(cases, setting, event, sent)
+            restarted.add(event, sent)
             if draw.random() < pace:
                 lines.append(draw.choice(("sync", "sync", "sync", "change")))
                 given.write(f"{lines[-1]}\n")
