@@ -1,10 +1,9 @@
 //! A received message, from its octets to its operations.
 ghost use Rattle.std.specs.Prelude.{◌≡◌, ◌<◌, ◌≤◌, ◌^◌, [], None, Ok, IfSome, is_some};
 ghost use Rattle.circuit_map.specs.Connections.{SameSizes};
-ghost use Rattle.clearing_rules.specs.Restarting.{restart_acknowledged, restart_asked};
 ghost use Rattle.call_control.specs.Ahead.{IsDialled, IsReadAhead};
 ghost use Rattle.call_control.specs.AtWork.{IsAtWork, EachAtWork, EachWithTones};
-ghost use Rattle.call_profile.specs.Calls.{asks_for_call, with_leg_named, request_read, outcome_of_octets, outcome_for, on_global_reference};
+ghost use Rattle.call_profile.specs.Calls.{asks_for_call, with_leg_named, request_read, outcome_of_octets, outcome_for, request_on_global};
 ghost use Rattle.call_profile.specs.Legs.{leg_named};
 ghost use Rattle.exchange_events.specs.Sizes.{Setting};
 ghost use Rattle.call_profile.specs.World.{World};
@@ -114,9 +113,9 @@ impl<P: PathMap> CallControl<P> {
         requires line { line < self.old.map.external }
         requires fresh { (out.old.sends ≡ []) × (out.old.moved ≡ None) }
         ensures makes { EachWithTones tones.now self.old.map self.old.legs (λ s w.
-            HasMade s self.new.map self.new.legs out.new (outcome_for s w line (on_global_reference (restart_asked message.now) (restart_acknowledged message.now))).making) }
+            HasMade s self.new.map self.new.legs out.new (outcome_for s w line (request_on_global message.now)).making) }
         ensures records { EachWithTones tones.now self.old.map self.old.legs (λ s w.
-            out.new.records ≡ (outcome_for s w line (on_global_reference (restart_asked message.now) (restart_acknowledged message.now))).recorded) }
+            out.new.records ≡ (outcome_for s w line (request_on_global message.now)).recorded) }
         ensures moved { out.new.moved ≡ None }
         ensures sizes { SameSizes self.old.map self.new.map }
     {

@@ -53,10 +53,13 @@ abbrev pub on_global_reference : Option Restart → Option Restart → Request
 on_global_reference None acknowledged = on_acknowledgement acknowledged
 on_global_reference (Some r) acknowledged = Restarts r
 
+abbrev pub request_on_global : Message → Request
+request_on_global m = on_global_reference (restart_asked m) (restart_acknowledged m)
+
 -- a message without a leg
 abbrev pub request_without_leg : Message → Request
 request_without_leg m =
-    if m.reference == global_call_reference then on_global_reference (restart_asked m) (restart_acknowledged m)
+    if m.reference == global_call_reference then request_on_global m
     else if asks_for_call m then New_call m
     else On_no_call m
 

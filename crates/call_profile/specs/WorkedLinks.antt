@@ -215,7 +215,7 @@ second_acknowledged = acknowledged 0x82
 abbrev pub third_acknowledged : Event
 third_acknowledged = acknowledged 0x83
 
--- the channel of the call that was lost beside a conversation was restarted
+-- the channel of the call that was lost during a conversation was restarted
 abbrev pub lost_beside_conversation : World
 lost_beside_conversation = next hasty_lines (world_in 9 beside_conversation) (LinkUp 1)
 
