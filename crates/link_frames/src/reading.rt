@@ -12,7 +12,7 @@ const MAX_INFORMATION_LEN: usize = 260;
 
 /// Returns the frame of these octets from `sender`. `None` if they are discarded (Q.921, 2.9): fewer than three octets,
 /// fewer than four octets of an I or S frame, another SAPI or TEI, or a wrong EA bit.
-pub fn read(sender: Sender, octets: &[u8]) -> Option<Frame<'_>>
+pub fn read_frame(sender: Sender, octets: &[u8]) -> Option<Frame<'_>>
     ensures computed { result ≡ spec.reading sender octets.now }
     ensures numbered { IfSome result (λ f. spec.IsNumbered f.control) }
 {

@@ -10,8 +10,8 @@ use crate::frame::{Control, Frame, Sender, Supervisory};
 use arrayvec::ArrayVec;
 use std::marker::Model;
 
-/// The maximum number of octets of a message that a written frame carries. Source: this project.
-pub const MAX_MESSAGE_LEN: usize = 112;
+/// The maximum number of octets of a message unit that a written frame carries. Source: this project.
+pub const MAX_MESSAGE_UNIT_LEN: usize = 112;
 
 /// The maximum number of octets of a written frame.
 pub const MAX_FRAME_LEN: usize = 116;
@@ -55,7 +55,7 @@ impl FrameOctets {
 
 /// Returns the octets of a frame from `sender`: an I frame with a message of at most 112 octets, an S frame, SABME,
 /// DISC, UA or DM. I frames, SABME and DISC are commands. UA and DM are responses.
-pub fn write(sender: Sender, frame: &Frame) -> FrameOctets
+pub fn write_frame(sender: Sender, frame: &Frame) -> FrameOctets
     requires writable { IsWritable frame.now.command frame.now.control }
     requires room { length (information_in frame.now.control) ≤ 112 }
     ensures encoded { result ≡ encoding sender frame.now }

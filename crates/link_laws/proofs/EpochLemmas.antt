@@ -10,7 +10,7 @@ use Rattle.link_frames.specs.Writing.{encoding}
 use Rattle.link_frames.proofs.Readings.{reading_of_encoding}
 use Rattle.link_procedures.specs.declared.state.State.{State}
 use Rattle.link_procedures.specs.declared.state.State.TheVariants as state
-use Rattle.link_procedures.specs.declared.state.Timers.{Timers}
+use Rattle.link_procedures.specs.declared.state.LinkTimers.{LinkTimers}
 use Rattle.link_procedures.specs.Links.{DataLink, Step, step, initial, is_multiple_frame, is_established, is_recovering, is_awaiting, is_up}
 use Rattle.link_procedures.specs.Sending.{command, response, enquires, flushes}
 use Rattle.link_procedures.specs.Establishment.{Outcome, quietly, establishes, lost, begun, begun_indication, begins, is_uncertain, released, releases_first, overflowed, overflows, queued, submitted}
@@ -321,7 +321,7 @@ settled_goes p es fs a b ts bs d e owed h = (
     deaf (Calling g) k = tt
     deaf (On g q) k = k
 
-turns_goes : (p : Pair) (t : Timers) (now : ℕ) (es fs : List (List (List ℕ))) (a b : Side) (ts bs : List Token) (d e : Direction) → (is_awaiting p.first.state ≡ true → is_due t now p.first.timer ≡ true → Without is_sabme p.there × Without is_ua p.back) → (is_up p.first ≡ true → Full d) → Joint p es fs a b ts bs d e → Ends p es fs (turned t now (step p.first []))
+turns_goes : (p : Pair) (t : LinkTimers) (now : ℕ) (es fs : List (List (List ℕ))) (a b : Side) (ts bs : List Token) (d e : Direction) → (is_awaiting p.first.state ≡ true → is_due t now p.first.timer ≡ true → Without is_sabme p.there × Without is_ua p.back) → (is_up p.first ≡ true → Full d) → Joint p es fs a b ts bs d e → Ends p es fs (turned t now (step p.first []))
 unfolding turned
 turns_goes p t now es fs a b ts bs d e timely full k =
     let h = begins_step p es fs a b ts bs d e k in

@@ -17,7 +17,7 @@ use Rattle.link_frames.specs.Writing.{IsWritable, encoding}
 use Rattle.link_frames.proofs.Readings.{reading_of_encoding}
 use Rattle.link_procedures.specs.declared.state.State.{State}
 use Rattle.link_procedures.specs.declared.state.State.TheVariants as state
-use Rattle.link_procedures.specs.declared.state.Timers.{Timers}
+use Rattle.link_procedures.specs.declared.state.LinkTimers.{LinkTimers}
 use Rattle.link_procedures.specs.Links.{SendQueue, emptied, DataLink, Step, step, is_valid, is_multiple_frame, is_established, is_recovering, is_awaiting, is_up}
 use Rattle.link_procedures.specs.Sending.{command, response, sends, acknowledges, receive_ready, acknowledging, enquires, rejects, is_free, after_frame, next_frame, sends_next, sends_waiting, flushes, acknowledges_pending, finished}
 use Rattle.link_procedures.specs.Establishment.{Outcome, quietly, establishes, established, lost, begun, begins, is_uncertain, released, releases, releases_first, overflowed, overflows, queued, submitted}
@@ -623,7 +623,7 @@ expiry_leads p w now state.TimerRecovery is h over link =
     (λ e. let c = h.one.counter in let d = eqb-false p.first.retries 3 e in
     emits_ends p w now _ w.first p.submitted p.returned h (enquires_at_emits (p.first.retries + 1) now (step p.first []) w.first (one_less p.first.retries c d) (ap (λ st. is_multiple_frame st) is ∙ recovery_runs) h.follows.first h.one))
 
-turns_leads : (p : Pair) (w : Handshake) (t : Timers) (now : ℕ) → Both p w → (is_awaiting p.first.state ≡ true → is_due t now p.first.timer ≡ true → Without is_sabme p.there × Without is_ua p.back) → Leads w (turns p t now)
+turns_leads : (p : Pair) (w : Handshake) (t : LinkTimers) (now : ℕ) → Both p w → (is_awaiting p.first.state ≡ true → is_due t now p.first.timer ≡ true → Without is_sabme p.there × Without is_ua p.back) → Leads w (turns p t now)
 unfolding turned
 turns_leads p w t now h timely = cases ((turned_turned t now (step p.first []) h.one).ranges h.one)
   where

@@ -13,7 +13,7 @@ use Rattle.link_frames.specs.Writing.{encoding}
 use Rattle.link_frames.proofs.Readings.{reading_of_encoding}
 use Rattle.link_procedures.specs.declared.state.State.{State}
 use Rattle.link_procedures.specs.declared.state.State.TheVariants as state
-use Rattle.link_procedures.specs.declared.state.Timers.{Timers}
+use Rattle.link_procedures.specs.declared.state.LinkTimers.{LinkTimers}
 use Rattle.link_procedures.specs.Links.{SendQueue, DataLink, Step, step, next_number, distance, is_valid, acknowledged, returned, may_send, is_multiple_frame, is_established, is_recovering, is_awaiting, is_up}
 use Rattle.link_procedures.specs.Sending.{command, sends, acknowledges, enquires, rejects, one_more_sent, is_free, after_frame, next_frame, sends_next, sends_waiting, flushes, acknowledges_pending, finished}
 use Rattle.link_procedures.specs.Establishment.{Outcome, establishes, overflows, queued, submitted}
@@ -588,7 +588,7 @@ expiry_sim state.TimerRecovery now s w v e full h =
     by_test (λ (o : Outcome). MayStop (Plain s (as_step o) w v) (as_step o)) (s.link.retries == 3) _ _
     (λ d. inr (establishes_stopped false now s)) (λ d. inl (enquires_at_plain (s.link.retries + 1) now s w v full h))
 
-turned_sim : (t : Timers) (now : ℕ) (s : Step) (w v : Direction) → is_multiple_frame s.link.state ≡ true → Full w → Local s.link w v → MayStop (Plain s (as_step (turned t now s)) w v) (as_step (turned t now s))
+turned_sim : (t : LinkTimers) (now : ℕ) (s : Step) (w v : Direction) → is_multiple_frame s.link.state ≡ true → Full w → Local s.link w v → MayStop (Plain s (as_step (turned t now s)) w v) (as_step (turned t now s))
 unfolding turned
 turned_sim t now s w v running full h =
     by_test (λ (o : Outcome). MayStop (Plain s (as_step o) w v) (as_step o)) s.link.owed _ _
@@ -796,7 +796,7 @@ settled p w v t u r d now rest h k a b g e full running = record {
 abbrev Some_inv : Pair → Type 0
 Some_inv p = (w : Direction) × (v : Direction) × Inv p w v
 
-turns_keep : (p : Pair) (w v : Direction) (t : Timers) (at : ℕ) → Inv p w v → is_multiple_frame (turns p t at).first.state ≡ true → Some_inv (turns p t at)
+turns_keep : (p : Pair) (w v : Direction) (t : LinkTimers) (at : ℕ) → Inv p w v → is_multiple_frame (turns p t at).first.state ≡ true → Some_inv (turns p t at)
 turns_keep p w v t at h running =
     let s : Step = step p.first [] in
     let k = finished_sim at s (as_step (turned t at s)) w v _ _ _ running (turned_sim t at s w v h.running h.full h.one) in (

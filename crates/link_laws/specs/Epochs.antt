@@ -6,7 +6,7 @@ use Rattle.link_frames.specs.declared.frame.Frame.{Frame}
 use Rattle.link_frames.specs.Reading.{reading}
 use Rattle.link_procedures.specs.declared.state.Indication.{Indication}
 use Rattle.link_procedures.specs.declared.state.Indication.TheVariants as indication
-use Rattle.link_procedures.specs.declared.state.Timers.{Timers}
+use Rattle.link_procedures.specs.declared.state.LinkTimers.{LinkTimers}
 use Rattle.link_procedures.specs.Links.{SendQueue, Step, step, is_awaiting, is_up}
 use Rattle.link_procedures.specs.Sending.{finished}
 use Rattle.link_procedures.specs.Establishment.{Outcome, quietly, submitted}
@@ -20,7 +20,7 @@ use Rattle.link_laws.specs.Numberings.{IsStart, is_sabme, is_ua, Without}
 -- a step begins with the oldest frame on the wire, with the turn of the link, or with messages of layer 3 only
 pub data Cause : Type 0 where
   Arrival : Cause
-  Turn : Timers → Cause
+  Turn : LinkTimers → Cause
   Request : Cause
 
 -- a step, with the messages that layer 3 submits in it, in a frame of the exchange; or the loss of the oldest frame on the wire to the link

@@ -4,7 +4,7 @@ use Rattle.link_frames.specs.declared.frame.Sender.TheVariants.{Network}
 use Rattle.link_frames.specs.declared.frame.Frame.{Frame}
 use Rattle.link_frames.specs.Reading.{reading}
 use Rattle.link_frames.specs.Writing.{information_in}
-use Rattle.link_procedures.specs.declared.state.Timers.{Timers}
+use Rattle.link_procedures.specs.declared.state.LinkTimers.{LinkTimers}
 use Rattle.link_procedures.specs.declared.state.Indication.{Indication}
 use Rattle.link_procedures.specs.declared.state.Indication.TheVariants as indication
 use Rattle.link_procedures.specs.Links.{DataLink, Step, step, is_multiple_frame}
@@ -41,7 +41,7 @@ mirror p = record {
 -- a step of the first link in a frame of the exchange: a message of layer 3; its turn; or the arrival of the oldest frame; or the loss of that frame
 pub data Act : Type 0 where
   Submit : List ℕ → ℕ → Act
-  Turn : Timers → ℕ → Act
+  Turn : LinkTimers → ℕ → Act
   Arrive : ℕ → Act
   Lose : Act
 
@@ -73,7 +73,7 @@ message_of f _ = []
 abbrev pub submits : Pair → List ℕ → ℕ → Pair
 submits p m at = stepped p (finished at (submitted m at (step p.first []))) p.back (p.submitted ++ m ∷ []) p.returned
 
-abbrev pub turns : Pair → Timers → ℕ → Pair
+abbrev pub turns : Pair → LinkTimers → ℕ → Pair
 turns p t at = stepped p (finished at (as_step (turned t at (step p.first [])))) p.back p.submitted p.returned
 
 -- the frame of a read string of octets

@@ -15,7 +15,7 @@ use Rattle.link_frames.specs.Writing.{IsWritable, encoding}
 use Rattle.link_frames.proofs.Readings.{reading_of_encoding}
 use Rattle.link_procedures.specs.declared.state.State.{State}
 use Rattle.link_procedures.specs.declared.state.State.TheVariants as state
-use Rattle.link_procedures.specs.declared.state.Timers.{Timers}
+use Rattle.link_procedures.specs.declared.state.LinkTimers.{LinkTimers}
 use Rattle.link_procedures.specs.declared.state.Indication.TheVariants as indication
 use Rattle.link_procedures.specs.Links.{initial, SendQueue, DataLink, Step, step, next_number, distance, is_valid, acknowledged, returned, emptied, renumbered, may_send, is_multiple_frame, is_established, is_recovering, is_awaiting, is_up}
 use Rattle.link_procedures.specs.Sending.{command, response, sends, acknowledges, receive_ready, enquires, rejects, one_more_sent, is_free, after_frame, next_frame, sends_next, sends_waiting, flushes, acknowledges_pending, finished}
@@ -767,7 +767,7 @@ expiry_turned state.AwaitingEstablishment at s off l = again_turned at s off
 expiry_turned state.MultipleFrameEstablished at s off l = quietly_turned s _ off (enquires_at_quiet (first_retries s.link.timer.running) at s (first_few s.link.timer.running))
 expiry_turned state.TimerRecovery at s off l = recovery_turned at s off l
 
-pub turned_turned : (t : Timers) (at : ℕ) (s : Step) → IsLink s.link → Turned s (turned t at s)
+pub turned_turned : (t : LinkTimers) (at : ℕ) (s : Step) → IsLink s.link → Turned s (turned t at s)
 unfolding turned
 turned_turned t at s l = by_test (Turned s) s.link.owed _ _
     (λ e. record {

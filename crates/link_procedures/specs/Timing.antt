@@ -6,7 +6,7 @@ use Rattle.link_procedures.specs.declared.state.State.TheVariants as state
 use Rattle.link_procedures.specs.declared.state.Running.{Running}
 use Rattle.link_procedures.specs.declared.state.Running.TheVariants.{T200, T203}
 use Rattle.link_procedures.specs.declared.state.Timer.{Timer}
-use Rattle.link_procedures.specs.declared.state.Timers.{Timers}
+use Rattle.link_procedures.specs.declared.state.LinkTimers.{LinkTimers}
 use Rattle.link_procedures.specs.declared.state.Indication.TheVariants as indication
 use Rattle.link_procedures.specs.Links.{DataLink, Step, step, t200}
 use Rattle.link_procedures.specs.Sending.{command, sends, enquires}
@@ -16,11 +16,11 @@ use Rattle.link_procedures.specs.Establishment.{Outcome, quietly, indicating, es
 abbrev pub max_retries : ℕ
 max_retries = 3
 
-abbrev pub frames_to : Timers → Running → ℕ
+abbrev pub frames_to : LinkTimers → Running → ℕ
 frames_to timers T200 = timers.t200
 frames_to timers T203 = timers.t203
 
-unfoldable pub is_due : Timers → ℕ → Timer → Bool
+unfoldable pub is_due : LinkTimers → ℕ → Timer → Bool
 is_due timers at timer = nat_le (timer.since + frames_to timers timer.running) at
 
 -- SABME is retransmitted (5.5.1.3)
@@ -58,7 +58,7 @@ on_expiry state.TimerRecovery at s =
 abbrev pub settled : DataLink → DataLink
 settled l = record l { owed = false }
 
-unfoldable pub turned : Timers → ℕ → Step → Outcome
+unfoldable pub turned : LinkTimers → ℕ → Step → Outcome
 turned timers at s =
     if s.link.owed then indicating indication.Released (step (settled s.link) s.out)
     else if is_due timers at s.link.timer then on_expiry s.link.state at s

@@ -3,7 +3,7 @@
 ghost use Rattle.std.specs.Prelude.{◌≡◌, ℕ, List};
 ghost use Rattle.link_frames.specs.declared.frame.Frame.{Frame};
 ghost use Rattle.link_frames.specs.Reading.{IsNumbered};
-ghost use Rattle.link_procedures.specs.declared.state.Timers.{Timers};
+ghost use Rattle.link_procedures.specs.declared.state.LinkTimers.{LinkTimers};
 ghost use Rattle.link_procedures.specs.Links.{Step, initial};
 ghost use Rattle.link_procedures.specs.Sending.{finished};
 ghost use Rattle.link_procedures.specs.Establishment.{submitted};
@@ -17,7 +17,7 @@ pub fn law_of_windows()
     ensures received { (f : Frame) (at : ℕ) (s : Step) → IsNumbered f.control → IsLink s.link → IsLink (received f at s).link }
     ensures submitted { (m : List ℕ) (at : ℕ) (s : Step) → IsShort m → IsLink s.link → IsLink (submitted m at s).link }
     ensures finished { (at : ℕ) (s : Step) → IsLink s.link → IsLink (finished at s).link }
-    ensures turned { (t : Timers) (at : ℕ) (s : Step) → IsLink s.link → IsLink (turned t at s).link }
+    ensures turned { (t : LinkTimers) (at : ℕ) (s : Step) → IsLink s.link → IsLink (turned t at s).link }
 {}
 
 /// A message leaves the queue only if a valid N(R) acknowledges it, or with all others. In the second case layer 3 is
@@ -27,17 +27,17 @@ pub fn law_of_losses()
     ensures received { (f : Frame) (at : ℕ) (s : Step) → IsNumbered f.control → KeepsOrTells f.control s.link (received f at s) }
     ensures submitted { (m : List ℕ) (at : ℕ) (s : Step) → AddsOrOwes m s.link (submitted m at s).link }
     ensures finished { (at : ℕ) (s : Step) → Keeps 0 s.link (finished at s).link }
-    ensures turned { (t : Timers) (at : ℕ) (s : Step) → IsLink s.link → KeepsOrSettles s.link (turned t at s) }
+    ensures turned { (t : LinkTimers) (at : ℕ) (s : Step) → IsLink s.link → KeepsOrSettles s.link (turned t at s) }
     ensures first { (f : Frame) (at : ℕ) (s : Step) → IsReleasedFirst s.link (received f at s) }
 {}
 
 /// The peer reads each string of octets that is sent as one frame. An I frame carries the message of its number, which
 /// is one of the seven from V(A). N(R) of an I frame and of an S frame is V(R) after the step.
-pub fn law_of_frames()
+pub fn law_of_sent_frames()
     ensures received { (f : Frame) (at : ℕ) (s : Step) → IsNumbered f.control → SendsFrames s (received f at s).link (received f at s).out }
     ensures submitted { (m : List ℕ) (at : ℕ) (s : Step) → IsShort m → SendsFrames s (submitted m at s).link (submitted m at s).out }
     ensures finished { (at : ℕ) (s : Step) → SendsFrames s (finished at s).link (finished at s).out }
-    ensures turned { (t : Timers) (at : ℕ) (s : Step) → SendsFrames s (turned t at s).link (turned t at s).out }
+    ensures turned { (t : LinkTimers) (at : ℕ) (s : Step) → SendsFrames s (turned t at s).link (turned t at s).out }
 {}
 
 /// The message of a frame is delivered only if N(S) is V(R), which then becomes the next number. Otherwise V(R) changes
@@ -46,5 +46,5 @@ pub fn law_of_deliveries()
     ensures received { (f : Frame) (at : ℕ) (s : Step) → IsNumbered f.control → IsInSequence f.control s.link (received f at s) }
     ensures submitted { (m : List ℕ) (at : ℕ) (s : Step) → (submitted m at s).link.received ≡ s.link.received }
     ensures finished { (at : ℕ) (s : Step) → (finished at s).link.received ≡ s.link.received }
-    ensures turned { (t : Timers) (at : ℕ) (s : Step) → IsLink s.link → DeliversNothing s.link (turned t at s) }
+    ensures turned { (t : LinkTimers) (at : ℕ) (s : Step) → IsLink s.link → DeliversNothing s.link (turned t at s) }
 {}

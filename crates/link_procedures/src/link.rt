@@ -3,7 +3,7 @@ ghost use Rattle.std.specs.Prelude.{◌≡◌, ◌+◌, ◌≤◌, length};
 ghost use Rattle.link_procedures.specs.Links.{initial, is_up, t200, t203, step};
 ghost use Rattle.link_procedures.specs.Establishment.{establishes, established, lost, released, cleared};
 
-use crate::outbox::Outbox;
+use crate::outbox::FrameOutbox;
 use crate::queue::Queue;
 use crate::state::{Running, State, Timer};
 use link_frames::{Control, Frame};
@@ -106,7 +106,7 @@ impl Link {
 
     // Sends SABME and waits for UA.
     #[tactic(auto, unfolding(crate::specs::Establishment::establishes))]
-    pub(crate) fn establish(&mut self, asked: bool, at: u32, out: &mut Outbox)
+    pub(crate) fn establish(&mut self, asked: bool, at: u32, out: &mut FrameOutbox)
         requires { length out.old + 1 ≤ 80 }
         ensures link { self.new ≡ (establishes asked at (step self.old out.old)).link }
         ensures out { out.new ≡ (establishes asked at (step self.old out.old)).out }

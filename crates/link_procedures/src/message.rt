@@ -1,17 +1,18 @@
-//! A message that waits in a link.
+//! A message unit that waits in a link.
 ghost use Rattle.std.specs.Prelude.{◌≡◌, ◌≤◌, length};
 
 use arrayvec::ArrayVec;
-use link_frames::MAX_MESSAGE_LEN;
+use link_frames::MAX_MESSAGE_UNIT_LEN;
 use std::marker::Model;
 
-/// The octets of a message of layer 3, at most 112. A contract views them as a list.
+/// The message unit of a DL-DATA request (Q.921, section 4): the octets of a message of layer 3, at most 112. A contract
+/// views them as a list.
 #[derive(Clone, Debug, Default, Drop)]
-pub struct Message {
-    octets: ArrayVec<u8, MAX_MESSAGE_LEN>,
+pub struct MessageUnit {
+    octets: ArrayVec<u8, MAX_MESSAGE_UNIT_LEN>,
 }
 
-impl Model for Message {
+impl Model for MessageUnit {
     ghost use Rattle.std.specs.Prelude.{List, ℕ};
 
     ghost Value = { List ℕ };
@@ -19,13 +20,13 @@ impl Model for Message {
     ghost view = { λ m. m.octets.items };
 }
 
-impl Message {
-    /// Returns a message with a copy of these octets.
-    pub fn of(octets: &[u8]) -> Message
+impl MessageUnit {
+    /// Returns a message unit with a copy of these octets.
+    pub fn of(octets: &[u8]) -> MessageUnit
         requires { length octets.now ≤ 112 }
         ensures { result ≡ octets.now }
     {
-        let mut copied = Message {
+        let mut copied = MessageUnit {
             octets: ArrayVec::new(),
         };
         if copied.octets.try_extend_from_slice(octets).is_err() {

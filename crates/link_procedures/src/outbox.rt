@@ -4,19 +4,19 @@ ghost use Rattle.link_frames.specs.declared.frame.Sender.TheVariants.{Network};
 ghost use Rattle.link_frames.specs.Writing.{IsWritable, information_in, encoding};
 
 use arrayvec::ArrayVec;
-use link_frames::{Frame, FrameOctets, Sender, write};
+use link_frames::{Frame, FrameOctets, Sender, write_frame};
 use std::marker::Model;
 
 /// The maximum number of frames in an outbox. Source: this project.
 pub const MAX_FRAMES: usize = 80;
 
-/// The octets of the frames that were sent, in order. A contract views them as a list of lists.
+/// The octets of the frames that a step sends, in order. A contract views them as a list of lists.
 #[derive(Debug, Drop)]
-pub struct Outbox {
+pub struct FrameOutbox {
     frames: ArrayVec<FrameOctets, MAX_FRAMES>,
 }
 
-impl Model for Outbox {
+impl Model for FrameOutbox {
     ghost use Rattle.std.specs.Prelude.{List, ℕ};
 
     ghost Value = { List (List ℕ) };
@@ -24,12 +24,12 @@ impl Model for Outbox {
     ghost view = { λ o. o.frames.items };
 }
 
-impl Outbox {
+impl FrameOutbox {
     /// Returns an empty outbox.
-    pub fn new() -> Outbox
+    pub fn new() -> FrameOutbox
         ensures { result ≡ [] }
     {
-        Outbox {
+        FrameOutbox {
             frames: ArrayVec::new(),
         }
     }
@@ -49,7 +49,7 @@ impl Outbox {
         ensures sent { self.new ≡ self.old ++ encoding Network frame.now ∷ [] }
         ensures one { length self.new ≡ length self.old + 1 }
     {
-        self.frames.push(write(Sender::Network, frame));
+        self.frames.push(write_frame(Sender::Network, frame));
     }
 
     /// Appends octets that are sent as they are, at most 116.

@@ -4,7 +4,7 @@ ghost use Rattle.link_procedures.specs.Links.{next_number, is_valid, acknowledge
 ghost use Rattle.link_procedures.specs.Sending.{one_more_sent};
 ghost use Rattle.link_procedures.specs.Establishment.{queued};
 
-use crate::message::Message;
+use crate::message::MessageUnit;
 use arrayvec::ArrayVec;
 use std::marker::Model;
 
@@ -17,7 +17,7 @@ const WINDOW: u8 = 7;
 /// The messages that are not acknowledged, in order, the number of them that are sent, and V(A) (Q.921, 3.5.2).
 #[derive(Debug, Drop)]
 pub struct Queue {
-    waiting: ArrayVec<Message, MAX_QUEUE_LEN>,
+    waiting: ArrayVec<MessageUnit, MAX_QUEUE_LEN>,
     sent: u8,
     acknowledged: u8,
 }
@@ -117,7 +117,7 @@ impl Queue {
 
     /// Appends a message.
     #[tactic(auto, unfolding(crate::specs::Establishment::queued))]
-    pub fn push(&mut self, message: Message)
+    pub fn push(&mut self, message: MessageUnit)
         requires { length self.old.waiting < 64 }
         ensures { self.new ≡ queued message self.old }
     {

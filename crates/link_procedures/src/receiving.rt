@@ -6,7 +6,7 @@ ghost use Rattle.link_procedures.specs.Receiving as spec;
 ghost use Rattle.link_procedures.specs.Establishment.{begun, begun_indication};
 
 use crate::link::Link;
-use crate::outbox::Outbox;
+use crate::outbox::FrameOutbox;
 use crate::state::{Indication, State};
 use link_frames::{Control, Frame, Supervisory};
 
@@ -14,7 +14,7 @@ impl Link {
     /// Processes a frame of the peer, and returns the indication to layer 3. After [`Indication::Data`] the information
     /// field of the frame is the next message.
     #[tactic(auto, unfolding(crate::specs::Receiving::on_control))]
-    pub fn received(&mut self, frame: &Frame, at: u32, out: &mut Outbox) -> Option<Indication>
+    pub fn received(&mut self, frame: &Frame, at: u32, out: &mut FrameOutbox) -> Option<Indication>
         requires numbered { IsNumbered frame.now.control }
         requires room { length out.old + 2 ≤ 80 }
         ensures link { self.new ≡ (spec.received frame.now at (step self.old out.old)).link }
@@ -50,7 +50,7 @@ impl Link {
     }
 
     #[tactic(auto, unfolding(crate::specs::Receiving::on_sabme))]
-    fn on_sabme(&mut self, poll: bool, at: u32, out: &mut Outbox) -> Option<Indication>
+    fn on_sabme(&mut self, poll: bool, at: u32, out: &mut FrameOutbox) -> Option<Indication>
         requires { length out.old + 1 ≤ 80 }
         ensures link { self.new ≡ (spec.on_sabme self.old.state poll at (step self.old out.old)).link }
         ensures out { out.new ≡ (spec.on_sabme self.old.state poll at (step self.old out.old)).out }
@@ -87,7 +87,7 @@ impl Link {
     }
 
     #[tactic(auto, unfolding(crate::specs::Receiving::on_disc))]
-    fn on_disc(&mut self, poll: bool, at: u32, out: &mut Outbox) -> Option<Indication>
+    fn on_disc(&mut self, poll: bool, at: u32, out: &mut FrameOutbox) -> Option<Indication>
         requires { length out.old + 1 ≤ 80 }
         ensures link { self.new ≡ (spec.on_disc self.old.state poll at (step self.old out.old)).link }
         ensures out { out.new ≡ (spec.on_disc self.old.state poll at (step self.old out.old)).out }
@@ -114,7 +114,7 @@ impl Link {
     }
 
     #[tactic(auto, unfolding(crate::specs::Receiving::on_ua))]
-    fn on_ua(&mut self, last: bool, at: u32, out: &mut Outbox) -> Option<Indication>
+    fn on_ua(&mut self, last: bool, at: u32, out: &mut FrameOutbox) -> Option<Indication>
         requires { length out.old + 1 ≤ 80 }
         ensures link { self.new ≡ (spec.on_ua last at (step self.old out.old)).link }
         ensures out { out.new ≡ (spec.on_ua last at (step self.old out.old)).out }
@@ -130,7 +130,7 @@ impl Link {
 
     // Begins multiple frame operation, or informs layer 3 of an earlier loss and sends another SABME.
     #[tactic(auto, unfolding(crate::specs::Receiving::on_solicited))]
-    fn on_solicited(&mut self, at: u32, out: &mut Outbox) -> Option<Indication>
+    fn on_solicited(&mut self, at: u32, out: &mut FrameOutbox) -> Option<Indication>
         requires { length out.old + 1 ≤ 80 }
         ensures link { self.new ≡ (spec.on_solicited at (step self.old out.old)).link }
         ensures out { out.new ≡ (spec.on_solicited at (step self.old out.old)).out }
@@ -147,7 +147,7 @@ impl Link {
     }
 
     #[tactic(auto, unfolding(crate::specs::Receiving::on_dm))]
-    fn on_dm(&mut self, last: bool, at: u32, out: &mut Outbox) -> Option<Indication>
+    fn on_dm(&mut self, last: bool, at: u32, out: &mut FrameOutbox) -> Option<Indication>
         requires { length out.old + 1 ≤ 80 }
         ensures link { self.new ≡ (spec.on_dm self.old.state last at (step self.old out.old)).link }
         ensures out { out.new ≡ (spec.on_dm self.old.state last at (step self.old out.old)).out }
@@ -173,7 +173,7 @@ impl Link {
 
     // Re-establishes the link after a frame rejection condition, or FRMR.
     #[tactic(auto, unfolding(crate::specs::Receiving::on_rejection))]
-    fn on_rejection(&mut self, at: u32, out: &mut Outbox)
+    fn on_rejection(&mut self, at: u32, out: &mut FrameOutbox)
         requires { length out.old + 1 ≤ 80 }
         ensures link { self.new ≡ (spec.on_rejection self.old.state at (step self.old out.old)).link }
         ensures out { out.new ≡ (spec.on_rejection self.old.state at (step self.old out.old)).out }
@@ -195,7 +195,7 @@ impl Link {
         poll_final: bool,
         receive: u8,
         at: u32,
-        out: &mut Outbox,
+        out: &mut FrameOutbox,
     )
         requires number { receive < 128 }
         requires room { length out.old + 2 ≤ 80 }
@@ -213,7 +213,7 @@ impl Link {
 
     // Sends the enquiry response.
     #[tactic(auto, unfolding(crate::specs::Receiving::answers_enquiry))]
-    fn answer_enquiry(&mut self, is_enquiry: bool, out: &mut Outbox)
+    fn answer_enquiry(&mut self, is_enquiry: bool, out: &mut FrameOutbox)
         requires { length out.old + 1 ≤ 80 }
         ensures link { self.new ≡ (spec.answers_enquiry is_enquiry (step self.old out.old)).link }
         ensures out { out.new ≡ (spec.answers_enquiry is_enquiry (step self.old out.old)).out }
@@ -233,7 +233,7 @@ impl Link {
         poll_final: bool,
         receive: u8,
         at: u32,
-        out: &mut Outbox,
+        out: &mut FrameOutbox,
     )
         requires number { receive < 128 }
         requires room { length out.old + 1 ≤ 80 }
@@ -313,7 +313,7 @@ impl Link {
         send: u8,
         receive: u8,
         at: u32,
-        out: &mut Outbox,
+        out: &mut FrameOutbox,
     ) -> Option<Indication>
         requires number { receive < 128 }
         requires room { length out.old + 2 ≤ 80 }
@@ -337,7 +337,7 @@ impl Link {
 
     // Takes N(S) and P of an I frame.
     #[tactic(auto, unfolding(crate::specs::Receiving::by_number))]
-    fn sequence(&mut self, poll: bool, send: u8, out: &mut Outbox)
+    fn sequence(&mut self, poll: bool, send: u8, out: &mut FrameOutbox)
         requires { length out.old + 1 ≤ 80 }
         ensures link { self.new ≡ (spec.by_number poll send (step self.old out.old)).link }
         ensures out { out.new ≡ (spec.by_number poll send (step self.old out.old)).out }
@@ -360,7 +360,7 @@ impl Link {
 
     // Takes N(R) of an I frame.
     #[tactic(auto, unfolding(crate::specs::Receiving::by_acknowledgement))]
-    fn acknowledge_by_information(&mut self, receive: u8, at: u32, out: &mut Outbox)
+    fn acknowledge_by_information(&mut self, receive: u8, at: u32, out: &mut FrameOutbox)
         requires number { receive < 128 }
         requires room { length out.old + 1 ≤ 80 }
         ensures link { self.new ≡ (spec.by_acknowledgement receive at (step self.old out.old)).link }

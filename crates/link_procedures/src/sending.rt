@@ -6,8 +6,8 @@ ghost use Rattle.link_procedures.specs.Sending.{acknowledges, enquires, rejects,
 ghost use Rattle.link_procedures.specs.Establishment.{overflows, submitted};
 
 use crate::link::Link;
-use crate::message::Message;
-use crate::outbox::Outbox;
+use crate::message::MessageUnit;
+use crate::outbox::FrameOutbox;
 use crate::state::Running;
 use link_frames::{Control, Frame, Information, Supervisory};
 
@@ -16,7 +16,7 @@ impl Link {
     /// open. It is lost if the link is not up. If 64 messages wait, all of them are lost, and the link re-establishes
     /// itself. Layer 3 is informed of such a loss in the link's next turn, or before.
     #[tactic(auto, unfolding(crate::specs::Establishment::submitted))]
-    pub fn submitted(&mut self, octets: &[u8], at: u32, out: &mut Outbox)
+    pub fn submitted(&mut self, octets: &[u8], at: u32, out: &mut FrameOutbox)
         requires short { length octets.now ≤ 112 }
         requires room { length out.old + 7 ≤ 80 }
         ensures link { self.new ≡ (submitted octets.now at (step self.old out.old)).link }
@@ -29,14 +29,14 @@ impl Link {
         if self.queue.is_full() {
             self.overflow(at, out);
         } else {
-            self.queue.push(Message::of(octets));
+            self.queue.push(MessageUnit::of(octets));
             self.flush(at, out);
         }
     }
 
     /// Ends a step: sends all I frames that the window permits, and an acknowledgement unless an I frame carried it.
     #[tactic(auto, unfolding(crate::specs::Sending::finished))]
-    pub fn finished(&mut self, at: u32, out: &mut Outbox)
+    pub fn finished(&mut self, at: u32, out: &mut FrameOutbox)
         requires { length out.old + 8 ≤ 80 }
         ensures link { self.new ≡ (finished at (step self.old out.old)).link }
         ensures out { out.new ≡ (finished at (step self.old out.old)).out }
@@ -48,7 +48,7 @@ impl Link {
 
     // Sends RR for a received I frame that no sent frame acknowledged.
     #[tactic(auto, unfolding(crate::specs::Sending::acknowledges_pending))]
-    fn acknowledge_pending(&mut self, out: &mut Outbox)
+    fn acknowledge_pending(&mut self, out: &mut FrameOutbox)
         requires { length out.old + 1 ≤ 80 }
         ensures link { self.new ≡ (acknowledges_pending (step self.old out.old)).link }
         ensures out { out.new ≡ (acknowledges_pending (step self.old out.old)).out }
@@ -63,7 +63,7 @@ impl Link {
 
     // Discards all messages, of which layer 3 will be informed.
     #[tactic(auto, unfolding(crate::specs::Establishment::overflows))]
-    fn overflow(&mut self, at: u32, out: &mut Outbox)
+    fn overflow(&mut self, at: u32, out: &mut FrameOutbox)
         requires { length out.old + 1 ≤ 80 }
         ensures link { self.new ≡ (overflows at (step self.old out.old)).link }
         ensures out { out.new ≡ (overflows at (step self.old out.old)).out }
@@ -80,7 +80,7 @@ impl Link {
 
     // Sends all I frames that the window permits.
     #[tactic(auto, unfolding(crate::specs::Sending::flushes))]
-    fn flush(&mut self, at: u32, out: &mut Outbox)
+    fn flush(&mut self, at: u32, out: &mut FrameOutbox)
         requires { length out.old + 7 ≤ 80 }
         ensures link { self.new ≡ (flushes at (step self.old out.old)).link }
         ensures out { out.new ≡ (flushes at (step self.old out.old)).out }
@@ -93,7 +93,7 @@ impl Link {
 
     // Sends the next I frame if one may be sent.
     #[tactic(auto, unfolding(crate::specs::Sending::sends_next))]
-    fn send_next(&mut self, at: u32, out: &mut Outbox)
+    fn send_next(&mut self, at: u32, out: &mut FrameOutbox)
         requires { length out.old + 1 ≤ 80 }
         ensures link { self.new ≡ (sends_next at (step self.old out.old)).link }
         ensures out { out.new ≡ (sends_next at (step self.old out.old)).out }
@@ -138,7 +138,7 @@ impl Link {
 
     // Sends RR as a response.
     #[tactic(auto, unfolding(crate::specs::Sending::acknowledges))]
-    pub(crate) fn send_acknowledgement(&mut self, last: bool, out: &mut Outbox)
+    pub(crate) fn send_acknowledgement(&mut self, last: bool, out: &mut FrameOutbox)
         requires { length out.old + 1 ≤ 80 }
         ensures link { self.new ≡ (acknowledges last (step self.old out.old)).link }
         ensures out { out.new ≡ (acknowledges last (step self.old out.old)).out }
@@ -153,7 +153,7 @@ impl Link {
 
     // Sends RR as a command with P 1.
     #[tactic(auto, unfolding(crate::specs::Sending::enquires))]
-    pub(crate) fn send_enquiry(&mut self, out: &mut Outbox)
+    pub(crate) fn send_enquiry(&mut self, out: &mut FrameOutbox)
         requires { length out.old + 1 ≤ 80 }
         ensures link { self.new ≡ (enquires (step self.old out.old)).link }
         ensures out { out.new ≡ (enquires (step self.old out.old)).out }
@@ -168,7 +168,7 @@ impl Link {
 
     // Sends REJ as a response.
     #[tactic(auto, unfolding(crate::specs::Sending::rejects))]
-    pub(crate) fn send_reject(&mut self, last: bool, out: &mut Outbox)
+    pub(crate) fn send_reject(&mut self, last: bool, out: &mut FrameOutbox)
         requires { length out.old + 1 ≤ 80 }
         ensures link { self.new ≡ (rejects last (step self.old out.old)).link }
         ensures out { out.new ≡ (rejects last (step self.old out.old)).out }

@@ -69,9 +69,9 @@ pub struct Timer {
     pub since: u32,
 }
 
-/// The values of the timers, each in frames of 125 microseconds.
+/// The values of the timers of a data link (Q.921, 5.9), each in frames of 125 microseconds.
 #[derive(Clone, Copy, Debug, PartialEq, Eq)]
-pub struct Timers {
+pub struct LinkTimers {
     /// T200, in Q.921 usually 1 second.
     pub t200: u32,
     /// T203, in Q.921 usually 10 seconds.

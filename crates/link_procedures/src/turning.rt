@@ -4,8 +4,8 @@ ghost use Rattle.link_procedures.specs.Links.{step};
 ghost use Rattle.link_procedures.specs.Timing as spec;
 
 use crate::link::Link;
-use crate::outbox::Outbox;
-use crate::state::{Indication, Running, State, Timers};
+use crate::outbox::FrameOutbox;
+use crate::state::{Indication, LinkTimers, Running, State};
 use link_frames::{Control, Frame};
 
 // N200: the maximum number of retransmissions (Q.921, 5.9.2).
@@ -15,7 +15,12 @@ impl Link {
     /// Processes the turn of the link in a frame of the exchange, and returns the indication to layer 3: a loss, or the
     /// result of the timer, if it has expired.
     #[tactic(auto, unfolding(crate::specs::Timing::turned))]
-    pub fn turned(&mut self, timers: &Timers, at: u32, out: &mut Outbox) -> Option<Indication>
+    pub fn turned(
+        &mut self,
+        timers: &LinkTimers,
+        at: u32,
+        out: &mut FrameOutbox,
+    ) -> Option<Indication>
         requires { length out.old + 1 ≤ 80 }
         ensures link { self.new ≡ (spec.turned timers.now at (step self.old out.old)).link }
         ensures out { out.new ≡ (spec.turned timers.now at (step self.old out.old)).out }
@@ -34,7 +39,7 @@ impl Link {
 
     // Returns whether the timer has expired in this frame or before it.
     #[tactic(auto, unfolding(crate::specs::Timing::is_due))]
-    fn is_due(&self, timers: &Timers, at: u32) -> bool
+    fn is_due(&self, timers: &LinkTimers, at: u32) -> bool
         ensures { result ≡ spec.is_due timers.now at self.now.timer }
     {
         let frames = frames_to(timers, self.timer.running);
@@ -42,7 +47,7 @@ impl Link {
     }
 
     #[tactic(auto, unfolding(crate::specs::Timing::on_expiry))]
-    fn expire(&mut self, at: u32, out: &mut Outbox) -> Option<Indication>
+    fn expire(&mut self, at: u32, out: &mut FrameOutbox) -> Option<Indication>
         requires { length out.old + 1 ≤ 80 }
         ensures link { self.new ≡ (spec.on_expiry self.old.state at (step self.old out.old)).link }
         ensures out { out.new ≡ (spec.on_expiry self.old.state at (step self.old out.old)).out }
@@ -73,7 +78,7 @@ impl Link {
 
     // Retransmits SABME, or releases the link.
     #[tactic(auto, unfolding(crate::specs::Timing::calls_or_releases))]
-    fn call_again(&mut self, at: u32, out: &mut Outbox) -> Option<Indication>
+    fn call_again(&mut self, at: u32, out: &mut FrameOutbox) -> Option<Indication>
         requires { length out.old + 1 ≤ 80 }
         ensures link { self.new ≡ (spec.calls_or_releases at (step self.old out.old)).link }
         ensures out { out.new ≡ (spec.calls_or_releases at (step self.old out.old)).out }
@@ -95,7 +100,7 @@ impl Link {
 
     // Sends an enquiry, and waits for the response.
     #[tactic(auto, unfolding(crate::specs::Timing::enquires_at))]
-    fn enquire(&mut self, retries: u8, at: u32, out: &mut Outbox)
+    fn enquire(&mut self, retries: u8, at: u32, out: &mut FrameOutbox)
         requires room { length out.old + 1 ≤ 80 }
         requires few { retries ≤ 3 }
         ensures link { self.new ≡ (spec.enquires_at retries at (step self.old out.old)).link }
@@ -110,7 +115,7 @@ impl Link {
 }
 
 // Returns the duration of the timer in frames.
-fn frames_to(timers: &Timers, running: Running) -> u32
+fn frames_to(timers: &LinkTimers, running: Running) -> u32
     ensures { result ≡ spec.frames_to timers.now running }
 {
     match running {

@@ -8,7 +8,7 @@ use Rattle.link_frames.specs.declared.frame.Control.TheVariants as control
 use Rattle.link_frames.specs.Writing.{encoding}
 use Rattle.link_procedures.specs.declared.state.State.{State}
 use Rattle.link_procedures.specs.declared.state.State.TheVariants as state
-use Rattle.link_procedures.specs.declared.state.Timers.{Timers}
+use Rattle.link_procedures.specs.declared.state.LinkTimers.{LinkTimers}
 use Rattle.link_procedures.specs.Links.{DataLink, SendQueue, Step, step, initial, may_send, is_established, is_multiple_frame, is_awaiting, is_recovering, is_up}
 use Rattle.link_procedures.specs.Sending.{command, response, receive_ready, sends, acknowledges, acknowledging, enquires, one_more_sent, is_free, after_frame, next_frame, sends_next, sends_waiting, flushes, acknowledges_pending, finished}
 use Rattle.link_procedures.specs.Establishment.{Outcome, establishes, overflows, queued, submitted, lost, released}
@@ -278,7 +278,7 @@ expiry_rest state.AwaitingEstablishment at s h = again_rest at s h
 expiry_rest state.MultipleFrameEstablished at s h = enquires_rest (first_retries s.link.timer.running) at s
 expiry_rest state.TimerRecovery at s h = by_test (λ (o : Outcome). IsAtRest o.link) (s.link.retries == 3) _ _ (λ e. establishes_rest false at s) (λ e. enquires_rest (s.link.retries + 1) at s)
 
-pub turned_rest : (t : Timers) (at : ℕ) (s : Step) → IsAtRest s.link → IsAtRest (turned t at s).link
+pub turned_rest : (t : LinkTimers) (at : ℕ) (s : Step) → IsAtRest s.link → IsAtRest (turned t at s).link
 unfolding turned sendable
 turned_rest t at s h = by_test (λ (o : Outcome). IsAtRest o.link) s.link.owed _ _
     (λ e. record { quiet = h.quiet; acknowledged = h.acknowledged })

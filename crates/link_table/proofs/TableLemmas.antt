@@ -5,7 +5,7 @@ use Rattle.std.proofs.lemmas.Bool.{cases_eq}
 use Rattle.std.proofs.lemmas.List.{length-append, length-replicate}
 use Rattle.link_frames.specs.declared.frame.Frame.{Frame}
 use Rattle.link_frames.specs.Reading.{IsNumbered}
-use Rattle.link_procedures.specs.declared.state.Timers.{Timers}
+use Rattle.link_procedures.specs.declared.state.LinkTimers.{LinkTimers}
 use Rattle.link_procedures.specs.Links.{DataLink, SendQueue, Step, step, initial}
 use Rattle.link_procedures.specs.Sending.{finished}
 use Rattle.link_procedures.specs.Establishment.{Outcome, submitted}
@@ -244,7 +244,7 @@ finished_table t line at l links lines frames h on e links_are frames_are lines_
 
 -- ---- the turn of a link
 
-pub turned_table : (t : Table) (timers : Timers) (line at : ℕ) (l : DataLink) (links : List (Option DataLink)) (lines : List ℕ) (frames : List (List ℕ))
+pub turned_table : (t : Table) (timers : LinkTimers) (line at : ℕ) (l : DataLink) (links : List (Option DataLink)) (lines : List ℕ) (frames : List (List ℕ))
     → IsTable t → t.receiving ≡ None → t.frames ≡ [] → IsLinkOf t.links line l
     → links ≡ with_link line (turned timers at (step l t.frames)).link t.links → frames ≡ (turned timers at (step l t.frames)).out
     → lines ≡ marked line t.lines frames → length frames ≤ length t.frames + 1

@@ -6,7 +6,7 @@ use Rattle.link_frames.specs.declared.frame.Sender.TheVariants.{User}
 use Rattle.link_frames.specs.declared.frame.Frame.{Frame}
 use Rattle.link_frames.specs.Reading.{reading}
 use Rattle.link_frames.specs.Writing.{information_in}
-use Rattle.link_procedures.specs.declared.state.Timers.{Timers}
+use Rattle.link_procedures.specs.declared.state.LinkTimers.{LinkTimers}
 use Rattle.link_procedures.specs.declared.state.Indication.{Indication}
 use Rattle.link_procedures.specs.declared.state.Indication.TheVariants as indication
 use Rattle.link_procedures.specs.Links.{DataLink, Step, step}
@@ -98,12 +98,12 @@ ended at t = finished_at t.receiving at t
 abbrev pub line_of_turn : ℕ → ℕ
 line_of_turn at = at % 32
 
-abbrev pub turned_in : ℕ → Option DataLink → Timers → ℕ → Table → Table
+abbrev pub turned_in : ℕ → Option DataLink → LinkTimers → ℕ → Table → Table
 turned_in line None timers at t = t
 turned_in line (Some l) timers at t = after line (turned timers at (step l t.frames)) t
 
 -- the start of a step
-abbrev pub turned_at : Timers → ℕ → Table → Table
+abbrev pub turned_at : LinkTimers → ℕ → Table → Table
 turned_at timers at t = turned_in (line_of_turn at) (link_of (line_of_turn at) t) timers at (begun t)
 
 -- a turn delivers no message
@@ -113,9 +113,9 @@ change_of (Some indication.Data) = None
 change_of (Some indication.Established) = Some Up
 change_of (Some indication.Released) = Some Down
 
-abbrev pub changed_in : Option DataLink → Timers → ℕ → Option Change
+abbrev pub changed_in : Option DataLink → LinkTimers → ℕ → Option Change
 changed_in None timers at = None
 changed_in (Some l) timers at = change_of (turned timers at (step l [])).indication
 
-abbrev pub changed_at : Timers → ℕ → Table → Option Change
+abbrev pub changed_at : LinkTimers → ℕ → Table → Option Change
 changed_at timers at t = changed_in (link_of (line_of_turn at) t) timers at

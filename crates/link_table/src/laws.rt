@@ -1,6 +1,6 @@
 // Theorems on the definitions: these functions do nothing, and their contracts are the theorems.
 ghost use Rattle.std.specs.Prelude.{◌≡◌, ◌≢◌, ◌≤◌, ◌+◌, ℕ, List, Some, length};
-ghost use Rattle.link_procedures.specs.declared.state.Timers.{Timers};
+ghost use Rattle.link_procedures.specs.declared.state.LinkTimers.{LinkTimers};
 ghost use Rattle.link_procedures.specs.Links.{Step};
 ghost use Rattle.link_procedures.specs.Sending.{finished};
 ghost use Rattle.link_procedures.specs.Establishment.{submitted};
@@ -16,7 +16,7 @@ pub fn law_of_rest()
     ensures unchanged { (at : ℕ) (s : Step) → IsAtRest s.link → finished at s ≡ s }
     ensures submitted { (m : List ℕ) (at : ℕ) (s : Step) → IsAtRest s.link → IsAtRest (submitted m at s).link }
     ensures one { (m : List ℕ) (at : ℕ) (s : Step) → IsAtRest s.link → length (submitted m at s).out ≤ length s.out + 1 }
-    ensures turned { (t : Timers) (at : ℕ) (s : Step) → IsAtRest s.link → IsAtRest (turned t at s).link }
+    ensures turned { (t : LinkTimers) (at : ℕ) (s : Step) → IsAtRest s.link → IsAtRest (turned t at s).link }
 {}
 
 /// A step of the link of one line leaves the links of all other lines unchanged.
@@ -27,6 +27,6 @@ pub fn law_of_other_lines()
         → link_of other (spec.submitted_on line m at t) ≡ link_of other t }
     ensures finished { (other at : ℕ) (t : Table) → t.receiving ≢ Some other
         → link_of other (spec.ended at t) ≡ link_of other t }
-    ensures turned { (other at : ℕ) (timers : Timers) (t : Table) → other ≢ spec.line_of_turn at
+    ensures turned { (other at : ℕ) (timers : LinkTimers) (t : Table) → other ≢ spec.line_of_turn at
         → link_of other (spec.turned_at timers at t) ≡ link_of other t }
 {}

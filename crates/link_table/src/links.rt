@@ -9,7 +9,7 @@ ghost use Rattle.link_procedures.specs.Timing as timing;
 ghost use Rattle.link_table.specs.Tables.{IsLinked, IsLinkOf, with_link};
 
 use link_frames::Frame;
-use link_procedures::{Indication, Link, Outbox, Timers};
+use link_procedures::{FrameOutbox, Indication, Link, LinkTimers};
 
 // The link of a line receives a frame. Returns its indication.
 pub(crate) fn receive_on(
@@ -17,7 +17,7 @@ pub(crate) fn receive_on(
     line: u8,
     frame: &Frame,
     at: u32,
-    out: &mut Outbox,
+    out: &mut FrameOutbox,
 ) -> Option<Indication>
     requires linked { IsLinked links.old.items line }
     requires numbered { IsNumbered frame.now.control }
@@ -42,7 +42,7 @@ pub(crate) fn submit_on(
     line: u8,
     octets: &[u8],
     at: u32,
-    out: &mut Outbox,
+    out: &mut FrameOutbox,
 )
     requires linked { IsLinked links.old.items line }
     requires short { length octets.now ≤ 112 }
@@ -60,7 +60,7 @@ pub(crate) fn submit_on(
 }
 
 // The link of a line ends its step.
-pub(crate) fn finish_on(links: &mut Vec<Option<Link>>, line: u8, at: u32, out: &mut Outbox)
+pub(crate) fn finish_on(links: &mut Vec<Option<Link>>, line: u8, at: u32, out: &mut FrameOutbox)
     requires linked { IsLinked links.old.items line }
     requires room { length out.old + 8 ≤ 80 }
     ensures link { (l : DataLink) → IsLinkOf links.old.items line l
@@ -79,9 +79,9 @@ pub(crate) fn finish_on(links: &mut Vec<Option<Link>>, line: u8, at: u32, out: &
 pub(crate) fn turn_on(
     links: &mut Vec<Option<Link>>,
     line: u8,
-    timers: &Timers,
+    timers: &LinkTimers,
     at: u32,
-    out: &mut Outbox,
+    out: &mut FrameOutbox,
 ) -> Option<Indication>
     requires linked { IsLinked links.old.items line }
     requires room { length out.old + 1 ≤ 80 }

@@ -5,8 +5,8 @@ ghost use Rattle.link_table.specs.Steps as spec;
 use crate::links::{finish_on, receive_on, submit_on, turn_on};
 use crate::notice::{Change, NoLinkError, Notice, change_of, notice_of};
 use crate::table::{LINES, LinkTable, mark};
-use link_frames::{Sender, read};
-use link_procedures::Timers;
+use link_frames::{Sender, read_frame};
+use link_procedures::LinkTimers;
 
 impl LinkTable {
     /// Begins a step without a received frame.
@@ -38,7 +38,7 @@ impl LinkTable {
         if !self.has_link(line) {
             return Err(NoLinkError);
         }
-        let Some(frame) = read(Sender::User, octets) else {
+        let Some(frame) = read_frame(Sender::User, octets) else {
             return Ok(None);
         };
         let indication = receive_on(&mut self.links, line, &frame, at, &mut self.frames);
@@ -82,7 +82,7 @@ impl LinkTable {
 
     /// Begins a step with the turn of a link in a frame of the exchange, and returns the change of the link. In frame f
     /// it is the link of line f modulo 32.
-    pub fn turn(&mut self, timers: &Timers, at: u32) -> Option<Change>
+    pub fn turn(&mut self, timers: &LinkTimers, at: u32) -> Option<Change>
         requires { self.old.receiving ≡ None }
         ensures table { self.new ≡ spec.turned_at timers.now at self.old }
         ensures change { result ≡ spec.changed_at timers.now at self.old }

@@ -6,7 +6,7 @@ ghost use Rattle.link_table.specs.Rest.{IsTable};
 
 use arrayvec::ArrayVec;
 use link_frames::FrameOctets;
-use link_procedures::{Link, MAX_FRAMES, Outbox};
+use link_procedures::{FrameOutbox, Link, MAX_FRAMES};
 use std::alloc::{AllocError, Global};
 use std::marker::Model;
 
@@ -21,7 +21,7 @@ pub struct LinkTable {
     pub(crate) receiving: Option<u8>,
     pub(crate) messages: u8,
     pub(crate) lines: ArrayVec<u8, MAX_FRAMES>,
-    pub(crate) frames: Outbox,
+    pub(crate) frames: FrameOutbox,
 }
 
 impl Model for LinkTable {
@@ -49,7 +49,7 @@ impl LinkTable {
             receiving: None,
             messages: 0,
             lines: ArrayVec::new(),
-            frames: Outbox::new(),
+            frames: FrameOutbox::new(),
         })
     }
 
@@ -122,7 +122,7 @@ fn new_links(alloc: Global, linked: &[bool], at: u32) -> Result<Vec<Option<Link>
 }
 
 // Appends the line for each frame that has none yet.
-pub(crate) fn mark(lines: &mut ArrayVec<u8, MAX_FRAMES>, line: u8, frames: &Outbox)
+pub(crate) fn mark(lines: &mut ArrayVec<u8, MAX_FRAMES>, line: u8, frames: &FrameOutbox)
     requires { length frames.now ≤ 80 }
     ensures marked { lines.new.items ≡ marked line lines.old.items frames.now }
 {

@@ -18,7 +18,7 @@ use Rattle.exchange_events.specs.Sound.{Fits, IsPlanned}
 use Rattle.call_profile.specs.Step.{next, reply, world_after_all}
 use Rattle.call_profile.specs.World.{World}
 use Rattle.call_profile.proofs.QuietEventLemmas.{SameFrames-next}
-use Rattle.link_procedures.specs.declared.state.Timers.{Timers}
+use Rattle.link_procedures.specs.declared.state.LinkTimers.{LinkTimers}
 use Rattle.link_table.specs.declared.notice.Change.{Change}
 use Rattle.link_table.specs.declared.notice.Change.TheVariants.{Up, Down}
 use Rattle.link_table.specs.declared.notice.NoLinkError.{NoLinkError}
@@ -190,7 +190,7 @@ module _ {P E : Type 0} (carries : Carrying E) (frames : E → ℕ) (sizes : E �
   pub time_at : x.exchange.control.map.next ≡ j.world.holding.next
   time_at = frames_at carries frames sizes x.exchange s j.world before.exchange
 
-  module _ (timers : Timers) (i : LinkedInput) (es : List Event) (is : es ≡ derived timers j i) (got : Response) where
+  module _ (timers : LinkTimers) (i : LinkedInput) (es : List Event) (is : es ≡ derived timers j i) (got : Response) where
     -- the reply to the event of the step
     pub replied_by : (out : Outbox) → reply_of got out ≡ reply_to s j.world es → reply_of got out ≡ reply_to s j.world (derived timers j i)
     replied_by out replied = replied ∙ ap (reply_to s j.world) is

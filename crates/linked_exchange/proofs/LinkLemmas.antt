@@ -6,7 +6,7 @@ use Rattle.exchange_events.specs.declared.signal.Signal.{Signal}
 use Rattle.link_frames.specs.declared.frame.Frame.{Frame}
 use Rattle.link_frames.specs.declared.frame.Sender.TheVariants.{User}
 use Rattle.link_frames.specs.Reading.{reading}
-use Rattle.link_procedures.specs.declared.state.Timers.{Timers}
+use Rattle.link_procedures.specs.declared.state.LinkTimers.{LinkTimers}
 use Rattle.link_procedures.specs.Links.{DataLink}
 use Rattle.link_table.specs.Tables.{Table, IsLinkOf, link_of, new_link, new_table}
 use Rattle.link_table.specs.Steps.{begun, received_in, received_on, submitted_in, submitted_on, finished_in, finished_at, ended, turned_in, turned_at, line_of_turn}
@@ -34,14 +34,14 @@ finished_size : (line : ℕ) (o : Option DataLink) (at : ℕ) (t : Table) → le
 finished_size line None at t = refl
 finished_size line (Some l) at t = length-set t.links line (Some _)
 
-turned_size : (line : ℕ) (o : Option DataLink) (timers : Timers) (at : ℕ) (t : Table) → length (turned_in line o timers at t).links ≡ length t.links
+turned_size : (line : ℕ) (o : Option DataLink) (timers : LinkTimers) (at : ℕ) (t : Table) → length (turned_in line o timers at t).links ≡ length t.links
 turned_size line None timers at t = refl
 turned_size line (Some l) timers at t = length-set t.links line (Some _)
 
 pub size-received_on : (line : ℕ) (octets : List ℕ) (at : ℕ) (t : Table) → length (received_on line octets at t).links ≡ length t.links
 size-received_on line octets at t = received_size line (link_of line t) (reading User octets) at (begun t)
 
-pub size-turned_at : (timers : Timers) (at : ℕ) (t : Table) → length (turned_at timers at t).links ≡ length t.links
+pub size-turned_at : (timers : LinkTimers) (at : ℕ) (t : Table) → length (turned_at timers at t).links ≡ length t.links
 size-turned_at timers at t = turned_size (line_of_turn at) (link_of (line_of_turn at) t) timers at (begun t)
 
 pub size-submitted_all : (at : ℕ) (ms : List Signal) (t : Table) → length (submitted_all at ms t).links ≡ length t.links
@@ -70,11 +70,11 @@ unfolding submitted_all
 receiving-submitted_all at [] t = refl
 receiving-submitted_all at (m ∷ ms) t = receiving-submitted_all at ms (submitted_on m.line m.octets at t) ∙ submitted_receiving m.line (link_of m.line t) m.octets at t
 
-turned_receiving : (line : ℕ) (o : Option DataLink) (timers : Timers) (at : ℕ) (t : Table) → (turned_in line o timers at t).receiving ≡ t.receiving
+turned_receiving : (line : ℕ) (o : Option DataLink) (timers : LinkTimers) (at : ℕ) (t : Table) → (turned_in line o timers at t).receiving ≡ t.receiving
 turned_receiving line None timers at t = refl
 turned_receiving line (Some l) timers at t = refl
 
-pub receiving-turned_at : (timers : Timers) (at : ℕ) (t : Table) → (turned_at timers at t).receiving ≡ t.receiving
+pub receiving-turned_at : (timers : LinkTimers) (at : ℕ) (t : Table) → (turned_at timers at t).receiving ≡ t.receiving
 receiving-turned_at timers at t = turned_receiving (line_of_turn at) (link_of (line_of_turn at) t) timers at (begun t)
 
 receiving_ended : (r : Option ℕ) (at : ℕ) (t : Table) → t.receiving ≡ r → (finished_at r at t).receiving ≡ None
@@ -105,11 +105,11 @@ received_count line (Some l) (Some f) at t = refl
 pub messages-received_on : (line : ℕ) (octets : List ℕ) (at : ℕ) (t : Table) → (received_on line octets at t).messages ≡ 0
 messages-received_on line octets at t = received_count line (link_of line t) (reading User octets) at (begun t)
 
-turned_count : (line : ℕ) (o : Option DataLink) (timers : Timers) (at : ℕ) (t : Table) → (turned_in line o timers at t).messages ≡ t.messages
+turned_count : (line : ℕ) (o : Option DataLink) (timers : LinkTimers) (at : ℕ) (t : Table) → (turned_in line o timers at t).messages ≡ t.messages
 turned_count line None timers at t = refl
 turned_count line (Some l) timers at t = refl
 
-pub messages-turned_at : (timers : Timers) (at : ℕ) (t : Table) → (turned_at timers at t).messages ≡ 0
+pub messages-turned_at : (timers : LinkTimers) (at : ℕ) (t : Table) → (turned_at timers at t).messages ≡ 0
 messages-turned_at timers at t = turned_count (line_of_turn at) (link_of (line_of_turn at) t) timers at (begun t)
 
 -- ---- one message more

@@ -25,7 +25,7 @@ use Rattle.circuit_model.specs.Ports.{port_of, ports_with}
 use Rattle.circuit_model.specs.declared.channel.Slot.{Slot}
 use Rattle.call_profile.proofs.QuietEventLemmas.{SameFrames-next}
 use Rattle.call_profile.proofs.RunLemmas.{world_next}
-use Rattle.link_procedures.specs.declared.state.Timers.{Timers as Link_timers}
+use Rattle.link_procedures.specs.declared.state.LinkTimers.{LinkTimers}
 use Rattle.link_table.specs.declared.notice.Change.{Change}
 use Rattle.link_table.specs.declared.notice.Change.TheVariants.{Up, Down}
 use Rattle.link_table.specs.declared.notice.NoLinkError.{NoLinkError}
@@ -99,7 +99,7 @@ noticed_framed s w line (Ok None) n sends records is = absurd (cc)
 noticed_framed s w line (Err e) n sends records is = absurd (cc)
 
 -- an input has the response to a frame only if it is a frame
-pub frame_input : (s : Setting) (timers : Link_timers) (j : Joint) (e : LinkedEvent) (n : ℕ) (out : Outbox) → reply_of (response.Frame n) out ≡ reply_to s j.world (derived timers j (input_of e))
+pub frame_input : (s : Setting) (timers : LinkTimers) (j : Joint) (e : LinkedEvent) (n : ℕ) (out : Outbox) → reply_of (response.Frame n) out ≡ reply_to s j.world (derived timers j (input_of e))
     → (input : Input) × (input_of e ≡ Happens (Frame input))
 frame_input s timers j (event.Event e) n out is = let found = framed_is s j.world e.now n out.sends out.records is in (found.0, ap Happens found.1)
 frame_input s timers j (event.Received line octets) n out is = absurd (noticed_framed s j.world line (noticed_on line octets.now (frames_so_far j) j.links) n out.sends out.records is)
@@ -136,7 +136,7 @@ no_frame_reply response.Sent out n sends records other is = absurd (cc)
 no_frame_reply (response.Frame m) out n sends records other is = other m refl
 
 -- an input has another response only if it is not a frame
-pub other_input : (s : Setting) (timers : Link_timers) (j : Joint) (e : LinkedEvent) (r : Response) (out : Outbox) → ((m : ℕ) → r ≡ response.Frame m → ⊥)
+pub other_input : (s : Setting) (timers : LinkTimers) (j : Joint) (e : LinkedEvent) (r : Response) (out : Outbox) → ((m : ℕ) → r ≡ response.Frame m → ⊥)
     → reply_of r out ≡ reply_to s j.world (derived timers j (input_of e)) → IsNoFrame (input_of e)
 other_input s timers j (event.Event e) r out other is input frame =
     let same : e.now ≡ Frame input = grind (arith, frame) in
@@ -144,7 +144,7 @@ other_input s timers j (event.Event e) r out other is input frame =
     no_frame_reply r out j.world.holding.next a.making.sends a.recorded other (is ∙ ap (λ (f : Event). reply s j.world f) same)
 other_input s timers j (event.Received line octets) r out other is input frame = absurd (grind (arith, frame))
 
-module _ (p : Played) (s : Setting) (timers : Link_timers) (j : Joint) (n : ℕ) where
+module _ (p : Played) (s : Setting) (timers : LinkTimers) (j : Joint) (n : ℕ) where
   plain_steps : (e : Event) → IsNoFrame (Happens e)
       → linked_steps p s timers j n (Plain (Said_happens e) ∷ []) ≡ Event_done (text_of s timers j (n + 1) (Happens e)) (calls_of s timers j (Happens e)) ∷ []
   plain_steps (Nail x y) other = refl
@@ -216,7 +216,7 @@ known_event told e =
 
 -- ---- events of steps
 
-derived-append : (s : Setting) (timers : Link_timers) (j : Joint) (is more : List LinkedInput)
+derived-append : (s : Setting) (timers : LinkTimers) (j : Joint) (is more : List LinkedInput)
     → derived_all s timers j (is ++ more) ≡ derived_all s timers j is ++ derived_all s timers (joint_after_all s timers j is) more
 derived-append s timers j [] more = refl
 derived-append s timers j (i ∷ is) more =
@@ -224,7 +224,7 @@ derived-append s timers j (i ∷ is) more =
     ap (λ (es : List Event). derived timers j i ++ es) (derived-append s timers later is more)
     ∙ sym (append_assoc (derived timers j i) (derived_all s timers later is) (derived_all s timers (joint_after_all s timers later is) more))
 
-trace-append : (s : Setting) (timers : Link_timers) (row : List Bool) (is more : List LinkedInput)
+trace-append : (s : Setting) (timers : LinkTimers) (row : List Bool) (is more : List LinkedInput)
     → derived_trace s timers row (is ++ more) ≡ derived_trace s timers row is ++ derived_all s timers (joint_after_all s timers (start_joint s row) is) more
 trace-append s timers row is more =
     ap (λ (es : List Event). links_down 0 row ++ es) (derived-append s timers (start_joint s row) is more)
@@ -245,7 +245,7 @@ changed_one : (line : ℕ) (o : Option Change) → length (changed_events line o
 changed_one line (Some change) = omega arith
 changed_one line None = omega arith
 
-derived_one : (timers : Link_timers) (j : Joint) (i : LinkedInput) → length (derived timers j i) ≤ 1
+derived_one : (timers : LinkTimers) (j : Joint) (i : LinkedInput) → length (derived timers j i) ≤ 1
 derived_one timers j (Happens e) = omega arith
 derived_one timers j (Receives line octets) = noticed_one line (noticed_on line octets (frames_so_far j) j.links)
 derived_one timers j Turns = changed_one (line_of_turn (frames_so_far j)) (changed_at timers (frames_so_far j) j.links)
@@ -254,10 +254,10 @@ few_then : (n : ℕ) (s : Setting) (w : World) (es fs : List Event) → All (Mov
 few_then n s w es fs first second =
     subst (All (MovesAtMost n)) (sym (run-append s w es fs)) (All-append (MovesAtMost n) (run s w es) (run s (world_after_all s w es) fs) first second)
 
-pub step_few : (n : ℕ) (s : Setting) (timers : Link_timers) (j : Joint) (i : LinkedInput) → MovesAtMost n (reply_to s j.world (derived timers j i)) → All (MovesAtMost n) (run s j.world (derived_all s timers j (i ∷ [])))
+pub step_few : (n : ℕ) (s : Setting) (timers : LinkTimers) (j : Joint) (i : LinkedInput) → MovesAtMost n (reply_to s j.world (derived timers j i)) → All (MovesAtMost n) (run s j.world (derived_all s timers j (i ∷ [])))
 step_few n s timers j i few = subst (λ (es : List Event). All (MovesAtMost n) (run s j.world es)) (sym (append-nil (derived timers j i))) (one_few n s j.world (derived timers j i) few (derived_one timers j i))
 
-pub steps_few : (n : ℕ) (s : Setting) (timers : Link_timers) (j : Joint) (i k : LinkedInput) → MovesAtMost n (reply_to s j.world (derived timers j i))
+pub steps_few : (n : ℕ) (s : Setting) (timers : LinkTimers) (j : Joint) (i k : LinkedInput) → MovesAtMost n (reply_to s j.world (derived timers j i))
     → MovesAtMost n (reply_to s (next_joint s timers j i).world (derived timers (next_joint s timers j i) k)) → All (MovesAtMost n) (run s j.world (derived_all s timers j (i ∷ k ∷ [])))
 steps_few n s timers j i k first second =
     let later = next_joint s timers j i in
@@ -280,17 +280,17 @@ changed_frames s w line (Some Up) = other_frames s w (LinkUp line) (up_no_frame 
 changed_frames s w line (Some Down) = other_frames s w (LinkDown line) (down_no_frame line)
 changed_frames s w line None = refl
 
-pub turn_frames : (s : Setting) (timers : Link_timers) (j : Joint) → (next_joint s timers j Turns).world.holding.next ≡ j.world.holding.next
+pub turn_frames : (s : Setting) (timers : LinkTimers) (j : Joint) → (next_joint s timers j Turns).world.holding.next ≡ j.world.holding.next
 turn_frames s timers j = ap (λ (w : World). w.holding.next) (next_world s timers j Turns) ∙ changed_frames s j.world (line_of_turn (frames_so_far j)) (changed_at timers (frames_so_far j) j.links)
 
-pub step_frames : (s : Setting) (timers : Link_timers) (j : Joint) (i : LinkedInput) → (next_joint s timers j i).world.holding.next ≤ j.world.holding.next + 1
+pub step_frames : (s : Setting) (timers : LinkTimers) (j : Joint) (i : LinkedInput) → (next_joint s timers j i).world.holding.next ≤ j.world.holding.next + 1
 step_frames s timers j i =
     let grows = world_next s j.world (derived timers j i) in
     let one = derived_one timers j i in
     let same = ap (λ (w : World). w.holding.next) (next_world s timers j i) in
     omega (arith, grows, one, same)
 
-event_frames : (s : Setting) (timers : Link_timers) (j : Joint) (e : Event) → (joint_after_all s timers j (inputs_of e)).world.holding.next ≤ j.world.holding.next + 1
+event_frames : (s : Setting) (timers : LinkTimers) (j : Joint) (e : Event) → (joint_after_all s timers j (inputs_of e)).world.holding.next ≤ j.world.holding.next + 1
 event_frames s timers j (Nail x y) = step_frames s timers j (Happens (Nail x y))
 event_frames s timers j (Seat x room) = step_frames s timers j (Happens (Seat x room))
 event_frames s timers j (Free x) = step_frames s timers j (Happens (Free x))
@@ -303,7 +303,7 @@ event_frames s timers j (Frame input) =
     let second = turn_frames s timers (next_joint s timers j (Happens (Frame input))) in
     omega (arith, first, second)
 
-all_frames : (s : Setting) (timers : Link_timers) (j : Joint) (told : List Content) → (joint_after_all s timers j (inputs_in told)).world.holding.next ≤ j.world.holding.next + length (events_in (plain_told told))
+all_frames : (s : Setting) (timers : LinkTimers) (j : Joint) (told : List Content) → (joint_after_all s timers j (inputs_in told)).world.holding.next ≤ j.world.holding.next + length (events_in (plain_told told))
 all_frames s timers j [] = omega arith
 all_frames s timers j (Plain (Said_happens e) ∷ told) =
     let first = event_frames s timers j e in

@@ -25,7 +25,7 @@ use Rattle.call_profile.specs.Step.{MovesAtMost, run}
 use Rattle.call_profile.specs.World.{World, pass, start}
 use Rattle.call_profile.proofs.QuietEventLemmas.{passed_same}
 use Rattle.report_text.proofs.Rows.{sent_same}
-use Rattle.link_procedures.specs.declared.state.Timers.{Timers as Link_timers}
+use Rattle.link_procedures.specs.declared.state.LinkTimers.{LinkTimers}
 use Rattle.linked_text.specs.LinkReport.{frame_end}
 use Rattle.meters.specs.Changing.{Event_done, records_of}
 use Rattle.meters.proofs.Told.{told_front-append, told-then}
@@ -69,7 +69,7 @@ pub record IsSettingOf (heading : LinkSoFar) (settings : Settings) : Type 0 wher
   pub link_timers : settings.link_timers.now ≡ link_timers_by heading.timers
 
 -- settings that lend these values, at any place
-abbrev pub settings_of : List Number → Tones → Timers → Link_timers → Settings
+abbrev pub settings_of : List Number → Tones → Timers → LinkTimers → Settings
 settings_of plan tones timers link_timers = record {
   plan = record { ref_ptr = (0, 0); now = plan };
   tones = record { ref_ptr = (0, 0); now = tones };
@@ -77,7 +77,7 @@ settings_of plan tones timers link_timers = record {
   link_timers = record { ref_ptr = (0, 0); now = link_timers };
 }
 
-pub settings_are : (heading : LinkSoFar) (plain : SoFar) (plan : List Number) (tones : Tones) (timers : Timers) (link_timers : Link_timers) → plain ≡ heading.plain → plan ≡ plain.plan → tones ≡ plain.tones
+pub settings_are : (heading : LinkSoFar) (plain : SoFar) (plan : List Number) (tones : Tones) (timers : Timers) (link_timers : LinkTimers) → plain ≡ heading.plain → plan ≡ plain.plan → tones ≡ plain.tones
     → timers ≡ timers_by plain.timers → link_timers ≡ link_timers_by heading.timers → IsSettingOf heading (settings_of plan tones timers link_timers)
 settings_are heading plain plan tones timers link_timers same plans toned timed links = record {
   plan = plans ∙ ap (λ (k : SoFar). k.plan) same;
@@ -195,7 +195,7 @@ module _ {P E : Type 0} (carries : Carrying E) (frames : E → ℕ) (sizes : E �
         omega (arith, same, most, few)
 
     -- and the turn after it
-    pub turn_room : (timers : Link_timers) (y : LinkedExchange P E) → IsLinkedAt carries frames sizes y (setting_in_turn slots z told) (next_joint (setting_in_turn slots z told) timers (joint_said slots z told) (input_of e))
+    pub turn_room : (timers : LinkTimers) (y : LinkedExchange P E) → IsLinkedAt carries frames sizes y (setting_in_turn slots z told) (next_joint (setting_in_turn slots z told) timers (joint_said slots z told) (input_of e))
         → y.exchange.control.map.next < 4294967295
     turn_room timers y at =
         let s = setting_in_turn slots z told in
@@ -208,7 +208,7 @@ module _ {P E : Type 0} (carries : Carrying E) (frames : E → ℕ) (sizes : E �
 -- ---- a step
 
 -- the records that the exchange returns after it
-pub step_records : (s : Setting) (timers : Link_timers) (j : Joint) (i : LinkedInput) (r : Response) (out : Outbox) (calls : List CallRecord) → calls ≡ calls_kept (kept_of (reply_of r out))
+pub step_records : (s : Setting) (timers : LinkTimers) (j : Joint) (i : LinkedInput) (r : Response) (out : Outbox) (calls : List CallRecord) → calls ≡ calls_kept (kept_of (reply_of r out))
     → reply_of r out ≡ reply_to s j.world (derived timers j i) → calls ≡ calls_of s timers j i
 step_records s timers j i r out calls are is = are ∙ ap (λ (o : Reply). calls_kept (kept_of o)) is
 
@@ -253,7 +253,7 @@ module _ {M P E : Type 0} (plays : Plays) (carries : Carrying E) (frames : E →
   abbrev j : Joint
   j = joint_said slots z told
 
-  abbrev given_timers : Link_timers
+  abbrev given_timers : LinkTimers
   given_timers = settings.link_timers.now
 
   abbrev step_line : List ℕ
@@ -290,9 +290,9 @@ module _ {M P E : Type 0} (plays : Plays) (carries : Carrying E) (frames : E →
         appended = row;
         noted = noted;
         running = running_after carries frames sizes slots moves told z e (input_of e ∷ []) (inputs_other e other) ready.given.some y
-            (subst (λ (v : Link_timers). IsLinkedAt carries frames sizes y s (next_joint s v j (input_of e))) same at) (bound ∙ limit) ready.running.few
+            (subst (λ (v : LinkTimers). IsLinkedAt carries frames sizes y s (next_joint s v j (input_of e))) same at) (bound ∙ limit) ready.running.few
             (step_few (moves (z.external + z.bridges)) s (link_timers_said told) j (input_of e)
-            (subst (λ (v : Link_timers). MovesAtMost (moves (z.external + z.bridges)) (reply_to s j.world (derived v j (input_of e)))) same
+            (subst (λ (v : LinkTimers). MovesAtMost (moves (z.external + z.bridges)) (reply_to s j.world (derived v j (input_of e)))) same
             (subst (λ (n : ℕ). MovesAtMost n (reply_to s j.world (derived given_timers j (input_of e)))) limit few)));
       }
 
@@ -344,8 +344,8 @@ module _ {M P E : Type 0} (plays : Plays) (carries : Carrying E) (frames : E →
               ∙ (append_assoc before (step_line ++ turn) (rows ++ codes "\n") ∙ ap (λ (l : List ℕ). before ++ l) (sym (append_assoc (step_line ++ turn) rows (codes "\n"))))));
           noted = noted;
           running = running_after carries frames sizes slots moves told z e (input_of e ∷ Turns ∷ []) (inputs_frame e input frame ∙ (λ i. sym frame i ∷ Turns ∷ [])) ready.given.some y
-              (subst (λ (v : Link_timers). IsLinkedAt carries frames sizes y s (next_joint s v (next_joint s v j (input_of e)) Turns)) same last) (bound_last ∙ (bound ∙ limit)) ready.running.few
-              (subst (λ (v : Link_timers). All (MovesAtMost n) (run s j.world (derived_all s v j (input_of e ∷ Turns ∷ [])))) same
+              (subst (λ (v : LinkTimers). IsLinkedAt carries frames sizes y s (next_joint s v (next_joint s v j (input_of e)) Turns)) same last) (bound_last ∙ (bound ∙ limit)) ready.running.few
+              (subst (λ (v : LinkTimers). All (MovesAtMost n) (run s j.world (derived_all s v j (input_of e ∷ Turns ∷ [])))) same
               (steps_few n s given_timers j (input_of e) Turns (subst (λ (m : ℕ). MovesAtMost m (reply_to s j.world (derived given_timers j (input_of e)))) limit few)
               (subst (λ (m : ℕ). MovesAtMost m (reply_to s later.world (derived given_timers later Turns))) (bound ∙ limit) few_last)));
         }

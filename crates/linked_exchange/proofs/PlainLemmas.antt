@@ -19,7 +19,7 @@ use Rattle.link_frames.specs.Reading.{reading, frame_of, frame_with, framed, com
 use Rattle.link_frames.specs.Writing.{information_in}
 use Rattle.link_procedures.specs.declared.state.Indication.{Indication}
 use Rattle.link_procedures.specs.declared.state.Indication.TheVariants.{Data, Established, Released}
-use Rattle.link_procedures.specs.declared.state.Timers.{Timers}
+use Rattle.link_procedures.specs.declared.state.LinkTimers.{LinkTimers}
 use Rattle.link_procedures.specs.Links.{DataLink, step}
 use Rattle.link_procedures.specs.Receiving.{received}
 use Rattle.link_procedures.specs.Timing.{turned}
@@ -147,7 +147,7 @@ change_events Q line (Some Data) up down = All-nil Q
 change_events Q line (Some Established) up down = one Q (LinkUp line) up
 change_events Q line (Some Released) up down = one Q (LinkDown line) down
 
-turn_events : (Q : Event → Type 0) (line at : ℕ) (timers : Timers) (links : List (Option DataLink)) (o : Option DataLink) → slice_index_or links line None ≡ o
+turn_events : (Q : Event → Type 0) (line at : ℕ) (timers : LinkTimers) (links : List (Option DataLink)) (o : Option DataLink) → slice_index_or links line None ≡ o
     → ((l : DataLink) → IsLinkOf links line l → Q (LinkUp line)) → ((l : DataLink) → IsLinkOf links line l → Q (LinkDown line)) → All Q (changed_events line (changed_in o timers at))
 turn_events Q line at timers links None e up down = All-nil Q
 turn_events Q line at timers links (Some l) e up down = change_events Q line (turned timers at (step l [])).indication (up l e) (down l e)
@@ -160,18 +160,18 @@ noticed_fits external line octets at t few all = linked_events (Fits external) l
     below : (l : DataLink) → IsLinkOf t.links line l → line < external
     below l e = let h = inside t.links line l e in omega (arith, h, few)
 
-pub changed_fits : (external : ℕ) (timers : Timers) (at : ℕ) (t : Table) → length t.links ≤ external → All (Fits external) (changed_events (line_of_turn at) (changed_at timers at t))
+pub changed_fits : (external : ℕ) (timers : LinkTimers) (at : ℕ) (t : Table) → length t.links ≤ external → All (Fits external) (changed_events (line_of_turn at) (changed_at timers at t))
 changed_fits external timers at t few = turn_events (Fits external) (line_of_turn at) at timers t.links (link_of (line_of_turn at) t) refl below below
   where
     below : (l : DataLink) → IsLinkOf t.links (line_of_turn at) l → line_of_turn at < external
     below l e = let h = inside t.links (line_of_turn at) l e in omega (arith, h, few)
 
-pub derived_fits : (external : ℕ) (timers : Timers) (j : Joint) (i : LinkedInput) → length j.links.links ≤ external → FitsLinked external i → All (Fits external) (derived timers j i)
+pub derived_fits : (external : ℕ) (timers : LinkTimers) (j : Joint) (i : LinkedInput) → length j.links.links ≤ external → FitsLinked external i → All (Fits external) (derived timers j i)
 derived_fits external timers j (Happens e) few fits = one (Fits external) e fits
 derived_fits external timers j (Receives line octets) few all = noticed_fits external line octets (frames_so_far j) j.links few all
 derived_fits external timers j Turns few is = changed_fits external timers (frames_so_far j) j.links few
 
-derived_short : (timers : Timers) (j : Joint) (i : LinkedInput) → IsShortInput i → All IsShortEvent (derived timers j i)
+derived_short : (timers : LinkTimers) (j : Joint) (i : LinkedInput) → IsShortInput i → All IsShortEvent (derived timers j i)
 derived_short timers j (Happens e) is = one IsShortEvent e is
 derived_short timers j (Receives line octets) is =
     linked_events IsShortEvent line octets j.links.links (λ l e m h. h.few) (λ l e. tt) (λ l e. tt) (link_of line j.links) (frames_so_far j) refl
@@ -180,19 +180,19 @@ derived_short timers j Turns is = let at = frames_so_far j in
 
 -- ---- the state after a step
 
-begun_size : (timers : Timers) (j : Joint) (i : LinkedInput) → length (links_begun timers j i).links ≡ length j.links.links
+begun_size : (timers : LinkTimers) (j : Joint) (i : LinkedInput) → length (links_begun timers j i).links ≡ length j.links.links
 begun_size timers j (Happens e) = refl
 begun_size timers j (Receives line octets) = size-received_on line octets (frames_so_far j) j.links
 begun_size timers j Turns = size-turned_at timers (frames_so_far j) j.links
 
-pub next_size : (s : Setting) (timers : Timers) (j : Joint) (i : LinkedInput) → length (next_joint s timers j i).links.links ≡ length j.links.links
+pub next_size : (s : Setting) (timers : LinkTimers) (j : Joint) (i : LinkedInput) → length (next_joint s timers j i).links.links ≡ length j.links.links
 unfolding next_joint
 next_size s timers j i =
     let at = (world_after s timers j i).holding.next in
     let sends = sends_of (reply_to s j.world (derived timers j i)) in
     size-ended at (submitted_all at sends (links_begun timers j i)) ∙ (size-submitted_all at sends (links_begun timers j i) ∙ begun_size timers j i)
 
-pub next_world : (s : Setting) (timers : Timers) (j : Joint) (i : LinkedInput) → (next_joint s timers j i).world ≡ world_after_all s j.world (derived timers j i)
+pub next_world : (s : Setting) (timers : LinkTimers) (j : Joint) (i : LinkedInput) → (next_joint s timers j i).world ≡ world_after_all s j.world (derived timers j i)
 unfolding next_joint
 next_world s timers j i = refl
 
@@ -206,21 +206,21 @@ run-append : (s : Setting) (w : World) (es fs : List Event) → run s w (es ++ f
 run-append s w [] fs = refl
 run-append s w (e ∷ es) fs = ap (λ rs. reply s w e ∷ rs) (run-append s (next s w e) es fs)
 
-pub all_world : (s : Setting) (timers : Timers) (j : Joint) (is : List LinkedInput) → (joint_after_all s timers j is).world ≡ world_after_all s j.world (derived_all s timers j is)
+pub all_world : (s : Setting) (timers : LinkTimers) (j : Joint) (is : List LinkedInput) → (joint_after_all s timers j is).world ≡ world_after_all s j.world (derived_all s timers j is)
 all_world s timers j [] = refl
 all_world s timers j (i ∷ is) =
     let later = next_joint s timers j i in
     all_world s timers later is ∙ (ap (λ w. world_after_all s w (derived_all s timers later is)) (next_world s timers j i)
     ∙ sym (world-append s j.world (derived timers j i) (derived_all s timers later is)))
 
-all_replies : (s : Setting) (timers : Timers) (j : Joint) (is : List LinkedInput) → replies_all s timers j is ≡ run s j.world (derived_all s timers j is)
+all_replies : (s : Setting) (timers : LinkTimers) (j : Joint) (is : List LinkedInput) → replies_all s timers j is ≡ run s j.world (derived_all s timers j is)
 all_replies s timers j [] = refl
 all_replies s timers j (i ∷ is) =
     let later = next_joint s timers j i in
     ap (λ rs. run s j.world (derived timers j i) ++ rs) (all_replies s timers later is ∙ ap (λ w. run s w (derived_all s timers later is)) (next_world s timers j i))
     ∙ sym (run-append s j.world (derived timers j i) (derived_all s timers later is))
 
-module _ (s : Setting) (timers : Timers) where
+module _ (s : Setting) (timers : LinkTimers) where
   all_fits : (j : Joint) (is : List LinkedInput) → length j.links.links ≤ s.dimensions.external → All (FitsLinked s.dimensions.external) is
       → All (Fits s.dimensions.external) (derived_all s timers j is)
   all_fits j [] few fit = All-nil (Fits s.dimensions.external)
@@ -254,7 +254,7 @@ down_short line (false ∷ rest) = down_short (line + 1) rest
 
 -- ---- the theorem
 
-module _ (s : Setting) (timers : Timers) (linked : List Bool) (is : List LinkedInput) where
+module _ (s : Setting) (timers : LinkTimers) (linked : List Bool) (is : List LinkedInput) where
   pub trace_fits : length linked ≤ s.dimensions.external → All (FitsLinked s.dimensions.external) is → All (Fits s.dimensions.external) (derived_trace s timers linked is)
   trace_fits few fit =
       let size = size-new_table linked 0 in

@@ -10,7 +10,7 @@ use Rattle.exchange_events.specs.declared.trace.Event.{Event}
 use Rattle.exchange_events.specs.declared.trace.Event.TheVariants.{Nail, Seat, Free, Message, LinkUp, LinkDown, RestartLine, Frame}
 use Rattle.exchange_events.specs.Sizes.{Setting}
 use Rattle.call_profile.specs.World.{World, start}
-use Rattle.link_procedures.specs.declared.state.Timers.{Timers as Link_timers}
+use Rattle.link_procedures.specs.declared.state.LinkTimers.{LinkTimers}
 use Rattle.report_text.specs.RunReport.{Played}
 use Rattle.meters.specs.Changing.{Step, Event_done, Meters_changed}
 use Rattle.trace_text.specs.declared.said.Said.{Said}
@@ -68,12 +68,12 @@ plain_placed k (On_link (Link_timed given)) placed = tt
 
 -- ---- inputs
 
-pub joint-append : (s : Setting) (timers : Link_timers) (j : Joint) (is more : List LinkedInput)
+pub joint-append : (s : Setting) (timers : LinkTimers) (j : Joint) (is more : List LinkedInput)
     → joint_after_all s timers j (is ++ more) ≡ joint_after_all s timers (joint_after_all s timers j is) more
 joint-append s timers j [] more = refl
 joint-append s timers j (i ∷ is) more = joint-append s timers (next_joint s timers j i) is more
 
-pub after_inputs : (p : Played) (s : Setting) (timers : Link_timers) (j : Joint) (e : Event) → after_happened p s timers j e ≡ joint_after_all s timers j (inputs_of e)
+pub after_inputs : (p : Played) (s : Setting) (timers : LinkTimers) (j : Joint) (e : Event) → after_happened p s timers j e ≡ joint_after_all s timers j (inputs_of e)
 after_inputs p s timers j (Nail one other) = refl
 after_inputs p s timers j (Seat at number) = refl
 after_inputs p s timers j (Free at) = refl
@@ -117,7 +117,7 @@ no_inputs (Plain Change ∷ told) none = no_inputs told none
 
 -- ---- steps
 
-module _ (p : Played) (s : Setting) (timers : Link_timers) where
+module _ (p : Played) (s : Setting) (timers : LinkTimers) where
   pub linked_push : (j : Joint) (n : ℕ) (told : List Content) (c : Content)
       → linked_steps p s timers j n (told ++ c ∷ []) ≡ linked_steps p s timers j n told ++ linked_steps p s timers (joint_after_all s timers j (inputs_in told)) (n + length (events_in (plain_told told))) (c ∷ [])
   linked_push j n [] c = let none : n ≡ n + 0 = omega arith in ap (λ k. linked_steps p s timers j k (c ∷ [])) none
@@ -210,7 +210,7 @@ module _ (plays : Plays) (slots : ℕ) (told : List Content) where
     -- the first link is given
     story_linked : (line : ℕ) (lines : List ℕ) (z : Sizes) → linked_in told ≡ [] → (with_content (in_turn told) c).linked ≡ line ∷ lines → sizes_in (plain_told told) ≡ Some z
         → (with_content (in_turn told) c).plain.sizes ≡ Some z → events_in (plain_told told) ≡ []
-        → ((p : Played) (s : Setting) (timers : Link_timers) (j : Joint) (n : ℕ) → linked_steps p s timers j n (c ∷ []) ≡ []) → due_steps plays slots (plain_told told) (plain_of c) ≡ []
+        → ((p : Played) (s : Setting) (timers : LinkTimers) (j : Joint) (n : ℕ) → linked_steps p s timers j n (c ∷ []) ≡ []) → due_steps plays slots (plain_told told) (plain_of c) ≡ []
         → story_in_turn plays slots all ≡ story_in_turn plays slots told ++ due_in_turn c
     story_linked line lines z none some known still early silent also =
         let s = setting_in_turn slots z all in
@@ -247,7 +247,7 @@ module _ (plays : Plays) (slots : ℕ) (told : List Content) where
     -- with links, if the setting changes before the first event
     story_early : (line : ℕ) (lines others : List ℕ) (z : Sizes) → linked_in told ≡ line ∷ lines → (with_content (in_turn told) c).linked ≡ line ∷ others → sizes_in (plain_told told) ≡ Some z
         → (with_content (in_turn told) c).plain.sizes ≡ Some z → events_in (plain_told told) ≡ []
-        → ((p : Played) (s : Setting) (timers : Link_timers) (j : Joint) (n : ℕ) → linked_steps p s timers j n (c ∷ []) ≡ [])
+        → ((p : Played) (s : Setting) (timers : LinkTimers) (j : Joint) (n : ℕ) → linked_steps p s timers j n (c ∷ []) ≡ [])
         → story_in_turn plays slots all ≡ story_in_turn plays slots told ++ due_in_turn c
     story_early line lines others z some later known still early silent =
         let s = setting_in_turn slots z all in

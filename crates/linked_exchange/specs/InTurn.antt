@@ -6,7 +6,7 @@ use Rattle.exchange_events.specs.declared.trace.Event.{Event}
 use Rattle.exchange_events.specs.Sizes.{Setting}
 use Rattle.call_profile.specs.Step.{world_after_all}
 use Rattle.call_profile.specs.World.{World, start}
-use Rattle.link_procedures.specs.declared.state.Timers.{Timers as Link_timers}
+use Rattle.link_procedures.specs.declared.state.LinkTimers.{LinkTimers}
 use Rattle.meters.specs.Changing.{Step}
 use Rattle.trace_text.specs.declared.fault.Reason.{Reason}
 use Rattle.trace_text.specs.declared.fault.Reason.TheVariants as reason
@@ -52,7 +52,7 @@ ArePlain told = All IsPlain told
 abbrev pub setting_in_turn : ℕ → Sizes → List Content → Setting
 setting_in_turn slots sizes told = setting_said slots sizes (plain_told told)
 
-abbrev pub link_timers_said : List Content → Link_timers
+abbrev pub link_timers_said : List Content → LinkTimers
 link_timers_said told = link_timers_by (link_timers_of (link_timers_in told))
 
 -- the exchange state and the links before the first event: the link of each line that has one is down

@@ -16,7 +16,7 @@ use Rattle.exchange_events.specs.Sizes.{Setting}
 use Rattle.call_profile.specs.CallsTold.{calls_kept}
 use Rattle.call_profile.specs.Step.{MovesAtMost}
 use Rattle.link_procedures.specs.declared.state.Indication.{Indication}
-use Rattle.link_procedures.specs.declared.state.Timers.{Timers}
+use Rattle.link_procedures.specs.declared.state.LinkTimers.{LinkTimers}
 use Rattle.link_table.specs.declared.notice.NoLinkError.{NoLinkError}
 use Rattle.link_table.specs.Steps.{changed_at, line_of_turn, noticed_on}
 use Rattle.link_table.specs.Tables.{Table}
@@ -55,7 +55,7 @@ received_line n t told reply = link_line n told (moved_in reply) t.lines t.frame
 
 -- ---- an input, in the exchange state and with the links before it
 
-module _ (s : Setting) (timers : Timers) (j : Joint) where
+module _ (s : Setting) (timers : LinkTimers) (j : Joint) where
   -- the links after the input
   abbrev pub links_after : LinkedInput → Table
   links_after input = (next_joint s timers j input).links
@@ -112,7 +112,7 @@ PlaysOn carries frames sizes plays settings other x y = Unit {0}
 
 -- ---- an event: a frame of the exchange is followed by the turn of a link
 
-module _ (played : Played) (s : Setting) (timers : Timers) (j : Joint) where
+module _ (played : Played) (s : Setting) (timers : LinkTimers) (j : Joint) where
   -- the exchange state and the links after event e
   abbrev pub after_happened : Event → Joint
   after_happened (Frame input) = next_joint s timers (next_joint s timers j (Happens (Frame input))) Turns

@@ -3,7 +3,7 @@ use Rattle.std.specs.Prelude.{ℕ, ◌+◌, List, [], ◌∷◌, ◌++◌}
 use Rattle.exchange_events.specs.declared.trace.Event.{Event}
 use Rattle.exchange_events.specs.declared.trace.Event.TheVariants.{Frame}
 use Rattle.exchange_events.specs.Sizes.{Setting}
-use Rattle.link_procedures.specs.declared.state.Timers.{Timers}
+use Rattle.link_procedures.specs.declared.state.LinkTimers.{LinkTimers}
 use Rattle.meters.specs.Changing.{Step, Event_done, Meters_changed}
 use Rattle.report_text.specs.RunReport.{Played}
 use Rattle.trace_text.specs.declared.said.Said.TheVariants.{Change, Happens as Said_happens}
@@ -26,7 +26,7 @@ inputs_in (content ∷ told) = inputs_in told
 
 -- the events and the changes of meters of these lines, from an exchange state with links on and after n events: each event has its numbered line, and
 -- the records of the calls that ended with it
-abbrev pub linked_steps : Played → Setting → Timers → Joint → ℕ → List Content → List Step
+abbrev pub linked_steps : Played → Setting → LinkTimers → Joint → ℕ → List Content → List Step
 linked_steps played s timers j n [] = []
 linked_steps played s timers j n (Plain (Said_happens e) ∷ told) =
     Event_done (happened_line played s timers j (n + 1) e) (happened_calls played s timers j e) ∷ linked_steps played s timers (after_happened played s timers j e) (n + 1) told

@@ -7,7 +7,7 @@ use Rattle.exchange_events.specs.Sizes.{Setting}
 use Rattle.exchange_events.specs.Sound.{Fits}
 use Rattle.call_profile.specs.Step.{run, world_after_all}
 use Rattle.call_profile.specs.World.{start}
-use Rattle.link_procedures.specs.declared.state.Timers.{Timers}
+use Rattle.link_procedures.specs.declared.state.LinkTimers.{LinkTimers}
 use Rattle.link_frames.specs.Fields.{max_information_len}
 use Rattle.link_table.specs.Tables.{new_table}
 use Rattle.linked_exchange.specs.Steps.{Joint, LinkedInput, Happens, Receives, Turns, derived, next_joint}
@@ -25,22 +25,22 @@ start_joint s linked = record { world = world_after_all s (start s.dimensions) (
 
 -- ---- lists of steps
 
-abbrev pub joint_after_all : Setting → Timers → Joint → List LinkedInput → Joint
+abbrev pub joint_after_all : Setting → LinkTimers → Joint → List LinkedInput → Joint
 joint_after_all s timers j [] = j
 joint_after_all s timers j (i ∷ is) = joint_after_all s timers (next_joint s timers j i) is
 
 -- the events of the steps, in order
-abbrev pub derived_all : Setting → Timers → Joint → List LinkedInput → List Event
+abbrev pub derived_all : Setting → LinkTimers → Joint → List LinkedInput → List Event
 derived_all s timers j [] = []
 derived_all s timers j (i ∷ is) = derived timers j i ++ derived_all s timers (next_joint s timers j i) is
 
 -- the replies to the events of the steps, each in the exchange state of its step
-abbrev pub replies_all : Setting → Timers → Joint → List LinkedInput → List Reply
+abbrev pub replies_all : Setting → LinkTimers → Joint → List LinkedInput → List Reply
 replies_all s timers j [] = []
 replies_all s timers j (i ∷ is) = run s j.world (derived timers j i) ++ replies_all s timers (next_joint s timers j i) is
 
 -- the trace without data links of the steps from the start
-abbrev pub derived_trace : Setting → Timers → List Bool → List LinkedInput → List Event
+abbrev pub derived_trace : Setting → LinkTimers → List Bool → List LinkedInput → List Event
 derived_trace s timers linked is = links_down 0 linked ++ derived_all s timers (start_joint s linked) is
 
 -- ---- conditions

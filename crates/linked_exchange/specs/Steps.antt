@@ -12,7 +12,7 @@ use Rattle.call_profile.specs.Step.{reply, world_after_all}
 use Rattle.call_profile.specs.World.{World}
 use Rattle.link_procedures.specs.declared.state.Indication.{Indication}
 use Rattle.link_procedures.specs.declared.state.Indication.TheVariants.{Data, Established, Released}
-use Rattle.link_procedures.specs.declared.state.Timers.{Timers}
+use Rattle.link_procedures.specs.declared.state.LinkTimers.{LinkTimers}
 use Rattle.link_table.specs.declared.notice.Change.{Change}
 use Rattle.link_table.specs.declared.notice.Change.TheVariants.{Up, Down}
 use Rattle.link_table.specs.declared.notice.Notice.{Notice}
@@ -54,7 +54,7 @@ changed_events line (Some change) = event_of line (notice.Link change) ∷ []
 changed_events line None = []
 
 -- the event of a step, if call control is informed of anything
-abbrev pub derived : Timers → Joint → LinkedInput → List Event
+abbrev pub derived : LinkTimers → Joint → LinkedInput → List Event
 derived timers j (Happens e) = e ∷ []
 derived timers j (Receives line octets) = noticed_events line (noticed_on line octets (frames_so_far j) j.links)
 derived timers j Turns = changed_events (line_of_turn (frames_so_far j)) (changed_at timers (frames_so_far j) j.links)
@@ -62,7 +62,7 @@ derived timers j Turns = changed_events (line_of_turn (frames_so_far j)) (change
 -- ---- the states of a step
 
 -- the links at the start of a step, before its event
-abbrev pub links_begun : Timers → Joint → LinkedInput → Table
+abbrev pub links_begun : LinkTimers → Joint → LinkedInput → Table
 links_begun timers j (Happens e) = begun j.links
 links_begun timers j (Receives line octets) = received_on line octets (frames_so_far j) j.links
 links_begun timers j Turns = turned_at timers (frames_so_far j) j.links
@@ -89,11 +89,11 @@ abbrev pub links_ended : ℕ → List Signal → Table → Table
 links_ended at sends t = ended at (submitted_all at sends t)
 
 -- the exchange state after a step
-abbrev pub world_after : Setting → Timers → Joint → LinkedInput → World
+abbrev pub world_after : Setting → LinkTimers → Joint → LinkedInput → World
 world_after s timers j input = world_after_all s j.world (derived timers j input)
 
 -- the exchange state and the links after a step
-unfoldable pub next_joint : Setting → Timers → Joint → LinkedInput → Joint
+unfoldable pub next_joint : Setting → LinkTimers → Joint → LinkedInput → Joint
 next_joint s timers j input = record {
   world = world_after s timers j input;
   links = links_ended (world_after s timers j input).holding.next (sends_of (reply_to s j.world (derived timers j input))) (links_begun timers j input);

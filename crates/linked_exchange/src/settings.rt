@@ -14,5 +14,5 @@ pub struct Settings<'a> {
     /// The timers of the calls.
     pub timers: &'a Timers,
     /// The timers of the data links.
-    pub link_timers: &'a link_procedures::Timers,
+    pub link_timers: &'a link_procedures::LinkTimers,
 }

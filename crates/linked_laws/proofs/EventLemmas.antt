@@ -12,7 +12,7 @@ use Rattle.link_frames.specs.Reading.{reading}
 use Rattle.link_frames.specs.Writing.{information_in}
 use Rattle.link_procedures.specs.declared.state.Indication.{Indication}
 use Rattle.link_procedures.specs.declared.state.Indication.TheVariants as indication
-use Rattle.link_procedures.specs.declared.state.Timers.{Timers}
+use Rattle.link_procedures.specs.declared.state.LinkTimers.{LinkTimers}
 use Rattle.link_procedures.specs.Links.{DataLink, step}
 use Rattle.link_procedures.specs.Establishment.{quietly}
 use Rattle.link_procedures.specs.Receiving.{received}
@@ -96,7 +96,7 @@ module _ (Q : Event → Type 0) (n : ℕ) (message : (m : List ℕ) → Q (event
   told_all (Some indication.Established) = one Q _ up
   told_all (Some indication.Released) = one Q _ down
 
-  pub changed_all : (o : Option DataLink) (timers : Timers) (at : ℕ) → All Q (changed_events n (changed_in o timers at))
+  pub changed_all : (o : Option DataLink) (timers : LinkTimers) (at : ℕ) → All Q (changed_events n (changed_in o timers at))
   changed_all None timers at = All-nil Q
   changed_all (Some l) timers at = told_all (turned timers at (step l [])).indication
 
@@ -161,7 +161,7 @@ noticed_nothing : (line n : ℕ) (o : Option DataLink) (f : Option Frame) (at : 
 noticed_nothing line n o f at other =
     tells_nothing line (noticed_events n (noticed_in o f at)) (noticed_all (LeavesLink line) n (λ m. tt) other other o f at) (noticed_all (IsBeside line) n (λ m. other) other other o f at)
 
-changed_nothing : (line n : ℕ) (o : Option DataLink) (timers : Timers) (at : ℕ) → n ≢ line → Tells line (changed_events n (changed_in o timers at)) None []
+changed_nothing : (line n : ℕ) (o : Option DataLink) (timers : LinkTimers) (at : ℕ) → n ≢ line → Tells line (changed_events n (changed_in o timers at)) None []
 changed_nothing line n o timers at other =
     tells_nothing line (changed_events n (changed_in o timers at)) (changed_all (LeavesLink line) n (λ m. tt) other other o timers at) (changed_all (IsBeside line) n (λ m. other) other other o timers at)
 
@@ -170,11 +170,11 @@ abbrev pub message_read : DataLink → ℕ → Option Frame → List (List ℕ)
 message_read l at None = []
 message_read l at (Some f) = message_of f (received f at (step l [])).indication
 
-abbrev pub message_in : ℕ → Timers → Joint → DataLink → LinkedInput → List (List ℕ)
+abbrev pub message_in : ℕ → LinkTimers → Joint → DataLink → LinkedInput → List (List ℕ)
 message_in line timers j l (Receives n octets) = if n == line then message_read l (frames_so_far j) (reading User octets) else []
 message_in line timers j l _ = []
 
-module _ (line : ℕ) (timers : Timers) (j : Joint) (l : DataLink) (linked : IsLinkOf j.links.links line l) where
+module _ (line : ℕ) (timers : LinkTimers) (j : Joint) (l : DataLink) (linked : IsLinkOf j.links.links line l) where
   found : (n : ℕ) → n ≡ line → link_of n j.links ≡ Some l
   found n is = ap (λ k. slice_index_or j.links.links k None) is ∙ linked
 

@@ -8,7 +8,7 @@ use Rattle.link_frames.specs.declared.frame.Control.TheVariants as control
 use Rattle.link_frames.specs.declared.frame.Frame.{Frame}
 use Rattle.link_procedures.specs.declared.state.State.{State}
 use Rattle.link_procedures.specs.declared.state.State.TheVariants as state
-use Rattle.link_procedures.specs.declared.state.Timers.{Timers}
+use Rattle.link_procedures.specs.declared.state.LinkTimers.{LinkTimers}
 use Rattle.link_procedures.specs.declared.state.Indication.{Indication}
 use Rattle.link_procedures.specs.declared.state.Indication.TheVariants as indication
 use Rattle.link_procedures.specs.Links.{DataLink, Step, step, initial, is_valid, is_multiple_frame, is_established, is_recovering, is_awaiting, is_up}
@@ -356,7 +356,7 @@ settled_up : (l : DataLink) → is_up (settled l) ≡ is_up l
 unfolding is_up
 settled_up l = refl
 
-pub turned_informs : (t : Timers) (at : ℕ) (s : Step) → Owes s.link → Informs s.link (turned t at s)
+pub turned_informs : (t : LinkTimers) (at : ℕ) (s : Step) → Owes s.link → Informs s.link (turned t at s)
 unfolding turned
 turned_informs t at s owes = by_test (Informs s.link) s.link.owed _ _
     (λ e. record { known = ap (λ u. u || false) (settled_up s.link ∙ requested_down s.link (owes e)); owes = λ h. even (settled s.link) refl })

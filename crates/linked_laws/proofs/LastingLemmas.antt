@@ -18,14 +18,14 @@ use Rattle.call_profile.specs.World.{World, start}
 use Rattle.call_laws.proofs.LastingCallLemmas.{neither_changes}
 use Rattle.call_laws.proofs.OutageLemmas.{outages_stand, up_not_lost}
 use Rattle.call_profile.proofs.StandingLegLemmas.{run_stands, start_stands}
-use Rattle.link_procedures.specs.declared.state.Timers.{Timers}
+use Rattle.link_procedures.specs.declared.state.LinkTimers.{LinkTimers}
 use Rattle.linked_exchange.specs.Steps.{LinkedInput}
 use Rattle.linked_exchange.specs.Runs.{derived_trace}
 use Rattle.linked_exchange.proofs.PlainLemmas.{trace_fits, trace_world}
 use Rattle.linked_laws.specs.Lasting.{HasLinksUp, IsLinkUp, LastsOnLinks, joint_of_run}
 use Rattle.linked_laws.proofs.LayerLemmas.{layers_agree}
 
-module _ (s : Setting) (timers : Timers) (linked : List Bool) (is : List LinkedInput) where
+module _ (s : Setting) (timers : LinkTimers) (linked : List Bool) (is : List LinkedInput) where
   abbrev w : World
   w = (joint_of_run s timers linked is).world
 

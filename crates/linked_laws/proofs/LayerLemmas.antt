@@ -8,7 +8,7 @@ use Rattle.exchange_events.specs.Sizes.{Setting}
 use Rattle.call_profile.specs.Legs.{is_down}
 use Rattle.call_laws.specs.Outages.{down_after, down_after_all}
 use Rattle.call_laws.proofs.LinkStateLemmas.{links_are}
-use Rattle.link_procedures.specs.declared.state.Timers.{Timers}
+use Rattle.link_procedures.specs.declared.state.LinkTimers.{LinkTimers}
 use Rattle.link_procedures.specs.Links.{DataLink, Step, step, initial, is_up}
 use Rattle.link_procedures.specs.Sending.{finished}
 use Rattle.link_procedures.specs.Establishment.{Outcome, quietly, submitted}
@@ -45,14 +45,14 @@ either_informs : (l : DataLink) (b : Bool) (o : Outcome) → Informs l o → Inf
 either_informs l true o h = h
 either_informs l false o h = quiet_informs l
 
-step_informs : (line : ℕ) (timers : Timers) (j : Joint) (l : DataLink) (i : LinkedInput) → Owes l → Informs l (outcome_in line timers j l i)
+step_informs : (line : ℕ) (timers : LinkTimers) (j : Joint) (l : DataLink) (i : LinkedInput) → Owes l → Informs l (outcome_in line timers j l i)
 step_informs line timers j l (Happens e) owes = quiet_informs l
 step_informs line timers j l (Receives n octets) owes = either_informs l (n == line) _ (read_informs l (frames_so_far j) (reading User octets))
 step_informs line timers j l Turns owes = either_informs l (line_of_turn (frames_so_far j) == line) _ (turned_informs timers (frames_so_far j) (step l []) owes)
 
 -- ---- a link that owes the indication of a loss
 
-turned_first : (t : Timers) (at : ℕ) (s : Step) → s.link.owed ≡ true → IsReleasedOrOwed (turned t at s)
+turned_first : (t : LinkTimers) (at : ℕ) (s : Step) → s.link.owed ≡ true → IsReleasedOrOwed (turned t at s)
 unfolding turned
 turned_first t at s owed = rw owed (inl refl)
 
@@ -64,7 +64,7 @@ read_first : (l : DataLink) (at : ℕ) (f : Option Frame) → Owes l → l.owed 
 read_first l at None owes owed = inr (refl, owed)
 read_first l at (Some f) owes owed = received_first f at (step l []) owed (owes owed).0
 
-step_first : (line : ℕ) (timers : Timers) (j : Joint) (l : DataLink) (i : LinkedInput) → Owes l → l.owed ≡ true → IsReleasedOrOwed (outcome_in line timers j l i)
+step_first : (line : ℕ) (timers : LinkTimers) (j : Joint) (l : DataLink) (i : LinkedInput) → Owes l → l.owed ≡ true → IsReleasedOrOwed (outcome_in line timers j l i)
 step_first line timers j l (Happens e) owes owed = inr (refl, owed)
 step_first line timers j l (Receives n octets) owes owed = either_first (n == line) l _ owed (read_first l (frames_so_far j) (reading User octets) owes owed)
 step_first line timers j l Turns owes owed = either_first (line_of_turn (frames_so_far j) == line) l _ owed (turned_first timers (frames_so_far j) (step l []) owed)
@@ -88,7 +88,7 @@ record Known (line : ℕ) (j : Joint) (down : Bool) : Type 0 where
   owes : Owes link
   known : down ≡ not (is_taken_for_up link)
 
-next_known : (s : Setting) (timers : Timers) (line : ℕ) (j : Joint) (i : LinkedInput) (down : Bool) → LeavesLinkIn line i → Known line j down
+next_known : (s : Setting) (timers : LinkTimers) (line : ℕ) (j : Joint) (i : LinkedInput) (down : Bool) → LeavesLinkIn line i → Known line j down
     → Known line (next_joint s timers j i) (down_after_all line down (derived timers j i))
 next_known s timers line j i down leaves h =
     let l = h.link in
@@ -108,7 +108,7 @@ next_known s timers line j i down leaves h =
           ∙ ap not (sym (kept.known ∙ told.known)));
     }
 
-all_known : (s : Setting) (timers : Timers) (line : ℕ) (j : Joint) (is : List LinkedInput) (down : Bool) → All (LeavesLinkIn line) is → Known line j down
+all_known : (s : Setting) (timers : LinkTimers) (line : ℕ) (j : Joint) (is : List LinkedInput) (down : Bool) → All (LeavesLinkIn line) is → Known line j down
     → Known line (joint_after_all s timers j is) (down_after_all line down (derived_all s timers j is))
 all_known s timers line j [] down leave h = h
 all_known s timers line j (i ∷ is) down leave h =
@@ -155,7 +155,7 @@ start_known s line linked e = record {
 
 -- ---- the theorem
 
-module _ (s : Setting) (timers : Timers) (linked : List Bool) (line : ℕ) (is : List LinkedInput) (h : AreInputs s linked line is) where
+module _ (s : Setting) (timers : LinkTimers) (linked : List Bool) (line : ℕ) (is : List LinkedInput) (h : AreInputs s linked line is) where
   run_known : Known line (joint_after_all s timers (start_joint s linked) is) (down_after_all line false (derived_trace s timers linked is))
   run_known =
       subst (Known line (joint_after_all s timers (start_joint s linked) is)) (sym (down-append line false (links_down 0 linked) (derived_all s timers (start_joint s linked) is)))

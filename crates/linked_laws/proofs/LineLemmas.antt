@@ -5,7 +5,7 @@ use Rattle.std.proofs.lemmas.Bool.{cases_eq, ne_eqb}
 use Rattle.std.proofs.lemmas.List.{length-append, length-replicate}
 use Rattle.exchange_events.specs.declared.signal.Signal.{Signal}
 use Rattle.link_frames.specs.declared.frame.Frame.{Frame}
-use Rattle.link_procedures.specs.declared.state.Timers.{Timers}
+use Rattle.link_procedures.specs.declared.state.LinkTimers.{LinkTimers}
 use Rattle.link_procedures.specs.Links.{DataLink, Step, step}
 use Rattle.link_procedures.specs.Sending.{finished}
 use Rattle.link_procedures.specs.Establishment.{Outcome, submitted}
@@ -131,7 +131,7 @@ received_beside line n None f at l t other e = at_begun line l t e
 received_beside line n (Some k) None at l t other e = at_begun line l t e
 received_beside line n (Some k) (Some f) at l t other e = let o = received f at (step k []) in first_beside line n o.link l o.out t other e
 
-pub turned_beside : (line n : ℕ) (o : Option DataLink) (timers : Timers) (at : ℕ) (l : DataLink) (t : Table) → n ≢ line → IsLinkOf t.links line l → AtLine line (turned_in n o timers at (begun t)) (step l [])
+pub turned_beside : (line n : ℕ) (o : Option DataLink) (timers : LinkTimers) (at : ℕ) (l : DataLink) (t : Table) → n ≢ line → IsLinkOf t.links line l → AtLine line (turned_in n o timers at (begun t)) (step l [])
 turned_beside line n None timers at l t other e = at_begun line l t e
 turned_beside line n (Some k) timers at l t other e = let o = turned timers at (step k []) in first_beside line n o.link l o.out t other e
 

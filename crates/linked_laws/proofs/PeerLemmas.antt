@@ -13,7 +13,7 @@ use Rattle.call_profile.proofs.QuietEventLemmas.{SameFrames-next}
 use Rattle.link_frames.specs.declared.frame.Frame.{Frame}
 use Rattle.link_frames.specs.declared.frame.Sender.TheVariants.{User, Network}
 use Rattle.link_frames.specs.Reading.{reading}
-use Rattle.link_procedures.specs.declared.state.Timers.{Timers}
+use Rattle.link_procedures.specs.declared.state.LinkTimers.{LinkTimers}
 use Rattle.link_procedures.specs.Links.{DataLink, Step, step, initial, is_awaiting, is_up}
 use Rattle.link_procedures.specs.Sending.{finished}
 use Rattle.link_procedures.specs.Establishment.{Outcome, quietly, submitted}
@@ -58,12 +58,12 @@ same_time : (s : Setting) (w : World) (es : List Event) → All IsNoFrame es →
 same_time s w [] h = refl
 same_time s w (e ∷ es) h = same_time s (next_world s w e) es (All-tail IsNoFrame e es h) ∙ (SameFrames-next s w e (All-head IsNoFrame e es h)).next
 
-received_time : (s : Setting) (timers : Timers) (j : Joint) (n : ℕ) (octets : List ℕ) → (world_after s timers j (Receives n octets)).holding.next ≡ frames_so_far j
+received_time : (s : Setting) (timers : LinkTimers) (j : Joint) (n : ℕ) (octets : List ℕ) → (world_after s timers j (Receives n octets)).holding.next ≡ frames_so_far j
 received_time s timers j n octets =
     same_time s j.world (derived timers j (Receives n octets))
     (noticed_all IsNoFrame n (message_no_frame n) (up_no_frame n) (down_no_frame n) (link_of n j.links) (reading User octets) (frames_so_far j))
 
-turned_time : (s : Setting) (timers : Timers) (j : Joint) → (world_after s timers j Turns).holding.next ≡ frames_so_far j
+turned_time : (s : Setting) (timers : LinkTimers) (j : Joint) → (world_after s timers j Turns).holding.next ≡ frames_so_far j
 turned_time s timers j =
     let n = line_of_turn (frames_so_far j) in
     same_time s j.world (derived timers j Turns) (changed_all IsNoFrame n (message_no_frame n) (up_no_frame n) (down_no_frame n) (link_of n j.links) timers (frames_so_far j))
@@ -133,7 +133,7 @@ submits_short (m ∷ ms) at s h =
     ap (λ b. submits ms at (if b then submitted m at s else s)) (le-leb (length m) 112 (All-head IsShort m ms h))
     ∙ submits_short ms at (submitted m at s) (All-tail IsShort m ms h)
 
-module _ (s : Setting) (timers : Timers) (line : ℕ) (a : Attached) (h : Follows line a) (i : LinkedInput) (left : List (List ℕ)) where
+module _ (s : Setting) (timers : LinkTimers) (line : ℕ) (a : Attached) (h : Follows line a) (i : LinkedInput) (left : List (List ℕ)) where
   abbrev now : Pair
   now = (story h.link h.submitted h.replied a).pair
 
@@ -179,7 +179,7 @@ module _ (s : Setting) (timers : Timers) (line : ℕ) (a : Attached) (h : Follow
       ∙ (ap (mk ended left (messages_from line told)) tells
       ∙ ap (λ w. mk (step ended.link w) left (messages_from line told) (with_messages messages (epochs_told line told a.sent))) (sym here.sent)))))
 
-module _ (s : Setting) (timers : Timers) (line : ℕ) (a : Attached) (h : Follows line a) where
+module _ (s : Setting) (timers : LinkTimers) (line : ℕ) (a : Attached) (h : Follows line a) where
   event_follows : (e : Event) → IsOther line (Happens e) → AreShort s timers line a.exchange (Happens e) → Follows line (exchange_steps s timers line (Happens e) a.back a)
   event_follows e other short =
       step_follows s timers line a h (Happens e) a.back Request (world_after s timers a.exchange (Happens e)).holding.next refl refl
@@ -334,7 +334,7 @@ module _ (line : ℕ) (a : Attached) (h : Follows line a) where
 
 -- ---- a run
 
-happens_follows : (s : Setting) (timers : Timers) (line : ℕ) (a : Attached) (x : Happening) → IsAllowed s timers line a x → Follows line a → Follows line (happens s timers line a x)
+happens_follows : (s : Setting) (timers : LinkTimers) (line : ℕ) (a : Attached) (x : Happening) → IsAllowed s timers line a x → Follows line a → Follows line (happens s timers line a x)
 happens_follows s timers line a (Steps (Happens e)) allowed h = event_follows s timers line a h e allowed.0 allowed.1
 happens_follows s timers line a (Steps (Receives n octets)) allowed h = other_follows s timers line a h n octets allowed.0 allowed.1
 happens_follows s timers line a (Steps Turns) allowed h = turn_follows s timers line a h (cases_eq (line_of_turn (frames_so_far a.exchange)) line) allowed.1 allowed.2
@@ -342,7 +342,7 @@ happens_follows s timers line a Arrives allowed h = arrives_follows s timers lin
 happens_follows s timers line a Loses allowed h = loses_follows line a h
 happens_follows s timers line a (Acts act) allowed h = user_follows line a h act allowed
 
-run_follows : (s : Setting) (timers : Timers) (line : ℕ) (xs : List Happening) (a : Attached) → AreAllowed s timers line xs a → Follows line a → Follows line (peers.run s timers line xs a)
+run_follows : (s : Setting) (timers : LinkTimers) (line : ℕ) (xs : List Happening) (a : Attached) → AreAllowed s timers line xs a → Follows line a → Follows line (peers.run s timers line xs a)
 run_follows s timers line [] a allowed h = h
 run_follows s timers line (x ∷ xs) a allowed h = run_follows s timers line xs (happens s timers line a x) allowed.1 (happens_follows s timers line a x allowed.0 h)
 

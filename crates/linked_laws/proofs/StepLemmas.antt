@@ -7,7 +7,7 @@ use Rattle.exchange_events.specs.Sizes.{Setting}
 use Rattle.link_frames.specs.declared.frame.Frame.{Frame}
 use Rattle.link_frames.specs.declared.frame.Sender.TheVariants.{User}
 use Rattle.link_frames.specs.Reading.{reading}
-use Rattle.link_procedures.specs.declared.state.Timers.{Timers}
+use Rattle.link_procedures.specs.declared.state.LinkTimers.{LinkTimers}
 use Rattle.link_procedures.specs.Links.{DataLink, Step, step}
 use Rattle.link_procedures.specs.Sending.{finished}
 use Rattle.link_procedures.specs.Establishment.{Outcome, quietly, submitted}
@@ -27,7 +27,7 @@ abbrev pub outcome_read : DataLink → ℕ → Option Frame → Outcome
 outcome_read l at None = quietly (step l [])
 outcome_read l at (Some f) = received f at (step l [])
 
-abbrev pub outcome_in : ℕ → Timers → Joint → DataLink → LinkedInput → Outcome
+abbrev pub outcome_in : ℕ → LinkTimers → Joint → DataLink → LinkedInput → Outcome
 outcome_in line timers j l (Happens e) = quietly (step l [])
 outcome_in line timers j l (Receives n octets) = if n == line then outcome_read l (frames_so_far j) (reading User octets) else quietly (step l [])
 outcome_in line timers j l Turns = if line_of_turn (frames_so_far j) == line then turned timers (frames_so_far j) (step l []) else quietly (step l [])
@@ -50,11 +50,11 @@ other_ends line n None f at l t other rest free = Quiet free rest
 other_ends line n (Some k) None at l t other rest free = Quiet free rest
 other_ends line n (Some k) (Some f) at l t other rest free = Other n refl other rest
 
-turned_free : (n : ℕ) (o : Option DataLink) (timers : Timers) (at : ℕ) (t : Table) → t.receiving ≡ None → (turned_in n o timers at (begun t)).receiving ≡ None
+turned_free : (n : ℕ) (o : Option DataLink) (timers : LinkTimers) (at : ℕ) (t : Table) → t.receiving ≡ None → (turned_in n o timers at (begun t)).receiving ≡ None
 turned_free n None timers at t free = free
 turned_free n (Some k) timers at t free = free
 
-module _ (line : ℕ) (timers : Timers) (j : Joint) (l : DataLink) (linked : IsLinkOf j.links.links line l) (rest : IsAtRest l) (free : j.links.receiving ≡ None) where
+module _ (line : ℕ) (timers : LinkTimers) (j : Joint) (l : DataLink) (linked : IsLinkOf j.links.links line l) (rest : IsAtRest l) (free : j.links.receiving ≡ None) where
   found : (n : ℕ) → n ≡ line → link_of n j.links ≡ Some l
   found n is = ap (λ k. slice_index_or j.links.links k None) is ∙ linked
 
@@ -104,7 +104,7 @@ free_after : (r : Option ℕ) (at : ℕ) (t : Table) → t.receiving ≡ r → (
 free_after None at t e = e
 free_after (Some n) at t e = refl
 
-pub next_free : (s : Setting) (timers : Timers) (j : Joint) (i : LinkedInput) → (next_joint s timers j i).links.receiving ≡ None
+pub next_free : (s : Setting) (timers : LinkTimers) (j : Joint) (i : LinkedInput) → (next_joint s timers j i).links.receiving ≡ None
 unfolding next_joint
 next_free s timers j i =
     let at = (world_after s timers j i).holding.next in
@@ -127,13 +127,13 @@ step_end line at ms r t s (Here n some is) h =
     subst (λ o. AtLine line (finished_at o at t) (finished at (all_to ms at s))) (sym some) (finished_here line n at t (all_to ms at s) is h)
 
 -- the link and the frames of the line after a step
-abbrev pub line_after : Setting → Timers → ℕ → Joint → DataLink → LinkedInput → Step
+abbrev pub line_after : Setting → LinkTimers → ℕ → Joint → DataLink → LinkedInput → Step
 line_after s timers line j l i =
     let at = (world_after s timers j i).holding.next in
     let o = outcome_in line timers j l i in
     finished at (all_to (messages_to line (sends_of (reply_to s j.world (derived timers j i)))) at (step o.link o.out))
 
-pub step_at : (s : Setting) (timers : Timers) (line : ℕ) (j : Joint) (l : DataLink) (i : LinkedInput) → IsLinkOf j.links.links line l → IsAtRest l → j.links.receiving ≡ None
+pub step_at : (s : Setting) (timers : LinkTimers) (line : ℕ) (j : Joint) (l : DataLink) (i : LinkedInput) → IsLinkOf j.links.links line l → IsAtRest l → j.links.receiving ≡ None
     → AtLine line (next_joint s timers j i).links (line_after s timers line j l i)
 unfolding next_joint
 step_at s timers line j l i linked rest free =

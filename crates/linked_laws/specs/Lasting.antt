@@ -9,7 +9,7 @@ use Rattle.call_states.specs.declared.leg.Peer.TheVariants as peer
 use Rattle.exchange_events.specs.Sizes.{Setting}
 use Rattle.call_profile.specs.Legs.{leg_at}
 use Rattle.call_laws.specs.LostLegs.{IsUnchanged}
-use Rattle.link_procedures.specs.declared.state.Timers.{Timers}
+use Rattle.link_procedures.specs.declared.state.LinkTimers.{LinkTimers}
 use Rattle.link_procedures.specs.Links.{DataLink}
 use Rattle.link_table.specs.Tables.{IsLinkOf}
 use Rattle.linked_exchange.specs.Steps.{Joint, LinkedInput}
@@ -17,18 +17,18 @@ use Rattle.linked_exchange.specs.Runs.{joint_after_all, start_joint}
 use Rattle.linked_laws.specs.Layers.{AreInputs, is_taken_for_up}
 
 -- the exchange state and the links after inputs from the start
-abbrev pub joint_of_run : Setting → Timers → List Bool → List LinkedInput → Joint
+abbrev pub joint_of_run : Setting → LinkTimers → List Bool → List LinkedInput → Joint
 joint_of_run s timers linked is = joint_after_all s timers (start_joint s linked) is
 
 -- after the inputs, layer 3 takes the data link of the line for up
-pub record IsLinkUp (s : Setting) (timers : Timers) (linked : List Bool) (is : List LinkedInput) (line : ℕ) : Type 0 where
+pub record IsLinkUp (s : Setting) (timers : LinkTimers) (linked : List Bool) (is : List LinkedInput) (line : ℕ) : Type 0 where
   pub inputs : AreInputs s linked line is
   pub link : DataLink
   pub at : IsLinkOf (joint_of_run s timers linked is).links.links line link
   pub up : is_taken_for_up link ≡ true
 
 -- a leg in active: the data link of its line is up, and so is the link of the other leg of its call, if there is one
-pub record HasLinksUp (s : Setting) (timers : Timers) (linked : List Bool) (is : List LinkedInput) (x : Slot) (leg : Leg) : Type 0 where
+pub record HasLinksUp (s : Setting) (timers : LinkTimers) (linked : List Bool) (is : List LinkedInput) (x : Slot) (leg : Leg) : Type 0 where
   pub within : IsExternal s.dimensions.external x
   pub at : leg_at (joint_of_run s timers linked is).world.legs x ≡ Some leg
   pub state : leg.state ≡ active
@@ -36,6 +36,6 @@ pub record HasLinksUp (s : Setting) (timers : Timers) (linked : List Bool) (is :
   pub other : (y : Slot) → leg.peer ≡ peer.Leg y → IsLinkUp s timers linked is y.line
 
 -- no frame changes such a leg, nor its connection or its membership
-abbrev pub LastsOnLinks : Setting → Timers → List Bool → List LinkedInput → Input → Type 0
+abbrev pub LastsOnLinks : Setting → LinkTimers → List Bool → List LinkedInput → Input → Type 0
 LastsOnLinks s timers linked is input =
     (x : Slot) (leg : Leg) → HasLinksUp s timers linked is x leg → IsUnchanged s (joint_of_run s timers linked is).world input x leg

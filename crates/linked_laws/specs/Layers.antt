@@ -5,7 +5,7 @@ use Rattle.exchange_events.specs.declared.trace.Event.TheVariants.{LinkUp, LinkD
 use Rattle.exchange_events.specs.Sizes.{Setting}
 use Rattle.call_profile.specs.Legs.{is_down}
 use Rattle.call_laws.specs.Outages.{down_after_all}
-use Rattle.link_procedures.specs.declared.state.Timers.{Timers}
+use Rattle.link_procedures.specs.declared.state.LinkTimers.{LinkTimers}
 use Rattle.link_procedures.specs.Links.{DataLink, is_awaiting, is_up}
 use Rattle.link_table.specs.Tables.{IsLinkOf}
 use Rattle.linked_exchange.specs.Steps.{Joint, LinkedInput, Happens, derived, next_joint}
@@ -54,7 +54,7 @@ abbrev pub OwesStill : ℕ → Joint → Type 0
 OwesStill line j = (l : DataLink) → IsLinkOf j.links.links line l → l.owed ≡ true
 
 -- a step of a line whose link owes the indication of a loss: no event of it puts the line up; it puts the line down, or the link still owes
-abbrev pub ReleasesFirst : Setting → Timers → ℕ → Joint → Type 0
+abbrev pub ReleasesFirst : Setting → LinkTimers → ℕ → Joint → Type 0
 ReleasesFirst s timers line j = (l : DataLink) (i : LinkedInput) → IsLinkOf j.links.links line l → l.owed ≡ true → LeavesLinkIn line i
     → (down_after_all line true (derived timers j i) ≡ true)
     × ((down_after_all line false (derived timers j i) ≡ true) ⊎ OwesStill line (next_joint s timers j i))

@@ -5,7 +5,7 @@ use Rattle.exchange_events.specs.declared.signal.Signal.{Signal}
 use Rattle.exchange_events.specs.declared.trace.Event.{Event}
 use Rattle.exchange_events.specs.declared.trace.Event.TheVariants.{Message, LinkUp, LinkDown}
 use Rattle.exchange_events.specs.Sizes.{Setting}
-use Rattle.link_procedures.specs.declared.state.Timers.{Timers}
+use Rattle.link_procedures.specs.declared.state.LinkTimers.{LinkTimers}
 use Rattle.link_procedures.specs.Links.{DataLink, initial, is_up}
 use Rattle.link_procedures.specs.AnyPeer.{IsShort}
 use Rattle.link_table.specs.Tables.{link_of}
@@ -32,7 +32,7 @@ messages_to line [] = []
 messages_to line (m ∷ ms) = if m.line == line then m.octets ∷ messages_to line ms else messages_to line ms
 
 -- the messages to the user of the line in a step
-abbrev pub messages_in : Setting → Timers → ℕ → Joint → LinkedInput → List (List ℕ)
+abbrev pub messages_in : Setting → LinkTimers → ℕ → Joint → LinkedInput → List (List ℕ)
 messages_in s timers line j input = messages_to line (sends_of (reply_to s j.world (derived timers j input)))
 
 -- the messages that call control receives from the user of the line
@@ -121,12 +121,12 @@ with_exchange line j es messages rest a = record {
   returned = a.returned ++ messages_from line es;
 }
 
-abbrev pub exchange_steps : Setting → Timers → ℕ → LinkedInput → List (List ℕ) → Attached → Attached
+abbrev pub exchange_steps : Setting → LinkTimers → ℕ → LinkedInput → List (List ℕ) → Attached → Attached
 exchange_steps s timers line input rest a =
     with_exchange line (next_joint s timers a.exchange input) (derived timers a.exchange input) (messages_in s timers line a.exchange input) rest a
 
 -- the frame of the user arrives with its C/R bit (3.3.2)
-abbrev pub exchange_receives : Setting → Timers → ℕ → List (List ℕ) → Attached → Attached
+abbrev pub exchange_receives : Setting → LinkTimers → ℕ → List (List ℕ) → Attached → Attached
 exchange_receives s timers line [] a = a
 exchange_receives s timers line (octets ∷ rest) a = exchange_steps s timers line (Receives line (as_user octets)) rest a
 
@@ -145,13 +145,13 @@ with_user p said a = record {
 abbrev pub user_acts : ℕ → Act → Attached → Attached
 user_acts line act a = with_user (acts (mirror (pair_on line a)) act) (epochs_after (mirror (pair_on line a)) act a.said) a
 
-abbrev pub happens : Setting → Timers → ℕ → Attached → Happening → Attached
+abbrev pub happens : Setting → LinkTimers → ℕ → Attached → Happening → Attached
 happens s timers line a (Steps input) = exchange_steps s timers line input a.back a
 happens s timers line a Arrives = exchange_receives s timers line a.back a
 happens s timers line a Loses = record a { back = younger a.back }
 happens s timers line a (Acts act) = user_acts line act a
 
-abbrev pub run : Setting → Timers → ℕ → List Happening → Attached → Attached
+abbrev pub run : Setting → LinkTimers → ℕ → List Happening → Attached → Attached
 run s timers line [] a = a
 run s timers line (h ∷ hs) a = run s timers line hs (happens s timers line a h)
 
@@ -177,26 +177,26 @@ IsOther line (Receives n octets) = n ≢ line
 IsOther line Turns = Unit {0}
 
 -- a message of call control has at most 112 octets
-abbrev pub AreShort : Setting → Timers → ℕ → Joint → LinkedInput → Type 0
+abbrev pub AreShort : Setting → LinkTimers → ℕ → Joint → LinkedInput → Type 0
 AreShort s timers line j input = All IsShort (messages_in s timers line j input)
 
 -- T200 of the link in state 5 expires only if neither its SABME nor the UA is on the wires
-abbrev pub IsTimelyIn : Timers → ℕ → Attached → LinkedInput → Type 0
+abbrev pub IsTimelyIn : LinkTimers → ℕ → Attached → LinkedInput → Type 0
 IsTimelyIn timers line a Turns =
     line_of_turn (frames_so_far a.exchange) ≡ line → IsTimelyAct (pair_on line a) (epochs.Steps (epochs.Turn timers) [] (frames_so_far a.exchange))
 IsTimelyIn timers line a _ = Unit {0}
 
-abbrev pub ArriveShort : Setting → Timers → ℕ → Joint → List (List ℕ) → Type 0
+abbrev pub ArriveShort : Setting → LinkTimers → ℕ → Joint → List (List ℕ) → Type 0
 ArriveShort s timers line j [] = Unit {0}
 ArriveShort s timers line j (octets ∷ rest) = AreShort s timers line j (Receives line (as_user octets))
 
-abbrev pub IsAllowed : Setting → Timers → ℕ → Attached → Happening → Type 0
+abbrev pub IsAllowed : Setting → LinkTimers → ℕ → Attached → Happening → Type 0
 IsAllowed s timers line a (Steps input) = IsOther line input × AreShort s timers line a.exchange input × IsTimelyIn timers line a input
 IsAllowed s timers line a Arrives = ArriveShort s timers line a.exchange a.back
 IsAllowed s timers line a Loses = Unit {0}
 IsAllowed s timers line a (Acts act) = IsTimelyAct (mirror (pair_on line a)) act
 
-abbrev pub AreAllowed : Setting → Timers → ℕ → List Happening → Attached → Type 0
+abbrev pub AreAllowed : Setting → LinkTimers → ℕ → List Happening → Attached → Type 0
 AreAllowed s timers line [] a = Unit {0}
 AreAllowed s timers line (h ∷ hs) a = IsAllowed s timers line a h × AreAllowed s timers line hs (happens s timers line a h)
 
@@ -204,7 +204,7 @@ AreAllowed s timers line (h ∷ hs) a = IsAllowed s timers line a h × AreAllowe
 
 -- after anything that can happen on a line that begins with a data link
 abbrev pub AlwaysOn : (ℕ → Attached → Type 0) → Type 0
-AlwaysOn Holds = (s : Setting) (timers : Timers) (linked : List Bool) (line at : ℕ) (hs : List Happening) → BeginsLinked linked line
+AlwaysOn Holds = (s : Setting) (timers : LinkTimers) (linked : List Bool) (line at : ℕ) (hs : List Happening) → BeginsLinked linked line
     → AreAllowed s timers line hs (attached s linked at) → Holds line (run s timers line hs (attached s linked at))
 
 -- a prefix of each epoch is delivered, both ways

@@ -22,7 +22,7 @@ ghost use Rattle.link_frames.specs.declared.frame.Frame.{Frame};
 ghost use Rattle.link_frames.specs.declared.frame.Sender.TheVariants.{Network, User};
 ghost use Rattle.link_frames.specs.Reading.{reading};
 ghost use Rattle.link_frames.specs.Writing.{encoding};
-ghost use Rattle.link_procedures.specs.declared.state.Timers.{Timers};
+ghost use Rattle.link_procedures.specs.declared.state.LinkTimers.{LinkTimers};
 ghost use Rattle.linked_exchange.specs.Steps.{LinkedInput};
 ghost use Rattle.linked_exchange.specs.Runs.{joint_after_all, start_joint};
 ghost use Rattle.linked_laws.specs.Lasting.{LastsOnLinks};
@@ -34,11 +34,11 @@ ghost use Rattle.linked_laws.specs.Sides.{as_user};
 /// indication of a loss. A link that owes one is not up. The next change of the line that call control is informed of is a
 /// release, and until then the link owes it (`first`). The line begins with a link, and no other input changes it.
 pub fn layers_agree()
-    ensures down { (s : Setting) (timers : Timers) (linked : List Bool) (line : ℕ) (is : List LinkedInput)
+    ensures down { (s : Setting) (timers : LinkTimers) (linked : List Bool) (line : ℕ) (is : List LinkedInput)
         → AreInputs s linked line is → LayersAgree line (joint_after_all s timers (start_joint s linked) is) }
-    ensures owing { (s : Setting) (timers : Timers) (linked : List Bool) (line : ℕ) (is : List LinkedInput)
+    ensures owing { (s : Setting) (timers : LinkTimers) (linked : List Bool) (line : ℕ) (is : List LinkedInput)
         → AreInputs s linked line is → OwesIfDown line (joint_after_all s timers (start_joint s linked) is) }
-    ensures first { (s : Setting) (timers : Timers) (linked : List Bool) (line : ℕ) (is : List LinkedInput)
+    ensures first { (s : Setting) (timers : LinkTimers) (linked : List Bool) (line : ℕ) (is : List LinkedInput)
         → AreInputs s linked line is → ReleasesFirst s timers line (joint_after_all s timers (start_joint s linked) is) }
 {}
 
@@ -46,7 +46,7 @@ pub fn layers_agree()
 /// of its line and of the line of the other leg of its call are up. Both lines begin with a link, and no other input
 /// changes it. The links of all other lines may fail. So T309 ends no such call.
 pub fn calls_last()
-    ensures { (s : Setting) (timers : Timers) (linked : List Bool) (is : List LinkedInput) (input : Input)
+    ensures { (s : Setting) (timers : LinkTimers) (linked : List Bool) (is : List LinkedInput) (input : Input)
         → IsPlanned s → LastsOnLinks s timers linked is input }
 {}
 

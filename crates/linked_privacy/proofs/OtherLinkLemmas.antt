@@ -7,7 +7,7 @@ use Rattle.exchange_events.specs.Sizes.{Setting}
 use Rattle.link_frames.specs.declared.frame.Frame.{Frame}
 use Rattle.link_frames.specs.declared.frame.Sender.TheVariants.{User}
 use Rattle.link_frames.specs.Reading.{reading}
-use Rattle.link_procedures.specs.declared.state.Timers.{Timers}
+use Rattle.link_procedures.specs.declared.state.LinkTimers.{LinkTimers}
 use Rattle.link_procedures.specs.Establishment.{establishes, overflows, submitted}
 use Rattle.link_procedures.specs.Links.{DataLink, Step, step, is_up, is_awaiting, max_queue_len}
 use Rattle.link_procedures.specs.Sending.{after_frame, flushes, is_free, sends_next, sends_waiting}
@@ -98,7 +98,7 @@ other_received line other None f at t apart = refl
 other_received line other (Some l) None at t apart = refl
 other_received line other (Some l) (Some f) at t apart = get_or-set_other t.links other line (Some _) None apart
 
-other_turned : (line other : ℕ) (o : Option DataLink) (timers : Timers) (at : ℕ) (t : Table) → line ≢ other
+other_turned : (line other : ℕ) (o : Option DataLink) (timers : LinkTimers) (at : ℕ) (t : Table) → line ≢ other
     → link_of line (turned_in other o timers at t) ≡ link_of line t
 other_turned line other None timers at t apart = refl
 other_turned line other (Some l) timers at t apart = get_or-set_other t.links other line (Some _) None apart
@@ -112,7 +112,7 @@ other_ended : (line : ℕ) (r : Option ℕ) (at : ℕ) (t : Table) → r ≢ Som
 other_ended line None at t off = refl
 other_ended line (Some other) at t off = other_finished line other (link_of other t) at t (λ e. off (ap (λ (n : ℕ). Some n) (sym e)))
 
-other_begun : (timers : Timers) (j : Joint) (i : LinkedInput) (line : ℕ) → ¬ IsOnLink line j i → link_of line (links_begun timers j i) ≡ link_of line j.links
+other_begun : (timers : LinkTimers) (j : Joint) (i : LinkedInput) (line : ℕ) → ¬ IsOnLink line j i → link_of line (links_begun timers j i) ≡ link_of line j.links
 other_begun timers j (Happens e) line off = refl
 other_begun timers j (Receives other octets) line off =
     other_received line other (link_of other j.links) (reading User octets) (frames_so_far j) (begun j.links) (λ e. off (sym e))
@@ -133,7 +133,7 @@ not_received line other None f at t free apart = not_none t.receiving line free
 not_received line other (Some l) None at t free apart = not_none t.receiving line free
 not_received line other (Some l) (Some f) at t free apart = λ e. apart (ap (the_line 0) e)
 
-not_receiving : (timers : Timers) (j : Joint) (i : LinkedInput) (line : ℕ) → j.links.receiving ≡ None → ¬ IsOnLink line j i
+not_receiving : (timers : LinkTimers) (j : Joint) (i : LinkedInput) (line : ℕ) → j.links.receiving ≡ None → ¬ IsOnLink line j i
     → (links_begun timers j i).receiving ≢ Some line
 not_receiving timers j (Happens e) line free off = not_none j.links.receiving line free
 not_receiving timers j (Receives other octets) line free off =
@@ -143,7 +143,7 @@ not_receiving timers j Turns line free off =
 
 -- ---- a step
 
-pub other_links : (s : Setting) (timers : Timers) (j : Joint) (i : LinkedInput) (line : ℕ) → j.links.receiving ≡ None → ¬ IsOnLink line j i
+pub other_links : (s : Setting) (timers : LinkTimers) (j : Joint) (i : LinkedInput) (line : ℕ) → j.links.receiving ≡ None → ¬ IsOnLink line j i
     → link_of line (next_joint s timers j i).links ≡ link_with_messages s timers j i line
 unfolding next_joint
 other_links s timers j i line free off =
@@ -157,7 +157,7 @@ other_links s timers j i line free off =
 
 -- ---- a run
 
-pub all_ended : (s : Setting) (timers : Timers) (j : Joint) (is : List LinkedInput) → j.links.receiving ≡ None → (joint_after_all s timers j is).links.receiving ≡ None
+pub all_ended : (s : Setting) (timers : LinkTimers) (j : Joint) (is : List LinkedInput) → j.links.receiving ≡ None → (joint_after_all s timers j is).links.receiving ≡ None
 unfolding next_joint
 all_ended s timers j [] free = free
 all_ended s timers j (i ∷ is) free =

@@ -5,7 +5,7 @@ use Rattle.exchange_events.specs.declared.signal.Signal.{Signal}
 use Rattle.exchange_events.specs.Sizes.{Setting}
 use Rattle.exchange_events.specs.Sound.{IsPlanned}
 use Rattle.call_profile.specs.World.{World}
-use Rattle.link_procedures.specs.declared.state.Timers.{Timers}
+use Rattle.link_procedures.specs.declared.state.LinkTimers.{LinkTimers}
 use Rattle.link_procedures.specs.Establishment.{submitted}
 use Rattle.link_procedures.specs.Links.{DataLink, step}
 use Rattle.link_table.specs.Steps.{line_of_turn}
@@ -25,7 +25,7 @@ messages_to line [] = []
 messages_to line (m ∷ ms) = if m.line == line then m.octets ∷ messages_to line ms else messages_to line ms
 
 -- the messages that call control sends to a line in a step
-abbrev pub messages_of_step : Setting → Timers → Joint → LinkedInput → ℕ → List (List ℕ)
+abbrev pub messages_of_step : Setting → LinkTimers → Joint → LinkedInput → ℕ → List (List ℕ)
 messages_of_step s timers j i line = messages_to line (sends_of (reply_to s j.world (derived timers j i)))
 
 -- a data link after a message of call control; the frames that it sends do not matter here
@@ -38,14 +38,14 @@ after_messages at [] l = l
 after_messages at (m ∷ ms) l = after_messages at ms (after_message at m l)
 
 -- the link of a line before a step, after the messages of the step
-abbrev pub link_with_messages : Setting → Timers → Joint → LinkedInput → ℕ → Option DataLink
+abbrev pub link_with_messages : Setting → LinkTimers → Joint → LinkedInput → ℕ → Option DataLink
 link_with_messages s timers j i line =
     option_map (after_messages (frames_so_far (next_joint s timers j i)) (messages_of_step s timers j i line)) (link_of line j.links)
 
 -- ---- lists of inputs
 
 -- the exchange state after inputs from the start, if these lines have links
-abbrev pub world_of_inputs : Setting → Timers → List Bool → List LinkedInput → World
+abbrev pub world_of_inputs : Setting → LinkTimers → List Bool → List LinkedInput → World
 world_of_inputs s timers linked is = (joint_after_all s timers (start_joint s linked) is).world
 
 -- the plan routes numbers to lines of the exchange only, each line with a link is one of them, and the inputs fit

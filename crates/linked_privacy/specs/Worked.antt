@@ -1,6 +1,6 @@
 -- A call over data links, on which the definitions are evaluated. Source: this project.
 use Rattle.std.specs.Prelude.{ℕ, List, [], ◌∷◌, Option, Some, None}
-use Rattle.link_procedures.specs.declared.state.Timers.{Timers}
+use Rattle.link_procedures.specs.declared.state.LinkTimers.{LinkTimers}
 use Rattle.link_procedures.specs.Establishment.{established}
 use Rattle.link_procedures.specs.Links.{DataLink, initial}
 use Rattle.call_profile.specs.WorkedCalls.{two_lines}
@@ -8,7 +8,7 @@ use Rattle.call_profile.specs.World.{start}
 use Rattle.linked_exchange.specs.Steps.{Joint, LinkedInput, Receives}
 
 -- T200 is one second, and T203 ten
-abbrev pub usual_timers : Timers
+abbrev pub usual_timers : LinkTimers
 usual_timers = record { t200 = 8000; t203 = 80000 }
 
 -- the data links of both lines are established, and nothing was sent yet

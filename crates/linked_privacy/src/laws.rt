@@ -5,7 +5,7 @@ ghost use Rattle.circuit_model.specs.declared.circuit.Circuit.TheVariants.{Pair}
 ghost use Rattle.exchange_events.specs.Sizes.{Setting};
 ghost use Rattle.call_laws.specs.Fabrics.{world_of_run};
 ghost use Rattle.call_profile.specs.Step.{world_after_all};
-ghost use Rattle.link_procedures.specs.declared.state.Timers.{Timers};
+ghost use Rattle.link_procedures.specs.declared.state.LinkTimers.{LinkTimers};
 ghost use Rattle.link_table.specs.Tables.{link_of};
 ghost use Rattle.linked_exchange.specs.Steps.{Joint, LinkedInput, next_joint};
 ghost use Rattle.linked_exchange.specs.Runs.{derived_all, derived_trace, joint_after_all, start_joint};
@@ -18,9 +18,9 @@ ghost use Rattle.linked_privacy.specs.OtherLinks.{AreLinkedInputs, IsOnLink, lin
 /// (`others`). No frame of a user and no turn changes it in another way. Between two steps no link waits for the end of a
 /// step (`ended`), so the premise of `others` holds in each state of a run.
 pub fn law_of_other_links()
-    ensures others { (s : Setting) (timers : Timers) (j : Joint) (i : LinkedInput) (line : ℕ) → j.links.receiving ≡ None
+    ensures others { (s : Setting) (timers : LinkTimers) (j : Joint) (i : LinkedInput) (line : ℕ) → j.links.receiving ≡ None
         → ¬ IsOnLink line j i → link_of line (next_joint s timers j i).links ≡ link_with_messages s timers j i line }
-    ensures ended { (s : Setting) (timers : Timers) (linked : List Bool) (is : List LinkedInput)
+    ensures ended { (s : Setting) (timers : LinkTimers) (linked : List Bool) (is : List LinkedInput)
         → (joint_after_all s timers (start_joint s linked) is).links.receiving ≡ None }
 {}
 
@@ -28,13 +28,13 @@ pub fn law_of_other_links()
 /// (`state`). So each theorem on runs holds for them: two slots are connected only by a command or by their users
 /// (`connections`). Further steps change the state as their events do (`further`).
 pub fn law_of_linked_runs()
-    ensures run { (s : Setting) (timers : Timers) (linked : List Bool) (is : List LinkedInput)
-        → AreLinkedInputs s linked is → IsRun s (derived_trace s timers linked is) }
-    ensures state { (s : Setting) (timers : Timers) (linked : List Bool) (is : List LinkedInput)
-        → world_of_inputs s timers linked is ≡ world_of_run s (derived_trace s timers linked is) }
-    ensures connections { (s : Setting) (timers : Timers) (linked : List Bool) (is : List LinkedInput) (x y : Slot) (since : ℕ)
-        → AreLinkedInputs s linked is → Contains (world_of_inputs s timers linked is).holding.circuits (Pair x y since)
-        → IsConsented s (derived_trace s timers linked is) x y since }
-    ensures further { (s : Setting) (timers : Timers) (j : Joint) (is : List LinkedInput)
-        → (joint_after_all s timers j is).world ≡ world_after_all s j.world (derived_all s timers j is) }
+    ensures run { (s : Setting) (t : LinkTimers) (linked : List Bool) (is : List LinkedInput)
+        → AreLinkedInputs s linked is → IsRun s (derived_trace s t linked is) }
+    ensures state { (s : Setting) (t : LinkTimers) (linked : List Bool) (is : List LinkedInput)
+        → world_of_inputs s t linked is ≡ world_of_run s (derived_trace s t linked is) }
+    ensures connections { (s : Setting) (t : LinkTimers) (linked : List Bool) (is : List LinkedInput) (x y : Slot) (since : ℕ)
+        → AreLinkedInputs s linked is → Contains (world_of_inputs s t linked is).holding.circuits (Pair x y since)
+        → IsConsented s (derived_trace s t linked is) x y since }
+    ensures further { (s : Setting) (t : LinkTimers) (j : Joint) (is : List LinkedInput)
+        → (joint_after_all s t j is).world ≡ world_after_all s j.world (derived_all s t j is) }
 {}

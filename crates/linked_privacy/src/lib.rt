@@ -9,4 +9,4 @@ mod laws;
 mod worked;
 
 pub use laws::{law_of_linked_runs, law_of_other_links};
-pub use worked::worked_links;
+pub use worked::worked_delivery;

@@ -9,7 +9,7 @@ ghost use Rattle.linked_privacy.specs.Worked.{call_in_a_frame, established_links
 
 /// A frame on line 0 delivers a SETUP (`delivered`), by which call control sends a SETUP to line 1 (`sent`). So the queue of
 /// the link of line 1 has this message, although the frame is not on that link (`off`, `queued`).
-pub fn worked_links()
+pub fn worked_delivery()
     ensures ended { established_links.links.receiving ≡ None }
     ensures off { ¬ IsOnLink 1 established_links call_in_a_frame }
     ensures delivered { derived usual_timers established_links call_in_a_frame ≡ Message 0 setup ∷ [] }

@@ -1,7 +1,7 @@
 -- The timers of the data links of a trace. Source: this project; their names and usual values are from ITU-T Q.921 (09/97), 5.9.
 use Rattle.std.specs.Prelude.{ℕ, List, codes, Option, Some, None, unwrap_or, if◌then◌else◌}
 use Rattle.std.specs.Str.{bytes_eq}
-use Rattle.link_procedures.specs.declared.state.Timers.{Timers}
+use Rattle.link_procedures.specs.declared.state.LinkTimers.{LinkTimers}
 use Rattle.linked_text.specs.declared.timing.GivenLinkTimer.{GivenLinkTimer}
 use Rattle.linked_text.specs.declared.timing.GivenLinkTimers.{GivenLinkTimers}
 use Rattle.linked_text.specs.declared.timing.LinkTimerName.{LinkTimerName}
@@ -32,5 +32,5 @@ abbrev pub with_link_timer : GivenLinkTimers → GivenLinkTimer → GivenLinkTim
 with_link_timer given one = with_link_frames given one.name one.frames
 
 -- the timers of a trace: a timer without a line has its usual value, 1 second and 10 seconds
-abbrev pub link_timers_by : GivenLinkTimers → Timers
+abbrev pub link_timers_by : GivenLinkTimers → LinkTimers
 link_timers_by given = record { t200 = unwrap_or given.t200 8000; t203 = unwrap_or given.t203 80000 }

@@ -5,7 +5,7 @@ use crate::line::{
 };
 use crate::said::{LinkHappening, LinkKind, LinkSaid};
 use crate::timing::GivenLinkTimers;
-use link_procedures::Timers;
+use link_procedures::LinkTimers;
 use number_plan::LineList;
 use std::alloc::{AllocError, Global};
 use std::marker::Model;
@@ -79,7 +79,7 @@ impl LinkHeading {
     }
 
     /// Returns the timers of the links. A timer without a line has its usual value.
-    pub fn link_timers(&self) -> Timers
+    pub fn link_timers(&self) -> LinkTimers
         ensures { result ≡ link_timers_by self.now.timers }
     {
         self.timers.timers()

@@ -2,7 +2,7 @@
 ghost use Rattle.std.specs.Prelude.{◌≡◌};
 ghost use Rattle.linked_text.specs.LinkTimers.{no_link_timers, link_frames_given, with_link_timer, link_timers_by};
 
-use link_procedures::Timers;
+use link_procedures::LinkTimers;
 
 /// The usual value of T200, in frames: 1 second (ITU-T Q.921, 5.9.1).
 const USUAL_T200: u32 = 8000;
@@ -69,10 +69,10 @@ impl GivenLinkTimers {
     }
 
     /// Returns the timers of the trace. A timer without a line has its usual value.
-    pub fn timers(&self) -> Timers
+    pub fn timers(&self) -> LinkTimers
         ensures { result ≡ link_timers_by self.now }
     {
-        Timers {
+        LinkTimers {
             t200: self.t200.unwrap_or(USUAL_T200),
             t203: self.t203.unwrap_or(USUAL_T203),
         }

@@ -1,24 +1,29 @@
 //! What the tests share: the frames received and sent, and random numbers.
-use link_frames::{Sender, read};
-use link_procedures::{Indication, Link, Outbox, Timers};
+use link_frames::{Sender, read_frame};
+use link_procedures::{FrameOutbox, Indication, Link, LinkTimers};
 
 /// The usual values of T200 and T203: 1 and 10 seconds.
-pub const USUAL: Timers = Timers {
+pub const USUAL: LinkTimers = LinkTimers {
     t200: 8_000,
     t203: 80_000,
 };
 
 /// Passes the octets of a frame of the user to a link in a frame of the exchange, or nothing if they are discarded.
-pub fn receive(link: &mut Link, octets: &[u8], at: u32, out: &mut Outbox) -> Option<Indication> {
+pub fn receive(
+    link: &mut Link,
+    octets: &[u8],
+    at: u32,
+    out: &mut FrameOutbox,
+) -> Option<Indication> {
     out.clear();
-    let frame = read(Sender::User, octets)?;
+    let frame = read_frame(Sender::User, octets)?;
     let told = link.received(&frame, at, out);
     link.finished(at, out);
     told
 }
 
 /// Submits a message of at most 112 octets to a link in a frame of the exchange.
-pub fn submit(link: &mut Link, octets: &[u8], at: u32, out: &mut Outbox) {
+pub fn submit(link: &mut Link, octets: &[u8], at: u32, out: &mut FrameOutbox) {
     out.clear();
     if octets.len() <= 112 {
         link.submitted(octets, at, out);
@@ -26,7 +31,7 @@ pub fn submit(link: &mut Link, octets: &[u8], at: u32, out: &mut Outbox) {
 }
 
 /// Returns whether exactly these frames were sent.
-pub fn is_sent(out: &Outbox, wanted: &[&[u8]]) -> bool {
+pub fn is_sent(out: &FrameOutbox, wanted: &[&[u8]]) -> bool {
     let frames = out.as_slice();
     if frames.len() != wanted.len() {
         return false;

@@ -1,7 +1,7 @@
 //! Random frames of untrusted senders, which reach every state.
 use super::bench::{Random, USUAL, receive};
-use link_frames::{Sender, read};
-use link_procedures::{Indication, Link, Outbox};
+use link_frames::{Sender, read_frame};
+use link_procedures::{FrameOutbox, Indication, Link};
 use std::test::*;
 
 const FRAMES: u32 = 10_000;
@@ -35,12 +35,12 @@ fn random_frame(random: &mut Random) -> [u8; 6] {
 }
 
 // Whether all octets sent are frames of a known kind, and not too many.
-fn is_bounded(out: &Outbox) -> bool {
+fn is_bounded(out: &FrameOutbox) -> bool {
     if out.as_slice().len() > MAX_SENT {
         return false;
     }
     for frame in out.as_slice() {
-        if read(Sender::Network, frame.as_slice()).is_none() {
+        if read_frame(Sender::Network, frame.as_slice()).is_none() {
             return false;
         }
     }
@@ -60,7 +60,7 @@ fn cut<'a>(frame: &'a [u8; 6], random: &mut Random) -> &'a [u8] {
 fn withstands(seed: u64) -> bool {
     let mut random = Random::new(seed);
     let mut link = Link::new(0);
-    let mut out = Outbox::new();
+    let mut out = FrameOutbox::new();
     let mut is_taken = false;
     let mut is_established = false;
     for at in 0..FRAMES {

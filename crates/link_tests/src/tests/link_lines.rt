@@ -1,5 +1,5 @@
 // The lines of a trace with data links, and their report lines.
-use link_frames::{Control, Frame, FrameOctets, Sender, write};
+use link_frames::{Control, Frame, FrameOctets, Sender, write_frame};
 use link_procedures::Indication;
 use link_table::Change;
 use linked_text::{
@@ -172,7 +172,7 @@ fn a_received_frame_has_at_most_265_octets(rt: HostRuntime) -> Result<(), Fail> 
 
 // SABME with P = 1 of the network.
 fn establishment() -> FrameOctets {
-    write(
+    write_frame(
         Sender::Network,
         &Frame {
             command: true,
@@ -183,7 +183,7 @@ fn establishment() -> FrameOctets {
 
 // UA with F = 1 of the network.
 fn acknowledgement() -> FrameOctets {
-    write(
+    write_frame(
         Sender::Network,
         &Frame {
             command: false,

@@ -2,8 +2,8 @@
 //! 3 is informed of a lost one.
 use super::bench::Random;
 use arrayvec::ArrayVec;
-use link_frames::{Control, MAX_FRAME_LEN, Sender, read};
-use link_procedures::{Indication, Link, Outbox, Timers};
+use link_frames::{Control, MAX_FRAME_LEN, Sender, read_frame};
+use link_procedures::{FrameOutbox, Indication, Link, LinkTimers};
 use std::test::*;
 
 // The most frames on a wire. A frame beyond them is lost.
@@ -13,9 +13,9 @@ const MAX_ON_WIRE: usize = 48;
 const DELAY: u32 = 5;
 
 // Longer than the way there and back.
-const TIMELY: Timers = Timers { t200: 13, t203: 65 };
+const TIMELY: LinkTimers = LinkTimers { t200: 13, t203: 65 };
 
-const TOO_SHORT: Timers = Timers { t200: 3, t203: 15 };
+const TOO_SHORT: LinkTimers = LinkTimers { t200: 3, t203: 15 };
 
 // A frame on a wire, and the time in which it was sent.
 #[derive(Default, Drop)]
@@ -37,7 +37,7 @@ impl Wire {
         }
     }
 
-    fn put(&mut self, out: &Outbox, at: u32) {
+    fn put(&mut self, out: &FrameOutbox, at: u32) {
         for frame in out.as_slice() {
             let mut octets = ArrayVec::new();
             if octets.try_extend_from_slice(frame.as_slice()).is_ok()
@@ -84,7 +84,7 @@ impl Side {
         }
     }
 
-    fn submit(&mut self, at: u32, out: &mut Outbox) {
+    fn submit(&mut self, at: u32, out: &mut FrameOutbox) {
         out.clear();
         let [a, b] = self.epoch.to_be_bytes();
         let [c, d] = self.submitted.to_be_bytes();
@@ -115,9 +115,9 @@ impl Side {
         }
     }
 
-    fn receive(&mut self, octets: &[u8], at: u32, out: &mut Outbox) {
+    fn receive(&mut self, octets: &[u8], at: u32, out: &mut FrameOutbox) {
         out.clear();
-        if let Some(frame) = read(Sender::Network, octets) {
+        if let Some(frame) = read_frame(Sender::Network, octets) {
             let told = self.link.received(&frame, at, out);
             if told == Some(Indication::Data) {
                 if let Control::Information { information, .. } = &frame.control {
@@ -129,7 +129,7 @@ impl Side {
         }
     }
 
-    fn turn(&mut self, timers: &Timers, at: u32, out: &mut Outbox) {
+    fn turn(&mut self, timers: &LinkTimers, at: u32, out: &mut FrameOutbox) {
         out.clear();
         let told = self.link.turned(timers, at, out);
         self.link.finished(at, out);
@@ -140,9 +140,9 @@ impl Side {
 // Two links and their wires.
 #[derive(Drop)]
 struct Pair {
-    out: Outbox,
+    out: FrameOutbox,
     random: Random,
-    timers: Timers,
+    timers: LinkTimers,
 }
 
 impl Pair {
@@ -180,9 +180,9 @@ fn rates(random: &mut Random) -> (u8, u8) {
 
 // Runs two links for 240 frames with random loss, and for 80 without. Returns whether all messages arrived in order, and
 // all of the last epoch.
-fn delivers(seed: u64, timers: Timers) -> bool {
+fn delivers(seed: u64, timers: LinkTimers) -> bool {
     let mut pair = Pair {
-        out: Outbox::new(),
+        out: FrameOutbox::new(),
         random: Random::new(seed),
         timers,
     };
@@ -212,7 +212,7 @@ fn has_all(from: &Side, to: &Side) -> bool {
 }
 
 // Whether no message is lost or repeated untold, with each seed below `end`.
-fn always_delivers(end: u64, timers: Timers) -> bool {
+fn always_delivers(end: u64, timers: LinkTimers) -> bool {
     for seed in 0..end {
         if !delivers(seed, timers) {
             return false;

@@ -1,6 +1,6 @@
 //! Worked sequences: windows, numbers, retransmissions, and timers.
 use super::bench::{USUAL, is_sent, receive, submit};
-use link_procedures::{Indication, Link, MAX_QUEUE_LEN, Outbox, State};
+use link_procedures::{FrameOutbox, Indication, Link, MAX_QUEUE_LEN, State};
 use std::test::*;
 
 // What happens to a link.
@@ -160,7 +160,7 @@ static REQUESTED: [Line; 5] = [
     (8_003, Act::Frame(UA_OF_USER), &[], UP),
 ];
 
-fn happens(link: &mut Link, act: &Act, at: u32, out: &mut Outbox) -> Option<Indication> {
+fn happens(link: &mut Link, act: &Act, at: u32, out: &mut FrameOutbox) -> Option<Indication> {
     match act {
         Act::Frame(octets) => receive(link, octets, at, out),
         Act::Message(octets) => {
@@ -176,7 +176,7 @@ fn happens(link: &mut Link, act: &Act, at: u32, out: &mut Outbox) -> Option<Indi
 
 fn holds(sequence: &[Line]) -> bool {
     let mut link = Link::new(0);
-    let mut out = Outbox::new();
+    let mut out = FrameOutbox::new();
     for (at, act, sent, told) in sequence {
         if happens(&mut link, act, *at, &mut out) != *told || !is_sent(&out, sent) {
             return false;
@@ -200,7 +200,7 @@ fn follows_the_sequences(rt: HostRuntime) {
 // Whether 300 messages are sent in sequence, each with the next number modulo 128.
 fn sends_all_numbers() -> bool {
     let mut link = Link::new(0);
-    let mut out = Outbox::new();
+    let mut out = FrameOutbox::new();
     receive(&mut link, SABME, 0, &mut out);
     for number in 0..300_u32 {
         let send = (number % 128 * 2) as u8;
@@ -220,7 +220,7 @@ fn sends_all_numbers() -> bool {
 // Whether 300 messages are taken, and each is acknowledged by the next number modulo 128.
 fn takes_all_numbers() -> bool {
     let mut link = Link::new(0);
-    let mut out = Outbox::new();
+    let mut out = FrameOutbox::new();
     receive(&mut link, SABME, 0, &mut out);
     for number in 0..300_u32 {
         let send = (number % 128 * 2) as u8;
@@ -240,7 +240,7 @@ fn wraps_numbers(rt: HostRuntime) {
 }
 
 // Establishes a link, of which 64 messages wait.
-fn fill(link: &mut Link, out: &mut Outbox) {
+fn fill(link: &mut Link, out: &mut FrameOutbox) {
     receive(link, SABME, 0, out);
     for _ in 0..MAX_QUEUE_LEN {
         submit(link, b"m", 0, out);
@@ -250,7 +250,7 @@ fn fill(link: &mut Link, out: &mut Outbox) {
 // Whether a link with 64 waiting messages loses them with the next one, and informs layer 3 once.
 fn tells_a_full_queue() -> bool {
     let mut link = Link::new(0);
-    let mut out = Outbox::new();
+    let mut out = FrameOutbox::new();
     fill(&mut link, &mut out);
     if link.state() != State::MultipleFrameEstablished || !link.is_up() {
         return false;
@@ -266,7 +266,7 @@ fn tells_a_full_queue() -> bool {
 // Whether UA before the turn of such a link brings the release, and another SABME. Only the next UA establishes the link.
 fn releases_a_full_queue_first() -> bool {
     let mut link = Link::new(0);
-    let mut out = Outbox::new();
+    let mut out = FrameOutbox::new();
     fill(&mut link, &mut out);
     submit(&mut link, b"m", 0, &mut out);
     if receive(&mut link, UA_OF_USER, 1, &mut out) != DOWN

@@ -1,6 +1,6 @@
 //! Each cell of the figures B.4, B.5, B.7 and B.8 of Q.921 (09/97): a state, a received frame, and what follows.
 use super::bench::{USUAL, is_sent, receive, submit};
-use link_procedures::{Indication, Link, Outbox, State};
+use link_procedures::{FrameOutbox, Indication, Link, State};
 use std::test::*;
 
 // The frame of the exchange in which all is received and submitted.
@@ -539,12 +539,12 @@ static TABLE: [Row; 37] = [
     },
 ];
 
-fn expire(link: &mut Link, at: u32, out: &mut Outbox) {
+fn expire(link: &mut Link, at: u32, out: &mut FrameOutbox) {
     out.clear();
     link.turned(&USUAL, at, out);
 }
 
-fn begin(start: Start, out: &mut Outbox) -> Link {
+fn begin(start: Start, out: &mut FrameOutbox) -> Link {
     let mut link = Link::new(0);
     match start {
         Start::Assigned => {}
@@ -571,7 +571,7 @@ fn begin(start: Start, out: &mut Outbox) -> Link {
 
 fn row_holds(row: &Row) -> bool {
     for (start, cell) in STARTS.iter().zip(row.cells.iter()) {
-        let mut out = Outbox::new();
+        let mut out = FrameOutbox::new();
         let mut link = begin(*start, &mut out);
         let told = receive(&mut link, row.octets, AT, &mut out);
         if link.state() != cell.0 || !is_sent(&out, frames(cell.1)) || told != cell.2 {

@@ -1,5 +1,5 @@
 use Rattle.link_procedures.proofs.AnyPeerLemmas.{received_processed, submitted_taken, finished_flushed, flushed_sent, turned_turned}
-use Rattle.link_procedures.proofs.laws.law_of_frames.Goals as goal
+use Rattle.link_procedures.proofs.laws.law_of_sent_frames.Goals as goal
 
 pub returns-clause-received : goal.returns-clause-received
 returns-clause-received c f at s n l = (received_processed f at s n).sent l

@@ -7,7 +7,7 @@ use Rattle.link_procedures.specs.Receiving.{on_sabme, on_information, by_number,
 use Rattle.linked_exchange.specs.Steps.{submitted_all, next_joint}
 use Rattle.q931_elements.specs.Reading.{elements_of, elements_within}
 use Rattle.call_profile.specs.Legs.{slots_of}
-use Rattle.linked_privacy.proofs.worked.worked_links.Goals as goal
+use Rattle.linked_privacy.proofs.worked.worked_delivery.Goals as goal
 
 pub returns-clause-ended : goal.returns-clause-ended
 unfolding encoding next_number distance is_valid acknowledged emptied renumbered may_send is_awaiting is_established is_recovering is_multiple_frame is_up acknowledges one_more_sent supervised is_free sends_next flushes acknowledges_pending finished established lost begun queued submitted on_sabme on_information by_number by_acknowledgement supervised_by on_control on_valid submitted_all next_joint elements_of elements_within slots_of
